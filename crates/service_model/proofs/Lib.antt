@@ -1,0 +1,7 @@
+mod RowWords
+mod TaskRows
+mod TimerRows
+mod ActivityRows
+mod PolicyRows
+mod TransferRows
+mod ShardRows

@@ -1,0 +1,205 @@
+-- one shard of the sequential service: what each request is answered, and the content that it leaves
+use Rattle.std.specs.Prelude.{ℕ, ◌+◌, ◌-◌, max, cond, ◌==◌, List, [], ◌∷◌, ◌++◌, length, map, filter, Option, None, Some, replicate, slice_index_or, slice_set}
+use Rattle.service_model.specs.declared.content.Content.{Content}
+use Rattle.service_model.specs.declared.content.Setup.{Setup}
+use Rattle.service_model.specs.declared.content.Dispatch.{Dispatch}
+use Rattle.service_model.specs.declared.content.Outgoing.{Outgoing}
+use Rattle.service_model.specs.declared.journal.Fact.{Fact}
+use Rattle.service_model.specs.declared.request.Operation.{Operation}
+use Rattle.service_model.specs.declared.request.Operation.TheVariants as served
+use Rattle.service_model.specs.declared.request.Request.{Request}
+use Rattle.service_model.specs.declared.request.RecordEntry.{RecordEntry}
+use Rattle.service_model.specs.declared.request.Start.{Start}
+use Rattle.service_model.specs.declared.request.Signal.{Signal}
+use Rattle.service_model.specs.declared.request.SignalWithStart.{SignalWithStart}
+use Rattle.service_model.specs.declared.request.RequestCancel.{RequestCancel}
+use Rattle.service_model.specs.declared.request.Terminate.{Terminate}
+use Rattle.service_model.specs.declared.request.Read.{Read}
+use Rattle.service_model.specs.declared.request.Hint.{Hint}
+use Rattle.service_model.specs.declared.request.CompleteWorkflowTask.{CompleteWorkflowTask}
+use Rattle.service_model.specs.declared.request.FailWorkflowTask.{FailWorkflowTask}
+use Rattle.service_model.specs.declared.request.ActivityText.{ActivityText}
+use Rattle.service_model.specs.declared.request.FailActivity.{FailActivity}
+use Rattle.service_model.specs.declared.request.Acknowledge.{Acknowledge}
+use Rattle.service_model.specs.declared.transfer.Transfer.{Transfer}
+use Rattle.service_model.specs.Journal.{Journal}
+use Rattle.service_model.specs.RunState.{RunState, state_of}
+use Rattle.service_model.specs.Outcome.{Outcome, Added, Sent, Counting, CountsNothing, AcceptsFrom, AcknowledgesTo, CountsDispatch, Reply, Runs}
+use Rattle.service_model.specs.Issued.{dispatches_of, transfers_of, is_open_fact}
+use Rattle.service_model.specs.Starts.{start}
+use Rattle.service_model.specs.Signals.{signal, signal_with_start}
+use Rattle.service_model.specs.Cancels.{request_cancel, terminate}
+use Rattle.service_model.specs.Reads.{history, describe}
+use Rattle.service_model.specs.Tasks.{start_task, complete_workflow_task, fail_workflow_task}
+use Rattle.service_model.specs.Activities.{complete_activity, fail_activity, cancel_activity, heartbeat}
+use Rattle.service_model.specs.TimerTurns.{timer_turn}
+use Rattle.service_model.specs.Counts.{next_transfer, acknowledge, next_dispatch, dispatched}
+use Rattle.service_model.specs.Deliveries.{deliver}
+
+-- all that a shard can be asked; what is served so far is an Operation
+pub data Asked : Type 0 where
+  ToStart : Start → Asked
+  ToSignal : Signal → Asked
+  ToSignalWithStart : SignalWithStart → Asked
+  ToRequestCancel : RequestCancel → Asked
+  ToTerminate : Terminate → Asked
+  ToStartTask : Hint → Asked
+  ToCompleteWorkflowTask : CompleteWorkflowTask → Asked
+  ToFailWorkflowTask : FailWorkflowTask → Asked
+  ToCompleteActivity : ActivityText → Asked
+  ToFailActivity : FailActivity → Asked
+  ToCancelActivity : ActivityText → Asked
+  ToHeartbeat : ActivityText → Asked
+  ToShowHistory : Read → Asked
+  ToDescribe : Read → Asked
+  ToTurnTimers : Asked
+  ToShowTransfer : ℕ → Asked
+  ToDeliver : Transfer → Asked
+  ToAcknowledge : Acknowledge → Asked
+  ToShowDispatch : Asked
+  ToCountDispatch : ℕ → Asked
+
+-- what an operation asks
+abbrev pub asked : Operation → Asked
+asked (served.Start q) = ToStart q
+asked (served.Signal q) = ToSignal q
+asked (served.History q) = ToShowHistory q
+
+-- what requests are decided on
+abbrev pub runs_of : Content → Runs
+runs_of S = record { setup = S.setup; states = map state_of S.runs }
+
+-- what a request does, at the step's moment
+unfoldable pub outcome : Content → ℕ → Asked → Outcome
+outcome S m (ToStart q) = start (runs_of S) q
+outcome S m (ToSignal q) = signal (runs_of S) q
+outcome S m (ToSignalWithStart q) = signal_with_start (runs_of S) q
+outcome S m (ToRequestCancel q) = request_cancel (runs_of S) q
+outcome S m (ToTerminate q) = terminate (runs_of S) q
+outcome S m (ToStartTask h) = start_task (runs_of S) h
+outcome S m (ToCompleteWorkflowTask q) = complete_workflow_task (runs_of S) q
+outcome S m (ToFailWorkflowTask q) = fail_workflow_task (runs_of S) q
+outcome S m (ToCompleteActivity q) = complete_activity (runs_of S) q
+outcome S m (ToFailActivity q) = fail_activity (runs_of S) m q
+outcome S m (ToCancelActivity q) = cancel_activity (runs_of S) q
+outcome S m (ToHeartbeat q) = heartbeat (runs_of S) q
+outcome S m (ToShowHistory q) = history (runs_of S) q
+outcome S m (ToDescribe q) = describe (runs_of S) q
+outcome S m ToTurnTimers = timer_turn (runs_of S) m
+outcome S m (ToShowTransfer to) = next_transfer S.setup S.outgoing to
+outcome S m (ToDeliver t) = deliver (runs_of S) S.accepted t
+outcome S m (ToAcknowledge q) = acknowledge S.setup S.outgoing q
+outcome S m ToShowDispatch = next_dispatch S.dispatches S.dispatched
+outcome S m (ToCountDispatch number) = dispatched S.dispatches S.dispatched number
+
+-- facts as entries of a step, by their places from n on
+abbrev pub entries : ℕ → ℕ → ℕ → List Fact → Journal
+entries step moment n [] = []
+entries step moment n (f ∷ fs) = record { step = step; place = n; moment = moment; fact = f } ∷ entries step moment (n + 1) fs
+
+-- the journal of the run with that ordinal
+abbrev pub journal_at : List Journal → ℕ → Journal
+journal_at runs n = slice_index_or runs (n - 1) []
+
+-- the runs with more facts of one of them
+abbrev pub with_added : ℕ → ℕ → Option Added → List Journal → List Journal
+with_added step moment None runs = runs
+with_added step moment (Some a) runs = slice_set runs (a.run - 1) (journal_at runs a.run ++ entries step moment 0 a.facts)
+
+-- the runs with a new one of these facts
+abbrev pub with_created : ℕ → ℕ → Option (List Fact) → List Journal → List Journal
+with_created step moment None runs = runs
+with_created step moment (Some facts) runs = runs ++ entries step moment 0 facts ∷ []
+
+-- the transfers that a step issues for the run that it changes
+abbrev pub sent_for : Content → ℕ → ℕ → Option Added → List Sent
+sent_for S step moment None = []
+sent_for S step moment (Some a) =
+    let J = journal_at S.runs a.run in
+    transfers_of S.setup a.run (state_of J) (state_of (J ++ entries step moment 0 (filter is_open_fact a.facts))) (state_of (J ++ entries step moment 0 a.facts))
+
+-- the dispatches that a step issues for the run that it changes
+abbrev pub dispatched_for : Content → ℕ → ℕ → Option Added → List Dispatch
+dispatched_for S step moment None = []
+dispatched_for S step moment (Some a) =
+    let J = journal_at S.runs a.run in
+    dispatches_of S.setup a.run (state_of J) (state_of (J ++ entries step moment 0 a.facts)) a.facts
+
+-- the dispatches that a step issues for the run that it makes
+abbrev pub dispatched_new : Content → ℕ → ℕ → Option (List Fact) → List Dispatch
+dispatched_new S step moment None = []
+dispatched_new S step moment (Some facts) = dispatches_of S.setup (length S.runs + 1) (state_of []) (state_of (entries step moment 0 facts)) facts
+
+-- the transfers to a shard after a step
+abbrev pub with_sent : List Sent → ℕ → Outgoing → Outgoing
+with_sent sent to o = record o { issued = o.issued ++ map (λ (s : Sent). s.content) (filter (λ (s : Sent). s.to == to) sent) }
+
+-- the transfers to all shards after a step, to the first of which this is the number
+abbrev pub with_all_sent : List Sent → ℕ → List Outgoing → List Outgoing
+with_all_sent sent to [] = []
+with_all_sent sent to (o ∷ os) = with_sent sent to o ∷ with_all_sent sent (to + 1) os
+
+abbrev pub one_more_acknowledged : List Outgoing → ℕ → List Outgoing
+one_more_acknowledged [] n = []
+one_more_acknowledged (o ∷ os) n = cond (n == 0) (record o { acknowledged = o.acknowledged + 1 } ∷ os) (o ∷ one_more_acknowledged os (n - 1))
+
+-- the content with one count moved on
+abbrev pub with_count : Counting → Content → Content
+with_count CountsNothing S = S
+with_count (AcceptsFrom from) S = record S { accepted = slice_set S.accepted from (slice_index_or S.accepted from 0 + 1) }
+with_count (AcknowledgesTo to) S = record S { outgoing = one_more_acknowledged S.outgoing to }
+with_count CountsDispatch S = record S { dispatched = S.dispatched + 1 }
+
+-- the content after a step of that outcome
+abbrev pub content_after : Content → ℕ → Outcome → Content
+content_after S moment o =
+    let step = S.steps + 1 in
+    with_count o.counting (record S {
+      runs = with_created step moment o.created (with_added step moment o.added S.runs);
+      outgoing = with_all_sent (sent_for S step moment o.added ++ o.answers) 0 S.outgoing;
+      dispatches = S.dispatches ++ (dispatched_for S step moment o.added ++ dispatched_new S step moment o.created);
+      last_moment = moment;
+      steps = step;
+    })
+
+-- a step's moment: the later of the request's and the shard's last
+abbrev pub moment_of : Content → ℕ → ℕ
+moment_of S at = max at S.last_moment
+
+-- what is answered when this is asked at a moment
+abbrev pub answer_to : Content → ℕ → Asked → Reply
+answer_to S at a = (outcome S (moment_of S at) a).reply
+
+-- the content that it leaves
+abbrev pub after_asking : Content → ℕ → Asked → Content
+after_asking S at a = content_after S (moment_of S at) (outcome S (moment_of S at) a)
+
+-- what a request is answered
+unfoldable pub answer : Content → Request → Reply
+answer S q = answer_to S q.at (asked q.operation)
+
+-- the content that a request leaves
+unfoldable pub after : Content → Request → Content
+after S q = after_asking S q.at (asked q.operation)
+
+-- the content at opening
+abbrev pub opening : Setup → Content
+opening setup = record {
+  setup = setup;
+  runs = [];
+  outgoing = replicate setup.shards (record { issued = []; acknowledged = 0 });
+  accepted = replicate setup.shards 0;
+  dispatches = [];
+  dispatched = 0;
+  last_moment = 0;
+  steps = 0;
+}
+
+-- the content that requests leave, one after another
+abbrev pub replay_from : Content → List RecordEntry → Content
+replay_from S [] = S
+replay_from S (e ∷ R) = replay_from (after S e.request) R
+
+-- the content that a record leaves
+abbrev pub replay : Setup → List RecordEntry → Content
+replay setup R = replay_from (opening setup) R

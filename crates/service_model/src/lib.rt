@@ -1,0 +1,9 @@
+//! The sequential model of one shard: what it is asked, what it contains, and what each request answers and leaves.
+#![tactic(auto)]
+
+pub mod answer;
+pub mod content;
+pub mod journal;
+pub mod request;
+pub mod settings;
+pub mod transfer;

@@ -1,0 +1,57 @@
+//! The commands of a workflow task's completion, and the check of their own fields.
+#![tactic(auto)]
+
+ghost use Rattle.std.specs.Prelude.{◌≡◌};
+ghost use Rattle.wf_command.specs.Check.{attributes_fault, good_activity, good_policy};
+
+pub mod command;
+
+pub use command::Command;
+use command::ScheduleActivityTask;
+use wf_event::payloads::PolicyFields;
+use wf_event_values::Cause;
+
+/// The fault of a command's own fields, if it has one; no state is looked at.
+pub fn check(command: &Command) -> Result<(), Cause>
+    ensures { result ≡ attributes_fault command.now }
+{
+    match command {
+        Command::ScheduleActivityTask(activity) => {
+            if is_good_activity(activity) {
+                Ok(())
+            } else {
+                Err(Cause::BadScheduleActivityAttributes)
+            }
+        }
+        Command::StartTimer(timer) => {
+            if timer.duration.millis() == 0 {
+                Err(Cause::BadStartTimerAttributes)
+            } else {
+                Ok(())
+            }
+        }
+        _ => Ok(()),
+    }
+}
+
+/// Whether an activity has a limit on its time and a policy in range.
+pub fn is_good_activity(activity: &ScheduleActivityTask) -> bool
+    ensures { result ≡ good_activity activity.now }
+{
+    let limited = activity.start_to_close.millis() != 0 || activity.schedule_to_close.millis() != 0;
+    limited && is_good_policy(&activity.retry)
+}
+
+/// Whether a retry policy's numbers are in their ranges.
+pub fn is_good_policy(policy: &PolicyFields) -> bool
+    ensures { result ≡ good_policy policy.now }
+{
+    policy.attempts <= 4_294_967_295
+        && 1 <= policy.factor
+        && policy.factor <= 1000
+        && 1 <= policy.initial
+        && policy.initial <= 1_000_000_000_000
+        && (policy.maximum == 0
+            || (policy.initial <= policy.maximum && policy.maximum <= 1_000_000_000_000))
+        && policy.non_retryable.as_slice().len() <= 100
+}
