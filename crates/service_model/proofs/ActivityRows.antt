@@ -1,35 +1,23 @@
 -- activities, computed over the definitions
-use Rattle.std.proofs.Common.{◌≡◌, ℕ, List, [], ◌∷◌, ◌++◌, None, Some, false, true, refl, Ok, Err, drop}
+use Rattle.std.proofs.Common.{◌≡◌, List, [], ◌∷◌, ◌++◌, None, Some, true, refl, Ok, drop}
 use Rattle.std.specs.Prelude.{codes}
-use Rattle.service_model.proofs.RowWords.{shard_of_service, run_on, run, Step, after_from, after_all, reply_behind, history_behind, start_with, start_of, start_a, signal_of, take_task, take_activity, token, complete, timer, activity, policy, fail_attempt, describe_a, event_at, started_with, scheduled, begun, taken, completed, signaled, fired, described, deliver_it, acknowledge_it, a, b, main}
+use Rattle.service_model.proofs.RowWords.{run, Step, reply_behind, history_behind, start_a, signal_of, take_task, take_activity, token, complete, activity, policy, fail_attempt, event_at, scheduled, completed, fired, a}
 use Rattle.wf_event.specs.declared.attributes.Attributes.TheVariants as event
 use Rattle.wf_command.specs.declared.command.Command.TheVariants as command
 use Rattle.service_model.specs.declared.answer.Answer.TheVariants as says
-use Rattle.service_model.specs.declared.transfer.TransferContent.TheVariants as transfer
-use Rattle.service_model.specs.declared.transfer.ExternalKind.TheVariants.{Signal as OfSignal}
-use Rattle.wf_event_values.specs.declared.policies.ReusePolicy.TheVariants.{AllowDuplicate, AllowDuplicateFailedOnly}
-use Rattle.wf_event_values.specs.declared.policies.ConflictPolicy.TheVariants.{Fail, UseExisting, TerminateExisting}
-use Rattle.wf_event_values.specs.declared.policies.ParentClosePolicy.TheVariants.{Terminate}
-use Rattle.wf_event_values.specs.declared.policies.CancelSource.TheVariants.{Client}
-use Rattle.wf_event_values.specs.declared.policies.TaskKind.TheVariants.{Workflow}
-use Rattle.wf_event_values.specs.declared.policies.Cause.TheVariants.{UnhandledCommand, CommandAfterClose, WorkflowWorkerUnhandledFailure, StartTimerDuplicateId, ExternalWorkflowExecutionNotFound}
 use Rattle.wf_event_values.specs.declared.policies.RetryState.TheVariants.{MaximumAttemptsReached, Timeout}
 use Rattle.wf_event_values.specs.declared.policies.TimeoutKind.TheVariants.{ScheduleToClose as ToClose}
-use Rattle.wf_event_values.specs.declared.policies.Status.TheVariants.{Running, Completed, Terminated, TimedOut}
-use Rattle.wf_event_values.specs.declared.policies.DeadlineClass.TheVariants.{RunTimeout, WorkflowTask, ScheduleToClose, Heartbeat, RetryReady, UserTimer}
-use Rattle.wf_event_values.specs.declared.refusal.Refusal.TheVariants.{NotFound, AlreadyStarted, CancellationAlreadyRequested}
-use Rattle.service_model.specs.Service.{ToSignalWithStart, ToRequestCancel, ToTerminate, ToFailWorkflowTask, ToCompleteActivity, ToCancelActivity, ToHeartbeat, ToShowHistory, ToDescribe, ToTurnTimers, ToShowTransfer, ToShowDispatch, ToCountDispatch, answer_to, after_asking, opening, journal_at, ToStart}
-use Rattle.service_model.specs.Shown.{shown}
-use Rattle.service_model.specs.declared.content.Content.{Content}
+use Rattle.wf_event_values.specs.declared.policies.DeadlineClass.TheVariants.{ScheduleToClose, Heartbeat, RetryReady}
+use Rattle.service_model.specs.Service.{ToCompleteActivity, ToCancelActivity, ToHeartbeat, ToTurnTimers}
 use Rattle.wf_event.specs.Role.{role, opens, settles, closing_status}
 use Rattle.service_model.specs.Windows.{placed, first_closing}
 use Rattle.service_model.specs.Shown.{key_of, put_in_order, put_all, cancels, is_canceled_firing, numbered}
 use Rattle.service_model.specs.Pending.{is_in_use, in_use, phase, attempt, last_noted, last_details, was_cancel_requested, task}
-use Rattle.service_model.specs.RunState.{beginning, signal_requests, cancel_request}
+use Rattle.service_model.specs.RunState.{beginning, signal_requests, cancel_request, no_run}
 use Rattle.service_model.specs.Retry.{wait, verdict}
 use Rattle.service_model.specs.Deadlines.{dues}
 use Rattle.service_model.specs.IdPolicy.{decide}
-use Rattle.service_model.specs.Outcome.{latest_run, hash_of}
+use Rattle.service_model.specs.Outcome.{latest_run}
 use Rattle.service_model.specs.Starts.{start}
 use Rattle.service_model.specs.Signals.{signal, signal_with_start}
 use Rattle.service_model.specs.Cancels.{request_cancel, terminate}
@@ -53,7 +41,7 @@ pub activity_retried_until_exhausted :
     × (reply_behind (start_a ∷ (0, take_task 1 2 1) ∷ (0, complete 1 2 1 (activity 60000 0 0 (policy 1000 2 3) ∷ [])) ∷ (0, take_activity 5 1) ∷ (100, fail_attempt 5 1) ∷ (1100, ToTurnTimers) ∷ (1100, take_activity 5 2) ∷ []) (1200, fail_attempt 5 2) ≡ Ok (says.Retrying (record { attempt = 3; ready = 3200 })))
     × (reply_behind activity_retried_until_exhausted_script (3300, fail_attempt 5 3) ≡ Ok (says.ActivityFailed MaximumAttemptsReached))
     × (drop 5 (history_behind (activity_retried_until_exhausted_script ++ (3300, fail_attempt 5 3) ∷ []) 1) ≡ event_at 6 3300 (event.ActivityTaskStarted (record { scheduled = 5; attempt = 3; taken = 3200 })) ∷ event_at 7 3300 (event.ActivityTaskFailed (record { scheduled = 5; message = []; error_type = None; retry = MaximumAttemptsReached })) ∷ scheduled 8 3300 1 ∷ [])
-unfolding role opens settles closing_status placed first_closing key_of put_in_order put_all cancels is_canceled_firing numbered is_in_use in_use phase attempt last_noted last_details was_cancel_requested task beginning signal_requests cancel_request wait verdict dues decide latest_run start signal signal_with_start request_cancel terminate history describe pending_so_far in_use_so_far judge_fields_good judge judge_all failed_task completed_task start_task complete_workflow_task fail_workflow_task complete_activity cancel_activity fail_activity heartbeat least fire timer_turn next_transfer acknowledge next_dispatch dispatched effect deliver outcome
+unfolding role opens settles closing_status placed first_closing key_of put_in_order put_all cancels is_canceled_firing numbered is_in_use in_use phase attempt last_noted last_details was_cancel_requested task beginning signal_requests cancel_request no_run wait verdict dues decide latest_run start signal signal_with_start request_cancel terminate history describe pending_so_far in_use_so_far judge_fields_good judge judge_all failed_task completed_task start_task complete_workflow_task fail_workflow_task complete_activity cancel_activity fail_activity heartbeat least fire timer_turn next_transfer acknowledge next_dispatch dispatched effect deliver outcome
 activity_retried_until_exhausted = (refl, refl, refl, refl, refl, refl)
 
 -- a retry right at the last deadline is still granted, and the deadline fires first; a later one is not granted
@@ -65,7 +53,7 @@ pub schedule_to_close_before_retry :
     × (reply_behind (schedule_to_close_before_retry_script ++ (4000, fail_attempt 5 1) ∷ []) (5000, ToTurnTimers) ≡ fired ScheduleToClose 5000 1 5)
     × (drop 5 (history_behind (schedule_to_close_before_retry_script ++ (4000, fail_attempt 5 1) ∷ (5000, ToTurnTimers) ∷ []) 1) ≡ event_at 6 5000 (event.ActivityTaskTimedOut (record { scheduled = 5; timeout = ToClose; retry = Timeout })) ∷ scheduled 7 5000 1 ∷ [])
     × (reply_behind schedule_to_close_before_retry_script (4001, fail_attempt 5 1) ≡ Ok (says.ActivityFailed Timeout))
-unfolding role opens settles closing_status placed first_closing key_of put_in_order put_all cancels is_canceled_firing numbered is_in_use in_use phase attempt last_noted last_details was_cancel_requested task beginning signal_requests cancel_request wait verdict dues decide latest_run start signal signal_with_start request_cancel terminate history describe pending_so_far in_use_so_far judge_fields_good judge judge_all failed_task completed_task start_task complete_workflow_task fail_workflow_task complete_activity cancel_activity fail_activity heartbeat least fire timer_turn next_transfer acknowledge next_dispatch dispatched effect deliver outcome
+unfolding role opens settles closing_status placed first_closing key_of put_in_order put_all cancels is_canceled_firing numbered is_in_use in_use phase attempt last_noted last_details was_cancel_requested task beginning signal_requests cancel_request no_run wait verdict dues decide latest_run start signal signal_with_start request_cancel terminate history describe pending_so_far in_use_so_far judge_fields_good judge judge_all failed_task completed_task start_task complete_workflow_task fail_workflow_task complete_activity cancel_activity fail_activity heartbeat least fire timer_turn next_transfer acknowledge next_dispatch dispatched effect deliver outcome
 schedule_to_close_before_retry = (refl, refl, refl, refl)
 
 -- an activity with no running attempt is canceled at once
@@ -74,7 +62,7 @@ cancel_queued_activity_script = start_a ∷ (0, take_task 1 2 1) ∷ (0, complet
 
 pub cancel_queued_activity :
     (drop 8 (history_behind cancel_queued_activity_script 1) ≡ completed 9 0 7 ∷ event_at 10 0 (event.ActivityTaskCancelRequested 5) ∷ event_at 11 0 (event.ActivityTaskCanceled (record { scheduled = 5; details = [] })) ∷ scheduled 12 0 1 ∷ [])
-unfolding role opens settles closing_status placed first_closing key_of put_in_order put_all cancels is_canceled_firing numbered is_in_use in_use phase attempt last_noted last_details was_cancel_requested task beginning signal_requests cancel_request wait verdict dues decide latest_run start signal signal_with_start request_cancel terminate history describe pending_so_far in_use_so_far judge_fields_good judge judge_all failed_task completed_task start_task complete_workflow_task fail_workflow_task complete_activity cancel_activity fail_activity heartbeat least fire timer_turn next_transfer acknowledge next_dispatch dispatched effect deliver outcome
+unfolding role opens settles closing_status placed first_closing key_of put_in_order put_all cancels is_canceled_firing numbered is_in_use in_use phase attempt last_noted last_details was_cancel_requested task beginning signal_requests cancel_request no_run wait verdict dues decide latest_run start signal signal_with_start request_cancel terminate history describe pending_so_far in_use_so_far judge_fields_good judge judge_all failed_task completed_task start_task complete_workflow_task fail_workflow_task complete_activity cancel_activity fail_activity heartbeat least fire timer_turn next_transfer acknowledge next_dispatch dispatched effect deliver outcome
 cancel_queued_activity = refl
 
 -- a running attempt hears of the cancellation by its heartbeat, and then cancels
@@ -84,7 +72,7 @@ cancel_running_activity_script = start_a ∷ (0, take_task 1 2 1) ∷ (0, comple
 pub cancel_running_activity :
     (reply_behind cancel_running_activity_script (500, ToHeartbeat (record { task = token 1 5 1; text = [] })) ≡ Ok (says.Heartbeat true))
     × (drop 8 (history_behind (cancel_running_activity_script ++ (600, ToCancelActivity (record { task = token 1 5 1; text = [] })) ∷ []) 1) ≡ completed 9 0 7 ∷ event_at 10 0 (event.ActivityTaskCancelRequested 5) ∷ event_at 11 600 (event.ActivityTaskStarted (record { scheduled = 5; attempt = 1; taken = 0 })) ∷ event_at 12 600 (event.ActivityTaskCanceled (record { scheduled = 5; details = [] })) ∷ scheduled 13 600 1 ∷ [])
-unfolding role opens settles closing_status placed first_closing key_of put_in_order put_all cancels is_canceled_firing numbered is_in_use in_use phase attempt last_noted last_details was_cancel_requested task beginning signal_requests cancel_request wait verdict dues decide latest_run start signal signal_with_start request_cancel terminate history describe pending_so_far in_use_so_far judge_fields_good judge judge_all failed_task completed_task start_task complete_workflow_task fail_workflow_task complete_activity cancel_activity fail_activity heartbeat least fire timer_turn next_transfer acknowledge next_dispatch dispatched effect deliver outcome
+unfolding role opens settles closing_status placed first_closing key_of put_in_order put_all cancels is_canceled_firing numbered is_in_use in_use phase attempt last_noted last_details was_cancel_requested task beginning signal_requests cancel_request no_run wait verdict dues decide latest_run start signal signal_with_start request_cancel terminate history describe pending_so_far in_use_so_far judge_fields_good judge judge_all failed_task completed_task start_task complete_workflow_task fail_workflow_task complete_activity cancel_activity fail_activity heartbeat least fire timer_turn next_transfer acknowledge next_dispatch dispatched effect deliver outcome
 cancel_running_activity = (refl, refl)
 
 -- a heartbeat that stays away ends the attempt, and the next one gets the last details
@@ -97,7 +85,7 @@ pub heartbeat_timeout_keeps_details :
     × (reply_behind (heartbeat_timeout_keeps_details_script ++ (1500, ToTurnTimers) ∷ []) (2500, ToTurnTimers) ≡ fired RetryReady 2500 1 5)
     × (drop 5 (history_behind (heartbeat_timeout_keeps_details_script ++ (1500, ToTurnTimers) ∷ (2500, ToTurnTimers) ∷ []) 1) ≡ [])
     × (reply_behind (heartbeat_timeout_keeps_details_script ++ (1500, ToTurnTimers) ∷ (2500, ToTurnTimers) ∷ []) (2500, take_activity 5 2) ≡ Ok (says.ActivityTask (record { activity_id = codes "x"; activity_type = []; attempt = 2; details = Some (codes "h"); input = []; run = run 1; scheduled = 5; workflow_id = a })))
-unfolding role opens settles closing_status placed first_closing key_of put_in_order put_all cancels is_canceled_firing numbered is_in_use in_use phase attempt last_noted last_details was_cancel_requested task beginning signal_requests cancel_request wait verdict dues decide latest_run start signal signal_with_start request_cancel terminate history describe pending_so_far in_use_so_far judge_fields_good judge judge_all failed_task completed_task start_task complete_workflow_task fail_workflow_task complete_activity cancel_activity fail_activity heartbeat least fire timer_turn next_transfer acknowledge next_dispatch dispatched effect deliver outcome
+unfolding role opens settles closing_status placed first_closing key_of put_in_order put_all cancels is_canceled_firing numbered is_in_use in_use phase attempt last_noted last_details was_cancel_requested task beginning signal_requests cancel_request no_run wait verdict dues decide latest_run start signal signal_with_start request_cancel terminate history describe pending_so_far in_use_so_far judge_fields_good judge judge_all failed_task completed_task start_task complete_workflow_task fail_workflow_task complete_activity cancel_activity fail_activity heartbeat least fire timer_turn next_transfer acknowledge next_dispatch dispatched effect deliver outcome
 heartbeat_timeout_keeps_details = (refl, refl, refl, refl, refl)
 
 -- an activity that completes writes its start and its result
@@ -106,7 +94,7 @@ completed_activity_script = start_a ∷ (0, take_task 1 2 1) ∷ (0, complete 1 
 
 pub completed_activity :
     (drop 5 (history_behind completed_activity_script 1) ≡ event_at 6 100 (event.ActivityTaskStarted (record { scheduled = 5; attempt = 1; taken = 0 })) ∷ event_at 7 100 (event.ActivityTaskCompleted (record { scheduled = 5; result_text = codes "y" })) ∷ scheduled 8 100 1 ∷ [])
-unfolding role opens settles closing_status placed first_closing key_of put_in_order put_all cancels is_canceled_firing numbered is_in_use in_use phase attempt last_noted last_details was_cancel_requested task beginning signal_requests cancel_request wait verdict dues decide latest_run start signal signal_with_start request_cancel terminate history describe pending_so_far in_use_so_far judge_fields_good judge judge_all failed_task completed_task start_task complete_workflow_task fail_workflow_task complete_activity cancel_activity fail_activity heartbeat least fire timer_turn next_transfer acknowledge next_dispatch dispatched effect deliver outcome
+unfolding role opens settles closing_status placed first_closing key_of put_in_order put_all cancels is_canceled_firing numbered is_in_use in_use phase attempt last_noted last_details was_cancel_requested task beginning signal_requests cancel_request no_run wait verdict dues decide latest_run start signal signal_with_start request_cancel terminate history describe pending_so_far in_use_so_far judge_fields_good judge judge_all failed_task completed_task start_task complete_workflow_task fail_workflow_task complete_activity cancel_activity fail_activity heartbeat least fire timer_turn next_transfer acknowledge next_dispatch dispatched effect deliver outcome
 completed_activity = refl
 
 -- the waits of the default policy, and one that is as long as a wait can be

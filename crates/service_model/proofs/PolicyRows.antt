@@ -1,31 +1,21 @@
 -- workflow IDs, cancellation and continuation, computed over the definitions
-use Rattle.std.proofs.Common.{◌≡◌, ℕ, List, [], ◌∷◌, ◌++◌, None, Some, false, true, refl, Ok, Err, drop}
+use Rattle.std.proofs.Common.{◌≡◌, List, [], ◌∷◌, ◌++◌, None, Some, refl, Ok, Err, drop}
 use Rattle.std.specs.Prelude.{codes}
-use Rattle.service_model.proofs.RowWords.{shard_of_service, run_on, run, Step, after_from, after_all, reply_behind, history_behind, start_with, start_of, start_a, signal_of, take_task, take_activity, token, complete, timer, activity, policy, fail_attempt, describe_a, event_at, started_with, scheduled, begun, taken, completed, signaled, fired, described, deliver_it, acknowledge_it, a, b, main}
+use Rattle.service_model.proofs.RowWords.{run, Step, reply_behind, history_behind, start_with, start_of, start_a, take_task, complete, event_at, started_with, scheduled, begun, signaled, described, a, b, main}
 use Rattle.wf_event.specs.declared.attributes.Attributes.TheVariants as event
 use Rattle.wf_command.specs.declared.command.Command.TheVariants as command
 use Rattle.service_model.specs.declared.answer.Answer.TheVariants as says
-use Rattle.service_model.specs.declared.transfer.TransferContent.TheVariants as transfer
-use Rattle.service_model.specs.declared.transfer.ExternalKind.TheVariants.{Signal as OfSignal}
 use Rattle.wf_event_values.specs.declared.policies.ReusePolicy.TheVariants.{AllowDuplicate, AllowDuplicateFailedOnly}
 use Rattle.wf_event_values.specs.declared.policies.ConflictPolicy.TheVariants.{Fail, UseExisting, TerminateExisting}
-use Rattle.wf_event_values.specs.declared.policies.ParentClosePolicy.TheVariants.{Terminate}
 use Rattle.wf_event_values.specs.declared.policies.CancelSource.TheVariants.{Client}
-use Rattle.wf_event_values.specs.declared.policies.TaskKind.TheVariants.{Workflow}
-use Rattle.wf_event_values.specs.declared.policies.Cause.TheVariants.{UnhandledCommand, CommandAfterClose, WorkflowWorkerUnhandledFailure, StartTimerDuplicateId, ExternalWorkflowExecutionNotFound}
-use Rattle.wf_event_values.specs.declared.policies.RetryState.TheVariants.{MaximumAttemptsReached, Timeout}
-use Rattle.wf_event_values.specs.declared.policies.TimeoutKind.TheVariants.{ScheduleToClose as ToClose}
-use Rattle.wf_event_values.specs.declared.policies.Status.TheVariants.{Running, Completed, Terminated, TimedOut}
-use Rattle.wf_event_values.specs.declared.policies.DeadlineClass.TheVariants.{RunTimeout, WorkflowTask, ScheduleToClose, Heartbeat, RetryReady, UserTimer}
-use Rattle.wf_event_values.specs.declared.refusal.Refusal.TheVariants.{NotFound, AlreadyStarted, CancellationAlreadyRequested}
-use Rattle.service_model.specs.Service.{ToSignalWithStart, ToRequestCancel, ToTerminate, ToFailWorkflowTask, ToCompleteActivity, ToCancelActivity, ToHeartbeat, ToShowHistory, ToDescribe, ToTurnTimers, ToShowTransfer, ToShowDispatch, ToCountDispatch, answer_to, after_asking, opening, journal_at, ToStart}
-use Rattle.service_model.specs.Shown.{shown}
-use Rattle.service_model.specs.declared.content.Content.{Content}
+use Rattle.wf_event_values.specs.declared.policies.Status.TheVariants.{Terminated}
+use Rattle.wf_event_values.specs.declared.refusal.Refusal.TheVariants.{AlreadyStarted, CancellationAlreadyRequested}
+use Rattle.service_model.specs.Service.{ToSignalWithStart, ToRequestCancel, ToTerminate, ToDescribe}
 use Rattle.wf_event.specs.Role.{role, opens, settles, closing_status}
 use Rattle.service_model.specs.Windows.{placed, first_closing}
 use Rattle.service_model.specs.Shown.{key_of, put_in_order, put_all, cancels, is_canceled_firing, numbered}
 use Rattle.service_model.specs.Pending.{is_in_use, in_use, phase, attempt, last_noted, last_details, was_cancel_requested, task}
-use Rattle.service_model.specs.RunState.{beginning, signal_requests, cancel_request}
+use Rattle.service_model.specs.RunState.{beginning, signal_requests, cancel_request, no_run}
 use Rattle.service_model.specs.Retry.{wait, verdict}
 use Rattle.service_model.specs.Deadlines.{dues}
 use Rattle.service_model.specs.IdPolicy.{decide}
@@ -51,7 +41,7 @@ pub conflict_policies :
     × (reply_behind conflict_policies_script (0, start_with a (codes "r3") AllowDuplicate UseExisting 0) ≡ Ok (says.Existing (run 1)))
     × (reply_behind conflict_policies_script (0, start_with a (codes "r4") AllowDuplicate TerminateExisting 0) ≡ Ok (says.Started (run 2)))
     × (reply_behind (conflict_policies_script ++ (0, start_with a (codes "r4") AllowDuplicate TerminateExisting 0) ∷ []) (0, ToDescribe (record { workflow_id = a; run = Some (run 1) })) ≡ described Terminated 3 0)
-unfolding role opens settles closing_status placed first_closing key_of put_in_order put_all cancels is_canceled_firing numbered is_in_use in_use phase attempt last_noted last_details was_cancel_requested task beginning signal_requests cancel_request wait verdict dues decide latest_run start signal signal_with_start request_cancel terminate history describe pending_so_far in_use_so_far judge_fields_good judge judge_all failed_task completed_task start_task complete_workflow_task fail_workflow_task complete_activity cancel_activity fail_activity heartbeat least fire timer_turn next_transfer acknowledge next_dispatch dispatched effect deliver outcome
+unfolding role opens settles closing_status placed first_closing key_of put_in_order put_all cancels is_canceled_firing numbered is_in_use in_use phase attempt last_noted last_details was_cancel_requested task beginning signal_requests cancel_request no_run wait verdict dues decide latest_run start signal signal_with_start request_cancel terminate history describe pending_so_far in_use_so_far judge_fields_good judge judge_all failed_task completed_task start_task complete_workflow_task fail_workflow_task complete_activity cancel_activity fail_activity heartbeat least fire timer_turn next_transfer acknowledge next_dispatch dispatched effect deliver outcome
 conflict_policies = (refl, refl, refl, refl)
 
 -- a start after a run of the workflow ID closed
@@ -64,7 +54,7 @@ pub reuse_policies :
     × (reply_behind reuse_policies_script (0, start_of a (codes "r3")) ≡ Ok (says.Started (run 2)))
     × (reply_behind (reuse_policies_script ++ (0, start_of a (codes "r3")) ∷ (0, ToTerminate (record { workflow_id = a; run = None; reason = [] })) ∷ []) (0, start_with a (codes "r4") AllowDuplicateFailedOnly Fail 0) ≡ Ok (says.Started (run 3)))
     × (reply_behind (reuse_policies_script ++ (0, start_of a (codes "r3")) ∷ (0, ToTerminate (record { workflow_id = a; run = None; reason = [] })) ∷ (0, start_with a (codes "r4") AllowDuplicateFailedOnly Fail 0) ∷ []) start_a ≡ Err (AlreadyStarted (run 3)))
-unfolding role opens settles closing_status placed first_closing key_of put_in_order put_all cancels is_canceled_firing numbered is_in_use in_use phase attempt last_noted last_details was_cancel_requested task beginning signal_requests cancel_request wait verdict dues decide latest_run start signal signal_with_start request_cancel terminate history describe pending_so_far in_use_so_far judge_fields_good judge judge_all failed_task completed_task start_task complete_workflow_task fail_workflow_task complete_activity cancel_activity fail_activity heartbeat least fire timer_turn next_transfer acknowledge next_dispatch dispatched effect deliver outcome
+unfolding role opens settles closing_status placed first_closing key_of put_in_order put_all cancels is_canceled_firing numbered is_in_use in_use phase attempt last_noted last_details was_cancel_requested task beginning signal_requests cancel_request no_run wait verdict dues decide latest_run start signal signal_with_start request_cancel terminate history describe pending_so_far in_use_so_far judge_fields_good judge judge_all failed_task completed_task start_task complete_workflow_task fail_workflow_task complete_activity cancel_activity fail_activity heartbeat least fire timer_turn next_transfer acknowledge next_dispatch dispatched effect deliver outcome
 reuse_policies = (refl, refl, refl, refl, refl)
 
 -- a second request to cancel is repeated, or refused
@@ -76,7 +66,7 @@ pub cancel_requests :
     × (reply_behind cancel_requests_script (0, ToRequestCancel (record { workflow_id = a; run = None; request_id = Some (codes "c1") })) ≡ Ok says.Repeated)
     × (reply_behind cancel_requests_script (0, ToRequestCancel (record { workflow_id = a; run = None; request_id = Some (codes "c2") })) ≡ Err CancellationAlreadyRequested)
     × (history_behind cancel_requests_script 1 ≡ begun (event_at 3 0 (event.WorkflowExecutionCancelRequested Client) ∷ []))
-unfolding role opens settles closing_status placed first_closing key_of put_in_order put_all cancels is_canceled_firing numbered is_in_use in_use phase attempt last_noted last_details was_cancel_requested task beginning signal_requests cancel_request wait verdict dues decide latest_run start signal signal_with_start request_cancel terminate history describe pending_so_far in_use_so_far judge_fields_good judge judge_all failed_task completed_task start_task complete_workflow_task fail_workflow_task complete_activity cancel_activity fail_activity heartbeat least fire timer_turn next_transfer acknowledge next_dispatch dispatched effect deliver outcome
+unfolding role opens settles closing_status placed first_closing key_of put_in_order put_all cancels is_canceled_firing numbered is_in_use in_use phase attempt last_noted last_details was_cancel_requested task beginning signal_requests cancel_request no_run wait verdict dues decide latest_run start signal signal_with_start request_cancel terminate history describe pending_so_far in_use_so_far judge_fields_good judge judge_all failed_task completed_task start_task complete_workflow_task fail_workflow_task complete_activity cancel_activity fail_activity heartbeat least fire timer_turn next_transfer acknowledge next_dispatch dispatched effect deliver outcome
 cancel_requests = (refl, refl, refl, refl)
 
 -- a run that continues as new is followed in the same step
@@ -87,7 +77,7 @@ pub continue_as_new :
     (drop 4 (history_behind continue_as_new_script 1) ≡ event_at 5 0 (event.WorkflowExecutionContinuedAsNew (record { new_run = run 2; workflow_type = codes "w"; task_queue = main; input = [] })) ∷ [])
     × (history_behind continue_as_new_script 2 ≡ event_at 1 0 (event.WorkflowExecutionStarted (record { workflow_id = a; workflow_type = codes "w"; task_queue = main; input = []; run_timeout = 0; task_timeout = 10000; continued_from = Some (run 1); parent = None })) ∷ scheduled 2 0 1 ∷ [])
     × (reply_behind continue_as_new_script start_a ≡ Ok (says.Existing (run 2)))
-unfolding role opens settles closing_status placed first_closing key_of put_in_order put_all cancels is_canceled_firing numbered is_in_use in_use phase attempt last_noted last_details was_cancel_requested task beginning signal_requests cancel_request wait verdict dues decide latest_run start signal signal_with_start request_cancel terminate history describe pending_so_far in_use_so_far judge_fields_good judge judge_all failed_task completed_task start_task complete_workflow_task fail_workflow_task complete_activity cancel_activity fail_activity heartbeat least fire timer_turn next_transfer acknowledge next_dispatch dispatched effect deliver outcome
+unfolding role opens settles closing_status placed first_closing key_of put_in_order put_all cancels is_canceled_firing numbered is_in_use in_use phase attempt last_noted last_details was_cancel_requested task beginning signal_requests cancel_request no_run wait verdict dues decide latest_run start signal signal_with_start request_cancel terminate history describe pending_so_far in_use_so_far judge_fields_good judge judge_all failed_task completed_task start_task complete_workflow_task fail_workflow_task complete_activity cancel_activity fail_activity heartbeat least fire timer_turn next_transfer acknowledge next_dispatch dispatched effect deliver outcome
 continue_as_new = (refl, refl, refl)
 
 -- a start with a signal, and the same again
@@ -98,7 +88,7 @@ pub signals_with_start :
     (reply_behind [] (0, ToSignalWithStart (record { start = record { workflow_id = a; workflow_type = codes "w"; task_queue = main; input = []; request_id = Some (codes "r"); reuse = AllowDuplicate; conflict = Fail; run_timeout = 0; task_timeout = 0 }; name = codes "s"; signal_input = [] })) ≡ Ok (says.Started (run 1)))
     × (reply_behind signals_with_start_script (0, ToSignalWithStart (record { start = record { workflow_id = a; workflow_type = codes "w"; task_queue = main; input = []; request_id = Some (codes "r"); reuse = AllowDuplicate; conflict = Fail; run_timeout = 0; task_timeout = 0 }; name = codes "s"; signal_input = [] })) ≡ Ok (says.RepeatedRun (run 1)))
     × (history_behind signals_with_start_script 1 ≡ started_with a 0 ∷ signaled 2 0 (codes "s") ∷ scheduled 3 0 1 ∷ [])
-unfolding role opens settles closing_status placed first_closing key_of put_in_order put_all cancels is_canceled_firing numbered is_in_use in_use phase attempt last_noted last_details was_cancel_requested task beginning signal_requests cancel_request wait verdict dues decide latest_run start signal signal_with_start request_cancel terminate history describe pending_so_far in_use_so_far judge_fields_good judge judge_all failed_task completed_task start_task complete_workflow_task fail_workflow_task complete_activity cancel_activity fail_activity heartbeat least fire timer_turn next_transfer acknowledge next_dispatch dispatched effect deliver outcome
+unfolding role opens settles closing_status placed first_closing key_of put_in_order put_all cancels is_canceled_firing numbered is_in_use in_use phase attempt last_noted last_details was_cancel_requested task beginning signal_requests cancel_request no_run wait verdict dues decide latest_run start signal signal_with_start request_cancel terminate history describe pending_so_far in_use_so_far judge_fields_good judge judge_all failed_task completed_task start_task complete_workflow_task fail_workflow_task complete_activity cancel_activity fail_activity heartbeat least fire timer_turn next_transfer acknowledge next_dispatch dispatched effect deliver outcome
 signals_with_start = (refl, refl, refl)
 
 -- the hashes of two workflow IDs, by which they lie on their shards

@@ -1,5 +1,5 @@
 -- the words in which the worked rows are written: a service of one shard with the queue `main`, and what it is asked
-use Rattle.std.proofs.Common.{◌≡◌, ℕ, ◌+◌, List, [], ◌∷◌, ◌++◌, Option, None, Some, false, Ok, Err, take, drop}
+use Rattle.std.proofs.Common.{ℕ, ◌+◌, List, [], ◌∷◌, Option, None, Some, false, Ok}
 use Rattle.std.specs.Prelude.{codes}
 use Rattle.wf_event.specs.declared.event.Event.{Event}
 use Rattle.wf_event.specs.declared.attributes.Attributes.{Attributes}
@@ -10,7 +10,6 @@ use Rattle.wf_event_values.specs.declared.policies.ReusePolicy.{ReusePolicy}
 use Rattle.wf_event_values.specs.declared.policies.ReusePolicy.TheVariants.{AllowDuplicate}
 use Rattle.wf_event_values.specs.declared.policies.ConflictPolicy.{ConflictPolicy}
 use Rattle.wf_event_values.specs.declared.policies.ConflictPolicy.TheVariants.{Fail}
-use Rattle.wf_event_values.specs.declared.policies.ParentClosePolicy.{ParentClosePolicy}
 use Rattle.wf_event_values.specs.declared.policies.Status.{Status}
 use Rattle.wf_event_values.specs.declared.policies.TaskKind.{TaskKind}
 use Rattle.wf_event_values.specs.declared.policies.TaskKind.TheVariants.{Workflow, Activity}
@@ -20,12 +19,11 @@ use Rattle.wf_command.specs.declared.command.Command.TheVariants as command
 use Rattle.service_model.specs.declared.answer.Answer.TheVariants as says
 use Rattle.service_model.specs.declared.content.Content.{Content}
 use Rattle.service_model.specs.declared.content.Setup.{Setup}
-use Rattle.service_model.specs.declared.request.Hint.{Hint}
 use Rattle.service_model.specs.declared.request.TakenTask.{TakenTask}
 use Rattle.service_model.specs.declared.transfer.TransferContent.{TransferContent}
 use Rattle.service_model.specs.Shown.{shown}
 use Rattle.service_model.specs.Outcome.{Reply}
-use Rattle.service_model.specs.Service.{Asked, ToStart, ToSignal, ToRequestCancel, ToTerminate, ToStartTask, ToCompleteWorkflowTask, ToFailWorkflowTask, ToFailActivity, ToShowHistory, ToDescribe, ToTurnTimers, ToShowTransfer, ToDeliver, ToAcknowledge, after_asking, answer_to, opening, journal_at}
+use Rattle.service_model.specs.Service.{Asked, ToStart, ToSignal, ToStartTask, ToCompleteWorkflowTask, ToFailActivity, ToDescribe, ToDeliver, ToAcknowledge, after_asking, answer_to, opening, journal_at}
 
 abbrev pub a : List ℕ
 a = codes "a"

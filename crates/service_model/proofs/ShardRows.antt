@@ -1,35 +1,26 @@
 -- a parent and a child on two shards, computed over the definitions
-use Rattle.std.proofs.Common.{◌≡◌, ℕ, List, [], ◌∷◌, ◌++◌, None, Some, false, true, refl, Ok, Err, drop}
+use Rattle.std.proofs.Common.{◌≡◌, ℕ, [], ◌∷◌, None, refl, Ok, drop}
 use Rattle.std.specs.Prelude.{codes}
-use Rattle.service_model.proofs.RowWords.{shard_of_service, run_on, run, Step, after_from, after_all, reply_behind, history_behind, start_with, start_of, start_a, signal_of, take_task, take_activity, token, complete, timer, activity, policy, fail_attempt, describe_a, event_at, started_with, scheduled, begun, taken, completed, signaled, fired, described, deliver_it, acknowledge_it, a, b, main}
+use Rattle.service_model.proofs.RowWords.{shard_of_service, run_on, run, after_from, start_a, take_task, complete, event_at, scheduled, deliver_it, a, b, main}
 use Rattle.wf_event.specs.declared.attributes.Attributes.TheVariants as event
 use Rattle.wf_command.specs.declared.command.Command.TheVariants as command
 use Rattle.service_model.specs.declared.answer.Answer.TheVariants as says
 use Rattle.service_model.specs.declared.transfer.TransferContent.TheVariants as transfer
-use Rattle.service_model.specs.declared.transfer.ExternalKind.TheVariants.{Signal as OfSignal}
-use Rattle.wf_event_values.specs.declared.policies.ReusePolicy.TheVariants.{AllowDuplicate, AllowDuplicateFailedOnly}
-use Rattle.wf_event_values.specs.declared.policies.ConflictPolicy.TheVariants.{Fail, UseExisting, TerminateExisting}
+use Rattle.wf_event_values.specs.declared.policies.ReusePolicy.TheVariants.{AllowDuplicate}
 use Rattle.wf_event_values.specs.declared.policies.ParentClosePolicy.TheVariants.{Terminate}
-use Rattle.wf_event_values.specs.declared.policies.CancelSource.TheVariants.{Client}
-use Rattle.wf_event_values.specs.declared.policies.TaskKind.TheVariants.{Workflow}
-use Rattle.wf_event_values.specs.declared.policies.Cause.TheVariants.{UnhandledCommand, CommandAfterClose, WorkflowWorkerUnhandledFailure, StartTimerDuplicateId, ExternalWorkflowExecutionNotFound}
-use Rattle.wf_event_values.specs.declared.policies.RetryState.TheVariants.{MaximumAttemptsReached, Timeout}
-use Rattle.wf_event_values.specs.declared.policies.TimeoutKind.TheVariants.{ScheduleToClose as ToClose}
-use Rattle.wf_event_values.specs.declared.policies.Status.TheVariants.{Running, Completed, Terminated, TimedOut}
-use Rattle.wf_event_values.specs.declared.policies.DeadlineClass.TheVariants.{RunTimeout, WorkflowTask, ScheduleToClose, Heartbeat, RetryReady, UserTimer}
-use Rattle.wf_event_values.specs.declared.refusal.Refusal.TheVariants.{NotFound, AlreadyStarted, CancellationAlreadyRequested}
-use Rattle.service_model.specs.Service.{ToSignalWithStart, ToRequestCancel, ToTerminate, ToFailWorkflowTask, ToCompleteActivity, ToCancelActivity, ToHeartbeat, ToShowHistory, ToDescribe, ToTurnTimers, ToShowTransfer, ToShowDispatch, ToCountDispatch, answer_to, after_asking, opening, journal_at, ToStart, Asked, ToDeliver, ToAcknowledge}
+use Rattle.wf_event_values.specs.declared.policies.Status.TheVariants.{Terminated}
+use Rattle.service_model.specs.Service.{ToTerminate, ToShowTransfer, answer_to, after_asking, opening, journal_at, Asked, ToDeliver, ToAcknowledge}
 use Rattle.service_model.specs.Shown.{shown}
 use Rattle.service_model.specs.declared.content.Content.{Content}
 use Rattle.wf_event.specs.Role.{role, opens, settles, closing_status}
 use Rattle.service_model.specs.Windows.{placed, first_closing}
 use Rattle.service_model.specs.Shown.{key_of, put_in_order, put_all, cancels, is_canceled_firing, numbered}
 use Rattle.service_model.specs.Pending.{is_in_use, in_use, phase, attempt, last_noted, last_details, was_cancel_requested, task}
-use Rattle.service_model.specs.RunState.{beginning, signal_requests, cancel_request}
+use Rattle.service_model.specs.RunState.{beginning, signal_requests, cancel_request, no_run}
 use Rattle.service_model.specs.Retry.{wait, verdict}
 use Rattle.service_model.specs.Deadlines.{dues}
 use Rattle.service_model.specs.IdPolicy.{decide}
-use Rattle.service_model.specs.Outcome.{latest_run, hash_of}
+use Rattle.service_model.specs.Outcome.{latest_run}
 use Rattle.service_model.specs.Starts.{start}
 use Rattle.service_model.specs.Signals.{signal, signal_with_start}
 use Rattle.service_model.specs.Cancels.{request_cancel, terminate}
@@ -85,5 +76,5 @@ pub child_terminated_with_parent :
     × (answer_to child_closed 0 (ToShowTransfer 0) ≡ Ok (says.Transfer (record { from = 1; number = 1; content = child_started })))
     × (answer_to (after_asking child_closed 0 (ToAcknowledge (record { to = 0; number = 1 }))) 0 (ToShowTransfer 0) ≡ Ok (says.Transfer (record { from = 1; number = 2; content = child_ended })))
     × (drop 5 (shown (journal_at (after_from parent_closed ((0, from_child_shard 1 child_started) ∷ (0, from_child_shard 2 child_ended) ∷ [])).runs 1)) ≡ event_at 6 0 (event.WorkflowExecutionTerminated []) ∷ [])
-unfolding role opens settles closing_status placed first_closing key_of put_in_order put_all cancels is_canceled_firing numbered is_in_use in_use phase attempt last_noted last_details was_cancel_requested task beginning signal_requests cancel_request wait verdict dues decide latest_run start signal signal_with_start request_cancel terminate history describe pending_so_far in_use_so_far judge_fields_good judge judge_all failed_task completed_task start_task complete_workflow_task fail_workflow_task complete_activity cancel_activity fail_activity heartbeat least fire timer_turn next_transfer acknowledge next_dispatch dispatched effect deliver outcome
+unfolding role opens settles closing_status placed first_closing key_of put_in_order put_all cancels is_canceled_firing numbered is_in_use in_use phase attempt last_noted last_details was_cancel_requested task beginning signal_requests cancel_request no_run wait verdict dues decide latest_run start signal signal_with_start request_cancel terminate history describe pending_so_far in_use_so_far judge_fields_good judge judge_all failed_task completed_task start_task complete_workflow_task fail_workflow_task complete_activity cancel_activity fail_activity heartbeat least fire timer_turn next_transfer acknowledge next_dispatch dispatched effect deliver outcome
 child_terminated_with_parent = (refl, refl, refl, refl, refl, refl, refl, refl, refl)

@@ -1,35 +1,27 @@
 -- external signals and children on one shard, computed over the definitions
-use Rattle.std.proofs.Common.{◌≡◌, ℕ, List, [], ◌∷◌, ◌++◌, None, Some, false, true, refl, Ok, Err, drop}
+use Rattle.std.proofs.Common.{◌≡◌, List, [], ◌∷◌, ◌++◌, None, false, refl, Ok, drop}
 use Rattle.std.specs.Prelude.{codes}
-use Rattle.service_model.proofs.RowWords.{shard_of_service, run_on, run, Step, after_from, after_all, reply_behind, history_behind, start_with, start_of, start_a, signal_of, take_task, take_activity, token, complete, timer, activity, policy, fail_attempt, describe_a, event_at, started_with, scheduled, begun, taken, completed, signaled, fired, described, deliver_it, acknowledge_it, a, b, main}
+use Rattle.service_model.proofs.RowWords.{run, Step, reply_behind, history_behind, start_a, take_task, complete, describe_a, event_at, scheduled, described, deliver_it, acknowledge_it, b, main}
 use Rattle.wf_event.specs.declared.attributes.Attributes.TheVariants as event
 use Rattle.wf_command.specs.declared.command.Command.TheVariants as command
 use Rattle.service_model.specs.declared.answer.Answer.TheVariants as says
 use Rattle.service_model.specs.declared.transfer.TransferContent.TheVariants as transfer
 use Rattle.service_model.specs.declared.transfer.ExternalKind.TheVariants.{Signal as OfSignal}
-use Rattle.wf_event_values.specs.declared.policies.ReusePolicy.TheVariants.{AllowDuplicate, AllowDuplicateFailedOnly}
-use Rattle.wf_event_values.specs.declared.policies.ConflictPolicy.TheVariants.{Fail, UseExisting, TerminateExisting}
+use Rattle.wf_event_values.specs.declared.policies.ReusePolicy.TheVariants.{AllowDuplicate}
 use Rattle.wf_event_values.specs.declared.policies.ParentClosePolicy.TheVariants.{Terminate}
-use Rattle.wf_event_values.specs.declared.policies.CancelSource.TheVariants.{Client}
 use Rattle.wf_event_values.specs.declared.policies.TaskKind.TheVariants.{Workflow}
-use Rattle.wf_event_values.specs.declared.policies.Cause.TheVariants.{UnhandledCommand, CommandAfterClose, WorkflowWorkerUnhandledFailure, StartTimerDuplicateId, ExternalWorkflowExecutionNotFound}
-use Rattle.wf_event_values.specs.declared.policies.RetryState.TheVariants.{MaximumAttemptsReached, Timeout}
-use Rattle.wf_event_values.specs.declared.policies.TimeoutKind.TheVariants.{ScheduleToClose as ToClose}
-use Rattle.wf_event_values.specs.declared.policies.Status.TheVariants.{Running, Completed, Terminated, TimedOut}
-use Rattle.wf_event_values.specs.declared.policies.DeadlineClass.TheVariants.{RunTimeout, WorkflowTask, ScheduleToClose, Heartbeat, RetryReady, UserTimer}
-use Rattle.wf_event_values.specs.declared.refusal.Refusal.TheVariants.{NotFound, AlreadyStarted, CancellationAlreadyRequested}
-use Rattle.service_model.specs.Service.{ToSignalWithStart, ToRequestCancel, ToTerminate, ToFailWorkflowTask, ToCompleteActivity, ToCancelActivity, ToHeartbeat, ToShowHistory, ToDescribe, ToTurnTimers, ToShowTransfer, ToShowDispatch, ToCountDispatch, answer_to, after_asking, opening, journal_at, ToStart}
-use Rattle.service_model.specs.Shown.{shown}
-use Rattle.service_model.specs.declared.content.Content.{Content}
+use Rattle.wf_event_values.specs.declared.policies.Cause.TheVariants.{ExternalWorkflowExecutionNotFound}
+use Rattle.wf_event_values.specs.declared.policies.Status.TheVariants.{Running, Completed}
+use Rattle.service_model.specs.Service.{ToShowTransfer, ToShowDispatch, ToCountDispatch}
 use Rattle.wf_event.specs.Role.{role, opens, settles, closing_status}
 use Rattle.service_model.specs.Windows.{placed, first_closing}
 use Rattle.service_model.specs.Shown.{key_of, put_in_order, put_all, cancels, is_canceled_firing, numbered}
 use Rattle.service_model.specs.Pending.{is_in_use, in_use, phase, attempt, last_noted, last_details, was_cancel_requested, task}
-use Rattle.service_model.specs.RunState.{beginning, signal_requests, cancel_request}
+use Rattle.service_model.specs.RunState.{beginning, signal_requests, cancel_request, no_run}
 use Rattle.service_model.specs.Retry.{wait, verdict}
 use Rattle.service_model.specs.Deadlines.{dues}
 use Rattle.service_model.specs.IdPolicy.{decide}
-use Rattle.service_model.specs.Outcome.{latest_run, hash_of}
+use Rattle.service_model.specs.Outcome.{latest_run}
 use Rattle.service_model.specs.Starts.{start}
 use Rattle.service_model.specs.Signals.{signal, signal_with_start}
 use Rattle.service_model.specs.Cancels.{request_cancel, terminate}
@@ -53,7 +45,7 @@ pub external_signal_to_nobody :
     × (reply_behind (external_signal_to_nobody_script ++ (0, deliver_it 1 (transfer.SignalExternal (record { from_run = run 1; initiated = 5; workflow_id = codes "z"; run = None; name = codes "s"; input = [] }))) ∷ (0, acknowledge_it 1) ∷ []) (0, ToShowTransfer 0) ≡ Ok (says.Transfer (record { from = 0; number = 2; content = transfer.ExternalDone (record { to_run = run 1; initiated = 5; kind = OfSignal; done = false }) })))
     × (drop 5 (history_behind (external_signal_to_nobody_script ++ (0, deliver_it 1 (transfer.SignalExternal (record { from_run = run 1; initiated = 5; workflow_id = codes "z"; run = None; name = codes "s"; input = [] }))) ∷ (0, acknowledge_it 1) ∷ (0, deliver_it 2 (transfer.ExternalDone (record { to_run = run 1; initiated = 5; kind = OfSignal; done = false }))) ∷ []) 1) ≡ event_at 6 0 (event.SignalExternalWorkflowExecutionFailed (record { initiated = 5; cause = ExternalWorkflowExecutionNotFound })) ∷ scheduled 7 0 1 ∷ [])
     × (reply_behind (external_signal_to_nobody_script ++ (0, deliver_it 1 (transfer.SignalExternal (record { from_run = run 1; initiated = 5; workflow_id = codes "z"; run = None; name = codes "s"; input = [] }))) ∷ (0, acknowledge_it 1) ∷ (0, deliver_it 2 (transfer.ExternalDone (record { to_run = run 1; initiated = 5; kind = OfSignal; done = false }))) ∷ (0, acknowledge_it 2) ∷ []) (0, ToShowTransfer 0) ≡ Ok says.NoTransfer)
-unfolding role opens settles closing_status placed first_closing key_of put_in_order put_all cancels is_canceled_firing numbered is_in_use in_use phase attempt last_noted last_details was_cancel_requested task beginning signal_requests cancel_request wait verdict dues decide latest_run start signal signal_with_start request_cancel terminate history describe pending_so_far in_use_so_far judge_fields_good judge judge_all failed_task completed_task start_task complete_workflow_task fail_workflow_task complete_activity cancel_activity fail_activity heartbeat least fire timer_turn next_transfer acknowledge next_dispatch dispatched effect deliver outcome
+unfolding role opens settles closing_status placed first_closing key_of put_in_order put_all cancels is_canceled_firing numbered is_in_use in_use phase attempt last_noted last_details was_cancel_requested task beginning signal_requests cancel_request no_run wait verdict dues decide latest_run start signal signal_with_start request_cancel terminate history describe pending_so_far in_use_so_far judge_fields_good judge judge_all failed_task completed_task start_task complete_workflow_task fail_workflow_task complete_activity cancel_activity fail_activity heartbeat least fire timer_turn next_transfer acknowledge next_dispatch dispatched effect deliver outcome
 external_signal_to_nobody = (refl, refl, refl, refl, refl, refl)
 
 -- a child is started, completes, and its parent is told
@@ -67,5 +59,5 @@ pub child_completes :
     × (drop 5 (history_behind (child_completes_script ++ (0, deliver_it 2 (transfer.ChildStarted (record { parent_run = run 1; initiated = 5; run = run 2 }))) ∷ (0, deliver_it 3 (transfer.ChildClosed (record { parent_run = run 1; initiated = 5; run = run 2; status = Completed; text = codes "y" }))) ∷ []) 1) ≡ event_at 6 0 (event.ChildWorkflowExecutionStarted (record { initiated = 5; workflow_id = b; run = run 2 })) ∷ scheduled 7 0 1 ∷ event_at 8 0 (event.ChildWorkflowExecutionCompleted (record { initiated = 5; run = run 2; text = codes "y" })) ∷ [])
     × (reply_behind (child_completes_script ++ (0, deliver_it 2 (transfer.ChildStarted (record { parent_run = run 1; initiated = 5; run = run 2 }))) ∷ (0, deliver_it 3 (transfer.ChildClosed (record { parent_run = run 1; initiated = 5; run = run 2; status = Completed; text = codes "y" }))) ∷ []) describe_a ≡ described Running 8 0)
     × (reply_behind (child_completes_script ++ (0, deliver_it 2 (transfer.ChildStarted (record { parent_run = run 1; initiated = 5; run = run 2 }))) ∷ (0, ToCountDispatch 1) ∷ []) (0, ToShowDispatch) ≡ Ok (says.Dispatch (record { number = 2; dispatch = record { queue = main; hint = record { kind = Workflow; shard = 0; run = 2; event = 2; attempt = 1 } } })))
-unfolding role opens settles closing_status placed first_closing key_of put_in_order put_all cancels is_canceled_firing numbered is_in_use in_use phase attempt last_noted last_details was_cancel_requested task beginning signal_requests cancel_request wait verdict dues decide latest_run start signal signal_with_start request_cancel terminate history describe pending_so_far in_use_so_far judge_fields_good judge judge_all failed_task completed_task start_task complete_workflow_task fail_workflow_task complete_activity cancel_activity fail_activity heartbeat least fire timer_turn next_transfer acknowledge next_dispatch dispatched effect deliver outcome
+unfolding role opens settles closing_status placed first_closing key_of put_in_order put_all cancels is_canceled_firing numbered is_in_use in_use phase attempt last_noted last_details was_cancel_requested task beginning signal_requests cancel_request no_run wait verdict dues decide latest_run start signal signal_with_start request_cancel terminate history describe pending_so_far in_use_so_far judge_fields_good judge judge_all failed_task completed_task start_task complete_workflow_task fail_workflow_task complete_activity cancel_activity fail_activity heartbeat least fire timer_turn next_transfer acknowledge next_dispatch dispatched effect deliver outcome
 child_completes = (refl, refl, refl, refl, refl, refl)

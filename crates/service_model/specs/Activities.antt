@@ -1,5 +1,5 @@
 -- what a worker says of an activity's attempt (Temporal, Activity timeouts, heartbeats and Retry Policies)
-use Rattle.std.specs.Prelude.{ℕ, ◌+◌, Bool, cond, ◌&&◌, ◌==◌, List, [], ◌∷◌, Option, None, Some, unwrap_or}
+use Rattle.std.specs.Prelude.{ℕ, ◌+◌, cond, ◌&&◌, ◌==◌, List, [], ◌∷◌, Option, None, Some, unwrap_or}
 use Rattle.wf_event.specs.declared.attributes.Attributes.{Attributes}
 use Rattle.wf_event.specs.declared.attributes.Attributes.TheVariants.{ActivityTaskStarted, ActivityTaskCompleted, ActivityTaskFailed, ActivityTaskCanceled}
 use Rattle.wf_event.specs.declared.payloads.ActivityTaskScheduled.{ActivityTaskScheduled as ScheduledAttributes}

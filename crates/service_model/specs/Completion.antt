@@ -9,15 +9,14 @@ use Rattle.wf_event.specs.declared.payloads.PolicyFields.{PolicyFields}
 use Rattle.wf_event_values.specs.Run.{Run}
 use Rattle.wf_event_values.specs.declared.policies.Cause.{Cause}
 use Rattle.wf_event_values.specs.declared.policies.Cause.TheVariants.{UnhandledCommand, CommandAfterClose, BadScheduleActivityAttributes, ScheduleActivityDuplicateId, PendingActivitiesLimitExceeded, BadRequestCancelActivityAttributes, StartTimerDuplicateId, BadCancelTimerAttributes, BadContinueAsNewAttributes, BadStartChildExecutionAttributes, PendingChildWorkflowsLimitExceeded, PendingSignalsLimitExceeded, PendingRequestCancelLimitExceeded}
-use Rattle.wf_event.specs.Role.{Role, TimerFires, role, is_closing_role, Class, AnActivity, ATimer, AChild, ASignal, ACancel, opens, settles}
+use Rattle.wf_event.specs.Role.{Role, TimerFires, role, is_closing_role, Class, AnActivity, ATimer, AChild, ASignal, ACancel, opens}
 use Rattle.wf_command.specs.declared.command.Command.{Command}
 use Rattle.wf_command.specs.declared.command.Command.TheVariants.{ScheduleActivityTask, RequestCancelActivityTask, StartTimer, CancelTimer, RecordMarker, CompleteWorkflowExecution, FailWorkflowExecution, CancelWorkflowExecution, ContinueAsNewWorkflowExecution, StartChildWorkflowExecution, SignalExternalWorkflowExecution, RequestCancelExternalWorkflowExecution}
 use Rattle.wf_command.specs.Check.{attributes_fault}
 use Rattle.service_model.specs.declared.content.Setup.{Setup}
-use Rattle.service_model.specs.declared.journal.NewEvent.{NewEvent}
 use Rattle.service_model.specs.Shown.{is_cancel}
 use Rattle.service_model.specs.Pending.{is_opening, is_settled, is_cancel_request_of, Phase, IsRunning}
-use Rattle.service_model.specs.RunState.{RunState, ActivityRow, used, row_of, held_attributes, queue_of, type_of, LastTask, last_task}
+use Rattle.service_model.specs.RunState.{RunState, ActivityRow, used, row_of, held_attributes, queue_of, type_of, last_task}
 use Rattle.service_model.specs.Outcome.{knows_queue, schedule_task, used_task_timeout}
 use Rattle.service_model.specs.Retry.{maximum_of}
 

@@ -8,7 +8,7 @@ use Rattle.wf_event.specs.Role.{AnActivity, ATimer}
 use Rattle.wf_event_values.specs.declared.policies.DeadlineClass.{DeadlineClass}
 use Rattle.wf_event_values.specs.declared.policies.DeadlineClass.TheVariants.{RunTimeout, WorkflowTask, ScheduleToClose, ScheduleToStart, Heartbeat, StartToClose, RetryReady, UserTimer}
 use Rattle.service_model.specs.Pending.{is_settled, Phase, IsQueued, IsRunning, IsWaiting, Task, IsStarted}
-use Rattle.service_model.specs.RunState.{RunState, Beginning, ActivityRow, LastTask, pending, held_attributes, is_open, last_task}
+use Rattle.service_model.specs.RunState.{RunState, Beginning, ActivityRow, pending, held_attributes, is_open, last_task}
 use Rattle.service_model.specs.Retry.{wait}
 
 -- a deadline of one run

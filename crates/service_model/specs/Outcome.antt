@@ -1,5 +1,5 @@
 -- what a step does, as one record, and the words in which each request's definition is written
-use Rattle.std.specs.Prelude.{ℕ, ◌+◌, ◌*◌, ◌-◌, ◌%◌, ◌^◌, bit_xor, Bool, true, false, cond, ◌&&◌, nat_le, ◌==◌, bytes_eq, fold, List, [], ◌∷◌, ◌++◌, length, slice_get, Option, None, Some, unwrap_or, Result, Ok, Err}
+use Rattle.std.specs.Prelude.{ℕ, ◌+◌, ◌*◌, ◌-◌, ◌%◌, ◌^◌, bit_xor, Bool, true, false, cond, ◌&&◌, nat_le, ◌==◌, bytes_eq, fold, List, [], ◌∷◌, ◌++◌, length, slice_index_or, Option, None, Some, Result, Ok, Err}
 use Rattle.std.specs.List.{enumerate_from, list_any}
 use Rattle.wf_event.specs.declared.attributes.Attributes.{Attributes}
 use Rattle.wf_event.specs.declared.attributes.Attributes.TheVariants.{WorkflowTaskScheduled}
@@ -86,9 +86,9 @@ run_id setup n = record { service = setup.service; shard = setup.shard; ordinal 
 abbrev pub next_ordinal : Runs → ℕ
 next_ordinal R = length R.states + 1
 
--- the state of the run with that ordinal
+-- the state of the run with that ordinal, which counts from 1
 abbrev pub run_at : Runs → ℕ → RunState
-run_at R n = cond (n == 0) no_run (unwrap_or (slice_get R.states (n - 1)) no_run)
+run_at R n = slice_index_or R.states (n - 1) no_run
 
 -- the ordinal of the latest run of a workflow ID
 unfoldable pub latest_run : List RunState → List ℕ → Option ℕ

@@ -1,5 +1,11 @@
 -- one shard of the sequential service: what each request is answered, and the content that it leaves
-use Rattle.std.specs.Prelude.{ℕ, ◌+◌, ◌-◌, max, cond, ◌==◌, List, [], ◌∷◌, ◌++◌, length, map, filter, Option, None, Some, replicate, slice_index_or, slice_set}
+use Rattle.std.specs.Prelude.{Bool, true, false, ℕ, ◌+◌, ◌-◌, max, cond, ◌==◌, List, [], ◌∷◌, ◌++◌, length, map, filter, Option, None, Some, replicate, slice_index_or, slice_set}
+use Rattle.wf_event_values.specs.declared.field.Field.TheVariants as field
+use Rattle.wf_event_values.specs.declared.policies.ReusePolicy.{ReusePolicy}
+use Rattle.wf_event_values.specs.declared.policies.ReusePolicy.TheVariants.{AllowDuplicate}
+use Rattle.wf_event_values.specs.declared.policies.ConflictPolicy.{ConflictPolicy}
+use Rattle.wf_event_values.specs.declared.policies.ConflictPolicy.TheVariants.{Fail}
+use Rattle.wf_event_values.specs.declared.refusal.Refusal.TheVariants.{InvalidArgument}
 use Rattle.service_model.specs.declared.content.Content.{Content}
 use Rattle.service_model.specs.declared.content.Setup.{Setup}
 use Rattle.service_model.specs.declared.content.Dispatch.{Dispatch}
@@ -23,8 +29,8 @@ use Rattle.service_model.specs.declared.request.FailActivity.{FailActivity}
 use Rattle.service_model.specs.declared.request.Acknowledge.{Acknowledge}
 use Rattle.service_model.specs.declared.transfer.Transfer.{Transfer}
 use Rattle.service_model.specs.Journal.{Journal}
-use Rattle.service_model.specs.RunState.{RunState, state_of}
-use Rattle.service_model.specs.Outcome.{Outcome, Added, Sent, Counting, CountsNothing, AcceptsFrom, AcknowledgesTo, CountsDispatch, Reply, Runs}
+use Rattle.service_model.specs.RunState.{state_of}
+use Rattle.service_model.specs.Outcome.{Outcome, Added, Sent, Counting, CountsNothing, AcceptsFrom, AcknowledgesTo, CountsDispatch, Reply, Runs, refused}
 use Rattle.service_model.specs.Issued.{dispatches_of, transfers_of, is_open_fact}
 use Rattle.service_model.specs.Starts.{start}
 use Rattle.service_model.specs.Signals.{signal, signal_with_start}
@@ -59,12 +65,6 @@ pub data Asked : Type 0 where
   ToShowDispatch : Asked
   ToCountDispatch : ℕ → Asked
 
--- what an operation asks
-abbrev pub asked : Operation → Asked
-asked (served.Start q) = ToStart q
-asked (served.Signal q) = ToSignal q
-asked (served.History q) = ToShowHistory q
-
 -- what requests are decided on
 abbrev pub runs_of : Content → Runs
 runs_of S = record { setup = S.setup; states = map state_of S.runs }
@@ -91,6 +91,27 @@ outcome S m (ToDeliver t) = deliver (runs_of S) S.accepted t
 outcome S m (ToAcknowledge q) = acknowledge S.setup S.outgoing q
 outcome S m ToShowDispatch = next_dispatch S.dispatches S.dispatched
 outcome S m (ToCountDispatch number) = dispatched S.dispatches S.dispatched number
+
+abbrev pub is_allow_duplicate : ReusePolicy → Bool
+is_allow_duplicate AllowDuplicate = true
+is_allow_duplicate _ = false
+
+abbrev pub is_fail : ConflictPolicy → Bool
+is_fail Fail = true
+is_fail _ = false
+
+-- starts are served at the default policies so far, and others are refused
+abbrev pub at_default_policies : Start → Outcome → Outcome
+at_default_policies q rest =
+    cond (is_allow_duplicate q.reuse)
+    (cond (is_fail q.conflict) rest (refused (InvalidArgument field.Conflict)))
+    (refused (InvalidArgument field.Reuse))
+
+-- what an operation does, at the step's moment
+unfoldable pub outcome_of : Content → ℕ → Operation → Outcome
+outcome_of S m (served.Start q) = at_default_policies q (outcome S m (ToStart q))
+outcome_of S m (served.Signal q) = outcome S m (ToSignal q)
+outcome_of S m (served.History q) = outcome S m (ToShowHistory q)
 
 -- facts as entries of a step, by their places from n on
 abbrev pub entries : ℕ → ℕ → ℕ → List Fact → Journal
@@ -176,11 +197,11 @@ after_asking S at a = content_after S (moment_of S at) (outcome S (moment_of S a
 
 -- what a request is answered
 unfoldable pub answer : Content → Request → Reply
-answer S q = answer_to S q.at (asked q.operation)
+answer S q = (outcome_of S (moment_of S q.at) q.operation).reply
 
 -- the content that a request leaves
 unfoldable pub after : Content → Request → Content
-after S q = after_asking S q.at (asked q.operation)
+after S q = content_after S (moment_of S q.at) (outcome_of S (moment_of S q.at) q.operation)
 
 -- the content at opening
 abbrev pub opening : Setup → Content

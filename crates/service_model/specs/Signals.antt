@@ -10,14 +10,13 @@ use Rattle.service_model.specs.declared.journal.Fact.{Fact}
 use Rattle.service_model.specs.declared.request.Start.{Start}
 use Rattle.service_model.specs.declared.request.Signal.{Signal}
 use Rattle.service_model.specs.declared.request.SignalWithStart.{SignalWithStart}
-use Rattle.service_model.specs.RunState.{RunState}
 use Rattle.service_model.specs.Outcome.{Outcome, Runs, answered, refused, adds, on_shard, knows_queue, run_id, run_at, latest_run, open_run, outside, made_by}
 use Rattle.service_model.specs.Starts.{started_fact, first_task, decision, by_decision}
 
 -- whether an earlier signal of the run bore this request id
 abbrev pub was_signaled : List (List ℕ) → Option (List ℕ) → Bool
 was_signaled known None = false
-was_signaled known (Some request) = list_any (λ r. bytes_eq r request) known
+was_signaled known (Some request) = list_any (λ r. bytes_eq request r) known
 
 abbrev pub signal_fact : Option (List ℕ) → List ℕ → List ℕ → Fact
 signal_fact request name input = made_by request (WorkflowExecutionSignaled (record { name = name; input = input }))

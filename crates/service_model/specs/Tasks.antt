@@ -1,6 +1,5 @@
 -- taking a task, completing and failing a workflow task
-use Rattle.std.specs.Prelude.{ℕ, ◌+◌, Bool, true, false, cond, ◌&&◌, not, ◌==◌, List, [], ◌∷◌, map, length, Option, None, Some, unwrap_or, Ok, Err}
-use Rattle.wf_event.specs.declared.event.Event.{Event}
+use Rattle.std.specs.Prelude.{ℕ, ◌+◌, Bool, true, false, cond, ◌&&◌, ◌==◌, List, [], ◌∷◌, map, length, Option, None, Some, unwrap_or, Ok, Err}
 use Rattle.wf_event.specs.declared.attributes.Attributes.{Attributes}
 use Rattle.wf_event.specs.declared.attributes.Attributes.TheVariants.{WorkflowExecutionStarted, WorkflowTaskStarted}
 use Rattle.wf_event.specs.declared.payloads.WorkflowExecutionStarted.{WorkflowExecutionStarted as StartedAttributes}
@@ -25,7 +24,7 @@ use Rattle.service_model.specs.Pending.{is_settled, Phase, IsQueued, Task, IsSch
 use Rattle.service_model.specs.RunState.{RunState, ActivityRow, Beginning, row_of, held_attributes, id_of, last_task}
 use Rattle.service_model.specs.Deadlines.{scheduled_fields}
 use Rattle.service_model.specs.Outcome.{Outcome, Runs, answered, refused, adds, run_id, run_at, has_run, next_ordinal, made_by, noted, used_task_timeout}
-use Rattle.service_model.specs.Starts.{start_request, first_task}
+use Rattle.service_model.specs.Starts.{first_task}
 use Rattle.service_model.specs.Completion.{Judged, judge_all, failed_task, completed_task}
 
 abbrev pub is_scheduled_task : Task → Bool

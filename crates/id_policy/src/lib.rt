@@ -1,0 +1,8 @@
+//! What a start does with a workflow ID that was used before (Temporal, Workflow ID reuse policy and Workflow ID conflict policy).
+#![tactic(auto)]
+
+mod decision;
+#[cfg(test)]
+mod tests;
+
+pub use decision::{Decision, Latest, decide};

@@ -1,0 +1,10 @@
+//! Whether an activity is tried again, and how long it waits before that (Temporal, Retry Policies).
+#![tactic(auto)]
+
+mod policy;
+#[cfg(test)]
+mod tests;
+mod verdict;
+
+pub use policy::RetryPolicy;
+pub use verdict::{Ended, Verdict};

@@ -1,0 +1,5 @@
+pub mod Steps
+pub mod LineLemmas
+pub mod OutputLemmas
+pub mod EndLemmas
+pub mod OnePassLemmas

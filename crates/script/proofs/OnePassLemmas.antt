@@ -1,0 +1,164 @@
+-- a service with one pass: each step goes on from all that was done
+use Rattle.std.proofs.Common.{◌≡◌, ◌≢◌, ℕ, ◌+◌, ◌<◌, ◌≤◌, true, List, [], ◌∷◌, ◌++◌, length, refl, sym, ap, ◌∙◌, arith, zero, suc, Some, slice_index_or, slice_set, subst, length-append, append-nil, ◌⊎◌, inl, inr}
+use Rattle.std.proofs.lemmas.Bool.Decides.{nat_tests}
+use Rattle.std.proofs.lemmas.Nat.{mod_below}
+use Rattle.std.proofs.lemmas.List.FromFn.{get_or-map-range_with_len}
+use Rattle.std.specs.Prelude.{map, slice_get, ◌==◌, if◌then◌else◌, Result, Ok, Err, IfOk, IfErr}
+use Rattle.gate.specs.declared.object.Refused.{Refused}
+use Rattle.gate.specs.declared.object.Refused.TheVariants.{Busy, NoMemory}
+use Rattle.std.specs.List.{range_with_len}
+use Rattle.service_model.specs.declared.content.Content.{Content}
+use Rattle.service_model.specs.declared.request.Request.{Request}
+use Rattle.service_model.specs.declared.settings.Settings.{Settings}
+use Rattle.service_model.specs.Outcome.{Reply, hash_of}
+use Rattle.service_model.specs.Service.{answer, after, opening}
+use Rattle.gate.specs.Passes as gate
+use Rattle.gate.specs.Records.{replay, by, past, FromGiven, Begins}
+use Rattle.service.specs.declared.service.Service.{Service}
+use Rattle.service.specs.declared.service.Pass.{Pass}
+use Rattle.service.specs.Contents.{setup_of, slot_of, named_id, opening_contents}
+use Rattle.service.specs.Services.{known_by, IsPassOf, Served, settings_of}
+use Rattle.script.specs.OnePass.{content_seen, contents_seen, IsOnePass}
+use Rattle.script.specs.Serving.{reply_to_asked, contents_after_asked, content_at}
+
+-- all entries are of the one pass
+by-only : (es : List (ℕ × Request)) → FromGiven 1 es → by 0 es ≡ es
+by-only [] h = refl
+by-only (e ∷ es) h =
+    let its : (0 == e.0) ≡ true = let low : e.0 < 1 = h.0 in grind (arith, nat_tests) in
+    ap (λ b. if b then e ∷ by 0 es else by 0 es) its ∙ ap (λ t. e ∷ t) (by-only es h.1)
+
+nothing-more : (rest : List (ℕ × Request)) → length rest ≡ 0 → rest ≡ []
+nothing-more [] h = refl
+nothing-more (e ∷ rest) h = absurd (omega arith)
+
+-- what is followed by one entry alike is alike
+same-front : (xs front : List (ℕ × Request)) (e : ℕ × Request) → Begins xs front → front ++ e ∷ [] ≡ xs ++ e ∷ [] → front ≡ xs
+same-front xs front e (rest, is) same =
+    let none : length rest ≡ 0 = omega (arith, ap length is, length-append xs rest, ap length same, length-append front (e ∷ []), length-append xs (e ∷ [])) in
+    is ∙ ap (λ t. xs ++ t) (nothing-more rest none) ∙ append-nil xs
+
+replay-push : (c : Content) (es : List (ℕ × Request)) (e : ℕ × Request) → replay after c (es ++ e ∷ []) ≡ after (replay after c es) e.1
+replay-push c [] e = refl
+replay-push c (x ∷ es) e = replay-push (after c x.1) es e
+
+passes-one : (K : Settings) (x : Service) (p : Pass) → IsOnePass K x p → gate.passes (known_by p) ≡ 1
+passes-one K x p h = ap (λ o. o.passes) h.own.own.1 ∙ h.own.opened.passes ∙ ap (λ s. s.passes) h.settings ∙ h.one
+
+base-none : (K : Settings) (x : Service) (p : Pass) (s : ℕ) → IsOnePass K x p → gate.base (known_by p) s ≡ []
+base-none K x p s h = ap (λ o. slice_index_or o.bases s []) h.own.own.1 ∙ h.own.opened.bases s
+
+same-or-apart : (m n : ℕ) → (m ≡ n) ⊎ (m ≢ n)
+same-or-apart zero zero = inl refl
+same-or-apart zero (suc n) = inr (λ h. omega (arith, h))
+same-or-apart (suc m) zero = inr (λ h. omega (arith, h))
+same-or-apart (suc m) (suc n) = elim (same-or-apart m n) [ inl h ↦ inl (ap suc h) | inr h ↦ inr (λ e. h (omega (arith, e))) ]
+
+-- the shard of the request: all entries are the pass's own
+own-alone : (K : Settings) (x : Service) (p p' : Pass) (q : Request) (r : Reply) → IsOnePass K x p → Served x p p' q r → gate.seen (known_by p') (slot_of x.settings q) ≡ gate.mine (known_by p') (slot_of x.settings q)
+own-alone K x p p' q r h done =
+    let s = slot_of x.settings q in
+    let es = gate.seen (known_by p') s in
+    let none = base-none K x p s h in
+    let G : List (ℕ × Request) → Type 0 = λ b. FromGiven (gate.passes (known_by p)) (past b es) in
+    let N : ℕ → Type 0 = λ n. FromGiven n es in
+    let given : FromGiven 1 es = subst N (passes-one K x p h) (subst G none done.step.given) in
+    sym (by-only es given)
+    ∙ ap (λ n. by n es) (sym h.first)
+    ∙ ap (λ b. by (gate.number (known_by p)) (past b es)) (sym none)
+    ∙ done.step.own
+
+-- after a step the pass has still seen its own steps alone
+pub alone-after : (K : Settings) (x : Service) (p p' : Pass) (q : Request) (r : Reply) → IsOnePass K x p → Served x p p' q r → (s : ℕ) → gate.seen (known_by p') s ≡ gate.mine (known_by p') s
+alone-after K x p p' q r h done s = elim (same-or-apart s (slot_of x.settings q)) [
+  | inl same ↦ let P : ℕ → Type 0 = λ k. gate.seen (known_by p') k ≡ gate.mine (known_by p') k in subst P (sym same) (own-alone K x p p' q r h done)
+  | inr apart ↦ (done.step.others s apart).0 ∙ h.alone s ∙ sym (done.step.others s apart).1
+]
+
+-- the step found all that the pass had seen
+front-is : (K : Settings) (x : Service) (p p' : Pass) (q : Request) (r : Reply) (h : IsOnePass K x p) (done : Served x p p' q r) → done.step.front ≡ gate.seen (known_by p) (slot_of x.settings q)
+front-is K x p p' q r h done =
+    let s = slot_of x.settings q in
+    same-front (gate.seen (known_by p) s) done.step.front (gate.number (known_by p), q) done.step.extends
+    (sym done.step.last ∙ own-alone K x p p' q r h done ∙ done.step.adds ∙ ap (λ t. t ++ (gate.number (known_by p), q) ∷ []) (sym (h.alone s)))
+
+map-set : {X : Type 0} (f g : ℕ → X) (a n s : ℕ) (y : X) → s < n → g (a + s) ≡ y → ((k : ℕ) → k ≢ a + s → g k ≡ f k) → map g (range_with_len a n) ≡ slice_set (map f (range_with_len a n)) s y
+map-set f g a zero s y there here others = absurd (omega arith)
+map-set f g a (suc n) zero y there here others =
+    ap (λ t. t ∷ map g (range_with_len (a + 1) n)) (ap g (omega arith) ∙ here)
+    ∙ ap (λ t. y ∷ t) (same-map (a + 1) n (λ k later. others k (λ e. omega (arith, later, e))))
+  where
+    same-map : (b m : ℕ) → ((k : ℕ) → b ≤ k → g k ≡ f k) → map g (range_with_len b m) ≡ map f (range_with_len b m)
+    same-map b zero same = refl
+    same-map b (suc m) same = ap (λ t. t ∷ map g (range_with_len (b + 1) m)) (same b (omega arith)) ∙ ap (λ t. f b ∷ t) (same-map (b + 1) m (λ k later. same k (omega (arith, later))))
+map-set f g a (suc n) (suc s) y there here others =
+    ap (λ t. t ∷ map g (range_with_len (a + 1) n)) (others a (λ e. omega (arith, e)))
+    ∙ ap (λ t. f a ∷ t) (map-set f g (a + 1) n s y (omega arith) (ap g (omega arith) ∙ here) (λ k apart. others k (λ e. apart (omega (arith, e)))))
+
+slot-below : (x : Service) (p : Pass) (q : Request) → IsPassOf p x → slot_of x.settings q < x.settings.shards
+slot-below x p q own = mod_below (hash_of (named_id q.operation)) x.settings.shards (omega (arith, own.opened.range.some_shard))
+
+content-here : (x : Service) (p : Pass) (q : Request) → IsPassOf p x → content_at x.settings (contents_seen x.settings (known_by p)) (slot_of x.settings q) ≡ content_seen x.settings (known_by p) (slot_of x.settings q)
+content-here x p q own = get_or-map-range_with_len (content_seen x.settings (known_by p)) 0 x.settings.shards (slot_of x.settings q) (slot_of x.settings q) (opening (setup_of x.settings (slot_of x.settings q))) (slot-below x p q own) (omega arith)
+
+found-content : (K : Settings) (x : Service) (p p' : Pass) (q : Request) (r : Reply) (h : IsOnePass K x p) (done : Served x p p' q r) → replay after done.step.start done.step.front ≡ content_seen x.settings (known_by p) (slot_of x.settings q)
+found-content K x p p' q r h done = ap (λ c. replay after c done.step.front) done.start ∙ ap (replay after (opening (setup_of x.settings (slot_of x.settings q)))) (front-is K x p p' q r h done)
+
+-- the reply is the sequential service's
+pub reply-is : (K : Settings) (x : Service) (p p' : Pass) (q : Request) (r : Reply) → IsOnePass K x p → Served x p p' q r → r ≡ reply_to_asked K (contents_seen K (known_by p)) (Ok (0, q))
+reply-is K x p p' q r h done =
+    let T : Settings → Type 0 = λ k. r ≡ reply_to_asked k (contents_seen k (known_by p)) (Ok (0, q)) in
+    subst T h.settings (done.step.reply ∙ ap (λ c. answer c q) (found-content K x p p' q r h done ∙ sym (content-here x p q h.own)))
+
+-- and so are the contents that it leaves
+pub contents-are : (K : Settings) (x : Service) (p p' : Pass) (q : Request) (r : Reply) → IsOnePass K x p → Served x p p' q r → contents_seen K (known_by p') ≡ contents_after_asked K (contents_seen K (known_by p)) (Ok (0, q))
+contents-are K x p p' q r h done =
+    let s = slot_of x.settings q in
+    let start = opening (setup_of x.settings s) in
+    let T : Settings → Type 0 = λ k. contents_seen k (known_by p') ≡ contents_after_asked k (contents_seen k (known_by p)) (Ok (0, q)) in
+    let here : content_seen x.settings (known_by p') s ≡ after (content_at x.settings (contents_seen x.settings (known_by p)) s) q =
+    ap (replay after start) done.step.last ∙ replay-push start done.step.front (gate.number (known_by p), q)
+    ∙ ap (λ c. after c q) (ap (replay after start) (front-is K x p p' q r h done) ∙ sym (content-here x p q h.own)) in
+    subst T h.settings (map-set (content_seen x.settings (known_by p)) (content_seen x.settings (known_by p')) 0 x.settings.shards s _ (slot-below x p q h.own)
+    (ap (content_seen x.settings (known_by p')) (omega arith) ∙ here)
+    (λ k apart. ap (replay after (opening (setup_of x.settings k))) (done.step.others k (λ e. apart (e ∙ omega arith))).0))
+
+-- a pass that was refused for memory is as it was
+pub keeps-one : (K : Settings) (x : Service) (p p' : Pass) → IsOnePass K x p → IsPassOf p' x → gate.SeenNothing (known_by p) (known_by p') → IsOnePass K x p'
+keeps-one K x p p' h own nothing = record { own = own; settings = h.settings; one = h.one; first = nothing.same.0 ∙ h.first; alone = λ s. nothing.sees s ∙ h.alone s ∙ sym (nothing.has s) }
+
+-- a pass that made a step is still the only one
+pub goes-on : (K : Settings) (x : Service) (p p' : Pass) (q : Request) (r : Reply) → IsOnePass K x p → IsPassOf p' x → Served x p p' q r → IsOnePass K x p'
+goes-on K x p p' q r h own done = record { own = own; settings = h.settings; one = h.one; first = done.step.same.0 ∙ h.first; alone = alone-after K x p p' q r h done }
+
+-- with one pass no other is found
+pub never-busy : (K : Settings) (x : Service) (p p' : Pass) (s : ℕ) → IsOnePass K x p → gate.TurnedAway (known_by p) (known_by p') s → ⊥
+never-busy K x p p' s h away = omega (arith, away.many, passes-one K x p h)
+
+-- a new pass has seen nothing
+pub fresh-alone : (K : Settings) (x : Service) (p : Pass) → IsPassOf p x → settings_of x ≡ K → K.passes ≡ 1 → gate.IsFresh 0 (known_by p) → IsOnePass K x p
+fresh-alone K x p own settings one fresh =
+    record { own = own; settings = settings; one = one; first = fresh.named; alone = λ s. fresh.sees s ∙ ap (λ o. slice_index_or o.bases s []) own.own.1 ∙ own.opened.bases s ∙ sym (fresh.has s) }
+
+pub contents-fresh : (K : Settings) (x : Service) (p : Pass) → IsPassOf p x → gate.IsFresh 0 (known_by p) → contents_seen K (known_by p) ≡ opening_contents K
+contents-fresh K x p own fresh = all-fresh 0 K.shards
+  where
+    all-fresh : (a n : ℕ) → map (content_seen K (known_by p)) (range_with_len a n) ≡ map (λ k. opening (setup_of K k)) (range_with_len a n)
+    all-fresh a zero = refl
+    all-fresh a (suc n) =
+        ap (λ log. replay after (opening (setup_of K a)) log ∷ map (content_seen K (known_by p)) (range_with_len (a + 1) n)) (fresh.sees a ∙ ap (λ o. slice_index_or o.bases a []) own.own.1 ∙ own.opened.bases a)
+        ∙ ap (λ t. opening (setup_of K a) ∷ t) (all-fresh (a + 1) n)
+
+-- whatever a call came to, the pass is still the only one
+pub one-pass-after : (K : Settings) (x : Service) (p p' : Pass) (q : Request) (s : ℕ) (result : Result Reply (Refused × Request)) → IsOnePass K x p → IsPassOf p' x → IfOk result (λ r. Served x p p' q r) → IfErr result (λ e. gate.Refuses e.0 (known_by p) (known_by p') s) → IsOnePass K x p'
+one-pass-after K x p p' q s (Ok r) h own done refused = goes-on K x p p' q r h own done
+one-pass-after K x p p' q s (Err e) h own done refused = by e.0 refused
+  where
+    by : (why : Refused) → gate.Refuses why (known_by p) (known_by p') s → IsOnePass K x p'
+    by Busy away = keeps-one K x p p' h own away.nothing
+    by NoMemory nothing = keeps-one K x p p' h own nothing.0
+
+-- the only member of a list
+pub only-one : {A : Type 0} (xs front : List A) (x : A) → xs ≡ front ++ x ∷ [] → length xs ≡ 1 → slice_get xs 0 ≡ Some x
+only-one xs [] x is one = ap (λ t. slice_get t 0) is
+only-one xs (y ∷ front) x is one = absurd (omega (arith, ap length is, one, length-append front (x ∷ [])))

@@ -1,0 +1,6 @@
+-- Where a script stands.
+use Rattle.script.specs.declared.script.Script.{Script}
+use Rattle.script.specs.Cursor.{Cursor}
+
+abbrev pub cursor_of : Script → Cursor
+cursor_of s = record { settings = s.service.0; contents = s.service.1; number = s.number; refused = s.refused }

@@ -1,0 +1,39 @@
+-- Where a script stands between two lines.
+use Rattle.std.specs.Prelude.{ℕ, ◌+◌, ◌||◌, List, [], ◌∷◌, ◌++◌, Bool, false}
+use Rattle.wire_replies.specs.Replies.{reply_line}
+use Rattle.script.specs.Lines.{Line}
+use Rattle.script.specs.Serving.{Contents, contents_after, is_refusal, reply_to}
+use Rattle.service.specs.Contents.{opening_contents}
+use Rattle.service_model.specs.declared.settings.Settings.{Settings}
+
+-- the shards' contents, the next line's number, and whether a reply was a refusal
+pub record Cursor : Type 0 where
+  pub settings : Settings
+  pub contents : Contents
+  pub number : ℕ
+  pub refused : Bool
+
+abbrev pub at_opening : Settings → Cursor
+at_opening K = record { settings = K; contents = opening_contents K; number = 1; refused = false }
+
+-- behind one line more
+unfoldable pub after_line : Cursor → Line → Cursor
+after_line c line = record {
+  settings = c.settings;
+  contents = contents_after c.settings c.contents line;
+  number = c.number + 1;
+  refused = c.refused || is_refusal (reply_to c.settings c.contents line);
+}
+
+-- the reply line of the next line
+unfoldable pub line_text : Cursor → Line → List ℕ
+line_text c line = reply_line c.number (reply_to c.settings c.contents line)
+
+abbrev pub after_lines : Cursor → List Line → Cursor
+after_lines c [] = c
+after_lines c (line ∷ lines) = after_lines (after_line c line) lines
+
+-- the reply lines of lines, one after another
+abbrev pub lines_text : Cursor → List Line → List ℕ
+lines_text c [] = []
+lines_text c (line ∷ lines) = line_text c line ++ lines_text (after_line c line) lines

@@ -1,0 +1,10 @@
+pub mod Lines
+pub mod Pending
+pub mod Asked
+pub mod Serving
+pub mod OnePass
+pub mod Output
+pub mod Cursor
+pub mod Progress
+pub mod Endings
+pub mod At

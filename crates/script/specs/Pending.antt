@@ -1,0 +1,28 @@
+-- The lines of a text that comes in by parts, behind a line so far.
+use Rattle.std.specs.Prelude.{ℕ, ◌==◌, List, [], ◌∷◌, ◌++◌, length, nat_lt, if◌then◌else◌, Bool, true, false, Some, None}
+use Rattle.script.specs.Lines.{Line, limit}
+
+-- a line so far, with one byte more
+abbrev pub longer : Line → ℕ → Line
+longer None byte = None
+longer (Some bytes) byte = if nat_lt (length bytes) limit then Some (bytes ++ byte ∷ []) else None
+
+-- the lines that end in a text behind a line so far
+unfoldable pub ended : Line → List ℕ → List Line
+ended line [] = []
+ended line (b ∷ text) = if b == 10 then line ∷ ended (Some []) text else ended (longer line b) text
+
+-- the line so far behind the last line that ends
+unfoldable pub left : Line → List ℕ → Line
+left line [] = line
+left line (b ∷ text) = if b == 10 then left (Some []) text else left (longer line b) text
+
+-- nothing of a line is there
+abbrev pub is_empty_line : Line → Bool
+is_empty_line (Some []) = true
+is_empty_line (Some (b ∷ bytes)) = false
+is_empty_line None = false
+
+-- a last line without its line feed, unless nothing of it is there
+abbrev pub last : Line → List Line
+last line = if is_empty_line line then [] else line ∷ []

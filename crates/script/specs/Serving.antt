@@ -1,0 +1,45 @@
+-- A line as the sequential service serves it: each shard by itself, and each request on the shard of its workflow ID.
+use Rattle.std.specs.Prelude.{◌≡◌, ℕ, ◌^◌, ◌<◌, ◌≤◌, ◌⊎◌, List, Bool, true, false, codes, slice_index_or, slice_set, Result, Ok, Err}
+use Rattle.wf_event_values.specs.declared.refusal.Refusal.{Refusal}
+use Rattle.service_model.specs.declared.content.Content.{Content}
+use Rattle.service_model.specs.declared.request.Request.{Request}
+use Rattle.service_model.specs.declared.settings.Settings.{Settings}
+use Rattle.service_model.specs.Outcome.{Reply}
+use Rattle.service_model.specs.Service.{after, answer, opening}
+use Rattle.service.specs.Contents.{setup_of, slot_of}
+use Rattle.script.specs.Asked.{asked}
+use Rattle.script.specs.Lines.{Line}
+
+-- the shards' contents, by the shards' numbers
+abbrev pub Contents : Type 0
+Contents = List Content
+
+-- a shard's content
+abbrev pub content_at : Settings → Contents → ℕ → Content
+content_at K S shard = slice_index_or S shard (opening (setup_of K shard))
+
+-- the reply to what a line asks
+abbrev pub reply_to_asked : Settings → Contents → Result (ℕ × Request) Refusal → Reply
+reply_to_asked K S (Ok lane_request) = let q = lane_request.1 in answer (content_at K S (slot_of K q)) q
+reply_to_asked K S (Err refusal) = Err refusal
+
+-- the contents that it leaves
+abbrev pub contents_after_asked : Settings → Contents → Result (ℕ × Request) Refusal → Contents
+contents_after_asked K S (Ok lane_request) = let q = lane_request.1 in slice_set S (slot_of K q) (after (content_at K S (slot_of K q)) q)
+contents_after_asked K S (Err refusal) = S
+
+-- the reply to a line
+abbrev pub reply_to : Settings → Contents → Line → Reply
+reply_to K S line = reply_to_asked K S (asked K line)
+
+-- the contents that a line leaves
+abbrev pub contents_after : Settings → Contents → Line → Contents
+contents_after K S line = contents_after_asked K S (asked K line)
+
+abbrev pub is_refusal : Reply → Bool
+is_refusal (Ok answer) = false
+is_refusal (Err refusal) = true
+
+-- the setting of this name is out of its range
+abbrev pub IsOutOfRange : Settings → List ℕ → Type 0
+IsOutOfRange K name = ((name ≡ codes "shards") × ((K.shards ≡ 0) ⊎ (64 < K.shards))) ⊎ ((name ≡ codes "service") × (2 ^ 48 ≤ K.service))

@@ -1,0 +1,16 @@
+//! Scripts: lines of requests in, lines of replies out.
+//!
+//! `run_one` serves the lines of a reader one after another, and writes one reply line for each.
+//! What it prints is the definition `output`: the replies of the sequential service to the lines
+//! of the text, each on the shard of its workflow ID, under the lines' numbers.
+#![tactic(auto)]
+
+mod asked;
+mod fault;
+mod line;
+mod run;
+mod script;
+mod serving;
+
+pub use fault::ScriptFault;
+pub use run::{Outcome, run_one};

@@ -1,0 +1,29 @@
+-- The command that is built is the one that is defined, and clap's clauses at it.
+use Rattle.std.proofs.Common.{◌≡◌, ◌∙◌, ap, refl, subst, true, codes, List, Result}
+use Rattle.clap.specs.Words.{App, FailsBy, Row, Text, fault_of, is_simple, is_simple_and_free, matches_of, new_app, new_rule, with_rule}
+use Rattle.clap.specs.declared.error.Error.{Error}
+use Rattle.clap.proofs.OnLiterals.{clap_on_literals}
+use Rattle.script_settings.specs.CommandLine.{option_rule, wfserve, matches_in, faults_in}
+
+is_simple-wfserve : is_simple wfserve ≡ true
+unfolding wfserve option_rule clap_on_literals
+is_simple-wfserve = refl
+
+is_simple_and_free-wfserve : is_simple_and_free wfserve ≡ true
+unfolding wfserve option_rule clap_on_literals
+is_simple_and_free-wfserve = refl
+
+pub built : (a0 a1 a2 a3 : App) → a0 ≡ new_app (codes "wfserve") → a1 ≡ with_rule a0 (option_rule (codes "shards"))
+    → a2 ≡ with_rule a1 (option_rule (codes "service")) → a3 ≡ with_rule a2 (new_rule (codes "FILE")) → a3 ≡ wfserve
+unfolding wfserve
+built a0 a1 a2 a3 e0 e1 e2 e3 =
+    let with_option = λ (n : Text) (a : App). with_rule a (option_rule n) in
+    e3 ∙ ap (λ (a : App). with_rule a (new_rule (codes "FILE"))) (e2 ∙ ap (with_option (codes "service")) (e1 ∙ ap (with_option (codes "shards")) e0))
+
+pub is_matched : {X : Type 0} (a : App) (words : List Text) (rows : List Row) → a ≡ wfserve → (is_simple a ≡ true → (rows ≡ matches_of a words) × X) → rows ≡ matches_in words
+unfolding matches_in
+is_matched a words rows e h = (h (ap is_simple e ∙ is_simple-wfserve)).0 ∙ ap (λ (x : App). matches_of x words) e
+
+pub is_faulted : {T : Type 0} (a : App) (words : List Text) (result : Result T Error) → a ≡ wfserve → (is_simple_and_free a ≡ true → FailsBy (fault_of a words) result) → FailsBy (faults_in words) result
+unfolding faults_in
+is_faulted a words result e h = subst (λ (x : App). FailsBy (fault_of x words) result) e (h (ap is_simple_and_free e ∙ is_simple_and_free-wfserve))

@@ -1,0 +1,37 @@
+-- The command line, as clap's definitions read it.
+use Rattle.std.specs.Prelude.{◌≡◌, ℕ, ◌^◌, ◌<◌, List, codes, Some}
+use Rattle.std.specs.Option.{MatchOption}
+use Rattle.std.specs.Str.Parse.{IsNumeral, digits_value, without_leading_plus}
+use Rattle.clap.specs.Words.{App, Kinds, Row, Rule, Text, fault_of, first_of, matches_of, new_app, new_rule, with_rule}
+
+-- an option with a value
+unfoldable pub option_rule : Text → Rule
+option_rule name = record (new_rule name) { long = Some name }
+
+-- wfserve [--shards N] [--service K] [FILE]
+unfoldable pub wfserve : App
+wfserve = with_rule (with_rule (with_rule (new_app (codes "wfserve")) (option_rule (codes "shards"))) (option_rule (codes "service"))) (new_rule (codes "FILE"))
+
+-- clap's matches of the words
+unfoldable pub matches_in : List Text → List Row
+matches_in words = matches_of wfserve words
+
+-- the kinds of fault that clap may find in the words; none where it takes them
+unfoldable pub faults_in : List Text → Kinds
+faults_in words = fault_of wfserve words
+
+-- the text writes a number of 64 bits in decimal digits, a plus before them or not
+abbrev pub IsNumber : Text → Type 0
+IsNumber text = IsNumeral 10 (without_leading_plus text) × (digits_value 10 (without_leading_plus text) < 2 ^ 64)
+
+-- the number that the text writes
+abbrev pub number_in : Text → ℕ
+number_in text = digits_value 10 (without_leading_plus text)
+
+-- the number is the one given to the option, or the default where none was given
+abbrev pub IsSetTo : ℕ → Text → List Row → ℕ → Type 0
+IsSetTo default name rows number = MatchOption (first_of name rows) (number ≡ default) (λ text. IsNumber text × (number ≡ number_in text))
+
+-- a text was given to the option, and it writes no number
+abbrev pub HasNoNumber : Text → List Row → Type 0
+HasNoNumber name rows = MatchOption (first_of name rows) ⊥ (λ text. ¬ (IsNumber text))

@@ -1,0 +1,15 @@
+//! Why words are no settings.
+
+use thiserror::Error;
+
+/// Why words are no settings.
+#[derive(Debug, Drop, Error)]
+pub enum Fault {
+    /// The words are not such as the command takes, or ask for its help, or memory ran out. The
+    /// text is clap's.
+    #[error(transparent)]
+    Words(clap::Error),
+    /// The text given to this option is no whole number below 2^64.
+    #[error("--{0} takes a whole number")]
+    Number(&'static str),
+}

@@ -1,0 +1,71 @@
+//! The command line, by clap.
+
+ghost use Rattle.std.specs.Prelude.{◌≡◌, IfOk, IfErr, map, option_map};
+ghost use Rattle.clap.specs.Words.{found_of, rows_of, app_of, with_rule, FailsBy};
+ghost use Rattle.script_settings.specs.CommandLine.{option_rule, matches_in, faults_in, IsSetTo};
+ghost use Rattle.script_settings.specs.Settings.{Sets, IsFaultIn, IsFaultOf};
+
+use crate::fault::Fault;
+use clap::{Arg, ArgMatches, Command, Error};
+use service_model::settings::Settings;
+use std::alloc::{AllocError, Global};
+
+/// One more option with a value.
+#[tactic(auto, unfolding(crate::specs::CommandLine::option_rule))]
+fn with_option<'a>(
+    alloc: Global,
+    command: Command<'a>,
+    name: &'a str,
+) -> Result<Command<'a>, AllocError>
+    ensures { IfOk result (λ r. app_of r ≡ with_rule (app_of command.entry) (option_rule name.entry.now)) }
+{
+    command.arg(Arg::new(alloc, name).long(name))
+}
+
+/// The words, matched with the command's options.
+fn matched<'a>(alloc: Global, words: &'a [&'a str]) -> Result<ArgMatches<'a>, Error>
+    ensures rows { IfOk result (λ m. rows_of (found_of m) ≡ matches_in (map (λ w. w.now) words.entry.now)) }
+    ensures fails { FailsBy (faults_in (map (λ w. w.now) words.entry.now)) result }
+{
+    let command = Command::new(alloc, "wfserve");
+    let command = with_option(alloc, command, "shards")?;
+    let command = with_option(alloc, command, "service")?;
+    let command = command.arg(Arg::new(alloc, "FILE"))?;
+    command.try_get_matches_from(words)
+}
+
+/// The number given to an option, or its default.
+fn number(matches: &ArgMatches<'_>, name: &'static str, default: u64) -> Result<u64, Fault>
+    ensures set { IfOk result (IsSetTo default name.entry.now (rows_of (found_of matches.now))) }
+    ensures fault { IfErr result (IsFaultOf name.entry.now (rows_of (found_of matches.now))) }
+{
+    let Some(text) = matches.get_str(name) else {
+        return Ok(default);
+    };
+    match text.parse::<u64>() {
+        Ok(number) => Ok(number),
+        Err(_) => Err(Fault::Number(name)),
+    }
+}
+
+/// The settings and the file that the words give; the first word is the program's name.
+///
+/// Ranges are looked at when the service is opened, and not here.
+pub fn settings_of<'a>(
+    alloc: Global,
+    words: &'a [&'a str],
+) -> Result<(Settings, Option<&'a str>), Fault>
+    ensures sets { IfOk result (λ r. Sets (map (λ w. w.now) words.entry.now) r.0 (option_map (λ f. f.now) r.1)) }
+    ensures fault { IfErr result (IsFaultIn (map (λ w. w.now) words.entry.now)) }
+{
+    let matches = match matched(alloc, words) {
+        Ok(matches) => matches,
+        Err(error) => return Err(Fault::Words(error)),
+    };
+    let settings = Settings {
+        shards: number(&matches, "shards", 1)?,
+        passes: 1,
+        service: number(&matches, "service", 1)?,
+    };
+    Ok((settings, matches.get_str("FILE")))
+}

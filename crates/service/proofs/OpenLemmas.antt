@@ -1,0 +1,95 @@
+-- how a service is opened
+use Rattle.std.proofs.Common.{◌≡◌, ℕ, ◌+◌, ◌^◌, Bool, true, false, List, [], ◌∷◌, ◌++◌, refl, sym, ap, ◌∙◌, arith, zero, suc, Option, Some, None, length-append, subst}
+use Rattle.std.proofs.lemmas.List.FromFn.{map-range_with_len_more}
+use Rattle.std.proofs.lemmas.Bool.Decides.{nat_tests}
+use Rattle.std.specs.Prelude.{map, slice_get, unwrap_or, if◌then◌else◌, Result, Ok, Err, ◌&&◌, nat_le, nat_lt}
+use Rattle.wf_event_values.specs.declared.refusal.Refusal.{Refusal}
+use Rattle.std.specs.List.{range_with_len, AllByRecursion}
+use Rattle.service_model.specs.declared.request.Request.{Request}
+use Rattle.service_model.specs.declared.settings.Settings.{Settings}
+use Rattle.service_model.specs.Service.{opening, after}
+use Rattle.gate.specs.Gated.{at}
+use Rattle.gate.specs.Records.{replay}
+use Rattle.shard.specs.View.{ShardView}
+use Rattle.shard.specs.Standing.{StandsFor, opened}
+use Rattle.service.specs.Contents.{setup_of}
+use Rattle.service.specs.Laid.{IsLaid}
+use Rattle.service.specs.Ranges.{range_fault}
+use Rattle.service.specs.Services.{IsInRange}
+
+Laid : Type 0
+Laid = ShardView × List (ℕ × Request)
+
+all-push : {A : Type 0} (P : A → Type 0) (xs : List A) (x : A) → AllByRecursion P xs → P x → AllByRecursion P (xs ++ x ∷ [])
+all-push P [] x h here = (here, tt)
+all-push P (y ∷ xs) x h here = (h.0, all-push P xs x h.1 here)
+
+map-push : {A B : Type 0} (f : A → B) (xs : List A) (x : A) → map f (xs ++ x ∷ []) ≡ map f xs ++ f x ∷ []
+map-push f [] x = refl
+map-push f (y ∷ xs) x = ap (λ t. f y ∷ t) (map-push f xs x)
+
+-- one more shard
+pub laid-more : (K : Settings) (xs ys : List (ShardView × List (ℕ × Request))) (s : ShardView) (log : List (ℕ × Request)) (n : ℕ) → ys ≡ xs ++ (s, log) ∷ [] → log ≡ [] → opened s ≡ opening (setup_of K n) → StandsFor s (opened s) → IsLaid K xs n → IsLaid K ys (n + 1)
+laid-more K xs ys s log n is fresh content stands h =
+    let P : List (ShardView × List (ℕ × Request)) → Type 0 = λ t. IsLaid K t (n + 1) in
+    subst P (sym is) (record {
+      starts = map-push (λ (x : ShardView × List (ℕ × Request)). opened x.0) xs (s, log) ∙ ap (λ t. t ++ opened s ∷ []) h.starts ∙ ap (λ c. map (λ k. opening (setup_of K k)) (range_with_len 0 n) ++ c ∷ []) content
+          ∙ sym (map-range_with_len_more (λ k. opening (setup_of K k)) 0 n n (omega arith));
+      count = length-append xs ((s, log) ∷ []) ∙ ap (λ m. m + 1) h.count;
+      bases = all-push (λ (x : ShardView × List (ℕ × Request)). x.1 ≡ []) xs (s, log) h.bases fresh;
+      stands = all-push (λ (x : ShardView × List (ℕ × Request)). StandsFor x.0 (opened x.0)) xs (s, log) h.stands stands;
+    })
+
+-- each record is empty
+pub bases-at : (xs : List (ShardView × List (ℕ × Request))) (s : ℕ) → AllByRecursion (λ (x : ShardView × List (ℕ × Request)). x.1 ≡ []) xs → at (map (λ (x : ShardView × List (ℕ × Request)). x.1) xs) s ≡ []
+bases-at [] s h = refl
+bases-at (x ∷ xs) zero h = h.0
+bases-at (x ∷ xs) (suc s) h = bases-at xs s h.1
+
+-- what stands at a place of a list that was made of another
+pub get-map : {A B : Type 0} (f : A → B) (xs : List A) (k : ℕ) (y : B) → slice_get (map f xs) k ≡ Some y → (x : A) × (slice_get xs k ≡ Some x) × (y ≡ f x)
+get-map f [] k y is = absurd (cc)
+get-map f (x ∷ xs) zero y is = (x, refl, some_same y (f x) (sym is))
+  where
+    some_same : {B : Type 0} (y z : B) → Some y ≡ Some z → y ≡ z
+    some_same y z e = ap (λ o. option_or o y) e
+      where
+        option_or : {B : Type 0} → Option B → B → B
+        option_or None d = d
+        option_or (Some x) d = x
+get-map f (x ∷ xs) (suc k) y is = get-map f xs k y is
+
+-- each shard stands for the replay of its empty record
+pub standing-at : (xs : List (ShardView × List (ℕ × Request))) (k : ℕ) (x : ShardView × List (ℕ × Request)) → AllByRecursion (λ (x : ShardView × List (ℕ × Request)). x.1 ≡ []) xs → AllByRecursion (λ (x : ShardView × List (ℕ × Request)). StandsFor x.0 (opened x.0)) xs →
+    slice_get xs k ≡ Some x → StandsFor x.0 (replay after (opened x.0) x.1)
+standing-at [] k x empty stands is = absurd (cc)
+standing-at (y ∷ xs) zero x empty stands is =
+    let P : ShardView × List (ℕ × Request) → Type 0 = λ z. StandsFor z.0 (replay after (opened z.0) z.1) in
+    let Q : List (ℕ × Request) → Type 0 = λ log. StandsFor y.0 (replay after (opened y.0) log) in
+    let same : y ≡ x = ap (λ o. unwrap_or o y) is in
+    subst P same (subst Q (sym empty.0) stands.0)
+standing-at (y ∷ xs) (suc k) x empty stands is = standing-at xs k x empty.1 stands.1 is
+
+three-tests : (a b c : Bool) (e f g : Refusal) → ◌≡◌ {A = Result (Unit {0}) Refusal} (if a then (if b then (if c then Ok tt else Err e) else Err f) else Err g) (Ok tt) → (a ≡ true) × (b ≡ true) × (c ≡ true)
+three-tests true true true e f g h = (refl, refl, refl)
+three-tests true true false e f g h = absurd (cc)
+three-tests true false c e f g h = absurd (cc)
+three-tests false b c e f g h = absurd (cc)
+
+two-tests : (a b : Bool) → (a && b) ≡ true → (a ≡ true) × (b ≡ true)
+two-tests true true h = (refl, refl)
+two-tests true false h = absurd (cc)
+two-tests false b h = absurd (cc)
+
+-- settings without a fault are in their ranges
+pub in-range : (K : Settings) → range_fault K ≡ Ok tt → IsInRange K
+in-range K h =
+    let all = three-tests _ _ _ _ _ _ h in
+    let shards = two-tests (nat_le 1 K.shards) (nat_le K.shards 64) all.0 in
+    let passes = two-tests (nat_le 1 K.passes) (nat_le K.passes 256) all.1 in
+    let s0 : nat_le 1 K.shards ≡ true = shards.0 in
+    let s1 : nat_le K.shards 64 ≡ true = shards.1 in
+    let p0 : nat_le 1 K.passes ≡ true = passes.0 in
+    let p1 : nat_le K.passes 256 ≡ true = passes.1 in
+    let n0 : nat_lt K.service (2 ^ 48) ≡ true = all.2 in
+    record { some_shard = grind (arith, nat_tests); few_shards = grind (arith, nat_tests); some_pass = grind (arith, nat_tests); few_passes = grind (arith, nat_tests); service = grind (arith, nat_tests) }

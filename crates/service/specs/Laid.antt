@@ -1,0 +1,16 @@
+-- the first shards of a service, as they are laid into its gate
+use Rattle.std.specs.Prelude.{◌≡◌, ℕ, List, [], length, map}
+use Rattle.std.specs.List.{range_with_len, AllByRecursion}
+use Rattle.service_model.specs.declared.request.Request.{Request}
+use Rattle.service_model.specs.declared.settings.Settings.{Settings}
+use Rattle.service_model.specs.Service.{opening}
+use Rattle.shard.specs.View.{ShardView}
+use Rattle.shard.specs.Standing.{StandsFor, opened}
+use Rattle.service.specs.Contents.{setup_of}
+
+-- so many shards, each fresh, with an empty record
+pub record IsLaid (K : Settings) (shards : List (ShardView × List (ℕ × Request))) (n : ℕ) : Type 0 where
+  pub starts : map (λ (x : ShardView × List (ℕ × Request)). opened x.0) shards ≡ map (λ k. opening (setup_of K k)) (range_with_len 0 n)
+  pub count : length shards ≡ n
+  pub bases : AllByRecursion (λ (x : ShardView × List (ℕ × Request)). x.1 ≡ []) shards
+  pub stands : AllByRecursion (λ (x : ShardView × List (ℕ × Request)). StandsFor x.0 (opened x.0)) shards

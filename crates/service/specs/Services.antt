@@ -1,0 +1,59 @@
+-- what a clause reads of a service and of its passes
+use Rattle.std.specs.Prelude.{◌≡◌, ℕ, ◌<◌, ◌≤◌, ◌^◌, [], map}
+use Rattle.service_model.specs.declared.content.Content.{Content}
+use Rattle.service_model.specs.declared.request.Request.{Request}
+use Rattle.service_model.specs.declared.settings.Settings.{Settings}
+use Rattle.service_model.specs.Outcome.{Reply}
+use Rattle.service_model.specs.Service.{answer, after, opening}
+use Rattle.gate.specs.declared.view.View.{View}
+use Rattle.gate.specs.Passes as gate
+use Rattle.gate.specs.Gates as of_gate
+use Rattle.shard.specs.Standing as shard
+use Rattle.service.specs.declared.service.Service.{Service}
+use Rattle.service.specs.declared.service.Pass.{Pass}
+use Rattle.service.specs.Contents.{setup_of, opening_contents, slot_of}
+
+abbrev pub settings_of : Service → Settings
+settings_of x = x.settings
+
+-- the shard on which a request is served
+abbrev pub shard_of_request : Service → Request → ℕ
+shard_of_request x q = slot_of x.settings q
+
+-- what a pass knows: of each shard the record that it last saw, and its own steps in it
+abbrev pub known_by : Pass → View Request Content
+known_by p = gate.view p.inner
+
+-- the settings are in their ranges
+pub record IsInRange (K : Settings) : Type 0 where
+  pub some_shard : 1 ≤ K.shards
+  pub few_shards : K.shards ≤ 64
+  pub some_pass : 1 ≤ K.passes
+  pub few_passes : K.passes ≤ 256
+  pub service : K.service < 2 ^ 48
+
+-- the service was opened by its settings, without records
+pub record IsOpened (x : Service) : Type 0 where
+  pub range : IsInRange x.settings
+  pub slots : of_gate.slots x.gate ≡ x.settings.shards
+  pub starts : map (λ y. shard.opened y.0) (of_gate.opened x.gate) ≡ opening_contents x.settings
+  pub bases : (s : ℕ) → of_gate.base_of x.gate s ≡ []
+  pub passes : of_gate.given x.gate ≡ x.settings.passes
+
+-- the pass is one that this service gave
+pub record IsPassOf (p : Pass) (x : Service) : Type 0 where
+  pub opened : IsOpened x
+  pub own : of_gate.IsPassOf p.inner x.gate
+
+-- A request was served: the record that the pass then has seen of the request's shard is all that it had seen there,
+-- perhaps other entries, and this one, and the reply is the sequential service's after the entries before
+pub record Served (x : Service) (p p' : Pass) (q : Request) (r : Reply) : Type 0 where
+  pub step : gate.Stepped after answer (known_by p) (known_by p') (shard_of_request x q) q r
+  pub start : step.start ≡ opening (setup_of x.settings (shard_of_request x q))
+
+-- the same, after perhaps some turns in which another pass was found there
+pub record ServedAt (x : Service) (p p' : Pass) (q : Request) (r : Reply) : Type 0 where
+  pub met : View Request Content
+  pub waited : gate.Waited (known_by p) met (shard_of_request x q)
+  pub step : gate.Stepped after answer met (known_by p') (shard_of_request x q) q r
+  pub start : step.start ≡ opening (setup_of x.settings (shard_of_request x q))

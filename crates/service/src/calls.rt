@@ -1,0 +1,141 @@
+//! The calls by name: each makes the request of its arguments and serves it.
+
+ghost use Rattle.std.specs.Prelude.{◌≡◌, IfOk, IfErr};
+ghost use Rattle.gate.specs.Passes.{Refuses, Waited};
+ghost use Rattle.service.specs.Asks.{to_start, to_signal, to_show_history};
+
+use crate::service::{Pass, Service};
+use gate::Refused;
+use service_model::answer::Reply;
+use service_model::request::{Operation, Read, Request, Signal, Start};
+use std::alloc::AllocError;
+use std::sync::Wait;
+use wf_event_values::Moment;
+
+impl Service {
+    ghost use Rattle.service.specs.Services.{IsPassOf, Served, ServedAt, known_by, shard_of_request};
+
+    /// Starts a run of a workflow ID, where the policies allow it. It never waits.
+    ///
+    /// # Errors
+    /// As [`Service::try_serve`].
+    pub fn try_start(
+        &self,
+        pass: &mut Pass,
+        asked: Start,
+        at: Moment,
+    ) -> Result<Reply, (Refused, Request)>
+        requires { IsPassOf pass.old self.now }
+        ensures own { IsPassOf pass.new self.now }
+        ensures ok { IfOk result (λ r. Served self.now pass.old pass.new (to_start at asked) r) }
+        ensures back { IfErr result (λ e. e.1 ≡ to_start at asked) }
+        ensures err { IfErr result (λ e. Refuses e.0 (known_by pass.old) (known_by pass.new) (shard_of_request self.now (to_start at asked))) }
+    {
+        self.try_serve(pass, request(at, Operation::Start(asked)))
+    }
+
+    /// Starts a run of a workflow ID, where the policies allow it. It may wait for ever.
+    ///
+    /// # Errors
+    /// As [`Service::serve`].
+    pub fn start<R: Wait>(
+        &self,
+        rt: &R,
+        pass: &mut Pass,
+        asked: Start,
+        at: Moment,
+    ) -> Result<Reply, (AllocError, Request)>
+        requires { IsPassOf pass.old self.now }
+        ensures own { IsPassOf pass.new self.now }
+        ensures ok { IfOk result (λ r. ServedAt self.now pass.old pass.new (to_start at asked) r) }
+        ensures back { IfErr result (λ e. e.1 ≡ to_start at asked) }
+        ensures err { IfErr result (λ e. Waited (known_by pass.old) (known_by pass.new) (shard_of_request self.now (to_start at asked))) }
+    {
+        self.serve(rt, pass, request(at, Operation::Start(asked)))
+    }
+
+    /// Signals the workflow ID's open run, the named one or the latest. It never waits.
+    ///
+    /// # Errors
+    /// As [`Service::try_serve`].
+    pub fn try_signal(
+        &self,
+        pass: &mut Pass,
+        asked: Signal,
+        at: Moment,
+    ) -> Result<Reply, (Refused, Request)>
+        requires { IsPassOf pass.old self.now }
+        ensures own { IsPassOf pass.new self.now }
+        ensures ok { IfOk result (λ r. Served self.now pass.old pass.new (to_signal at asked) r) }
+        ensures back { IfErr result (λ e. e.1 ≡ to_signal at asked) }
+        ensures err { IfErr result (λ e. Refuses e.0 (known_by pass.old) (known_by pass.new) (shard_of_request self.now (to_signal at asked))) }
+    {
+        self.try_serve(pass, request(at, Operation::Signal(asked)))
+    }
+
+    /// Signals the workflow ID's open run, the named one or the latest. It may wait for ever.
+    ///
+    /// # Errors
+    /// As [`Service::serve`].
+    pub fn signal<R: Wait>(
+        &self,
+        rt: &R,
+        pass: &mut Pass,
+        asked: Signal,
+        at: Moment,
+    ) -> Result<Reply, (AllocError, Request)>
+        requires { IsPassOf pass.old self.now }
+        ensures own { IsPassOf pass.new self.now }
+        ensures ok { IfOk result (λ r. ServedAt self.now pass.old pass.new (to_signal at asked) r) }
+        ensures back { IfErr result (λ e. e.1 ≡ to_signal at asked) }
+        ensures err { IfErr result (λ e. Waited (known_by pass.old) (known_by pass.new) (shard_of_request self.now (to_signal at asked))) }
+    {
+        self.serve(rt, pass, request(at, Operation::Signal(asked)))
+    }
+
+    /// Shows the history of the workflow ID's run, the named one or the latest. It never waits.
+    ///
+    /// # Errors
+    /// As [`Service::try_serve`].
+    pub fn try_history(
+        &self,
+        pass: &mut Pass,
+        asked: Read,
+        at: Moment,
+    ) -> Result<Reply, (Refused, Request)>
+        requires { IsPassOf pass.old self.now }
+        ensures own { IsPassOf pass.new self.now }
+        ensures ok { IfOk result (λ r. Served self.now pass.old pass.new (to_show_history at asked) r) }
+        ensures back { IfErr result (λ e. e.1 ≡ to_show_history at asked) }
+        ensures err { IfErr result (λ e. Refuses e.0 (known_by pass.old) (known_by pass.new) (shard_of_request self.now (to_show_history at asked))) }
+    {
+        self.try_serve(pass, request(at, Operation::History(asked)))
+    }
+
+    /// Shows the history of the workflow ID's run, the named one or the latest. It may wait for ever.
+    ///
+    /// # Errors
+    /// As [`Service::serve`].
+    pub fn history<R: Wait>(
+        &self,
+        rt: &R,
+        pass: &mut Pass,
+        asked: Read,
+        at: Moment,
+    ) -> Result<Reply, (AllocError, Request)>
+        requires { IsPassOf pass.old self.now }
+        ensures own { IsPassOf pass.new self.now }
+        ensures ok { IfOk result (λ r. ServedAt self.now pass.old pass.new (to_show_history at asked) r) }
+        ensures back { IfErr result (λ e. e.1 ≡ to_show_history at asked) }
+        ensures err { IfErr result (λ e. Waited (known_by pass.old) (known_by pass.new) (shard_of_request self.now (to_show_history at asked))) }
+    {
+        self.serve(rt, pass, request(at, Operation::History(asked)))
+    }
+}
+
+/// The request of an operation at a moment.
+fn request(at: Moment, operation: Operation) -> Request
+    ensures { result ≡ record { at = at; operation = operation } }
+{
+    Request { at, operation }
+}

@@ -1,0 +1,95 @@
+//! The service and its passes, and the request that every call makes.
+
+ghost use Rattle.std.specs.Prelude.{◌≡◌, ◌<◌, IfOk, IfErr};
+ghost use Rattle.gate.specs.Passes.{Refuses, Waited};
+ghost use Rattle.service.specs.Contents.{slot_of, named_id};
+
+use gate::{Gate, Refused};
+use service_model::answer::Reply;
+use service_model::request::{Operation, Request};
+use service_model::settings::Settings;
+use shard::{Shard, hash};
+use std::alloc::AllocError;
+use std::sync::Wait;
+use wf_event_values::Id;
+
+/// A workflow service.
+#[derive(Drop)]
+pub struct Service {
+    pub(crate) settings: Settings,
+    pub(crate) gate: Gate<Shard>,
+}
+
+/// The right to call one service. It is one thread's at a time.
+#[derive(Drop)]
+pub struct Pass {
+    pub(crate) inner: gate::Pass<Shard>,
+}
+
+impl Service {
+    ghost use Rattle.service.specs.Services.{IsPassOf, Served, ServedAt, known_by, shard_of_request, settings_of};
+
+    /// The settings with which the service was opened.
+    pub fn settings(&self) -> &Settings
+        ensures { result.now ≡ settings_of self.now }
+    {
+        &self.settings
+    }
+
+    /// Serves a request on the shard of its workflow ID, if no other pass is there. It never waits.
+    ///
+    /// # Errors
+    /// With the request, and nothing seen or done: `Busy` where another pass was on that very shard,
+    /// `NoMemory` where a growth was refused.
+    pub fn try_serve(&self, pass: &mut Pass, request: Request) -> Result<Reply, (Refused, Request)>
+        requires { IsPassOf pass.old self.now }
+        ensures own { IsPassOf pass.new self.now }
+        ensures ok { IfOk result (λ r. Served self.now pass.old pass.new request r) }
+        ensures back { IfErr result (λ e. e.1 ≡ request) }
+        ensures err { IfErr result (λ e. Refuses e.0 (known_by pass.old) (known_by pass.new) (shard_of_request self.now request)) }
+    {
+        let slot = self.slot_of(&request);
+        self.gate.try_step(&mut pass.inner, slot, request)
+    }
+
+    /// Serves a request on the shard of its workflow ID, trying again while another pass is there.
+    /// It may wait for ever.
+    ///
+    /// # Errors
+    /// With the request, where a growth was refused. Nothing is seen or done then.
+    pub fn serve<R: Wait>(
+        &self,
+        rt: &R,
+        pass: &mut Pass,
+        request: Request,
+    ) -> Result<Reply, (AllocError, Request)>
+        requires { IsPassOf pass.old self.now }
+        ensures own { IsPassOf pass.new self.now }
+        ensures ok { IfOk result (λ r. ServedAt self.now pass.old pass.new request r) }
+        ensures back { IfErr result (λ e. e.1 ≡ request) }
+        ensures err { IfErr result (λ e. Waited (known_by pass.old) (known_by pass.new) (shard_of_request self.now request)) }
+    {
+        let slot = self.slot_of(&request);
+        self.gate.step(rt, &mut pass.inner, slot, request)
+    }
+
+    /// The slot of a request's shard.
+    fn slot_of(&self, request: &Request) -> usize
+        requires { 0 < (settings_of self.now).shards }
+        ensures { result ≡ shard_of_request self.now request.now }
+    {
+        let hash = hash(id_of(&request.operation).as_str().as_bytes());
+        (u64::from(hash) % self.settings.shards) as usize
+    }
+}
+
+/// The workflow ID that an operation names.
+fn id_of(operation: &Operation) -> &Id
+    ensures { result.now ≡ named_id operation.now }
+{
+    match operation {
+        Operation::Start(start) => &start.workflow_id,
+        Operation::Signal(signal) => &signal.workflow_id,
+        Operation::History(read) => &read.workflow_id,
+    }
+}

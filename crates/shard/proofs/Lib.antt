@@ -1,0 +1,5 @@
+pub mod RunLemmas
+pub mod IndexLemmas
+pub mod StartLemmas
+pub mod UntakenLemmas
+pub mod StepLemmas

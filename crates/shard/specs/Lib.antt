@@ -1,0 +1,4 @@
+pub mod Untaken
+pub mod View
+pub mod Fitting
+pub mod Standing

@@ -1,0 +1,41 @@
+//! The shard as an object of the gate.
+
+ghost use Rattle.std.specs.Prelude.{◌≡◌, IfOk, OnErr};
+ghost use Rattle.service_model.specs.Service.{after, answer};
+ghost use Rattle.shard.specs.Standing.{StandsFor, IsReady, opened};
+
+use crate::plan::Plan;
+use crate::shard::Shard;
+use gate::Object;
+use service_model::answer::Reply;
+use service_model::content::Content;
+use service_model::request::Request;
+use std::alloc::AllocError;
+
+impl Object for Shard {
+    type Request = Request;
+
+    type Reply = Reply;
+
+    type Plan = Plan;
+
+    type Content = Content;
+
+    ghost opening = { opened };
+
+    ghost stands = { StandsFor };
+
+    ghost answer = { answer };
+
+    ghost after = { after };
+
+    ghost ready = { IsReady };
+
+    fn prepare(&mut self, request: &Request) -> Result<Plan, AllocError> {
+        Shard::prepare(self, request)
+    }
+
+    fn commit(&mut self, plan: Plan) -> Reply {
+        Shard::commit(self, plan)
+    }
+}

@@ -1,0 +1,10 @@
+//! The texts of run ids and of task tokens: one text a value, and every other text refused.
+#![tactic(auto)]
+
+mod run;
+#[cfg(test)]
+mod tests;
+mod token;
+
+pub use run::RunText;
+pub use token::TaskToken;

@@ -1,0 +1,95 @@
+-- one destination's log is replaced by another
+use Rattle.std.proofs.Common.{◌≡◌, ◌≢◌, ℕ, ◌+◌, ◌<◌, ◌≤◌, Bool, true, false, List, [], ◌∷◌, ◌++◌, length, map, refl, sym, ap, subst, ◌∙◌, arith, get_or-set_same, get_or-set_other}
+use Rattle.std.specs.Prelude.{Some, option_map, slice_get, slice_set, slice_index_or, unwrap_or, ◌==◌, if◌then◌else◌}
+use Rattle.std.proofs.lemmas.Grind.{get_or-set_at}
+use Rattle.std.proofs.lemmas.Bool.Decides.{nat_tests}
+use Rattle.std.proofs.lemmas.List.{map-set, length-map}
+use Rattle.std.proofs.lemmas.Option.{slice_get_read, slice_get-map, unwrap_or-slice_get}
+use Rattle.std.proofs.Math.Seq.{map-set_same}
+use Rattle.service_model.specs.declared.answer.Acknowledged.{Acknowledged}
+use Rattle.service_model.specs.declared.content.Outgoing.{Outgoing}
+use Rattle.service_model.specs.declared.transfer.TransferContent.{TransferContent}
+use Rattle.service_model.specs.Counts.{outgoing_to}
+use Rattle.transfer.specs.Logs.{Log, counted}
+use Rattle.transfer.specs.Outboxes.{outgoing_of, outgoing, room_to, issued_to, acknowledged_to, nothing}
+
+-- the transfers to a destination are those of its log
+pub outgoing_to-log : (logs : List (Log TransferContent)) (to : ℕ) (old : Log TransferContent) → slice_get logs to ≡ Some old → outgoing_to (outgoing logs) to ≡ outgoing_of old
+outgoing_to-log logs to old there = ap (λ o. unwrap_or o nothing) (slice_get-map outgoing_of logs to ∙ ap (option_map outgoing_of) there)
+
+abbrev room_of : Log TransferContent → ℕ
+room_of l = l.room
+
+-- of a list of numbers one is replaced by one that is not less by more than n
+number-kept : (rs : List ℕ) (to old new n : ℕ) → to < length rs → slice_index_or rs to 0 ≡ old → old ≤ new + n → (k : ℕ) → slice_index_or rs k 0 ≤ slice_index_or (slice_set rs to new) k 0 + (if k == to then n else 0)
+number-kept rs to old new n within was less k = by_test (k == to) refl
+  where
+    by_test : (b : Bool) → (k == to) ≡ b → slice_index_or rs k 0 ≤ slice_index_or (slice_set rs to new) k 0 + (if b then n else 0)
+    by_test true e =
+        let same : k ≡ to = grind (arith, nat_tests) in
+        let now : slice_index_or (slice_set rs to new) k 0 ≡ new = get_or-set_at rs to k new 0 same within in
+        let before : slice_index_or rs k 0 ≡ old = ap (λ j. slice_index_or rs j 0) same ∙ was in
+        omega arith
+    by_test false e =
+        let other : k ≢ to = grind (arith, nat_tests) in
+        let stays : slice_index_or (slice_set rs to new) k 0 ≡ slice_index_or rs k 0 = get_or-set_other rs to k new 0 other in
+        omega arith
+
+nothing-less : (m n : ℕ) (b : Bool) → m ≤ n + (if b then 0 else 0) → m ≤ n
+nothing-less m n true h = omega arith
+nothing-less m n false h = omega arith
+
+module _ (logs items : List (Log TransferContent)) (to at : ℕ) (old new : Log TransferContent) (same : items ≡ logs) (place : at ≡ to) (is : old ≡ slice_index_or items at old) (within : to < length logs) where
+  is_there : slice_get logs to ≡ Some old
+  is_there = slice_get_read logs (length logs) to old refl within (subst (λ (l : List (Log TransferContent)). old ≡ slice_index_or l to old) same (subst (λ (k : ℕ). old ≡ slice_index_or items k old) place is))
+
+  moved : slice_set items at new ≡ slice_set logs to new
+  moved = λ i. slice_set (same i) (place i) new
+
+  replaced : outgoing (slice_set items at new) ≡ slice_set (outgoing logs) to (outgoing_of new)
+  replaced = ap outgoing moved ∙ map-set outgoing_of logs to new
+
+  -- one more was issued
+  pub outgoing-issued : (content : TransferContent) → new.issued ≡ old.issued ++ content ∷ [] → new.acknowledged ≡ old.acknowledged → outgoing (slice_set items at new) ≡ issued_to (outgoing logs) to content
+  outgoing-issued content more count = replaced ∙ ap (slice_set (outgoing logs) to) (changed ∙ ap (λ (o : Outgoing). record { issued = o.issued ++ content ∷ []; acknowledged = o.acknowledged }) (sym (outgoing_to-log logs to old is_there)))
+    where
+      changed : outgoing_of new ≡ record { issued = old.issued ++ content ∷ []; acknowledged = old.acknowledged }
+      changed = λ i. record { issued = more i; acknowledged = count i }
+
+  -- a number was acknowledged, or not
+  pub outgoing-acknowledged : (answer : Acknowledged) → new.issued ≡ old.issued → new.acknowledged ≡ counted answer old.acknowledged → outgoing (slice_set items at new) ≡ acknowledged_to (outgoing logs) to answer
+  outgoing-acknowledged answer stays count = replaced ∙ ap (slice_set (outgoing logs) to) (changed ∙ ap (λ (o : Outgoing). record { issued = o.issued; acknowledged = counted answer o.acknowledged }) (sym (outgoing_to-log logs to old is_there)))
+    where
+      changed : outgoing_of new ≡ record { issued = old.issued; acknowledged = counted answer old.acknowledged }
+      changed = λ i. record { issued = stays i; acknowledged = count i }
+
+  -- nothing was issued, and nothing acknowledged
+  pub outgoing-same : new.issued ≡ old.issued → new.acknowledged ≡ old.acknowledged → outgoing (slice_set items at new) ≡ outgoing logs
+  outgoing-same stays count = ap outgoing moved ∙ map-set_same outgoing_of logs to new old (alike ∙ ap outgoing_of (sym read))
+    where
+      alike : outgoing_of new ≡ outgoing_of old
+      alike = λ i. record { issued = stays i; acknowledged = count i }
+
+      read : slice_index_or logs to old ≡ old
+      read = sym (unwrap_or-slice_get logs to old) ∙ ap (λ o. unwrap_or o old) is_there
+
+  rooms-moved : map room_of (slice_set items at new) ≡ slice_set (map room_of logs) to new.room
+  rooms-moved = ap (map room_of) moved ∙ map-set room_of logs to new
+
+  room-was : slice_index_or (map room_of logs) to 0 ≡ old.room
+  room-was = sym (unwrap_or-slice_get (map room_of logs) to 0) ∙ ap (λ o. unwrap_or o 0) (slice_get-map room_of logs to ∙ ap (option_map room_of) is_there)
+
+  inside : to < length (map room_of logs)
+  inside = rw length-map within
+
+  -- the room to the destination is the new log's
+  pub room_to-there : room_to (slice_set items at new) to ≡ new.room
+  room_to-there = ap (λ rs. slice_index_or rs to 0) rooms-moved ∙ get_or-set_same (map room_of logs) to new.room 0 inside
+
+  -- the room to each destination, where the log loses at most so much of its own
+  pub room_to-less : (n : ℕ) → old.room ≤ new.room + n → (k : ℕ) → room_to logs k ≤ room_to (slice_set items at new) k + (if k == to then n else 0)
+  room_to-less n less k = subst (λ rs. room_to logs k ≤ slice_index_or rs k 0 + (if k == to then n else 0)) (sym rooms-moved) (number-kept (map room_of logs) to old.room new.room n inside room-was less k)
+
+  -- the room to each destination, where the log loses none
+  pub room_to-kept : old.room ≤ new.room → (k : ℕ) → room_to logs k ≤ room_to (slice_set items at new) k
+  room_to-kept less k = nothing-less _ _ (k == to) (room_to-less 0 (omega arith) k)

@@ -1,0 +1,85 @@
+//! The transfers that a shard accepted.
+
+ghost use Rattle.std.specs.Prelude.{◌≡◌, ◌+◌, ◌<◌, ◌^◌, length, replicate, slice_set, IfOk};
+ghost use Rattle.service_model.specs.Deliveries.{accepted_from};
+ghost use Rattle.transfer.specs.Inboxes.{delivery_of, accepted_then};
+
+use service_model::transfer::Transfer;
+use std::alloc::{AllocError, Global};
+use std::marker::Model;
+
+/// What a shard says of a transfer that is delivered to it.
+#[derive(Clone, Copy)]
+pub enum Delivery {
+    /// It is the next one of its source: it takes effect now.
+    Accepted,
+    /// It took effect before.
+    AlreadyDelivered,
+    /// One before it has not been delivered yet.
+    OutOfOrder,
+}
+
+/// How many transfers a shard accepted from each source, by the source's number.
+#[derive(Drop)]
+pub struct Inbox {
+    accepted: Vec<u64>,
+}
+
+impl Model for Inbox {
+    ghost use Rattle.std.specs.Prelude.{ℕ, List};
+
+    ghost Value = { List ℕ };
+
+    ghost view = { λ a. a.accepted.items };
+}
+
+impl Inbox {
+    /// The inbox of a shard that accepted nothing yet, from so many sources.
+    pub fn new(alloc: Global, shards: u16) -> Result<Inbox, AllocError>
+        ensures value { IfOk result (λ i. i ≡ replicate shards 0) }
+        ensures shards { IfOk result (λ i. length i ≡ shards) }
+    {
+        let accepted = vec![in alloc; 0; usize::from(shards)]?;
+        Ok(Inbox { accepted })
+    }
+
+    /// What the shard would say of a transfer.
+    pub fn judge(&self, transfer: &Transfer) -> Delivery
+        requires { transfer.now.from < length self.now }
+        ensures value { result ≡ delivery_of (accepted_from self.now transfer.now.from) transfer.now.number }
+        ensures countable { result ≡ Delivery.Accepted → accepted_from self.now transfer.now.from + 1 < 2 ^ 64 }
+    {
+        let accepted = self.accepted[usize::from(transfer.from)];
+        if transfer.number <= accepted {
+            Delivery::AlreadyDelivered
+        } else if transfer.number - 1 == accepted {
+            Delivery::Accepted
+        } else {
+            Delivery::OutOfOrder
+        }
+    }
+
+    /// Accepts the next transfer of a source.
+    pub fn accept_next(&mut self, from: u16)
+        requires there { from < length self.old }
+        requires number { accepted_from self.old from + 1 < 2 ^ 64 }
+        ensures accepted { self.new ≡ slice_set self.old from (accepted_from self.old from + 1) }
+        ensures shards { length self.new ≡ length self.old }
+    {
+        self.accepted[usize::from(from)] += 1;
+    }
+
+    /// Accepts a transfer, where it is the next one of its source.
+    pub fn accept(&mut self, transfer: &Transfer) -> Delivery
+        requires { transfer.now.from < length self.old }
+        ensures value { result ≡ delivery_of (accepted_from self.old transfer.now.from) transfer.now.number }
+        ensures accepted { self.new ≡ accepted_then self.old transfer.now.from result }
+        ensures shards { length self.new ≡ length self.old }
+    {
+        let delivery = self.judge(transfer);
+        if let Delivery::Accepted = delivery {
+            self.accept_next(transfer.from);
+        }
+        delivery
+    }
+}

@@ -1,0 +1,112 @@
+//! The transfers that a shard issued.
+
+ghost use Rattle.std.specs.Prelude.{◌≡◌, ℕ, ◌+◌, ◌<◌, ◌≤◌, ◌==◌, length, slice_get, option_map, replicate, IfOk, OnOk, IfSome, if◌then◌else◌};
+ghost use Rattle.service_model.specs.Counts.{outgoing_to};
+ghost use Rattle.transfer.specs.Logs.{judged};
+ghost use Rattle.transfer.specs.Outboxes.{outgoing, room_to, issued_to, acknowledged_to, nothing};
+
+use crate::issue_log::IssueLog;
+use service_model::answer::Acknowledged;
+use service_model::transfer::TransferContent;
+use std::alloc::{AllocError, Global};
+use std::marker::Model;
+
+/// All transfers that a shard ever issued to each destination, by the destination's number, and how many of them are acknowledged.
+#[derive(Drop)]
+pub struct Outbox {
+    logs: Vec<IssueLog<TransferContent>>,
+}
+
+impl Model for Outbox {
+    ghost use Rattle.std.specs.Prelude.{List};
+    ghost use Rattle.service_model.specs.declared.transfer.TransferContent.{TransferContent};
+    ghost use Rattle.transfer.specs.Logs.{Log};
+
+    ghost Value = { List (Log TransferContent) };
+
+    ghost view = { λ a. a.logs.items };
+}
+
+impl Outbox {
+    /// The outbox of a shard that issued nothing yet, to so many destinations.
+    pub fn new(alloc: Global, shards: u16) -> Result<Outbox, AllocError>
+        ensures value { IfOk result (λ o. outgoing o ≡ replicate shards nothing) }
+        ensures shards { IfOk result (λ o. length o ≡ shards) }
+    {
+        let mut logs = Vec::new(alloc);
+        for _shard in 0..shards {
+            logs.push(IssueLog::new(alloc))?;
+        }
+        Ok(Outbox { logs })
+    }
+
+    /// Makes room for so many more transfers to a destination. Where memory is refused, the transfers stay as they were.
+    pub fn reserve(&mut self, to: u16, additional: usize) -> Result<(), AllocError>
+        requires { to < length self.old }
+        ensures same { outgoing self.new ≡ outgoing self.old }
+        ensures shards { length self.new ≡ length self.old }
+        ensures ok { OnOk result (additional ≤ room_to self.new to) }
+        ensures room { (shard : ℕ) → room_to self.old shard ≤ room_to self.new shard }
+    {
+        let log = &mut self.logs[usize::from(to)];
+        log.reserve(additional)
+    }
+
+    /// Issues a transfer to a destination, in reserved room.
+    pub fn issue(&mut self, to: u16, content: TransferContent)
+        requires there { to < length self.old }
+        requires room { 0 < room_to self.old to }
+        ensures issued { outgoing self.new ≡ issued_to (outgoing self.old) to content }
+        ensures shards { length self.new ≡ length self.old }
+        ensures room { (shard : ℕ) → room_to self.old shard ≤ room_to self.new shard + (if shard == to then 1 else 0) }
+    {
+        let log = &mut self.logs[usize::from(to)];
+        log.issue(content);
+    }
+
+    /// The first transfer to a destination that is not acknowledged, with its number.
+    pub fn first_to(&self, to: u16) -> Option<(u64, &TransferContent)>
+        requires { to < length self.now }
+        ensures content { let o = outgoing_to (outgoing self.now) to in
+            option_map (λ f. f.1.now) result ≡ slice_get o.issued o.acknowledged }
+        ensures number { IfSome result (λ f. f.0 ≡ (outgoing_to (outgoing self.now) to).acknowledged + 1) }
+    {
+        let log = &self.logs[usize::from(to)];
+        log.first()
+    }
+
+    /// What an acknowledgement of this number by a destination would be.
+    pub fn judge(&self, to: u16, number: u64) -> Acknowledged
+        requires { to < length self.now }
+        ensures { let o = outgoing_to (outgoing self.now) to in
+            result ≡ judged (length o.issued) o.acknowledged number }
+    {
+        let log = &self.logs[usize::from(to)];
+        log.judge(number)
+    }
+
+    /// Acknowledges a number of a destination, where it is the next one, and was issued.
+    pub fn acknowledge(&mut self, to: u16, number: u64) -> Acknowledged
+        requires { to < length self.old }
+        ensures value { let o = outgoing_to (outgoing self.old) to in
+            result ≡ judged (length o.issued) o.acknowledged number }
+        ensures shards { length self.new ≡ length self.old }
+        ensures counted { outgoing self.new ≡ acknowledged_to (outgoing self.old) to result }
+        ensures room { (shard : ℕ) → room_to self.old shard ≤ room_to self.new shard }
+    {
+        let log = &mut self.logs[usize::from(to)];
+        log.acknowledge(number)
+    }
+
+    /// Acknowledges the next number of a destination.
+    pub fn acknowledge_next(&mut self, to: u16)
+        requires there { to < length self.old }
+        requires issued { let o = outgoing_to (outgoing self.old) to in o.acknowledged < length o.issued }
+        ensures counted { outgoing self.new ≡ acknowledged_to (outgoing self.old) to Acknowledged.Acknowledged }
+        ensures shards { length self.new ≡ length self.old }
+        ensures room { (shard : ℕ) → room_to self.old shard ≤ room_to self.new shard }
+    {
+        let log = &mut self.logs[usize::from(to)];
+        log.acknowledge_next();
+    }
+}

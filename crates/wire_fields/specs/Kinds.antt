@@ -1,0 +1,63 @@
+-- what a field's value is, by its kind; a value of another kind, null among them, is an invalid argument
+use Rattle.std.specs.Prelude.{ℕ, List, [], ◌∷◌, bytes_eq, Option, find, option_and_then, Result}
+use Rattle.std.specs.Option.{ok_or}
+use Rattle.serde_json.specs.Data.{Data}
+use Rattle.serde_json.specs.Find.{as_str, as_number, as_u64}
+use Rattle.wf_event_values.specs.declared.field.Field.{Field}
+use Rattle.wf_event_values.specs.declared.refusal.Refusal.{Refusal}
+use Rattle.wf_event_values.specs.declared.refusal.Refusal.TheVariants.{InvalidArgument, NotFound}
+use Rattle.wf_event_values.specs.declared.policies.ReusePolicy.{ReusePolicy}
+use Rattle.wf_event_values.specs.declared.policies.ReusePolicy.TheVariants.{AllowDuplicate, AllowDuplicateFailedOnly, RejectDuplicate}
+use Rattle.wf_event_values.specs.declared.policies.ConflictPolicy.{ConflictPolicy}
+use Rattle.wf_event_values.specs.declared.policies.ConflictPolicy.TheVariants.{Fail, UseExisting, TerminateExisting}
+use Rattle.wf_event_values.specs.Limits.{text_in, id_in, moment_in, span_in}
+use Rattle.wf_event_values.specs.Names.{reuse_name, conflict_name}
+use Rattle.wf_event_values.specs.Run.{Run}
+use Rattle.task_token.specs.RunTexts.{run_named}
+use Rattle.wire_fields.specs.Steps.{◌>>=◌}
+
+-- a string
+abbrev pub string_of : Field → Data → Result (List ℕ) Refusal
+string_of field d = ok_or (as_str d) (InvalidArgument field)
+
+-- a string within the limit of a text
+abbrev pub text_of : Field → Data → Result (List ℕ) Refusal
+text_of field d = string_of field d >>= text_in field
+
+-- a string within the limits of a name
+abbrev pub id_of : Field → Data → Result (List ℕ) Refusal
+id_of field d = string_of field d >>= id_in field
+
+-- a whole number, from 0 to 2^64 - 1
+abbrev pub number_of : Field → Data → Result ℕ Refusal
+number_of field d = ok_or (option_and_then as_u64 (as_number d)) (InvalidArgument field)
+
+-- a whole number within the limit of a moment
+abbrev pub moment_of : Field → Data → Result ℕ Refusal
+moment_of field d = number_of field d >>= moment_in field
+
+-- a whole number within the limit of a duration
+abbrev pub span_of : Field → Data → Result ℕ Refusal
+span_of field d = number_of field d >>= span_in field
+
+-- a run id's text; another text names no run
+abbrev pub run_of : Field → Data → Result Run Refusal
+run_of field d = string_of field d >>= (λ text. ok_or (run_named text) NotFound)
+
+-- the one of some things whose name this is
+abbrev pub named : {A : Type 0} → (A → List ℕ) → List A → List ℕ → Option A
+named name things text = find (λ x. bytes_eq text (name x)) things
+
+-- a reuse policy, by name
+abbrev pub reuse_named : List ℕ → Option ReusePolicy
+reuse_named = named reuse_name (AllowDuplicate ∷ AllowDuplicateFailedOnly ∷ RejectDuplicate ∷ [])
+
+abbrev pub reuse_of : Field → Data → Result ReusePolicy Refusal
+reuse_of field d = string_of field d >>= (λ text. ok_or (reuse_named text) (InvalidArgument field))
+
+-- a conflict policy, by name
+abbrev pub conflict_named : List ℕ → Option ConflictPolicy
+conflict_named = named conflict_name (Fail ∷ UseExisting ∷ TerminateExisting ∷ [])
+
+abbrev pub conflict_of : Field → Data → Result ConflictPolicy Refusal
+conflict_of field d = string_of field d >>= (λ text. ok_or (conflict_named text) (InvalidArgument field))

@@ -1,0 +1,122 @@
+//! What a field's value is read as.
+
+ghost use Rattle.std.specs.Prelude.{◌≡◌, Ok, Err, MatchResult};
+ghost use Rattle.std.specs.Option.{ok_or};
+ghost use Rattle.serde_json.specs.View.{view};
+ghost use Rattle.wf_event_values.specs.Gives.{Gives};
+ghost use Rattle.wf_event_values.specs.declared.refusal.Refusal.TheVariants.{InvalidArgument};
+ghost use Rattle.wire_fields.specs.Kinds.{string_of, text_of, id_of, number_of, moment_of, span_of, run_of, reuse_of, reuse_named, conflict_of, conflict_named};
+
+use serde_json::Value;
+use std::alloc::Global;
+use task_token::RunText;
+use wf_event_values::{ConflictPolicy, Field, Id, Moment, Refusal, ReusePolicy, RunId, Span, Text};
+
+/// A type that a field's value is read as.
+pub trait FieldValue: Sized {
+    ghost use Rattle.std.specs.Prelude.{Result};
+    ghost use Rattle.serde_json.specs.Data.{Data};
+    ghost use Rattle.wf_event_values.specs.declared.field.Field.{Field};
+    ghost use Rattle.wf_event_values.specs.declared.refusal.Refusal.{Refusal};
+
+    ghost value_of: { Field → Data → Result Self Refusal };
+
+    /// The value, or the refusal that it gives under the name of this field.
+    fn from_value(alloc: Global, field: Field, value: &Value) -> Result<Self, Refusal>
+        ensures { Gives result (value_of field (view value.now)) };
+}
+
+/// The text of a value; one of another kind is an invalid argument.
+fn string(field: Field, value: &Value) -> Result<&str, Refusal>
+    ensures { MatchResult result (λ text. string_of field (view value.now) ≡ Ok text.now)
+        (λ e. string_of field (view value.now) ≡ Err e) }
+{
+    value.as_str().ok_or(Refusal::InvalidArgument(field))
+}
+
+impl FieldValue for Text {
+    ghost value_of = { text_of };
+
+    fn from_value(alloc: Global, field: Field, value: &Value) -> Result<Text, Refusal> {
+        Text::new(alloc, field, string(field, value)?)
+    }
+}
+
+impl FieldValue for Id {
+    ghost value_of = { id_of };
+
+    fn from_value(alloc: Global, field: Field, value: &Value) -> Result<Id, Refusal> {
+        Id::new(alloc, field, string(field, value)?)
+    }
+}
+
+impl FieldValue for u64 {
+    ghost value_of = { number_of };
+
+    fn from_value(_alloc: Global, field: Field, value: &Value) -> Result<u64, Refusal> {
+        value.as_u64().ok_or(Refusal::InvalidArgument(field))
+    }
+}
+
+impl FieldValue for Moment {
+    ghost value_of = { moment_of };
+
+    fn from_value(alloc: Global, field: Field, value: &Value) -> Result<Moment, Refusal> {
+        Moment::new(field, u64::from_value(alloc, field, value)?)
+    }
+}
+
+impl FieldValue for Span {
+    ghost value_of = { span_of };
+
+    fn from_value(alloc: Global, field: Field, value: &Value) -> Result<Span, Refusal> {
+        Span::new(field, u64::from_value(alloc, field, value)?)
+    }
+}
+
+impl FieldValue for RunId {
+    ghost value_of = { run_of };
+
+    /// A text that is no run id is `NotFound`.
+    fn from_value(_alloc: Global, field: Field, value: &Value) -> Result<RunId, Refusal> {
+        RunId::read(string(field, value)?)
+    }
+}
+
+fn reuse_named(name: &str) -> Option<ReusePolicy>
+    ensures { result ≡ reuse_named name.now }
+{
+    match name {
+        "AllowDuplicate" => Some(ReusePolicy::AllowDuplicate),
+        "AllowDuplicateFailedOnly" => Some(ReusePolicy::AllowDuplicateFailedOnly),
+        "RejectDuplicate" => Some(ReusePolicy::RejectDuplicate),
+        _ => None,
+    }
+}
+
+impl FieldValue for ReusePolicy {
+    ghost value_of = { reuse_of };
+
+    fn from_value(_alloc: Global, field: Field, value: &Value) -> Result<ReusePolicy, Refusal> {
+        reuse_named(string(field, value)?).ok_or(Refusal::InvalidArgument(field))
+    }
+}
+
+fn conflict_named(name: &str) -> Option<ConflictPolicy>
+    ensures { result ≡ conflict_named name.now }
+{
+    match name {
+        "Fail" => Some(ConflictPolicy::Fail),
+        "UseExisting" => Some(ConflictPolicy::UseExisting),
+        "TerminateExisting" => Some(ConflictPolicy::TerminateExisting),
+        _ => None,
+    }
+}
+
+impl FieldValue for ConflictPolicy {
+    ghost value_of = { conflict_of };
+
+    fn from_value(_alloc: Global, field: Field, value: &Value) -> Result<ConflictPolicy, Refusal> {
+        conflict_named(string(field, value)?).ok_or(Refusal::InvalidArgument(field))
+    }
+}

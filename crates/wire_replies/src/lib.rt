@@ -1,0 +1,8 @@
+//! Replies as lines.
+#![tactic(auto)]
+
+mod answers;
+mod replies;
+mod tasks;
+
+pub use replies::{history_text, reply_text};

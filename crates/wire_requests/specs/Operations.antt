@@ -1,0 +1,77 @@
+-- the fields of each operation: their faults are looked for in the order in which they stand here
+use Rattle.std.specs.Prelude.{[], Result, Ok, Err}
+use Rattle.serde_json.specs.Data.{Data}
+use Rattle.wf_event_values.specs.declared.refusal.Refusal.{Refusal}
+use Rattle.wf_event_values.specs.declared.refusal.Refusal.TheVariants.{InvalidArgument}
+use Rattle.wf_event_values.specs.declared.field.Field.TheVariants as field
+use Rattle.wf_event_values.specs.declared.policies.ReusePolicy.{ReusePolicy}
+use Rattle.wf_event_values.specs.declared.policies.ReusePolicy.TheVariants.{AllowDuplicate}
+use Rattle.wf_event_values.specs.declared.policies.ConflictPolicy.{ConflictPolicy}
+use Rattle.wf_event_values.specs.declared.policies.ConflictPolicy.TheVariants.{Fail}
+use Rattle.service_model.specs.declared.request.Start.{Start}
+use Rattle.service_model.specs.declared.request.Signal.{Signal}
+use Rattle.service_model.specs.declared.request.Read.{Read}
+use Rattle.service_model.specs.declared.request.Operation.{Operation}
+use Rattle.service_model.specs.declared.request.Operation.TheVariants as operation
+use Rattle.wire_fields.specs.Steps.{◌>>=◌}
+use Rattle.wire_fields.specs.Kinds.{text_of, id_of, span_of, run_of, reuse_of, conflict_of}
+use Rattle.wire_fields.specs.Fields.{required, or_default, optional}
+use Rattle.wire_requests.specs.declared.op.Op.{Op}
+use Rattle.wire_requests.specs.declared.op.Op.TheVariants as op
+
+-- the reuse policies that are served so far
+abbrev pub allowed_reuse : ReusePolicy → Result ReusePolicy Refusal
+allowed_reuse AllowDuplicate = Ok AllowDuplicate
+allowed_reuse _ = Err (InvalidArgument field.Reuse)
+
+-- the conflict policies that are served so far
+abbrev pub allowed_conflict : ConflictPolicy → Result ConflictPolicy Refusal
+allowed_conflict Fail = Ok Fail
+allowed_conflict _ = Err (InvalidArgument field.Conflict)
+
+-- start
+unfoldable pub start_of : Data → Result Start Refusal
+start_of line = do
+  workflow_id ← required id_of field.WorkflowId line
+  workflow_type ← required text_of field.WorkflowType line
+  task_queue ← required id_of field.TaskQueue line
+  input ← or_default text_of [] field.Input line
+  request_id ← optional id_of field.RequestId line
+  reuse ← or_default reuse_of AllowDuplicate field.Reuse line >>= allowed_reuse
+  conflict ← or_default conflict_of Fail field.Conflict line >>= allowed_conflict
+  run_timeout ← or_default span_of 0 field.RunTimeout line
+  task_timeout ← or_default span_of 0 field.TaskTimeout line
+  Ok (record {
+    workflow_id = workflow_id;
+    workflow_type = workflow_type;
+    task_queue = task_queue;
+    input = input;
+    request_id = request_id;
+    reuse = reuse;
+    conflict = conflict;
+    run_timeout = run_timeout;
+    task_timeout = task_timeout;
+  })
+
+-- signal
+unfoldable pub signal_of : Data → Result Signal Refusal
+signal_of line = do
+  workflow_id ← required id_of field.WorkflowId line
+  run ← optional run_of field.Run line
+  name ← required text_of field.Name line
+  input ← or_default text_of [] field.Input line
+  request_id ← optional id_of field.RequestId line
+  Ok (record { workflow_id = workflow_id; run = run; name = name; input = input; request_id = request_id })
+
+-- history
+unfoldable pub history_of : Data → Result Read Refusal
+history_of line = do
+  workflow_id ← required id_of field.WorkflowId line
+  run ← optional run_of field.Run line
+  Ok (record { workflow_id = workflow_id; run = run })
+
+-- what a line of this operation asks for
+abbrev pub operation_of : Op → Data → Result Operation Refusal
+operation_of op.Start line = start_of line >>= (λ x. Ok (operation.Start x))
+operation_of op.Signal line = signal_of line >>= (λ x. Ok (operation.Signal x))
+operation_of op.History line = history_of line >>= (λ x. Ok (operation.History x))

@@ -1,0 +1,24 @@
+-- what a line can ask for
+use Rattle.std.specs.Prelude.{List, ℕ, [], ◌∷◌, codes, Option, Result}
+use Rattle.std.specs.Option.{ok_or}
+use Rattle.serde_json.specs.Data.{Data}
+use Rattle.wf_event_values.specs.declared.field.Field.{Field}
+use Rattle.wf_event_values.specs.declared.refusal.Refusal.{Refusal}
+use Rattle.wf_event_values.specs.declared.refusal.Refusal.TheVariants.{InvalidArgument}
+use Rattle.wire_fields.specs.Kinds.{string_of, named}
+use Rattle.wire_fields.specs.Steps.{◌>>=◌}
+use Rattle.wire_requests.specs.declared.op.Op.{Op}
+use Rattle.wire_requests.specs.declared.op.Op.TheVariants.{Start, Signal, History}
+
+-- the name of an operation
+abbrev pub op_name : Op → List ℕ
+op_name Start = codes "start"
+op_name Signal = codes "signal"
+op_name History = codes "history"
+
+-- the operation that has this name
+abbrev pub op_named : List ℕ → Option Op
+op_named = named op_name (Start ∷ Signal ∷ History ∷ [])
+
+abbrev pub op_of : Field → Data → Result Op Refusal
+op_of field d = string_of field d >>= (λ text. ok_or (op_named text) (InvalidArgument field))

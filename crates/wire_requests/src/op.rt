@@ -1,0 +1,39 @@
+//! What a line can ask for.
+
+ghost use Rattle.std.specs.Prelude.{◌≡◌};
+ghost use Rattle.wire_requests.specs.Ops.{op_named, op_of};
+
+use serde_json::Value;
+use std::alloc::Global;
+use wf_event_values::{Field, Refusal};
+use wire_fields::FieldValue;
+
+/// What a line can ask for.
+#[derive(Clone, Copy)]
+pub(crate) enum Op {
+    Start,
+    Signal,
+    History,
+}
+
+fn op_named(name: &str) -> Option<Op>
+    ensures { result ≡ op_named name.now }
+{
+    match name {
+        "start" => Some(Op::Start),
+        "signal" => Some(Op::Signal),
+        "history" => Some(Op::History),
+        _ => None,
+    }
+}
+
+impl FieldValue for Op {
+    ghost value_of = { op_of };
+
+    fn from_value(_alloc: Global, field: Field, value: &Value) -> Result<Op, Refusal> {
+        value
+            .as_str()
+            .and_then(op_named)
+            .ok_or(Refusal::InvalidArgument(field))
+    }
+}

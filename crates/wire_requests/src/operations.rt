@@ -1,0 +1,99 @@
+//! The fields of each operation, in the order in which their faults are looked for.
+
+ghost use Rattle.std.specs.Prelude.{◌≡◌, [], Ok, Err};
+ghost use Rattle.serde_json.specs.View.{view};
+ghost use Rattle.wf_event_values.specs.Gives.{Gives};
+ghost use Rattle.wire_requests.specs.Operations.{start_of, signal_of, history_of, operation_of, allowed_reuse, allowed_conflict};
+
+use crate::op::Op;
+use serde_json::Value;
+use service_model::request::{Operation, Read, Signal, Start};
+use std::alloc::Global;
+use wf_event_values::{ConflictPolicy, Field, Refusal, ReusePolicy, Span, Text};
+use wire_fields::{optional, or_default, required};
+
+/// A reuse policy that is served so far: the default alone.
+fn allowed_reuse(reuse: ReusePolicy) -> Result<ReusePolicy, Refusal>
+    ensures { result ≡ allowed_reuse reuse }
+{
+    match reuse {
+        ReusePolicy::AllowDuplicate => Ok(reuse),
+        _ => Err(Refusal::InvalidArgument(Field::Reuse)),
+    }
+}
+
+/// A conflict policy that is served so far: the default alone.
+fn allowed_conflict(conflict: ConflictPolicy) -> Result<ConflictPolicy, Refusal>
+    ensures { result ≡ allowed_conflict conflict }
+{
+    match conflict {
+        ConflictPolicy::Fail => Ok(conflict),
+        _ => Err(Refusal::InvalidArgument(Field::Conflict)),
+    }
+}
+
+#[tactic(auto, unfolding(crate::specs::Operations::start_of))]
+fn start(alloc: Global, line: &Value) -> Result<Start, Refusal>
+    ensures { Gives result (start_of (view line.now)) }
+{
+    let workflow_id = required(alloc, line, Field::WorkflowId)?;
+    let workflow_type = required(alloc, line, Field::WorkflowType)?;
+    let task_queue = required(alloc, line, Field::TaskQueue)?;
+    let input = or_default(alloc, line, Field::Input, Text::empty(alloc))?;
+    let request_id = optional(alloc, line, Field::RequestId)?;
+    let reuse = or_default(alloc, line, Field::Reuse, ReusePolicy::AllowDuplicate)?;
+    let reuse = allowed_reuse(reuse)?;
+    let conflict = or_default(alloc, line, Field::Conflict, ConflictPolicy::Fail)?;
+    let conflict = allowed_conflict(conflict)?;
+    let run_timeout = or_default(alloc, line, Field::RunTimeout, Span::none())?;
+    let task_timeout = or_default(alloc, line, Field::TaskTimeout, Span::none())?;
+    Ok(Start {
+        workflow_id,
+        workflow_type,
+        task_queue,
+        input,
+        request_id,
+        reuse,
+        conflict,
+        run_timeout,
+        task_timeout,
+    })
+}
+
+#[tactic(auto, unfolding(crate::specs::Operations::signal_of))]
+fn signal(alloc: Global, line: &Value) -> Result<Signal, Refusal>
+    ensures { Gives result (signal_of (view line.now)) }
+{
+    let workflow_id = required(alloc, line, Field::WorkflowId)?;
+    let run = optional(alloc, line, Field::Run)?;
+    let name = required(alloc, line, Field::Name)?;
+    let input = or_default(alloc, line, Field::Input, Text::empty(alloc))?;
+    let request_id = optional(alloc, line, Field::RequestId)?;
+    Ok(Signal {
+        workflow_id,
+        run,
+        name,
+        input,
+        request_id,
+    })
+}
+
+#[tactic(auto, unfolding(crate::specs::Operations::history_of))]
+fn history(alloc: Global, line: &Value) -> Result<Read, Refusal>
+    ensures { Gives result (history_of (view line.now)) }
+{
+    let workflow_id = required(alloc, line, Field::WorkflowId)?;
+    let run = optional(alloc, line, Field::Run)?;
+    Ok(Read { workflow_id, run })
+}
+
+/// What an operation's line asks for.
+pub(crate) fn operation(alloc: Global, op: Op, line: &Value) -> Result<Operation, Refusal>
+    ensures { Gives result (operation_of op (view line.now)) }
+{
+    match op {
+        Op::Start => Ok(Operation::Start(start(alloc, line)?)),
+        Op::Signal => Ok(Operation::Signal(signal(alloc, line)?)),
+        Op::History => Ok(Operation::History(history(alloc, line)?)),
+    }
+}

@@ -1,0 +1,57 @@
+//! A line as a request.
+
+ghost use Rattle.std.specs.Prelude.{◌≡◌};
+ghost use Rattle.serde_json.specs.View.{view};
+ghost use Rattle.wf_event_values.specs.Gives.{Gives};
+ghost use Rattle.wire_requests.specs.Requests.{lane_in, request_of_object, request_of_line};
+
+use crate::op::Op;
+use crate::operations::operation;
+use serde_json::Value;
+use service_model::request::Request;
+use service_model::settings::Settings;
+use std::alloc::Global;
+use wf_event_values::{Field, Moment, Refusal};
+use wire_fields::{or_default, required};
+
+/// The lane that a number names.
+fn lane_in(settings: &Settings, number: u64) -> Result<u8, Refusal>
+    ensures { result ≡ lane_in settings.now number }
+{
+    match u8::try_from(number) {
+        Ok(lane) if number < settings.passes => Ok(lane),
+        _ => Err(Refusal::InvalidArgument(Field::Lane)),
+    }
+}
+
+#[tactic(auto, unfolding(crate::specs::Requests::request_of_object))]
+fn request_of_object(
+    alloc: Global,
+    settings: &Settings,
+    line: &Value,
+) -> Result<(u8, Request), Refusal>
+    ensures { Gives result (request_of_object settings.now (view line.now)) }
+{
+    let lane = lane_in(settings, or_default(alloc, line, Field::Lane, 0)?)?;
+    let op: Op = required(alloc, line, Field::Op)?;
+    let at = or_default(alloc, line, Field::At, Moment::zero())?;
+    let operation = operation(alloc, op, line)?;
+    Ok((lane, Request { at, operation }))
+}
+
+/// The lane and the request of a line, or the line's first fault.
+///
+/// Faults are looked for in this order: a line that is no JSON object, `lane`, `op`, `at`, and then the fields of the operation, as the definitions list them. A field that is missing without a default, of a wrong kind or out of its range is an invalid argument under that field's name; a `run` that is a text but no run id is `NotFound`. Keys that no field bears are ignored.
+pub fn read_request(
+    alloc: Global,
+    settings: &Settings,
+    line: &str,
+) -> Result<(u8, Request), Refusal>
+    ensures { Gives result (request_of_line settings.now line.now) }
+{
+    match Value::from_str(alloc, line) {
+        Ok(tree) if tree.is_object() => request_of_object(alloc, settings, &tree),
+        Err(error) if error.is_memory() => Err(Refusal::NoMemory),
+        _ => Err(Refusal::InvalidArgument(Field::Json)),
+    }
+}
