@@ -32,7 +32,6 @@ decision R q latest_one =
     decide (option_map (λ n. (run_at R n).status) latest_one)
     (unwrap_or (option_map (λ n. is_same_request q.request_id (start_request (run_at R n))) latest_one) false) q.reuse q.conflict
 
-
 -- what is done by the decision, where n is the latest run and a new one would begin with these facts
 abbrev pub by_decision : Runs → ℕ → List Fact → Decision → Outcome
 by_decision R n facts New = starts_new R None facts
