@@ -1,4 +1,4 @@
-//! How a service is opened and closed, and how two passes tell each other what they have seen.
+//! How a service is opened.
 
 ghost use Rattle.std.specs.Prelude.{◌≡◌, ◌≢◌, ℕ, ◌+◌, ◌<◌, ◌≤◌, ◌^◌, ◌⊎◌, [], ◌∷◌, Some, Ok, length, map, slice_get, IfOk, IfErr, codes};
 ghost use Rattle.std.specs.List.{range_with_len, AllByRecursion};
