@@ -1,4 +1,7 @@
 //! What shards send each other.
+
+ghost use Rattle.std.specs.Prelude.{◌≡◌};
+
 use wf_event_values::{Id, ParentClosePolicy, ReusePolicy, RunId, Span, Status, Text};
 
 /// Starts a child.
@@ -104,4 +107,17 @@ pub struct Transfer {
     pub from: u16,
     pub number: u64,
     pub content: TransferContent,
+}
+
+impl Transfer {
+    /// A transfer from the parts that a record's line has. That its source ever issued it is not claimed: a destination's record lists only what was delivered to it.
+    pub fn restored(from: u16, number: u64, content: TransferContent) -> Transfer
+        ensures { result ≡ record { from = from; number = number; content = content } }
+    {
+        Transfer {
+            from,
+            number,
+            content,
+        }
+    }
 }

@@ -77,11 +77,7 @@ fn accepts_each_number_once(rt: HostRuntime) -> Result<(), Fail> {
         (0, "already"),
     ];
     for (number, expected) in steps {
-        let transfer = Transfer {
-            from: 1,
-            number,
-            content: content(number),
-        };
+        let transfer = Transfer::restored(1, number, content(number));
         let judged = inbox.judge(&transfer);
         assert_eq!(rt; shown_delivery(judged), expected);
         let delivery = inbox.accept(&transfer);
