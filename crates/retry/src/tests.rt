@@ -1,7 +1,7 @@
 //! Vectors of waits and verdicts.
 
 use crate::{Ended, RetryPolicy, Verdict};
-use std::alloc::Global;
+use std::alloc::{AllocError, Global};
 use std::test::Fail;
 use wf_event::payloads::PolicyFields;
 use wf_event_values::{Cause, Field, Items, Moment, Text};
@@ -68,6 +68,31 @@ fn refuses_numbers_out_of_range(rt: HostRuntime) {
             "{initial} {factor} {maximum}"
         );
     }
+}
+
+/// So many empty texts.
+fn texts(alloc: Global, count: u32) -> Result<Items<Text>, AllocError> {
+    let mut texts = Vec::new(alloc);
+    for _text in 0..count {
+        texts.push(Text::empty(alloc))?;
+    }
+    Ok(Items::from_vec(texts))
+}
+
+#[test]
+fn refuses_too_many_attempts_and_types(rt: HostRuntime) -> Result<(), Fail> {
+    let vectors = [
+        (4_294_967_295, 100, true),
+        (4_294_967_296, 100, false),
+        (0, 101, false),
+    ];
+    for (attempts, types, is_good) in vectors {
+        let mut fields = fields(rt.alloc(), 1000, 2, 0);
+        fields.attempts = attempts;
+        fields.non_retryable = texts(rt.alloc(), types)?;
+        assert_eq!(rt; RetryPolicy::new(fields).is_ok(), is_good);
+    }
+    Ok(())
 }
 
 fn shown(verdict: Verdict) -> (u64, &'static str) {
