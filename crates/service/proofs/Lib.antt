@@ -1,2 +1,3 @@
+pub mod CloseLemmas
 pub mod OpenLemmas
 pub mod ServedLemmas

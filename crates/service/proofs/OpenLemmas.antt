@@ -24,7 +24,7 @@ all-push : {A : Type 0} (P : A → Type 0) (xs : List A) (x : A) → AllByRecurs
 all-push P [] x h here = (here, tt)
 all-push P (y ∷ xs) x h here = (h.0, all-push P xs x h.1 here)
 
-map-push : {A B : Type 0} (f : A → B) (xs : List A) (x : A) → map f (xs ++ x ∷ []) ≡ map f xs ++ f x ∷ []
+pub map-push : {A B : Type 0} (f : A → B) (xs : List A) (x : A) → map f (xs ++ x ∷ []) ≡ map f xs ++ f x ∷ []
 map-push f [] x = refl
 map-push f (y ∷ xs) x = ap (λ t. f y ∷ t) (map-push f xs x)
 
@@ -58,6 +58,12 @@ get-map f (x ∷ xs) zero y is = (x, refl, some_same y (f x) (sym is))
         option_or None d = d
         option_or (Some x) d = x
 get-map f (x ∷ xs) (suc k) y is = get-map f xs k y is
+
+-- what is made of what stands at a place
+pub map-get : {A B : Type 0} (f : A → B) (xs : List A) (k : ℕ) (x : A) → slice_get xs k ≡ Some x → slice_get (map f xs) k ≡ Some (f x)
+map-get f [] k x is = absurd (cc)
+map-get f (y ∷ xs) zero x is = ap (λ o. Some (f (unwrap_or o y))) is
+map-get f (y ∷ xs) (suc k) x is = map-get f xs k x is
 
 -- each shard stands for the replay of its empty record
 pub standing-at : (xs : List (ShardView × List (ℕ × Request))) (k : ℕ) (x : ShardView × List (ℕ × Request)) → AllByRecursion (λ (x : ShardView × List (ℕ × Request)). x.1 ≡ []) xs → AllByRecursion (λ (x : ShardView × List (ℕ × Request)). StandsFor x.0 (opened x.0)) xs →

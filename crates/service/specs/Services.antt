@@ -45,11 +45,15 @@ pub record IsPassOf (p : Pass) (x : Service) : Type 0 where
   pub opened : IsOpened x
   pub own : of_gate.IsPassOf p.inner x.gate
 
--- A request was served: the record that the pass then has seen of the request's shard is all that it had seen there,
--- perhaps other entries, and this one, and the reply is the sequential service's after the entries before
-pub record Served (x : Service) (p p' : Pass) (q : Request) (r : Reply) : Type 0 where
-  pub step : gate.Stepped after answer (known_by p) (known_by p') (shard_of_request x q) q r
+-- A request was served to a pass that knew v and then knows w: the record that it then has seen of the request's shard
+-- is all that it had seen there, perhaps other entries, and this one, and the reply is the sequential service's after the entries before
+pub record IsServed (x : Service) (v w : View Request Content) (q : Request) (r : Reply) : Type 0 where
+  pub step : gate.Stepped after answer v w (shard_of_request x q) q r
   pub start : step.start ≡ opening (setup_of x.settings (shard_of_request x q))
+
+-- the same of a pass before and after
+abbrev pub Served : Service → Pass → Pass → Request → Reply → Type 0
+Served x p p' q r = IsServed x (known_by p) (known_by p') q r
 
 -- the same, after perhaps some turns in which another pass was found there
 pub record ServedAt (x : Service) (p p' : Pass) (q : Request) (r : Reply) : Type 0 where

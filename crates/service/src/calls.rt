@@ -1,7 +1,7 @@
 //! The calls by name: each makes the request of its arguments and serves it.
 
 ghost use Rattle.std.specs.Prelude.{◌≡◌, IfOk, IfErr};
-ghost use Rattle.gate.specs.Passes.{Refuses, Waited};
+ghost use Rattle.gate.specs.Passes.{number, Refuses, Waited};
 ghost use Rattle.service.specs.Asks.{to_start, to_signal, to_show_history};
 
 use crate::service::{Pass, Service};
@@ -27,6 +27,7 @@ impl Service {
     ) -> Result<Reply, (Refused, Request)>
         requires { IsPassOf pass.old self.now }
         ensures own { IsPassOf pass.new self.now }
+        ensures named { number (known_by pass.new) ≡ number (known_by pass.old) }
         ensures ok { IfOk result (λ r. Served self.now pass.old pass.new (to_start at asked) r) }
         ensures back { IfErr result (λ e. e.1 ≡ to_start at asked) }
         ensures err { IfErr result (λ e. Refuses e.0 (known_by pass.old) (known_by pass.new) (shard_of_request self.now (to_start at asked))) }
@@ -47,6 +48,7 @@ impl Service {
     ) -> Result<Reply, (AllocError, Request)>
         requires { IsPassOf pass.old self.now }
         ensures own { IsPassOf pass.new self.now }
+        ensures named { number (known_by pass.new) ≡ number (known_by pass.old) }
         ensures ok { IfOk result (λ r. ServedAt self.now pass.old pass.new (to_start at asked) r) }
         ensures back { IfErr result (λ e. e.1 ≡ to_start at asked) }
         ensures err { IfErr result (λ e. Waited (known_by pass.old) (known_by pass.new) (shard_of_request self.now (to_start at asked))) }
@@ -66,6 +68,7 @@ impl Service {
     ) -> Result<Reply, (Refused, Request)>
         requires { IsPassOf pass.old self.now }
         ensures own { IsPassOf pass.new self.now }
+        ensures named { number (known_by pass.new) ≡ number (known_by pass.old) }
         ensures ok { IfOk result (λ r. Served self.now pass.old pass.new (to_signal at asked) r) }
         ensures back { IfErr result (λ e. e.1 ≡ to_signal at asked) }
         ensures err { IfErr result (λ e. Refuses e.0 (known_by pass.old) (known_by pass.new) (shard_of_request self.now (to_signal at asked))) }
@@ -86,6 +89,7 @@ impl Service {
     ) -> Result<Reply, (AllocError, Request)>
         requires { IsPassOf pass.old self.now }
         ensures own { IsPassOf pass.new self.now }
+        ensures named { number (known_by pass.new) ≡ number (known_by pass.old) }
         ensures ok { IfOk result (λ r. ServedAt self.now pass.old pass.new (to_signal at asked) r) }
         ensures back { IfErr result (λ e. e.1 ≡ to_signal at asked) }
         ensures err { IfErr result (λ e. Waited (known_by pass.old) (known_by pass.new) (shard_of_request self.now (to_signal at asked))) }
@@ -105,6 +109,7 @@ impl Service {
     ) -> Result<Reply, (Refused, Request)>
         requires { IsPassOf pass.old self.now }
         ensures own { IsPassOf pass.new self.now }
+        ensures named { number (known_by pass.new) ≡ number (known_by pass.old) }
         ensures ok { IfOk result (λ r. Served self.now pass.old pass.new (to_show_history at asked) r) }
         ensures back { IfErr result (λ e. e.1 ≡ to_show_history at asked) }
         ensures err { IfErr result (λ e. Refuses e.0 (known_by pass.old) (known_by pass.new) (shard_of_request self.now (to_show_history at asked))) }
@@ -125,6 +130,7 @@ impl Service {
     ) -> Result<Reply, (AllocError, Request)>
         requires { IsPassOf pass.old self.now }
         ensures own { IsPassOf pass.new self.now }
+        ensures named { number (known_by pass.new) ≡ number (known_by pass.old) }
         ensures ok { IfOk result (λ r. ServedAt self.now pass.old pass.new (to_show_history at asked) r) }
         ensures back { IfErr result (λ e. e.1 ≡ to_show_history at asked) }
         ensures err { IfErr result (λ e. Waited (known_by pass.old) (known_by pass.new) (shard_of_request self.now (to_show_history at asked))) }
@@ -134,7 +140,7 @@ impl Service {
 }
 
 /// The request of an operation at a moment.
-fn request(at: Moment, operation: Operation) -> Request
+pub(crate) fn request(at: Moment, operation: Operation) -> Request
     ensures { result ≡ record { at = at; operation = operation } }
 {
     Request { at, operation }

@@ -3,11 +3,18 @@
 //! Many threads call one service at once, each with a [`Pass`] of its own. A shard lies with its
 //! record in one slot of a gate; a call enters that slot, serves its request, adds an entry to the
 //! record and leaves. So each reply is the sequential service's at that place of the record.
+//!
+//! Two passes that [meet](Service::meet) agree on what was done so far, and [`Service::close`]
+//! gives the records, which settle any dispute.
 #![tactic(auto)]
 
 mod calls;
+mod close;
+mod held;
+mod meet;
 mod open;
 mod service;
 
-pub use gate::Refused;
+pub use gate::{Record, Refused};
+pub use held::Held;
 pub use service::{Pass, Service};

@@ -1,4 +1,8 @@
 //! How a service is opened.
+//!
+//! The settings are looked at first. Then each shard is made, without runs, and laid with an empty
+//! record into a slot of the gate, in the order of the shards. The gate gives as many passes as the
+//! settings say, and each becomes a pass of the service. The room that `close` needs is made here.
 
 ghost use Rattle.std.specs.Prelude.{◌≡◌, ◌≢◌, ℕ, ◌+◌, ◌<◌, ◌≤◌, ◌^◌, ◌⊎◌, [], ◌∷◌, Some, Ok, length, map, slice_get, IfOk, IfErr, codes};
 ghost use Rattle.std.specs.List.{range_with_len, AllByRecursion};
@@ -13,6 +17,7 @@ ghost use Rattle.service.specs.Laid.{IsLaid};
 ghost use Rattle.service.specs.Ranges.{range_fault};
 ghost use Rattle.service.specs.Services.{IsPassOf, IsInRange, known_by, settings_of};
 
+use crate::close::PassRoom;
 use crate::service::{Pass, Service};
 use gate::{Gate, Record};
 use service_model::content::Setup;
@@ -20,6 +25,7 @@ use service_model::request::Request;
 use service_model::settings::Settings;
 use shard::Shard;
 use std::alloc::{AllocError, Global};
+use std::sync::Mutex;
 use wf_event_values::{Field, Id, Items, Refusal};
 
 impl Service {
@@ -40,9 +46,13 @@ impl Service {
         let objects = open_shards(alloc, settings)?;
         let (gate, inner) = Gate::open(alloc, objects, settings.passes as usize)?;
         let passes = wrapped(alloc, inner)?;
+        let room = PassRoom::new(alloc)?;
+        let records = Vec::with_capacity(alloc, settings.shards as usize)?;
         let service = Service {
             settings: *settings,
             gate,
+            handed_down: Mutex::new(room),
+            records,
         };
         Ok((service, passes))
     }

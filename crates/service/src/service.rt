@@ -1,16 +1,17 @@
 //! The service and its passes, and the request that every call makes.
 
-ghost use Rattle.std.specs.Prelude.{◌≡◌, ◌<◌, IfOk, IfErr};
-ghost use Rattle.gate.specs.Passes.{Refuses, Waited};
+ghost use Rattle.std.specs.Prelude.{◌≡◌, ◌<◌, ◌≤◌, length, vec_capacity, IfOk, IfErr};
+ghost use Rattle.gate.specs.Passes.{number, Refuses, Waited};
 ghost use Rattle.service.specs.Contents.{slot_of, named_id};
 
-use gate::{Gate, Refused};
+use crate::close::PassRoom;
+use gate::{Gate, Record, Refused};
 use service_model::answer::Reply;
 use service_model::request::{Operation, Request};
 use service_model::settings::Settings;
 use shard::{Shard, hash};
 use std::alloc::AllocError;
-use std::sync::Wait;
+use std::sync::{Mutex, Wait};
 use wf_event_values::Id;
 
 /// A workflow service.
@@ -18,6 +19,13 @@ use wf_event_values::Id;
 pub struct Service {
     pub(crate) settings: Settings,
     pub(crate) gate: Gate<Shard>,
+    // Room for what `close` hands down and for what it answers, made by `open` so that closing
+    // can't fail. Threads can't share a list of passes, so that one lies behind a lock, which
+    // nobody takes.
+    pub(crate) handed_down: Mutex<PassRoom>,
+    pub(crate) records: Vec<Record<Request>>,
+    ghost some_pass: { 0 < settings.passes },
+    ghost roomy: { (length records.items ≡ 0) × (settings.shards ≤ vec_capacity records) },
 }
 
 /// The right to call one service. It is one thread's at a time.
@@ -44,6 +52,7 @@ impl Service {
     pub fn try_serve(&self, pass: &mut Pass, request: Request) -> Result<Reply, (Refused, Request)>
         requires { IsPassOf pass.old self.now }
         ensures own { IsPassOf pass.new self.now }
+        ensures named { number (known_by pass.new) ≡ number (known_by pass.old) }
         ensures ok { IfOk result (λ r. Served self.now pass.old pass.new request r) }
         ensures back { IfErr result (λ e. e.1 ≡ request) }
         ensures err { IfErr result (λ e. Refuses e.0 (known_by pass.old) (known_by pass.new) (shard_of_request self.now request)) }
@@ -65,6 +74,7 @@ impl Service {
     ) -> Result<Reply, (AllocError, Request)>
         requires { IsPassOf pass.old self.now }
         ensures own { IsPassOf pass.new self.now }
+        ensures named { number (known_by pass.new) ≡ number (known_by pass.old) }
         ensures ok { IfOk result (λ r. ServedAt self.now pass.old pass.new request r) }
         ensures back { IfErr result (λ e. e.1 ≡ request) }
         ensures err { IfErr result (λ e. Waited (known_by pass.old) (known_by pass.new) (shard_of_request self.now request)) }
@@ -74,7 +84,7 @@ impl Service {
     }
 
     /// The slot of a request's shard.
-    fn slot_of(&self, request: &Request) -> usize
+    pub(crate) fn slot_of(&self, request: &Request) -> usize
         requires { 0 < (settings_of self.now).shards }
         ensures { result ≡ shard_of_request self.now request.now }
     {

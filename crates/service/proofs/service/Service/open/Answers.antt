@@ -1,4 +1,4 @@
-use Rattle.std.proofs.Common.{ap, sym, ◌∙◌, subst}
+use Rattle.std.proofs.Common.{ap, sym, ◌∙◌, subst, arith, length}
 use Rattle.std.specs.Prelude.{map, slice_get}
 use Rattle.gate.specs.Passes.{IsFresh}
 use Rattle.gate.specs.Gates as of_gate
@@ -11,6 +11,12 @@ use Rattle.service.proofs.service.Service.open.Goals as goal
 
 pub open-requires-clause-standing : goal.open-requires-clause-standing
 open-requires-clause-standing c = λ k x there. standing-at c.in_ok-objects.objects.items k x c.in_ok-objects.ensures.laid.bases c.in_ok-objects.ensures.laid.stands there
+
+pub invariant_of-service : goal.invariant_of-service
+invariant_of-service c =
+    let range = in-range c.args.settings.now (sym c.in_ok-check_ranges.ensures) in
+    let exact = c.in_ok-records.ensures.exact in
+    record { some_pass = omega (arith, range.some_pass); roomy = (ap length c.in_ok-records.ensures.items, omega (arith, exact)) }
 
 pub returns-clause-own : goal.returns-clause-own
 returns-clause-own c = λ k p there.

@@ -1,0 +1,28 @@
+-- what a clause reads of a pass that stays on a shard
+use Rattle.service_model.specs.declared.content.Content.{Content}
+use Rattle.service_model.specs.declared.request.Request.{Request}
+use Rattle.service_model.specs.Outcome.{Reply}
+use Rattle.gate.specs.declared.view.View.{View}
+use Rattle.gate.specs.Helds as of_held
+use Rattle.shard.specs.Standing as shard
+use Rattle.service.specs.declared.held.Held.{Held}
+use Rattle.service.specs.declared.service.Service.{Service}
+use Rattle.service.specs.declared.service.Pass.{Pass}
+use Rattle.service.specs.Services.{known_by, IsOpened, IsServed}
+
+-- what the pass will know once it has left
+abbrev pub leaving : Held → View Request Content
+leaving h = of_held.leaving h.inner
+
+-- the reply that `leave` hands over
+abbrev pub promised : Held → Reply
+promised h = of_held.promised h.inner
+
+-- the pass is one that this service gave
+pub record IsHeldBy (h : Held) (x : Service) : Type 0 where
+  pub opened : IsOpened x
+  pub own : of_held.IsHeldBy shard.opened h.inner x.gate
+
+-- the request was served to the pass, as far as it knows once it has left
+abbrev pub Enters : Service → Pass → Held → Request → Type 0
+Enters x p h q = IsServed x (known_by p) (leaving h) q (promised h)

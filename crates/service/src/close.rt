@@ -1,0 +1,81 @@
+//! How a service is closed.
+
+ghost use Rattle.std.specs.Prelude.{◌≡◌, ℕ, ◌<◌, ◌≤◌, [], Some, length, map, slice_get, vec_len, vec_capacity, IfOk};
+ghost use Rattle.gate.specs.Passes.{number};
+ghost use Rattle.gate.specs.Ends.{IsEnd, HasDone};
+
+use crate::service::{Pass, Service};
+use gate::Record;
+use service_model::request::Request;
+use shard::Shard;
+use std::alloc::{AllocError, Global};
+
+/// The most passes that a service gives.
+const MOST_PASSES: usize = 256;
+
+/// Room for all the gate's passes. One takes a byte.
+#[derive(Drop)]
+pub(crate) struct PassRoom {
+    passes: Vec<gate::Pass<Shard>>,
+    ghost empty: { length passes.items ≡ 0 },
+    ghost wide: { 256 ≤ vec_capacity passes },
+}
+
+impl PassRoom {
+    pub(crate) fn new(alloc: Global) -> Result<PassRoom, AllocError> {
+        let passes = Vec::with_capacity(alloc, MOST_PASSES)?;
+        Ok(PassRoom { passes })
+    }
+}
+
+/// The gate's passes, in the room for them.
+fn handed_down(passes: Vec<Pass>, room: PassRoom) -> Vec<gate::Pass<Shard>>
+    requires { length passes.items ≤ 256 }
+    ensures { result.items ≡ map (λ p. p.inner) passes.items }
+{
+    let PassRoom { passes: mut all } = room;
+    for pass in passes {
+        all.push_reserved(pass.inner);
+    }
+    all
+}
+
+/// The records, in the room for them. The shards are dropped.
+fn records_of(
+    closed: Vec<(Shard, Record<Request>)>,
+    mut room: Vec<Record<Request>>,
+) -> Vec<Record<Request>>
+    requires { (length room.items ≡ 0) × (length closed.items ≤ vec_capacity room) }
+    ensures { result.items ≡ map (λ x. x.1) closed.items }
+{
+    for (_, record) in closed {
+        room.push_reserved(record);
+    }
+    room
+}
+
+impl Service {
+    ghost use Rattle.service.specs.Services.{IsPassOf, known_by, settings_of};
+    ghost use Rattle.service.specs.Ends.{base_of, IsStoodFor};
+
+    /// Gives the record of each shard, in the order of the shards. The passes are all that were
+    /// given, so none is on a shard. It takes no memory.
+    pub fn close(self, passes: Vec<Pass>) -> Vec<Record<Request>>
+        requires own { (k : ℕ) (p : Pass) → slice_get passes.items k ≡ Some p → IsPassOf p self }
+        requires count { length passes.items ≡ (settings_of self).passes }
+        requires all { (n : ℕ) → n < (settings_of self).passes → (k : ℕ) × (p : Pass) × (slice_get passes.items k ≡ Some p) × (number (known_by p) ≡ n) }
+        ensures count { length result.items ≡ (settings_of self).shards }
+        ensures stands { (k : ℕ) (log : _) → slice_get result.items k ≡ Some log → IsStoodFor (settings_of self) k log }
+        ensures records { (k : ℕ) (log : _) → slice_get result.items k ≡ Some log → IsEnd (base_of self k) (settings_of self).passes log }
+        ensures passes { (k : ℕ) (log : _) (j : ℕ) (p : Pass) → slice_get result.items k ≡ Some log → slice_get passes.items j ≡ Some p → HasDone (base_of self k) (known_by p) k log }
+    {
+        let Service {
+            settings: _,
+            gate,
+            handed_down: room,
+            records,
+        } = self;
+        let passes = handed_down(passes, room.into_inner());
+        records_of(gate.close(passes), records)
+    }
+}

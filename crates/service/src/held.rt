@@ -1,0 +1,65 @@
+//! A pass that stays on the shard of the start that it made.
+
+ghost use Rattle.std.specs.Prelude.{◌≡◌, IfOk, IfErr};
+ghost use Rattle.gate.specs.Passes.{Refuses};
+ghost use Rattle.service.specs.Asks.{to_start};
+
+use crate::calls::request;
+use crate::service::{Pass, Service};
+use gate::Refused;
+use service_model::answer::Reply;
+use service_model::request::{Operation, Request, Start};
+use shard::Shard;
+use wf_event_values::Moment;
+
+/// A pass that keeps others from the shard where its start was served. It can't be dropped: `leave`
+/// spends it.
+pub struct Held<'a> {
+    pub(crate) inner: gate::Held<'a, Shard>,
+}
+
+impl Service {
+    ghost use Rattle.service.specs.Services.{IsPassOf, known_by, shard_of_request};
+    ghost use Rattle.service.specs.Helds.{IsHeldBy, Enters};
+
+    /// Starts a run of a workflow ID as `try_start` does, and stays on its shard. What the pass will
+    /// have seen and done, and the reply, are known from then on, and handed over by `leave`.
+    ///
+    /// # Errors
+    /// Those of [`Service::try_serve`], with the pass and the request.
+    pub fn try_enter_start(
+        &self,
+        pass: Pass,
+        asked: Start,
+        at: Moment,
+    ) -> Result<Held<'_>, (Refused, Pass, Request)>
+        requires { IsPassOf pass self.now }
+        ensures own { IfOk result (λ h. IsHeldBy h self.entry.now) }
+        ensures ok { IfOk result (λ h. Enters self.entry.now pass h (to_start at asked)) }
+        ensures back { IfErr result (λ e. IsPassOf e.1 self.entry.now × (e.2 ≡ to_start at asked)) }
+        ensures err { IfErr result (λ e. Refuses e.0 (known_by pass) (known_by e.1) (shard_of_request self.entry.now (to_start at asked))) }
+    {
+        let request = request(at, Operation::Start(asked));
+        let slot = self.slot_of(&request);
+        match self.gate.try_enter(pass.inner, slot, request) {
+            Ok(inner) => Ok(Held { inner }),
+            Err((why, inner, request)) => Err((why, Pass { inner }, request)),
+        }
+    }
+}
+
+impl Held<'_> {
+    ghost use Rattle.service.specs.Services.{IsPassOf, known_by};
+    ghost use Rattle.service.specs.Helds.{IsHeldBy, leaving, promised};
+
+    /// Leaves the shard, and hands the pass and the start's reply over. It takes no memory.
+    pub fn leave(self) -> (Pass, Reply)
+        ensures own { (x : Service) → IsHeldBy self.entry x → IsPassOf result.0 x }
+        ensures seen { known_by result.0 ≡ leaving self.entry }
+        ensures reply { result.1 ≡ promised self.entry }
+    {
+        let Held { inner } = self;
+        let (inner, reply) = inner.leave();
+        (Pass { inner }, reply)
+    }
+}

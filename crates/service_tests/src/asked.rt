@@ -1,0 +1,68 @@
+//! What the tests ask.
+
+use service_model::request::{Signal, Start};
+use service_model::settings::Settings;
+use std::alloc::AllocGlobal;
+use std::process::Abort;
+use wf_event_values::{
+    ConflictPolicy, Field, Id, Moment, RunId, ReusePolicy, Span, Text,
+};
+
+/// Two shards, of which `a` lies on the first and `b` on the second.
+pub(crate) const TWO_SHARDS: Settings = Settings {
+    shards: 2,
+    passes: 2,
+    service: 1,
+};
+
+pub(crate) fn id<R: Abort + AllocGlobal>(rt: &R, text: &str) -> Id {
+    match Id::new(rt.alloc(), Field::WorkflowId, text) {
+        Ok(id) => id,
+        Err(_) => panic!(rt; "no name"),
+    }
+}
+
+pub(crate) fn text<R: Abort + AllocGlobal>(rt: &R, text: &str) -> Text {
+    match Text::new(rt.alloc(), Field::Input, text) {
+        Ok(text) => text,
+        Err(_) => panic!(rt; "no text"),
+    }
+}
+
+pub(crate) fn moment<R: Abort>(rt: &R, millis: u64) -> Moment {
+    match Moment::new(Field::At, millis) {
+        Ok(moment) => moment,
+        Err(_) => panic!(rt; "no moment"),
+    }
+}
+
+/// A start without a request id, under the default policies.
+pub(crate) fn start<R: Abort + AllocGlobal>(rt: &R, workflow_id: &str) -> Start {
+    Start {
+        workflow_id: id(rt, workflow_id),
+        workflow_type: text(rt, "w"),
+        task_queue: id(rt, "main"),
+        input: text(rt, ""),
+        request_id: None,
+        reuse: ReusePolicy::AllowDuplicate,
+        conflict: ConflictPolicy::Fail,
+        run_timeout: Span::none(),
+        task_timeout: Span::none(),
+    }
+}
+
+/// A signal without a request id, to the latest run.
+pub(crate) fn signal<R: Abort + AllocGlobal>(rt: &R, workflow_id: &str) -> Signal {
+    Signal {
+        workflow_id: id(rt, workflow_id),
+        run: None,
+        name: text(rt, "s"),
+        input: text(rt, ""),
+        request_id: None,
+    }
+}
+
+/// Whether this is the first run of the shard, of service 1.
+pub(crate) fn is_first_run(run: RunId, shard: u16) -> bool {
+    run.service() == 1 && run.shard() == shard && run.ordinal() == 1
+}

@@ -1,0 +1,229 @@
+//! Worked examples by the calls that never wait, each with its reply as it is written.
+
+ghost use Rattle.std.specs.Prelude.{◌≡◌, ◌<◌, length};
+ghost use Rattle.service.specs.Services.{IsPassOf};
+
+use crate::asked::TWO_SHARDS;
+use service::{Pass, Refused, Service};
+use service_model::answer::Reply;
+use service_model::request::{Operation, Request};
+use service_model::settings::Settings;
+use std::alloc::AllocGlobal;
+use std::process::Abort;
+use wf_event_values::Refusal;
+use wire_replies::reply_text;
+use wire_requests::read_request;
+
+/// One shard, one pass, service 1: what the program takes where no option is given.
+const DEFAULTS: Settings = Settings {
+    shards: 1,
+    passes: 1,
+    service: 1,
+};
+
+const START: &str = r#"{"op":"start","request_id":"r1","task_queue":"main","workflow_id":"a","workflow_type":"w"}"#;
+
+const STARTED: &str =
+    "{\"line\":1,\"ok\":\"started\",\"run\":\"00000000-0001-8000-8000-000000000001\"}\n";
+
+/// The reply of a call that met no other pass and found memory.
+fn answered<R: Abort>(rt: &R, result: Result<Reply, (Refused, Request)>) -> Reply {
+    match result {
+        Ok(reply) => reply,
+        Err((Refused::Busy, _)) => panic!(rt; "another pass was there"),
+        Err((Refused::NoMemory, _)) => panic!(rt; "no memory"),
+    }
+}
+
+/// Makes the call that a request stands for.
+fn call<R: Abort>(rt: &R, service: &Service, pass: &mut Pass, request: Request) -> Reply
+    requires { IsPassOf pass.old service.now }
+    ensures { IsPassOf pass.new service.now }
+{
+    let Request { at, operation } = request;
+    match operation {
+        Operation::Start(asked) => answered(rt, service.try_start(pass, asked, at)),
+        Operation::Signal(asked) => answered(rt, service.try_signal(pass, asked, at)),
+        Operation::History(asked) => answered(rt, service.try_history(pass, asked, at)),
+    }
+}
+
+/// The reply to a line: the call's, or the fault of a line that says no call.
+fn reply<R: Abort + AllocGlobal>(
+    rt: &R,
+    service: &Service,
+    pass: &mut Pass,
+    line: &str,
+) -> Reply
+    requires { IsPassOf pass.old service.now }
+    ensures { IsPassOf pass.new service.now }
+{
+    match read_request(rt.alloc(), service.settings(), line) {
+        Ok((_lane, request)) => call(rt, service, pass, request),
+        Err(refusal) => Err(refusal),
+    }
+}
+
+/// Each line is answered as it says beside it.
+fn assert_answers<R: Abort + AllocGlobal>(rt: &R, settings: &Settings, rows: &[(&str, &str)]) {
+    let Ok((service, mut passes)) = Service::open(rt.alloc(), settings) else {
+        panic!(rt; "the service was not opened")
+    };
+    let Some(mut pass) = passes.pop() else {
+        panic!(rt; "there is a pass")
+    };
+    for (i, (line, expected)) in rows.iter().enumerate() {
+        let reply = reply(rt, &service, &mut pass, line);
+        let number = (i as u64).saturating_add(1);
+        match reply_text(rt.alloc(), number, &reply) {
+            Ok(text) => assert_eq!(rt; text.as_str(), *expected),
+            Err(_) => panic!(rt; "no memory"),
+        }
+    }
+}
+
+#[test]
+fn a_start_and_its_history(rt: HostRuntime) {
+    assert_answers(
+        &rt,
+        &DEFAULTS,
+        &[
+            (START, STARTED),
+            (
+                r#"{"op":"history","workflow_id":"a"}"#,
+                r#"{"events":[{"at":0,"attrs":{"input":"","run_timeout":0,"task_queue":"main","task_timeout":10000,"workflow_id":"a","workflow_type":"w"},"id":1,"type":"WorkflowExecutionStarted"},{"at":0,"attrs":{"attempt":1,"task_queue":"main"},"id":2,"type":"WorkflowTaskScheduled"}],"line":2,"ok":"history","run":"00000000-0001-8000-8000-000000000001"}
+"#,
+            ),
+        ],
+    );
+}
+
+#[test]
+fn a_repeated_signal(rt: HostRuntime) {
+    assert_answers(
+        &rt,
+        &DEFAULTS,
+        &[
+            (START, STARTED),
+            (
+                r#"{"workflow_id": "a", "name": "s", "request_id": "q", "op": "signal"}"#,
+                "{\"line\":2,\"ok\":\"signaled\"}\n",
+            ),
+            (
+                r#"{"workflow_id": "a", "name": "s", "request_id": "q", "op": "signal"}"#,
+                "{\"line\":3,\"ok\":\"repeated\"}\n",
+            ),
+            (
+                r#"{"workflow_id": "a", "op": "history"}"#,
+                r#"{"events":[{"at":0,"attrs":{"input":"","run_timeout":0,"task_queue":"main","task_timeout":10000,"workflow_id":"a","workflow_type":"w"},"id":1,"type":"WorkflowExecutionStarted"},{"at":0,"attrs":{"attempt":1,"task_queue":"main"},"id":2,"type":"WorkflowTaskScheduled"},{"at":0,"attrs":{"input":"","name":"s"},"id":3,"type":"WorkflowExecutionSignaled"}],"line":4,"ok":"history","run":"00000000-0001-8000-8000-000000000001"}
+"#,
+            ),
+        ],
+    );
+}
+
+#[test]
+fn a_bad_line_and_an_unknown_queue(rt: HostRuntime) {
+    assert_answers(
+        &rt,
+        &DEFAULTS,
+        &[
+            (
+                "x",
+                "{\"error\":\"InvalidArgument\",\"field\":\"json\",\"line\":1,\"no\":1}\n",
+            ),
+            (
+                r#"{"request_id": "r1", "task_queue": "zz", "workflow_id": "a", "workflow_type": "w", "op": "start"}"#,
+                "{\"error\":\"UnknownTaskQueue\",\"line\":2,\"no\":8}\n",
+            ),
+        ],
+    );
+}
+
+#[test]
+fn moments_never_go_back(rt: HostRuntime) {
+    assert_answers(
+        &rt,
+        &DEFAULTS,
+        &[
+            (START, STARTED),
+            (
+                r#"{"at":50,"name":"s","op":"signal","workflow_id":"a"}"#,
+                "{\"line\":2,\"ok\":\"signaled\"}\n",
+            ),
+            (
+                r#"{"at":40,"name":"s","op":"signal","workflow_id":"a"}"#,
+                "{\"line\":3,\"ok\":\"signaled\"}\n",
+            ),
+            (
+                r#"{"op":"history","workflow_id":"a"}"#,
+                r#"{"events":[{"at":0,"attrs":{"input":"","run_timeout":0,"task_queue":"main","task_timeout":10000,"workflow_id":"a","workflow_type":"w"},"id":1,"type":"WorkflowExecutionStarted"},{"at":0,"attrs":{"attempt":1,"task_queue":"main"},"id":2,"type":"WorkflowTaskScheduled"},{"at":50,"attrs":{"input":"","name":"s"},"id":3,"type":"WorkflowExecutionSignaled"},{"at":50,"attrs":{"input":"","name":"s"},"id":4,"type":"WorkflowExecutionSignaled"}],"line":4,"ok":"history","run":"00000000-0001-8000-8000-000000000001"}
+"#,
+            ),
+        ],
+    );
+}
+
+#[test]
+fn starts_of_an_id_that_is_taken(rt: HostRuntime) {
+    assert_answers(
+        &rt,
+        &DEFAULTS,
+        &[
+            (START, STARTED),
+            (
+                r#"{"op":"start","request_id":"r2","task_queue":"main","workflow_id":"a","workflow_type":"w"}"#,
+                "{\"error\":\"AlreadyStarted\",\"line\":2,\"no\":3,\"run\":\"00000000-0001-8000-8000-000000000001\"}\n",
+            ),
+            (
+                START,
+                "{\"line\":3,\"ok\":\"existing\",\"run\":\"00000000-0001-8000-8000-000000000001\"}\n",
+            ),
+        ],
+    );
+}
+
+#[test]
+fn ids_lie_on_their_shards(rt: HostRuntime) {
+    assert_answers(
+        &rt,
+        &TWO_SHARDS,
+        &[
+            (START, STARTED),
+            (
+                r#"{"op":"start","task_queue":"main","workflow_id":"b","workflow_type":"w"}"#,
+                "{\"line\":2,\"ok\":\"started\",\"run\":\"00000000-0001-8001-8000-000000000001\"}\n",
+            ),
+            (
+                r#"{"op":"signal","name":"s","run":"00000000-0001-8001-8000-000000000001","workflow_id":"b"}"#,
+                "{\"line\":3,\"ok\":\"signaled\"}\n",
+            ),
+            (
+                r#"{"op":"signal","name":"s","run":"00000000-0001-8001-8000-000000000001","workflow_id":"a"}"#,
+                "{\"error\":\"NotFound\",\"line\":4,\"no\":2}\n",
+            ),
+        ],
+    );
+}
+
+#[test]
+fn settings_out_of_range(rt: HostRuntime) {
+    let settings = [
+        (0, 1, 1, "shards"),
+        (65, 257, 1, "shards"),
+        (64, 0, 1, "passes"),
+        (64, 257, 281_474_976_710_656, "passes"),
+        (1, 256, 281_474_976_710_656, "service"),
+    ];
+    for (shards, passes, service, name) in settings {
+        let settings = Settings {
+            shards,
+            passes,
+            service,
+        };
+        match Service::open(rt.alloc(), &settings) {
+            Err(Refusal::InvalidArgument(field)) => assert_eq!(rt; field.name(), name),
+            _ => panic!(rt; "{name} is in its range"),
+        }
+    }
+}
