@@ -1,5 +1,5 @@
 //! The gate itself, and the steps on it that end at once.
-ghost use Rattle.std.specs.Prelude.{◌≡◌, ℕ, ◌<◌, ◌≤◌, [], Some, length, slice_get, vec_len, vec_capacity, IfOk, IfErr};
+ghost use Rattle.std.specs.Prelude.{◌≡◌, ℕ, ◌<◌, ◌≤◌, Some, length, slice_get, vec_capacity, IfOk, IfErr};
 ghost use Rattle.gate.specs.Records.{replay};
 ghost use Rattle.gate.specs.Passes.{view, number, IsFresh, Refuses, Stepped, SteppedAt, Waited};
 

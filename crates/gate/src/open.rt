@@ -1,5 +1,5 @@
 //! How a gate is opened.
-ghost use Rattle.std.specs.Prelude.{◌≡◌, ℕ, ◌<◌, ◌≤◌, ◌+◌, Some, length, map, slice_get, vec_len, vec_capacity, IfOk};
+ghost use Rattle.std.specs.Prelude.{◌≡◌, ℕ, ◌<◌, ◌≤◌, Some, map, slice_get, vec_len, vec_capacity, IfOk};
 ghost use Rattle.gate.specs.Plays.{maker as making, fresh};
 ghost use Rattle.gate.specs.Passes.{view};
 ghost use Rattle.gate.specs.Records.{replay};

@@ -1,6 +1,6 @@
 //! How a service is closed.
 
-ghost use Rattle.std.specs.Prelude.{◌≡◌, ℕ, ◌<◌, ◌≤◌, [], Some, length, map, slice_get, vec_len, vec_capacity, IfOk};
+ghost use Rattle.std.specs.Prelude.{◌≡◌, ℕ, ◌<◌, ◌≤◌, Some, length, map, slice_get, vec_capacity};
 ghost use Rattle.gate.specs.Passes.{number};
 ghost use Rattle.gate.specs.Ends.{IsEnd, HasDone};
 

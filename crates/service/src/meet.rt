@@ -1,6 +1,6 @@
 //! How two passes tell each other what they have seen.
 
-ghost use Rattle.std.specs.Prelude.{◌≡◌, ℕ, ◌<◌};
+ghost use Rattle.std.specs.Prelude.{ℕ, ◌<◌};
 ghost use Rattle.gate.specs.Passes.{Agree, KeepsOwn};
 
 use crate::service::{Pass, Service};

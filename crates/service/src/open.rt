@@ -4,15 +4,11 @@
 //! record into a slot of the gate, in the order of the shards. The gate gives as many passes as the
 //! settings say, and each becomes a pass of the service. The room that `close` needs is made here.
 
-ghost use Rattle.std.specs.Prelude.{◌≡◌, ◌≢◌, ℕ, ◌+◌, ◌<◌, ◌≤◌, ◌^◌, ◌⊎◌, [], ◌∷◌, Some, Ok, length, map, slice_get, IfOk, IfErr, codes};
-ghost use Rattle.std.specs.List.{range_with_len, AllByRecursion};
-ghost use Rattle.service_model.specs.declared.content.Setup.{Setup};
+ghost use Rattle.std.specs.Prelude.{◌≡◌, ◌≢◌, ℕ, ◌<◌, Some, Ok, length, map, slice_get, IfOk, IfErr};
 ghost use Rattle.service_model.specs.Service.{opening};
-ghost use Rattle.gate.specs.Passes.{Agree, KeepsOwn, IsFresh, number};
-ghost use Rattle.gate.specs.Records.{Begins, by, past, replay};
-ghost use Rattle.shard.specs.View.{IsSetup, state};
+ghost use Rattle.gate.specs.Passes.{IsFresh};
 ghost use Rattle.shard.specs.Standing.{StandsFor, opened};
-ghost use Rattle.service.specs.Contents.{setup_of, opening_contents};
+ghost use Rattle.service.specs.Contents.{setup_of};
 ghost use Rattle.service.specs.Laid.{IsLaid};
 ghost use Rattle.service.specs.Ranges.{range_fault};
 ghost use Rattle.service.specs.Services.{IsPassOf, IsInRange, known_by, settings_of};

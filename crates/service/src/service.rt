@@ -2,7 +2,7 @@
 
 ghost use Rattle.std.specs.Prelude.{◌≡◌, ◌<◌, ◌≤◌, length, vec_capacity, IfOk, IfErr};
 ghost use Rattle.gate.specs.Passes.{number, Refuses, Waited};
-ghost use Rattle.service.specs.Contents.{slot_of, named_id};
+ghost use Rattle.service.specs.Contents.{named_id};
 
 use crate::close::PassRoom;
 use gate::{Gate, Record, Refused};
