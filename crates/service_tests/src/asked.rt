@@ -4,9 +4,7 @@ use service_model::request::{Signal, Start};
 use service_model::settings::Settings;
 use std::alloc::AllocGlobal;
 use std::process::Abort;
-use wf_event_values::{
-    ConflictPolicy, Field, Id, Moment, RunId, ReusePolicy, Span, Text,
-};
+use wf_event_values::{ConflictPolicy, Field, Id, Moment, ReusePolicy, RunId, Span, Text};
 
 /// Two shards, of which `a` lies on the first and `b` on the second.
 pub(crate) const TWO_SHARDS: Settings = Settings {
@@ -36,14 +34,18 @@ pub(crate) fn moment<R: Abort>(rt: &R, millis: u64) -> Moment {
     }
 }
 
-/// A start without a request id, under the default policies.
-pub(crate) fn start<R: Abort + AllocGlobal>(rt: &R, workflow_id: &str) -> Start {
+/// A start under the default policies.
+pub(crate) fn start<R: Abort + AllocGlobal>(
+    rt: &R,
+    workflow_id: &str,
+    request_id: Option<Id>,
+) -> Start {
     Start {
         workflow_id: id(rt, workflow_id),
         workflow_type: text(rt, "w"),
         task_queue: id(rt, "main"),
         input: text(rt, ""),
-        request_id: None,
+        request_id,
         reuse: ReusePolicy::AllowDuplicate,
         conflict: ConflictPolicy::Fail,
         run_timeout: Span::none(),

@@ -1,12 +1,26 @@
 //! Passes that are taken from those of a service, and given back.
 
-ghost use Rattle.std.specs.Prelude.{◌≡◌, ℕ, ◌+◌, ◌<◌, Some, length, slice_get, OnOk};
+ghost use Rattle.std.specs.Prelude.{◌≡◌, ℕ, ◌+◌, ◌<◌, Some, length, slice_get};
 ghost use Rattle.gate.specs.Passes.{number};
 ghost use Rattle.service.specs.Services.{IsPassOf, known_by, settings_of};
 
 use service::{Pass, Record, Service};
 use service_model::request::Request;
-use std::alloc::AllocError;
+use service_model::settings::Settings;
+use std::alloc::AllocGlobal;
+use std::process::Abort;
+
+/// A service, and its passes in the order of their numbers.
+pub(crate) fn open<R: Abort + AllocGlobal>(rt: &R, settings: &Settings) -> (Service, Vec<Pass>)
+    ensures own { (k : ℕ) (p : Pass) → slice_get result.1.items k ≡ Some p → IsPassOf p result.0 × (number (known_by p) ≡ k) }
+    ensures count { length result.1.items ≡ settings.now.passes }
+    ensures settings { settings_of result.0 ≡ settings.now }
+{
+    match Service::open(rt.alloc(), settings) {
+        Ok(opened) => opened,
+        Err(_) => panic!(rt; "the service was not opened"),
+    }
+}
 
 /// Takes the last pass.
 pub(crate) fn take_pass(service: &Service, passes: &mut Vec<Pass>) -> Pass
@@ -24,18 +38,16 @@ pub(crate) fn take_pass(service: &Service, passes: &mut Vec<Pass>) -> Pass
 }
 
 /// Gives a pass back, behind those with lower numbers.
-pub(crate) fn give_back(
-    service: &Service,
-    passes: &mut Vec<Pass>,
-    pass: Pass,
-) -> Result<(), AllocError>
+pub(crate) fn give_back<R: Abort>(rt: &R, service: &Service, passes: &mut Vec<Pass>, pass: Pass)
     requires own { (k : ℕ) (p : Pass) → slice_get passes.old.items k ≡ Some p → IsPassOf p service.now × (number (known_by p) ≡ k) }
     requires pass { IsPassOf pass service.now × (number (known_by pass) ≡ length passes.old.items) }
-    ensures own { OnOk result ((k : ℕ) (p : Pass) → slice_get passes.new.items k ≡ Some p → IsPassOf p service.now × (number (known_by p) ≡ k)) }
-    ensures more { OnOk result (length passes.new.items ≡ length passes.old.items + 1) }
+    ensures own { (k : ℕ) (p : Pass) → slice_get passes.new.items k ≡ Some p → IsPassOf p service.now × (number (known_by p) ≡ k) }
+    ensures more { length passes.new.items ≡ length passes.old.items + 1 }
 {
-    passes.push(pass)?;
-    Ok(())
+    match passes.push(pass) {
+        Ok(()) => {}
+        Err(_) => panic!(rt; "no memory"),
+    }
 }
 
 /// The records of the service, where its passes lie in the order of their numbers.
@@ -45,4 +57,22 @@ pub(crate) fn close(service: Service, passes: Vec<Pass>) -> Vec<Record<Request>>
     ensures { length result.items ≡ (settings_of service).shards }
 {
     service.close(passes)
+}
+
+/// The records of a service that has two passes.
+pub(crate) fn close_two<R: Abort + AllocGlobal>(
+    rt: &R,
+    service: Service,
+    first: Pass,
+    second: Pass,
+) -> Vec<Record<Request>>
+    requires first { IsPassOf first service × (number (known_by first) ≡ 0) }
+    requires second { IsPassOf second service × (number (known_by second) ≡ 1) }
+    requires two { (settings_of service).passes ≡ 2 }
+    ensures { length result.items ≡ (settings_of service).shards }
+{
+    let mut passes = Vec::new(rt.alloc());
+    give_back(rt, &service, &mut passes, first);
+    give_back(rt, &service, &mut passes, second);
+    close(service, passes)
 }

@@ -1,9 +1,10 @@
 //! Worked examples by the calls that never wait, each with its reply as it is written.
 
-ghost use Rattle.std.specs.Prelude.{◌≡◌, ◌<◌, length};
+ghost use Rattle.std.specs.Prelude.{◌≡◌, ◌<◌};
 ghost use Rattle.service.specs.Services.{IsPassOf};
 
 use crate::asked::TWO_SHARDS;
+use crate::passes::{open, take_pass};
 use service::{Pass, Refused, Service};
 use service_model::answer::Reply;
 use service_model::request::{Operation, Request};
@@ -21,14 +22,15 @@ const DEFAULTS: Settings = Settings {
     service: 1,
 };
 
-const START: &str = r#"{"op":"start","request_id":"r1","task_queue":"main","workflow_id":"a","workflow_type":"w"}"#;
+const START: &str =
+    r#"{"op":"start","request_id":"r1","task_queue":"main","workflow_id":"a","workflow_type":"w"}"#;
 
 const STARTED: &str =
     "{\"line\":1,\"ok\":\"started\",\"run\":\"00000000-0001-8000-8000-000000000001\"}\n";
 
 /// The reply of a call that met no other pass and found memory.
-fn answered<R: Abort>(rt: &R, result: Result<Reply, (Refused, Request)>) -> Reply {
-    match result {
+fn answered<R: Abort>(rt: &R, answer: Result<Reply, (Refused, Request)>) -> Reply {
+    match answer {
         Ok(reply) => reply,
         Err((Refused::Busy, _)) => panic!(rt; "another pass was there"),
         Err((Refused::NoMemory, _)) => panic!(rt; "no memory"),
@@ -49,12 +51,7 @@ fn call<R: Abort>(rt: &R, service: &Service, pass: &mut Pass, request: Request) 
 }
 
 /// The reply to a line: the call's, or the fault of a line that says no call.
-fn reply<R: Abort + AllocGlobal>(
-    rt: &R,
-    service: &Service,
-    pass: &mut Pass,
-    line: &str,
-) -> Reply
+fn reply<R: Abort + AllocGlobal>(rt: &R, service: &Service, pass: &mut Pass, line: &str) -> Reply
     requires { IsPassOf pass.old service.now }
     ensures { IsPassOf pass.new service.now }
 {
@@ -65,13 +62,11 @@ fn reply<R: Abort + AllocGlobal>(
 }
 
 /// Each line is answered as it says beside it.
-fn assert_answers<R: Abort + AllocGlobal>(rt: &R, settings: &Settings, rows: &[(&str, &str)]) {
-    let Ok((service, mut passes)) = Service::open(rt.alloc(), settings) else {
-        panic!(rt; "the service was not opened")
-    };
-    let Some(mut pass) = passes.pop() else {
-        panic!(rt; "there is a pass")
-    };
+fn assert_answers<R: Abort + AllocGlobal>(rt: &R, settings: &Settings, rows: &[(&str, &str)])
+    requires { 0 < settings.now.passes }
+{
+    let (service, mut passes) = open(rt, settings);
+    let mut pass = take_pass(&service, &mut passes);
     for (i, (line, expected)) in rows.iter().enumerate() {
         let reply = reply(rt, &service, &mut pass, line);
         let number = (i as u64).saturating_add(1);

@@ -6,15 +6,14 @@ ghost use Rattle.service.specs.Services.{IsPassOf, known_by};
 ghost use Rattle.std.specs.Thread.{IsSync};
 
 use crate::asked::{TWO_SHARDS, id, is_first_run, moment, signal, start};
-use crate::passes::{close, give_back, take_pass};
+use crate::passes::{close, close_two, give_back, open, take_pass};
 use service::{Pass, Record, Refused, Service};
 use service_model::answer::{Answer, Reply};
 use service_model::request::{Operation, Request};
 use service_model::settings::Settings;
-use std::alloc::{AllocError, AllocGlobal};
+use std::alloc::AllocGlobal;
 use std::process::Abort;
 use std::sync::Wait;
-use std::test::Fail;
 use std::thread;
 use std::thread::Threads;
 use wf_event_values::{Moment, Refusal};
@@ -51,10 +50,8 @@ fn workflow_of(request: &Request) -> &str {
 fn has_steps(record: &Record<Request>, steps: &[(u8, &str)]) -> bool {
     let entries = record.as_slice();
     entries.len() == steps.len()
-        && entries
-            .iter()
-            .zip(steps)
-            .all(|(entry, step)| entry.0 == step.0 && workflow_of(&entry.1) == step.1)
+        && entries.iter().zip(steps).all(|(entry, step)| entry.0 == step.0
+            && workflow_of(&entry.1) == step.1)
 }
 
 /// While another pass stays on the shard of `a`, `b` can be started and `a` can't.
@@ -62,11 +59,11 @@ fn start_both<R: Abort + AllocGlobal>(rt: &R, service: &Service, mut pass: Pass)
     requires { IsPassOf pass service.now }
     ensures { IsPassOf result service.now × (number (known_by result) ≡ number (known_by pass)) }
 {
-    match service.try_start(&mut pass, start(rt, "b"), Moment::zero()) {
+    match service.try_start(&mut pass, start(rt, "b", None), Moment::zero()) {
         Ok(reply) => assert!(rt; is_started(&reply, 1)),
         Err(_) => panic!(rt; "the other shard was free"),
     }
-    match service.try_start(&mut pass, start(rt, "a"), Moment::zero()) {
+    match service.try_start(&mut pass, start(rt, "a", None), Moment::zero()) {
         Err((Refused::Busy, request)) => assert_eq!(rt; workflow_of(&request), "a"),
         _ => panic!(rt; "a pass was on the shard"),
     }
@@ -78,50 +75,51 @@ fn start_again<R: Abort + AllocGlobal>(rt: &R, service: &Service, mut pass: Pass
     requires { IsPassOf pass service.now }
     ensures { IsPassOf result service.now × (number (known_by result) ≡ number (known_by pass)) }
 {
-    match service.try_start(&mut pass, start(rt, "a"), Moment::zero()) {
+    match service.try_start(&mut pass, start(rt, "a", None), Moment::zero()) {
         Ok(reply) => assert!(rt; is_already_started(&reply)),
         Err(_) => panic!(rt; "the shard was free"),
     }
     pass
 }
 
-#[test]
-fn a_pass_on_a_shard_keeps_others_out(rt: HostRuntime) -> Result<(), Fail> {
-    let Ok((service, mut passes)) = Service::open(rt.alloc(), &TWO_SHARDS) else {
-        panic!(rt; "the service was not opened")
-    };
-    let second = take_pass(&service, &mut passes);
-    let first = take_pass(&service, &mut passes);
-    let shared = &service;
-    let handle = &rt;
-    let Ok(held) = service.try_enter_start(first, start(&rt, "a"), Moment::zero()) else {
+/// One pass stays on the shard of `a` while another makes its calls, and then leaves.
+fn stay_and_leave<R: Abort + AllocGlobal + Threads + Sync>(
+    rt: &R,
+    service: &Service,
+    first: Pass,
+    second: Pass,
+) -> (Pass, Pass)
+    requires { IsPassOf first service.now × IsPassOf second service.now }
+    ensures own { IsPassOf result.0 service.now × IsPassOf result.1 service.now }
+    ensures named { (number (known_by result.0) ≡ number (known_by first)) × (number (known_by result.1) ≡ number (known_by second)) }
+{
+    let Ok(held) = service.try_enter_start(first, start(rt, "a", None), Moment::zero()) else {
         panic!(rt; "the shard was free")
     };
     let (second, ()) = thread::join(
-        &rt,
+        rt,
         move || -> Pass
-            requires { IsPassOf second shared.now }
-            ensures { IsPassOf result shared.entry.now × (number (known_by result) ≡ number (known_by second)) }
-        { start_both(handle, shared, second) },
+            requires { IsSync R.row × IsPassOf second service.now }
+            ensures { IsPassOf result service.entry.now × (number (known_by result) ≡ number (known_by second)) }
+        { start_both(rt, service, second) },
         || (),
     );
     let (first, reply) = held.leave();
     assert!(rt; is_started(&reply, 0));
-    let (second, ()) = thread::join(
-        &rt,
-        move || -> Pass
-            requires { IsPassOf second shared.now }
-            ensures { IsPassOf result shared.entry.now × (number (known_by result) ≡ number (known_by second)) }
-        { start_again(handle, shared, second) },
-        || (),
-    );
-    give_back(&service, &mut passes, first)?;
-    give_back(&service, &mut passes, second)?;
-    let records = close(service, passes);
+    (first, second)
+}
+
+#[test]
+fn a_pass_on_a_shard_keeps_others_out(rt: HostRuntime) {
+    let (service, mut passes) = open(&rt, &TWO_SHARDS);
+    let second = take_pass(&service, &mut passes);
+    let first = take_pass(&service, &mut passes);
+    let (first, second) = stay_and_leave(&rt, &service, first, second);
+    let second = start_again(&rt, &service, second);
+    let records = close_two(&rt, service, first, second);
     assert_eq!(rt; records.len(), 2);
     assert!(rt; has_steps(&records[0], &[(0, "a"), (1, "a")]));
     assert!(rt; has_steps(&records[1], &[(1, "b")]));
-    Ok(())
 }
 
 /// Starts `a` under a request id, waiting for its shard.
@@ -134,54 +132,55 @@ fn start_as<R: Abort + AllocGlobal + Wait>(
     requires { IsPassOf pass service.now }
     ensures { IsPassOf result.0 service.now × (number (known_by result.0) ≡ number (known_by pass)) }
 {
-    let mut asked = start(rt, "a");
-    asked.request_id = Some(id(rt, request_id));
+    let asked = start(rt, "a", Some(id(rt, request_id)));
     match service.start(rt, &mut pass, asked, Moment::zero()) {
         Ok(reply) => (pass, reply),
         Err(_) => panic!(rt; "no memory"),
     }
 }
 
+/// Two passes start `a` at the same time. One finds it started; whether that is the second.
+fn start_at_once<R: Abort + AllocGlobal + Wait + Threads + Sync>(
+    rt: &R,
+    service: &Service,
+    first: Pass,
+    second: Pass,
+) -> (Pass, Pass, bool)
+    requires { IsPassOf first service.now × IsPassOf second service.now }
+    ensures own { IsPassOf result.0 service.now × IsPassOf result.1 service.now }
+    ensures named { (number (known_by result.0) ≡ number (known_by first)) × (number (known_by result.1) ≡ number (known_by second)) }
+{
+    let ((first, one), (second, two)) = thread::join(
+        rt,
+        move || -> (Pass, Reply)
+            requires { IsSync R.row × IsPassOf first service.now }
+            ensures { IsPassOf result.0 service.entry.now × (number (known_by result.0) ≡ number (known_by first)) }
+        { start_as(rt, service, first, "r1") },
+        move || -> (Pass, Reply)
+            requires { IsSync R.row × IsPassOf second service.now }
+            ensures { IsPassOf result.0 service.entry.now × (number (known_by result.0) ≡ number (known_by second)) }
+        { start_as(rt, service, second, "r2") },
+    );
+    let first_won = is_started(&one, 0) && is_already_started(&two);
+    assert!(rt; first_won || is_started(&two, 0) && is_already_started(&one));
+    (first, second, first_won)
+}
+
 #[test]
-fn two_threads_start_one_workflow(rt: HostRuntime) -> Result<(), Fail> {
-    let Ok((service, mut passes)) = Service::open(rt.alloc(), &TWO_SHARDS) else {
-        panic!(rt; "the service was not opened")
-    };
+fn two_threads_start_one_workflow(rt: HostRuntime) {
+    let (service, mut passes) = open(&rt, &TWO_SHARDS);
     let second = take_pass(&service, &mut passes);
     let first = take_pass(&service, &mut passes);
-    let shared = &service;
-    let handle = &rt;
-    let ((first, one), (second, two)) = thread::join(
-        &rt,
-        move || -> (Pass, Reply)
-            requires { IsPassOf first shared.now }
-            ensures { IsPassOf result.0 shared.entry.now × (number (known_by result.0) ≡ number (known_by first)) }
-        { start_as(handle, shared, first, "r1") },
-        move || -> (Pass, Reply)
-            requires { IsPassOf second shared.now }
-            ensures { IsPassOf result.0 shared.entry.now × (number (known_by result.0) ≡ number (known_by second)) }
-        { start_as(handle, shared, second, "r2") },
-    );
-    let first_won = is_started(&one, 0);
-    assert!(rt; is_already_started(if first_won { &two } else { &one }));
-    assert!(rt; first_won || is_started(&two, 0));
-    give_back(&service, &mut passes, first)?;
-    give_back(&service, &mut passes, second)?;
-    let records = close(service, passes);
+    let (first, second, first_won) = start_at_once(&rt, &service, first, second);
+    let records = close_two(&rt, service, first, second);
     assert_eq!(rt; records.len(), 2);
-    let in_order = [(0, "a"), (1, "a")];
-    let turned = [(1, "a"), (0, "a")];
-    assert!(rt; has_steps(&records[0], if first_won { &in_order } else { &turned }));
+    let (one, two) = if first_won { (0, 1) } else { (1, 0) };
+    assert!(rt; has_steps(&records[0], &[(one, "a"), (two, "a")]));
     assert!(rt; records[1].is_empty());
-    Ok(())
 }
 
 /// Signals the workflows in turn. The moments rise by one from one signal to the next.
-fn signal_in_turn<R: Abort + AllocGlobal + Wait>(
-    rt: &R,
-    service: &Service,
-    mut pass: Pass,
-) -> Pass
+fn signal_in_turn<R: Abort + AllocGlobal + Wait>(rt: &R, service: &Service, mut pass: Pass) -> Pass
     requires { IsPassOf pass service.now }
     ensures { IsPassOf result service.now × (number (known_by result) ≡ number (known_by pass)) }
 {
@@ -227,7 +226,7 @@ fn start_all<R: Abort + AllocGlobal>(rt: &R, service: &Service, mut pass: Pass) 
     ensures { IsPassOf result service.now × (number (known_by result) ≡ number (known_by pass)) }
 {
     for workflow in WORKFLOWS {
-        match service.try_start(&mut pass, start(rt, workflow), Moment::zero()) {
+        match service.try_start(&mut pass, start(rt, workflow, None), Moment::zero()) {
             Ok(reply) => assert!(rt; matches!(reply, Ok(Answer::Started(_)))),
             Err(_) => panic!(rt; "the shards were free"),
         }
@@ -237,12 +236,7 @@ fn start_all<R: Abort + AllocGlobal>(rt: &R, service: &Service, mut pass: Pass) 
 
 /// The moment that comes after the pass's signals to the workflow in the record, of which the first
 /// has this moment. None where they don't stand in their order.
-fn after_signals(
-    record: &Record<Request>,
-    pass: u8,
-    workflow: &str,
-    first: u64,
-) -> Option<u64> {
+fn after_signals(record: &Record<Request>, pass: u8, workflow: &str, first: u64) -> Option<u64> {
     let mut next = first;
     for (number, request) in record.as_slice() {
         if let Operation::Signal(asked) = &request.operation
@@ -260,46 +254,78 @@ fn after_signals(
 
 /// Whether all of the pass's signals to the workflow stand in the records, in their order.
 fn has_signals(records: &[Record<Request>], pass: u8, workflow: &str, first: u64) -> bool {
-    let end = records.iter().try_fold(first, |next, record| after_signals(record, pass, workflow, next));
+    let end = records.iter().try_fold(
+        first,
+        |next, record| after_signals(record, pass, workflow, next),
+    );
     end == Some(first.saturating_add(SIGNALS))
 }
 
+/// Four passes at the same time, of which two pairs meet, and then one of each pair.
+fn signal_all<R: Abort + AllocGlobal + Wait + Threads + Sync>(
+    rt: &R,
+    service: &Service,
+    one: (Pass, Pass),
+    two: (Pass, Pass),
+) -> ((Pass, Pass), (Pass, Pass))
+    requires one { IsPassOf one.0 service.now × IsPassOf one.1 service.now }
+    requires two { IsPassOf two.0 service.now × IsPassOf two.1 service.now }
+    ensures one { IsPassOf result.0.0 service.now × IsPassOf result.0.1 service.now }
+    ensures two { IsPassOf result.1.0 service.now × IsPassOf result.1.1 service.now }
+    ensures one_named { (number (known_by result.0.0) ≡ number (known_by one.0)) × (number (known_by result.0.1) ≡ number (known_by one.1)) }
+    ensures two_named { (number (known_by result.1.0) ≡ number (known_by two.0)) × (number (known_by result.1.1) ≡ number (known_by two.1)) }
+{
+    let (mut one, mut two) = thread::join(
+        rt,
+        move || -> (Pass, Pass)
+            requires { IsSync R.row × IsPassOf one.0 service.now × IsPassOf one.1 service.now }
+            ensures own { IsPassOf result.0 service.entry.now × IsPassOf result.1 service.entry.now }
+            ensures named { (number (known_by result.0) ≡ number (known_by one.0)) × (number (known_by result.1) ≡ number (known_by one.1)) }
+        { signal_both(rt, service, one.0, one.1) },
+        move || -> (Pass, Pass)
+            requires { IsSync R.row × IsPassOf two.0 service.now × IsPassOf two.1 service.now }
+            ensures own { IsPassOf result.0 service.entry.now × IsPassOf result.1 service.entry.now }
+            ensures named { (number (known_by result.0) ≡ number (known_by two.0)) × (number (known_by result.1) ≡ number (known_by two.1)) }
+        { signal_both(rt, service, two.0, two.1) },
+    );
+    service.meet(&mut one.0, &mut two.1);
+    (one, two)
+}
+
+/// How many steps stand in the records.
+fn count_steps(records: &[Record<Request>]) -> usize {
+    let mut steps: usize = 0;
+    for record in records {
+        steps = steps.saturating_add(record.len());
+    }
+    steps
+}
+
+/// All signals of each pass stand in the records, in the order in which it sent them.
+fn assert_in_order<R: Abort>(rt: &R, records: &[Record<Request>], pass: u8) {
+    for (first, workflow) in WORKFLOWS.iter().enumerate() {
+        assert!(rt;
+            has_signals(records, pass, workflow, first as u64),
+            "{pass} {workflow}"
+        );
+    }
+}
+
 #[test]
-fn four_threads_signal_on_four_shards(rt: HostRuntime) -> Result<(), Fail> {
-    let Ok((service, mut passes)) = Service::open(rt.alloc(), &FOUR_PASSES) else {
-        panic!(rt; "the service was not opened")
-    };
+fn four_threads_signal_on_four_shards(rt: HostRuntime) {
+    let (service, mut passes) = open(&rt, &FOUR_PASSES);
     let d = take_pass(&service, &mut passes);
     let c = take_pass(&service, &mut passes);
     let b = take_pass(&service, &mut passes);
     let a = start_all(&rt, &service, take_pass(&service, &mut passes));
-    let shared = &service;
-    let handle = &rt;
-    let ((mut a, b), (c, mut d)) = thread::join(
-        &rt,
-        move || -> (Pass, Pass)
-            requires { IsPassOf a shared.now × IsPassOf b shared.now }
-            ensures own { IsPassOf result.0 shared.entry.now × IsPassOf result.1 shared.entry.now }
-            ensures named { (number (known_by result.0) ≡ number (known_by a)) × (number (known_by result.1) ≡ number (known_by b)) }
-        { signal_both(handle, shared, a, b) },
-        move || -> (Pass, Pass)
-            requires { IsPassOf c shared.now × IsPassOf d shared.now }
-            ensures own { IsPassOf result.0 shared.entry.now × IsPassOf result.1 shared.entry.now }
-            ensures named { (number (known_by result.0) ≡ number (known_by c)) × (number (known_by result.1) ≡ number (known_by d)) }
-        { signal_both(handle, shared, c, d) },
-    );
-    service.meet(&mut a, &mut d);
-    give_back(&service, &mut passes, a)?;
-    give_back(&service, &mut passes, b)?;
-    give_back(&service, &mut passes, c)?;
-    give_back(&service, &mut passes, d)?;
+    let ((a, b), (c, d)) = signal_all(&rt, &service, (a, b), (c, d));
+    give_back(&rt, &service, &mut passes, a);
+    give_back(&rt, &service, &mut passes, b);
+    give_back(&rt, &service, &mut passes, c);
+    give_back(&rt, &service, &mut passes, d);
     let records = close(service, passes);
-    let steps: usize = records.iter().map(|record| record.len()).sum();
-    assert_eq!(rt; steps, 5 + 4 * 3000);
-    for (first, workflow) in WORKFLOWS.iter().enumerate() {
-        for pass in 0..4 {
-            assert!(rt; has_signals(&records, pass, workflow, first as u64), "{pass} {workflow}");
-        }
+    assert_eq!(rt; count_steps(&records), 5 + 4 * 3000);
+    for pass in 0..4 {
+        assert_in_order(&rt, &records, pass);
     }
-    Ok(())
 }
