@@ -1,0 +1,122 @@
+//! The two side by side.
+
+ghost use Rattle.std.specs.Prelude.{◌≡◌, ◌<◌, ◌≤◌, ◌^◌, IfOk, IfSome, OnOk};
+ghost use Rattle.service_model.specs.declared.content.Content.{Content};
+ghost use Rattle.shard.specs.Standing.{StandsFor};
+
+use crate::draws::Draws;
+use crate::requests::request;
+use gate::Object;
+use service_model::answer::{Answer, Reply};
+use service_model::content::Setup;
+use service_model::request::{RecordEntry, Request};
+use service_model_answer::answer;
+use shard::Shard;
+use std::alloc::{AllocError, AllocGlobal, Global};
+use std::process::Abort;
+use std::test::Fail;
+use wf_event_values::{Field, Id, Items, Refusal};
+use wire_replies::reply_text;
+
+/// How many requests each test draws.
+const COUNT: u64 = 400;
+
+/// How many kinds of reply there are.
+const KINDS: usize = 11;
+
+/// Service 1's shard, with the queue `main`.
+fn setup(alloc: Global, shard: u16, shards: u16) -> Result<Setup, Refusal>
+    ensures service { IfOk result (λ s. s.service ≡ 1) }
+    ensures shard { IfOk result (λ s. s.shard ≡ shard) }
+    ensures shards { IfOk result (λ s. s.shards ≡ shards) }
+{
+    let mut queues = Vec::new(alloc);
+    queues.push(Id::new(alloc, Field::Queues, "main")?)?;
+    Ok(Setup {
+        service: 1,
+        shard,
+        shards,
+        queues: Items::from_vec(queues),
+    })
+}
+
+/// Serves a request in the gate's two halves.
+fn serve(shard: &mut Shard, request: &Request) -> Result<Reply, AllocError>
+    requires { (S : Content) × StandsFor shard.old S }
+    ensures { OnOk result ((S : Content) × StandsFor shard.new S) }
+{
+    let plan = Object::prepare(shard, request)?;
+    Ok(Object::commit(shard, plan))
+}
+
+/// Which kind of reply it is, if it is one that these requests get.
+fn kind(reply: &Reply) -> Option<usize>
+    ensures { IfSome result (λ k. k < 11) }
+{
+    match reply {
+        Ok(Answer::Started(_)) => Some(0),
+        Ok(Answer::Existing(_)) => Some(1),
+        Ok(Answer::Signaled) => Some(2),
+        Ok(Answer::Repeated) => Some(3),
+        Ok(Answer::History(_)) => Some(4),
+        Err(Refusal::AlreadyStarted(_)) => Some(5),
+        Err(Refusal::NotFound) => Some(6),
+        Err(Refusal::UnknownTaskQueue) => Some(7),
+        Err(Refusal::InvalidArgument(Field::WorkflowId)) => Some(8),
+        Err(Refusal::InvalidArgument(Field::Reuse)) => Some(9),
+        Err(Refusal::InvalidArgument(Field::Conflict)) => Some(10),
+        _ => None,
+    }
+}
+
+/// Asserts that both answer each request alike, and gives how many replies of each kind there were.
+fn compare<R: Abort + AllocGlobal>(
+    rt: &R,
+    shard: u16,
+    shards: u16,
+    seed: u64,
+) -> Result<[u64; KINDS], Refusal>
+    requires shard { shard < 2 ^ 12 }
+    requires shards { 0 < shards }
+{
+    let alloc = rt.alloc();
+    let own = setup(alloc, shard, shards)?;
+    let mut object = Shard::new(alloc, setup(alloc, shard, shards)?);
+    let mut record = Vec::new(alloc);
+    let mut draws = Draws::new(seed);
+    let mut seen = [0_u64; KINDS];
+    for number in 0..COUNT {
+        let request = request(alloc, &mut draws, number)?;
+        let served = serve(&mut object, &request)?;
+        let plain = answer(alloc, &own, &record, &request)?;
+        let served_text = reply_text(alloc, number, &served)?;
+        let plain_text = reply_text(alloc, number, &plain)?;
+        assert_eq!(rt; served_text.as_str(), plain_text.as_str());
+        match kind(&served) {
+            Some(kind) => seen[kind] = seen[kind].saturating_add(1),
+            None => panic!(rt; "a reply of no kind that is awaited"),
+        }
+        record.push(RecordEntry { pass: 0, request })?;
+    }
+    Ok(seen)
+}
+
+/// All kinds of reply but one for another shard's workflow IDs.
+#[test]
+fn one_shard(rt: HostRuntime) -> Result<(), Fail> {
+    let seen = compare(&rt, 0, 1, 1).map_err(|refusal| refusal.name())?;
+    for (kind, count) in seen.iter().enumerate() {
+        assert_eq!(rt; *count == 0, kind == 8, "{kind}");
+    }
+    Ok(())
+}
+
+/// The second of two shards, where about half of the workflow IDs belong to the first.
+#[test]
+fn second_of_two(rt: HostRuntime) -> Result<(), Fail> {
+    let seen = compare(&rt, 1, 2, 2).map_err(|refusal| refusal.name())?;
+    for (kind, count) in seen.iter().enumerate() {
+        assert!(rt; *count > 0, "{kind}");
+    }
+    Ok(())
+}

@@ -1,0 +1,34 @@
+//! Numbers drawn one after another, the same in each run.
+
+ghost use Rattle.std.specs.Prelude.{◌<◌};
+
+/// A linear congruential generator of 64 bits, with Knuth's constants for MMIX.
+#[derive(Drop)]
+pub(crate) struct Draws {
+    state: u64,
+}
+
+impl Draws {
+    pub(crate) fn new(seed: u64) -> Draws {
+        Draws { state: seed }
+    }
+
+    /// The next number, which is below the limit.
+    pub(crate) fn below(&mut self, limit: u64) -> u64
+        requires { 0 < limit }
+        ensures { result < limit }
+    {
+        self.state = self
+            .state
+            .wrapping_mul(6_364_136_223_846_793_005)
+            .wrapping_add(1_442_695_040_888_963_407);
+        (self.state >> 33) % limit
+    }
+
+    /// One of so many draws is true.
+    pub(crate) fn one_in(&mut self, count: u64) -> bool
+        requires { 0 < count }
+    {
+        self.below(count) == 0
+    }
+}

@@ -1,0 +1,107 @@
+//! Drawn requests: few workflow IDs and request ids, moments that go back, unknown queues, run ids
+//! of this shard and of others, and now and then a policy that isn't served.
+
+ghost use Rattle.std.specs.Prelude.{◌≡◌};
+
+use crate::draws::Draws;
+use service_model::request::{Operation, Read, Request, Signal, Start};
+use std::alloc::Global;
+use wf_event_values::{ConflictPolicy, Field, Id, Moment, Refusal, ReusePolicy, RunId, Span, Text};
+
+/// How many workflow IDs there are.
+const WORKFLOWS: u64 = 10;
+
+/// How many request ids there are.
+const REQUESTS: u64 = 4;
+
+/// A request whose moment is near that of the step with this number.
+pub(crate) fn request(alloc: Global, draws: &mut Draws, number: u64) -> Result<Request, Refusal> {
+    let millis = number.saturating_mul(10).saturating_add(draws.below(60));
+    let at = Moment::new(Field::At, millis)?;
+    let operation = match draws.below(8) {
+        0..=1 => Operation::Start(start(alloc, draws)?),
+        2..=5 => Operation::Signal(signal(alloc, draws)?),
+        _ => Operation::History(read(alloc, draws)?),
+    };
+    Ok(Request { at, operation })
+}
+
+fn start(alloc: Global, draws: &mut Draws) -> Result<Start, Refusal> {
+    Ok(Start {
+        workflow_id: workflow_id(alloc, draws)?,
+        workflow_type: Text::new(alloc, Field::WorkflowType, "order")?,
+        task_queue: queue(alloc, draws)?,
+        input: input(alloc, draws)?,
+        request_id: request_id(alloc, draws)?,
+        reuse: if draws.one_in(16) {
+            ReusePolicy::RejectDuplicate
+        } else {
+            ReusePolicy::AllowDuplicate
+        },
+        conflict: if draws.one_in(16) {
+            ConflictPolicy::UseExisting
+        } else {
+            ConflictPolicy::Fail
+        },
+        run_timeout: span(draws)?,
+        task_timeout: span(draws)?,
+    })
+}
+
+fn signal(alloc: Global, draws: &mut Draws) -> Result<Signal, Refusal> {
+    Ok(Signal {
+        workflow_id: workflow_id(alloc, draws)?,
+        run: run(draws),
+        name: Text::new(alloc, Field::Name, "paid")?,
+        input: input(alloc, draws)?,
+        request_id: request_id(alloc, draws)?,
+    })
+}
+
+fn read(alloc: Global, draws: &mut Draws) -> Result<Read, Refusal> {
+    Ok(Read {
+        workflow_id: workflow_id(alloc, draws)?,
+        run: run(draws),
+    })
+}
+
+fn workflow_id(alloc: Global, draws: &mut Draws) -> Result<Id, Refusal> {
+    let text = format!(in alloc; "order-{}", draws.below(WORKFLOWS))?;
+    Id::new(alloc, Field::WorkflowId, text.as_str())
+}
+
+fn request_id(alloc: Global, draws: &mut Draws) -> Result<Option<Id>, Refusal> {
+    if draws.one_in(4) {
+        return Ok(None);
+    }
+    let text = format!(in alloc; "request-{}", draws.below(REQUESTS))?;
+    Ok(Some(Id::new(alloc, Field::RequestId, text.as_str())?))
+}
+
+fn queue(alloc: Global, draws: &mut Draws) -> Result<Id, Refusal> {
+    let name = if draws.one_in(8) { "nobody" } else { "main" };
+    Id::new(alloc, Field::TaskQueue, name)
+}
+
+fn input(alloc: Global, draws: &mut Draws) -> Result<Text, Refusal> {
+    let text = format!(in alloc; "{}", draws.below(1000))?;
+    Text::new(alloc, Field::Input, text.as_str())
+}
+
+fn span(draws: &mut Draws) -> Result<Span, Refusal> {
+    if draws.one_in(2) {
+        return Ok(Span::none());
+    }
+    Span::new(Field::Duration, draws.below(5000))
+}
+
+/// A third of the requests name a run.
+fn run(draws: &mut Draws) -> Option<RunId> {
+    if !draws.one_in(3) {
+        return None;
+    }
+    let service = if draws.one_in(8) { 2 } else { 1 };
+    let shard = draws.below(2) as u16;
+    let ordinal = draws.below(WORKFLOWS + 2);
+    Some(RunId::new(service, shard, ordinal))
+}
