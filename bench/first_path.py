@@ -72,8 +72,9 @@ def measure(name, lines, path):
     with open(path, "w") as file:
         file.writelines(json.dumps(line, separators=(",", ":")) + "\n" for line in lines)
     took, written = best_time([PROGRAM], path)
-    if written.count(b"\n") != len(lines):
-        sys.exit(f"first_path: {name}: {len(lines)} lines, {written.count(b'\n')} replies")
+    replies = written.count(b"\n")
+    if replies != len(lines):
+        sys.exit(f"first_path: {name}: {len(lines)} lines, {replies} replies")
     each, rest = divmod(len(written), len(lines))
     floor, filler = best_time([FLOOR, str(each), str(rest)], path)
     if len(filler) != len(written):
