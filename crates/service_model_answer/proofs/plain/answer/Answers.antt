@@ -9,20 +9,20 @@ use Rattle.service_model_answer.proofs.plain.answer.Goals as goal
 
 pub loop-entry-preserved : goal.loop-entry-preserved
 loop-entry-preserved c =
-    let record_ = c.args.record.now in
+    let entries = c.args.entries.now in
     let i = c.loop-entry.entry-index in
     let e = c.entry-item.result in
     let q = e.request in
     let was = c.loop-entry.replay in
     let first = opening c.args.setup.now in
-    let S = replay_from first (take i record_) in
+    let S = replay_from first (take i entries) in
     let P : Replayed → Type 0 = λ r. IsReady r in
     record {
       stands = c.in_ok-serve.ensures.next
           ∙ ap (λ r. stepped r (max q.at r.last) (outcome_in (runs_in r) q.operation)) c.loop-entry.invariant.stands
           ∙ sym (after-kept S q)
-          ∙ ap kept (sym (replay-push first (take i record_) e))
-          ∙ ap (λ R. kept (replay_from first R)) (ap (λ x. take i record_ ++ x ∷ []) c.entry-item.is ∙ sym (take_more record_ i e c.loop-entry-test.true));
+          ∙ ap kept (sym (replay-push first (take i entries) e))
+          ∙ ap (λ R. kept (replay_from first R)) (ap (λ x. take i entries ++ x ∷ []) c.entry-item.is ∙ sym (take_more entries i e c.loop-entry-test.true));
       ready = subst P (sym c.in_ok-serve.ensures.next) (ready-stepped was (max q.at was.last) q.operation c.loop-entry.invariant.ready);
     }
 
@@ -33,6 +33,6 @@ returns c =
     let P : Reply → Type 0 = λ a. IfOk c.serve-2.result (λ reply. reply ≡ a) in
     subst P
     (ap (λ r. (outcome_in (runs_in r) q.operation).reply) c.loop-entry.invariant.stands
-    ∙ ap (λ R. (outcome_in (runs_in (kept (replay_from first R))) q.operation).reply) (take_all c.loop-entry.entry-index c.args.record.now (omega arith))
-    ∙ sym (answer-kept (replay_from first c.args.record.now) q))
+    ∙ ap (λ R. (outcome_in (runs_in (kept (replay_from first R))) q.operation).reply) (take_all c.loop-entry.entry-index c.args.entries.now (omega arith))
+    ∙ sym (answer-kept (replay_from first c.args.entries.now) q))
     c.serve-2.ensures.reply
