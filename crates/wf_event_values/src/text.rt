@@ -1,6 +1,6 @@
 //! Texts and IDs within their limits.
 
-ghost use Rattle.std.specs.Prelude.{◌≡◌, length, nat_eq, []};
+ghost use Rattle.std.specs.Prelude.{◌≡◌, length, nat_eq, [], string_bytes};
 ghost use Rattle.std.specs.Cmp.{partial_equiv_from_equiv};
 ghost use Rattle.std.specs.Cmp.Lexicographic.{pointwise, nat_list_eq_equiv};
 ghost use Rattle.wf_event_values.specs.Limits.{IsTextLength, IsIdLength, text_in, id_in};
@@ -110,6 +110,13 @@ impl Id {
         ensures limit { IsIdLength (length self.now) }
     {
         self.text.as_str()
+    }
+
+    /// The name itself, without a copy.
+    pub fn into_string(self) -> String
+        ensures { string_bytes result ≡ self }
+    {
+        self.text
     }
 }
 

@@ -1,0 +1,6 @@
+mod TaskLemmas
+mod AddLemmas
+mod CourseLemmas
+mod PartLemmas
+pub mod JournalLemmas
+pub mod GrowthLemmas

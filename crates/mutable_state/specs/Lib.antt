@@ -1,0 +1,4 @@
+pub mod Tasks
+pub mod Steps
+pub mod View
+pub mod Formed
