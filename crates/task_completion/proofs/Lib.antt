@@ -1,0 +1,2 @@
+mod JudgeLemmas
+mod EndLemmas
