@@ -5,7 +5,8 @@ use Rattle.std.specs.List.{enumerate_from}
 use Rattle.service_model.specs.Journal.{latest, first_some}
 use Rattle.service_model.specs.RunState.{RunState, no_run, id_of}
 use Rattle.service_model.specs.Outcome.{latest_run}
-use Rattle.shard.specs.View.{RunView, run_state, states}
+use Rattle.mutable_state.specs.View.{RunView}
+use Rattle.shard.specs.View.{states}
 
 -- the same, where the ordinals count from k
 latest_from : ℕ → List ℕ → List RunState → Option ℕ
@@ -37,35 +38,35 @@ pub length-states : (runs : List RunView) → length (states runs) ≡ length ru
 length-states [] = refl
 length-states (r ∷ runs) = ap suc (length-states runs)
 
-pub states-push : (runs : List RunView) (run : RunView) → states (runs ++ run ∷ []) ≡ states runs ++ run_state run ∷ []
+pub states-push : (runs : List RunView) (run : RunView) → states (runs ++ run ∷ []) ≡ states runs ++ run.state ∷ []
 states-push [] run = refl
-states-push (r ∷ runs) run = ap (λ t. run_state r ∷ t) (states-push runs run)
+states-push (r ∷ runs) run = ap (λ t. r.state ∷ t) (states-push runs run)
 
-pub states-set : (runs : List RunView) (n : ℕ) (run : RunView) → states (slice_set runs n run) ≡ slice_set (states runs) n (run_state run)
+pub states-set : (runs : List RunView) (n : ℕ) (run : RunView) → states (slice_set runs n run) ≡ slice_set (states runs) n run.state
 states-set [] n run = refl
 states-set (r ∷ runs) zero run = refl
-states-set (r ∷ runs) (suc n) run = ap (λ t. run_state r ∷ t) (states-set runs n run)
+states-set (r ∷ runs) (suc n) run = ap (λ t. r.state ∷ t) (states-set runs n run)
 
-pub states-at : (runs : List RunView) (n : ℕ) (d : RunView) → n < length runs → slice_index_or (states runs) n no_run ≡ run_state (slice_index_or runs n d)
+pub states-at : (runs : List RunView) (n : ℕ) (d : RunView) → n < length runs → slice_index_or (states runs) n no_run ≡ (slice_index_or runs n d).state
 states-at [] n d h = absurd (omega arith)
 states-at (r ∷ runs) zero d h = refl
 states-at (r ∷ runs) (suc n) d h = states-at runs n d (omega arith)
 
 -- a run whose state is as it was
-pub states-same : (runs : List RunView) (n : ℕ) (was now : RunView) → n < length runs → was ≡ slice_index_or runs n was → run_state now ≡ run_state was → states (slice_set runs n now) ≡ states runs
+pub states-same : (runs : List RunView) (n : ℕ) (was now : RunView) → n < length runs → was ≡ slice_index_or runs n was → now.state ≡ was.state → states (slice_set runs n now) ≡ states runs
 states-same [] n was now there is same = refl
-states-same (r ∷ runs) zero was now there is same = ap (λ s. s ∷ states runs) (same ∙ ap run_state is)
-states-same (r ∷ runs) (suc n) was now there is same = ap (λ t. run_state r ∷ t) (states-same runs n was now (omega arith) is same)
+states-same (r ∷ runs) zero was now there is same = ap (λ s. s ∷ states runs) (same ∙ ap (λ (v : RunView). v.state) is)
+states-same (r ∷ runs) (suc n) was now there is same = ap (λ t. r.state ∷ t) (states-same runs n was now (omega arith) is same)
 
 -- a new run is the latest of its workflow ID
-pub latest_run-push : (id : List ℕ) (runs : List RunView) (run : RunView) (key : List ℕ) → id_of (run_state run) ≡ key →
+pub latest_run-push : (id : List ℕ) (runs : List RunView) (run : RunView) (key : List ℕ) → id_of run.state ≡ key →
     latest_run (states (runs ++ run ∷ [])) id ≡ cond (bytes_eq key id) (Some (length runs + 1)) (latest_run (states runs) id)
 unfolding latest_run latest_from
 latest_run-push id runs run key named =
-    let all : latest_run (states runs ++ run_state run ∷ []) id ≡ first_some (cond (bytes_eq (id_of (run_state run)) id) (Some (length (states runs) + 1)) None) (latest_run (states runs) id) = latest_from-append 1 id (states runs) (run_state run) in
+    let all : latest_run (states runs ++ run.state ∷ []) id ≡ first_some (cond (bytes_eq (id_of run.state) id) (Some (length (states runs) + 1)) None) (latest_run (states runs) id) = latest_from-append 1 id (states runs) run.state in
     ap (λ t. latest_run t id) (states-push runs run) ∙ all
-    ∙ first_some_cond (bytes_eq (id_of (run_state run)) id) (length (states runs) + 1) (latest_run (states runs) id)
-    ∙ ap (λ n. cond (bytes_eq (id_of (run_state run)) id) (Some (n + 1)) (latest_run (states runs) id)) (length-states runs)
+    ∙ first_some_cond (bytes_eq (id_of run.state) id) (length (states runs) + 1) (latest_run (states runs) id)
+    ∙ ap (λ n. cond (bytes_eq (id_of run.state) id) (Some (n + 1)) (latest_run (states runs) id)) (length-states runs)
     ∙ ap (λ w. cond (bytes_eq w id) (Some (length runs + 1)) (latest_run (states runs) id)) named
 
 latest_from-set : (k : ℕ) (id : List ℕ) (runs : List RunState) (n : ℕ) (run : RunState) → id_of run ≡ id_of (slice_index_or runs n no_run) → latest_from k id (slice_set runs n run) ≡ latest_from k id runs

@@ -1,5 +1,3 @@
-pub mod RunLemmas
-pub mod IndexLemmas
-pub mod StartLemmas
-pub mod UntakenLemmas
-pub mod StepLemmas
+mod IndexLemmas
+mod StartLemmas
+mod StepLemmas

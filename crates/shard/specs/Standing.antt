@@ -6,7 +6,7 @@ use Rattle.service_model.specs.declared.content.Content.{Content}
 use Rattle.service_model.specs.declared.request.Request.{Request}
 use Rattle.service_model.specs.RunState.{RunState, state_of}
 use Rattle.service_model.specs.Service.{moment_of, opening, outcome_of}
-use Rattle.shard.specs.Untaken.{IsUntaken}
+use Rattle.mutable_state.specs.Formed.{IsFormed}
 use Rattle.shard.specs.View.{ShardView, ShardState, state}
 use Rattle.shard.specs.Fitting.{FitsStep}
 use Rattle.shard.specs.declared.plan.Plan.{Plan}
@@ -15,10 +15,10 @@ use Rattle.shard.specs.declared.plan.Plan.{Plan}
 abbrev pub known : Content → ShardState
 known S = record { setup = S.setup; runs = map state_of S.runs; last = S.last_moment }
 
--- the shard says what the content's journals say, and of each run a workflow task waits to be taken
+-- the shard says what the content's journals say, and each journal is formed as steps form it
 pub record StandsFor (v : ShardView) (S : Content) : Type 0 where
   pub says : state v ≡ known S
-  pub formed : AllByRecursion (IsUntaken S.steps) S.runs
+  pub formed : AllByRecursion (IsFormed S.steps) S.runs
 
 -- the content from which a shard was opened
 abbrev pub opened : ShardView → Content

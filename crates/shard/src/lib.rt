@@ -6,11 +6,14 @@
 #![tactic(auto)]
 
 mod as_object;
-mod calls;
+mod find;
 mod index;
 mod plan;
-mod run;
+mod prepare;
+mod reads;
 mod shard;
+mod signals;
+mod starts;
 
 pub use index::hash;
 pub use plan::Plan;

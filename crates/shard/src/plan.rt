@@ -1,8 +1,7 @@
 //! What a step will do to a shard, with all that it needs made.
 
-use crate::run::Run;
+use mutable_state::Run;
 use service_model::answer::Reply;
-use wf_event::Event;
 use wf_event_values::Moment;
 
 /// A run that a step makes, and its workflow ID as the index keeps it.
@@ -12,12 +11,11 @@ pub struct NewRun {
     pub key: String,
 }
 
-/// A signal that a step adds to the run at a place.
+/// What a step adds to the run at a place.
 #[derive(Drop)]
-pub struct MoreSignaled {
+pub struct MoreOf {
     pub index: usize,
-    pub event: Event,
-    pub request: Option<String>,
+    pub plan: mutable_state::Plan,
 }
 
 /// What a step does to the runs.
@@ -25,7 +23,7 @@ pub struct MoreSignaled {
 pub enum Change {
     Nothing,
     Created(NewRun),
-    Signaled(MoreSignaled),
+    Added(MoreOf),
 }
 
 /// A step that can't fail any more.

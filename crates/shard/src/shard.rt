@@ -1,22 +1,22 @@
 //! A shard, and its two halves of a step.
 
-ghost use Rattle.std.specs.Prelude.{◌≡◌, ℕ, ◌+◌, ◌<◌, ◌≤◌, ◌^◌, ◌++◌, ◌∷◌, [], length, max, IfOk, IfSome, OnOk, slice_set, Option, Some, None, false};
+ghost use Rattle.std.specs.Prelude.{◌≡◌, ◌+◌, ◌<◌, ◌≤◌, ◌^◌, ◌++◌, ◌∷◌, [], length, slice_set};
 ghost use Rattle.std.specs.String.{string_bytes};
-ghost use Rattle.service_model.specs.Outcome.{Outcome, named_run, latest_run, open_run, run_id, run_at};
-ghost use Rattle.service_model.specs.RunState.{id_of, is_open};
-ghost use Rattle.shard.specs.View.{ShardView, IsSetup, run_state, state, states, runs_in};
-ghost use Rattle.service_model.specs.Signals.{was_signaled};
-ghost use Rattle.shard.specs.Untaken.{with_signal};
-ghost use Rattle.shard.specs.Fitting.{FitsChange, state_after, room_at, state_at, kept_text};
+ghost use Rattle.service_model.specs.Outcome.{Outcome};
+ghost use Rattle.service_model.specs.RunState.{id_of};
+ghost use Rattle.mutable_state.specs.Steps.{after_step, FitStep};
+ghost use Rattle.shard.specs.View.{IsSetup, state, states};
+ghost use Rattle.shard.specs.Fitting.{FitsChange, state_after, room_at, state_at};
+ghost use Rattle.shard.specs.Standing.{Grows};
 
-use crate::plan::{Change, MoreSignaled, NewRun, Plan};
-use crate::run::Run;
+use crate::plan::{Change, MoreOf, NewRun, Plan};
 use indexmap::IndexMap;
+use mutable_state::Run;
 use service_model::answer::Reply;
 use service_model::content::Setup;
 use std::alloc::{AllocError, Global};
 use std::marker::Model;
-use wf_event_values::{Id, Moment, RunId};
+use wf_event_values::Moment;
 
 /// A shard of a workflow service.
 #[derive(Drop)]
@@ -56,17 +56,20 @@ impl Shard {
         }
     }
 
-    /// The ordinal of the latest run of a workflow ID.
-    pub(crate) fn latest(&self, id: &Id) -> Option<usize>
-        ensures found { result ≡ latest_run (states self.now.runs) id.now }
-        ensures within { IfSome result (λ n. (1 ≤ n) × (n ≤ length self.now.runs)) }
-        ensures few { length self.now.runs < 2 ^ 60 }
-    {
-        self.index.get(id.as_str()).copied()
-    }
-
     /// Does what was planned. It takes no memory.
     pub fn commit(&mut self, plan: Plan) -> Reply
+        requires { (o : Outcome) × FitsChange self.old plan.moment plan.change o }
+        ensures state { state self.new ≡ state_after plan (state self.old) }
+
+        // Each older run showed before what it shows first after.
+        ensures grows { Grows (states self.old.runs) (states self.new.runs) }
+
+        ensures reply { result ≡ plan.reply }
+    {
+        self.carry_out(plan)
+    }
+
+    fn carry_out(&mut self, plan: Plan) -> Reply
         requires { (o : Outcome) × FitsChange self.old plan.moment plan.change o }
         ensures state { state self.new ≡ state_after plan (state self.old) }
         ensures reply { result ≡ plan.reply }
@@ -79,7 +82,7 @@ impl Shard {
         match change {
             Change::Nothing => {}
             Change::Created(created) => self.add(created),
-            Change::Signaled(signaled) => self.push(signaled),
+            Change::Added(more) => self.grow(more),
         }
         self.last = moment;
         reply
@@ -89,8 +92,8 @@ impl Shard {
     fn add(&mut self, created: NewRun)
         requires room { 0 < self.old.room }
         requires few { length self.old.runs + 1 < 2 ^ 60 }
-        requires named { id_of (run_state created.run) ≡ string_bytes created.key }
-        ensures runs { states self.new.runs ≡ states self.old.runs ++ run_state created.run ∷ [] }
+        requires named { id_of created.run.state ≡ string_bytes created.key }
+        ensures runs { states self.new.runs ≡ states self.old.runs ++ created.run.state ∷ [] }
         ensures setup { self.new.setup ≡ self.old.setup }
         ensures last { self.new.last ≡ self.old.last }
     {
@@ -100,21 +103,17 @@ impl Shard {
         self.runs.push(run).unwrap();
     }
 
-    /// Adds a signal to its run.
-    fn push(&mut self, signaled: MoreSignaled)
-        requires there { signaled.index < length self.old.runs }
-        requires room { 0 < room_at self.old.runs signaled.index }
-        requires first { was_signaled (state_at (states self.old.runs) signaled.index).signal_requests (kept_text signaled.request) ≡ false }
-        ensures runs { states self.new.runs ≡ slice_set (states self.old.runs) signaled.index (with_signal (state_at (states self.old.runs) signaled.index) signaled.event (kept_text signaled.request)) }
+    /// Adds a step's facts to a run.
+    fn grow(&mut self, more: MoreOf)
+        requires there { more.index < length self.old.runs }
+        requires room { length more.plan.change.facts ≤ room_at self.old.runs more.index }
+        requires fits { FitStep more.plan.change.moment (state_at (states self.old.runs) more.index) more.plan.change.facts }
+        ensures runs { states self.new.runs ≡ slice_set (states self.old.runs) more.index (after_step more.plan.change.moment more.plan.change.facts (state_at (states self.old.runs) more.index)) }
         ensures setup { self.new.setup ≡ self.old.setup }
         ensures last { self.new.last ≡ self.old.last }
     {
-        let MoreSignaled {
-            index,
-            event,
-            request,
-        } = signaled;
+        let MoreOf { index, plan } = more;
         let run = &mut self.runs[index];
-        run.push(event, request);
+        run.commit(plan);
     }
 }

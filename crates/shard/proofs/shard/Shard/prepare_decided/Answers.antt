@@ -12,5 +12,5 @@ returns-in-None-clause-plan c =
 
 pub returns-in-Some-clause-plan : goal.returns-in-Some-clause-plan
 returns-in-Some-clause-plan c =
-    let P : Outcome → Type 0 = λ o. FitsStep c.args.self.now c.decided_by.result c.args.moment o in
-    subst P (ap (decided_by (runs_in c.args.self.now) c.args.request.now) c.in-Some.ensures.found) c.decided_by.ensures
+    let P : Outcome → Type 0 = λ o. IfOk c.prepare_decided_by.result (λ plan. FitsStep c.prepare_decided_by.new.self plan c.args.moment o) in
+    subst P (ap (decided_by (runs_in c.args.self.now) c.args.request.now) c.in-Some.ensures.found) c.prepare_decided_by.ensures.plan

@@ -1,0 +1,50 @@
+//! The first half of a step: what each request needs made.
+
+ghost use Rattle.std.specs.Prelude.{◌≡◌, max, IfOk};
+ghost use Rattle.service_model.specs.Outcome.{answered, refused};
+ghost use Rattle.shard.specs.View.{state, runs_in};
+ghost use Rattle.shard.specs.Fitting.{FitsStep, outcome_in};
+
+use crate::plan::{Change, Plan};
+use crate::shard::Shard;
+use service_model::answer::Answer;
+use service_model::request::{Operation, Request};
+use std::alloc::AllocError;
+use wf_event_values::{Moment, Refusal};
+
+impl Shard {
+    /// Makes all that the request's step needs. The shard stands for the same contents, whatever the result.
+    pub fn prepare(&mut self, request: &Request) -> Result<Plan, AllocError>
+        ensures same { state self.new ≡ state self.old }
+        ensures plan { IfOk result (λ plan. FitsStep self.new plan (max request.now.at self.old.last) (outcome_in (runs_in self.old) request.now.operation)) }
+    {
+        let moment = request.at.later(self.last);
+        match &request.operation {
+            Operation::Start(start) => self.prepare_start(moment, start),
+            Operation::Signal(signal) => self.prepare_signal(moment, signal),
+            Operation::History(read) => self.prepare_history(moment, read),
+        }
+    }
+}
+
+/// A step that changes no run, and answers.
+pub fn answered(moment: Moment, answer: Answer) -> Plan
+    ensures { result ≡ record { moment = moment; change = Change.Nothing; reply = (answered answer).reply } }
+{
+    Plan {
+        moment,
+        change: Change::Nothing,
+        reply: Ok(answer),
+    }
+}
+
+/// A step that changes no run, and refuses.
+pub fn refused(moment: Moment, refusal: Refusal) -> Plan
+    ensures { result ≡ record { moment = moment; change = Change.Nothing; reply = (refused refusal).reply } }
+{
+    Plan {
+        moment,
+        change: Change::Nothing,
+        reply: Err(refusal),
+    }
+}

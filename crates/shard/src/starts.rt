@@ -1,0 +1,195 @@
+//! Starting a run.
+
+ghost use Rattle.std.specs.Prelude.{◌≡◌, ◌+◌, ◌<◌, ◌≤◌, ◌^◌, length, OnOk, IfOk, Some, None, ◌∷◌, [], true};
+ghost use Rattle.service_model.specs.Service.{at_default_policies, is_allow_duplicate, is_fail};
+ghost use Rattle.service_model.specs.Starts.{start, starts_new, started_fact, first_task};
+ghost use Rattle.shard.specs.View.{state, runs_in};
+ghost use Rattle.shard.specs.Fitting.{FitsStep, decided, decided_by, started_by, new_run};
+
+use crate::index::{knows_queue, shard_of};
+use crate::plan::{Change, NewRun, Plan};
+use crate::prepare::{answered, refused};
+use crate::shard::Shard;
+use mutable_state::{Change as MoreFacts, Run, plain};
+use service_model::answer::Answer;
+use service_model::journal::Fact;
+use service_model::request::Start;
+use std::alloc::{AllocError, Global};
+use wf_event::Attributes;
+use wf_event::payloads::{WorkflowExecutionStarted, WorkflowTaskScheduled};
+use wf_event_values::{ConflictPolicy, Field, Id, Items, Moment, Refusal, ReusePolicy, Span};
+
+/// The most runs of a shard.
+const MOST: usize = 1_152_921_504_606_846_975;
+
+impl Shard {
+    pub(crate) fn prepare_start(
+        &mut self,
+        moment: Moment,
+        request: &Start,
+    ) -> Result<Plan, AllocError>
+        ensures same { state self.new ≡ state self.old }
+        ensures plan { IfOk result (λ plan. FitsStep self.new plan moment (at_default_policies request.now (start (runs_in self.old) request.now))) }
+    {
+        if !is_allow_duplicate(request.reuse) {
+            return Ok(refused(moment, Refusal::InvalidArgument(Field::Reuse)));
+        }
+        if !is_fail(request.conflict) {
+            return Ok(refused(moment, Refusal::InvalidArgument(Field::Conflict)));
+        }
+        self.prepare_start_here(moment, request)
+    }
+
+    /// A start at the default policies.
+    #[tactic(auto, unfolding(service_model::specs::Starts::start))]
+    fn prepare_start_here(&mut self, moment: Moment, request: &Start) -> Result<Plan, AllocError>
+        requires reuse { is_allow_duplicate request.now.reuse ≡ true }
+        requires conflict { is_fail request.now.conflict ≡ true }
+        ensures same { state self.new ≡ state self.old }
+        ensures plan { IfOk result (λ plan. FitsStep self.new plan moment (start (runs_in self.old) request.now)) }
+    {
+        if shard_of(&self.setup, &request.workflow_id) != self.setup.shard {
+            return Ok(refused(moment, Refusal::InvalidArgument(Field::WorkflowId)));
+        }
+        if !knows_queue(&self.setup, &request.task_queue) {
+            return Ok(refused(moment, Refusal::UnknownTaskQueue));
+        }
+        self.prepare_decided(moment, request)
+    }
+
+    /// A start, decided by the workflow ID's latest run.
+    fn prepare_decided(&mut self, moment: Moment, request: &Start) -> Result<Plan, AllocError>
+        requires reuse { is_allow_duplicate request.now.reuse ≡ true }
+        requires conflict { is_fail request.now.conflict ≡ true }
+        ensures same { state self.new ≡ state self.old }
+        ensures plan { IfOk result (λ plan. FitsStep self.new plan moment (decided (runs_in self.old) request.now)) }
+    {
+        match self.latest(&request.workflow_id) {
+            Some(n) => self.prepare_decided_by(moment, n, request),
+            None => self.prepare_new_run(moment, request),
+        }
+    }
+
+    /// A start of a workflow ID whose latest run has that ordinal.
+    fn prepare_decided_by(
+        &mut self,
+        moment: Moment,
+        n: usize,
+        request: &Start,
+    ) -> Result<Plan, AllocError>
+        requires from { 1 ≤ n }
+        requires to { n ≤ length self.old.runs }
+        requires few { length self.old.runs < 2 ^ 60 }
+        requires reuse { is_allow_duplicate request.now.reuse ≡ true }
+        requires conflict { is_fail request.now.conflict ≡ true }
+        ensures same { state self.new ≡ state self.old }
+        ensures plan { IfOk result (λ plan. FitsStep self.new plan moment (decided_by (runs_in self.old) request.now (Some n))) }
+    {
+        let run = self.run_id(n);
+        if self.runs[n - 1].was_started_by(&request.request_id) {
+            return Ok(answered(moment, Answer::Existing(run)));
+        }
+        if self.runs[n - 1].is_open() {
+            return Ok(refused(moment, Refusal::AlreadyStarted(run)));
+        }
+        self.prepare_new_run(moment, request)
+    }
+
+    /// The run of a start that nothing stands in the way of.
+    fn prepare_new_run(&mut self, moment: Moment, request: &Start) -> Result<Plan, AllocError>
+        ensures same { state self.new ≡ state self.old }
+        ensures plan { IfOk result (λ plan. FitsStep self.new plan moment (starts_new (runs_in self.old) None (started_fact request.now ∷ first_task request.now.task_queue ∷ []))) }
+    {
+        let run = new_run(self.alloc, moment, request)?;
+        let key = String::from_str(self.alloc, request.workflow_id.as_str())?;
+        self.reserve_run()?;
+        let ordinal = self.runs.len() + 1;
+        Ok(Plan {
+            moment,
+            change: Change::Created(NewRun { run, key }),
+            reply: Ok(Answer::Started(self.run_id(ordinal))),
+        })
+    }
+
+    /// Makes room for one more run.
+    fn reserve_run(&mut self) -> Result<(), AllocError>
+        ensures same { state self.new ≡ state self.old }
+        ensures room { OnOk result (0 < self.new.room) }
+        ensures few { OnOk result (length self.new.runs + 1 < 2 ^ 60) }
+    {
+        if self.runs.len() >= MOST {
+            return Err(AllocError);
+        }
+        self.runs.reserve(1)?;
+        self.index.reserve(1)
+    }
+}
+
+/// Whether a closed run's workflow ID may always be used again, which is the default.
+fn is_allow_duplicate(reuse: ReusePolicy) -> bool
+    ensures { result ≡ is_allow_duplicate reuse }
+{
+    matches!(reuse, ReusePolicy::AllowDuplicate)
+}
+
+/// Whether a start fails while a run of its workflow ID is open, which is the default.
+fn is_fail(conflict: ConflictPolicy) -> bool
+    ensures { result ≡ is_fail conflict }
+{
+    matches!(conflict, ConflictPolicy::Fail)
+}
+
+/// The run that a start makes, with its first workflow task.
+fn new_run(alloc: Global, moment: Moment, start: &Start) -> Result<Run, AllocError>
+    ensures { IfOk result (λ run. run.state ≡ new_run moment start.now) }
+{
+    let started = started_by(start)?;
+    let mut run = Run::begin(alloc, moment, started, copied(&start.request_id)?)?;
+    let facts = first_facts(alloc, start)?;
+    let plan = run.prepare(MoreFacts { moment, facts })?;
+    run.commit(plan);
+    Ok(run)
+}
+
+/// What a new run has behind its first event: its first workflow task.
+fn first_facts(alloc: Global, start: &Start) -> Result<Items<Fact>, AllocError>
+    ensures { IfOk result (λ facts. facts ≡ first_task start.now.task_queue ∷ []) }
+{
+    let mut facts = Vec::new(alloc);
+    facts.push(plain(Attributes::WorkflowTaskScheduled(WorkflowTaskScheduled {
+        attempt: 1,
+        task_queue: start.task_queue.clone()?,
+    })))?;
+    Ok(Items::from_vec(facts))
+}
+
+/// What a start's run begins with. A task timeout of 0 is written as the default that is used.
+fn started_by(start: &Start) -> Result<WorkflowExecutionStarted, AllocError>
+    ensures { IfOk result (λ a. a ≡ started_by start.now) }
+{
+    let task_timeout = if start.task_timeout.millis() == 0 {
+        Span::default_task_timeout()
+    } else {
+        start.task_timeout
+    };
+    Ok(WorkflowExecutionStarted {
+        workflow_id: start.workflow_id.clone()?,
+        workflow_type: start.workflow_type.clone()?,
+        task_queue: start.task_queue.clone()?,
+        input: start.input.clone()?,
+        run_timeout: start.run_timeout,
+        task_timeout,
+        continued_from: None,
+        parent: None,
+    })
+}
+
+/// A copy of a request id.
+pub fn copied(id: &Option<Id>) -> Result<Option<Id>, AllocError>
+    ensures { IfOk result (λ copy. copy ≡ id.now) }
+{
+    match id {
+        Some(id) => Ok(Some(id.clone()?)),
+        None => Ok(None),
+    }
+}
