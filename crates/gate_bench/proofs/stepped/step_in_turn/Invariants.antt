@@ -1,0 +1,5 @@
+use Rattle.gate.specs.Gates.{IsPassOf}
+use Rattle.gate_bench.proofs.stepped.step_in_turn.Given as goal
+
+abbrev pub invariant-loop-i : goal.invariant-loop-i
+invariant-loop-i g l = IsPassOf l.pass l.gate
