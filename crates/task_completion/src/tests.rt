@@ -1,10 +1,18 @@
 //! A run over three workflow tasks: one fails by a command, one by its worker, and one closes the run.
 
+ghost use Rattle.std.specs.Prelude.{◌≡◌, ◌∷◌, []};
+ghost use Rattle.std.specs.List.{list_all};
+ghost use Rattle.service_model.specs.Journal.{plain};
+ghost use Rattle.service_model.specs.Tasks.{is_scheduled_task};
+ghost use Rattle.mutable_state.specs.Steps.{FitStep};
+ghost use Rattle.mutable_state.specs.Tasks.{phase_in};
+ghost use Rattle.task_completion.specs.Judging.{is_served};
+
 use crate::{Completion, plan_completion, plan_failure};
-use mutable_state::{Change, Run, plain};
+use mutable_state::{Change, Run, TaskPhase, plain};
 use service_model::content::Setup;
-use service_model::journal::Fact;
 use std::alloc::Global;
+use std::process::Abort;
 use std::test::Fail;
 use wf_command::Command;
 use wf_command::command::RecordMarker;
@@ -24,8 +32,11 @@ fn moment(at: u64) -> Result<Moment, Fail> {
     Ok(Moment::new(Field::At, at).ok().ok_or("a moment")?)
 }
 
-/// A step that adds these events at a moment.
-fn step(run: &mut Run, at: u64, facts: Vec<Fact>) -> Result<(), Fail> {
+/// A step of one event, which may come.
+fn step(alloc: Global, run: &mut Run, at: u64, attributes: Attributes) -> Result<(), Fail>
+    requires { FitStep 0 run.old.state (plain attributes ∷ []) }
+{
+    let facts = vec![in alloc; plain(attributes)]?;
     let plan = run.prepare(Change {
         moment: moment(at)?,
         facts: Items::from_vec(facts),
@@ -48,14 +59,41 @@ fn begun(alloc: Global) -> Result<Run, Fail> {
     };
     let mut run = Run::begin(alloc, Moment::zero(), started, None)?;
     let task = run.schedule_task(1)?;
-    step(&mut run, 0, vec![in alloc; plain(task)]?)?;
+    step(alloc, &mut run, 0, task)?;
     Ok(run)
+}
+
+/// Whether a workflow task waits to be taken.
+fn is_scheduled(phase: TaskPhase) -> bool
+    ensures { result ≡ is_scheduled_task (phase_in phase) }
+{
+    matches!(phase, TaskPhase::Scheduled)
 }
 
 /// Takes the scheduled task.
 fn take(alloc: Global, run: &mut Run, at: u64) -> Result<(), Fail> {
-    let started = Attributes::WorkflowTaskStarted(run.task().scheduled);
-    step(run, at, vec![in alloc; plain(started)]?)
+    let task = run.task();
+    if !run.is_open() || !is_scheduled(task.phase) {
+        return Err(Fail::from("a scheduled task"));
+    }
+    step(
+        alloc,
+        run,
+        at,
+        Attributes::WorkflowTaskStarted(task.scheduled),
+    )
+}
+
+/// Signals the open run.
+fn signal(alloc: Global, run: &mut Run, at: u64) -> Result<(), Fail> {
+    if !run.is_open() {
+        return Err(Fail::from("an open run"));
+    }
+    let attributes = Attributes::WorkflowExecutionSignaled(WorkflowExecutionSignaled {
+        name: text(alloc, "s")?,
+        input: Text::empty(alloc),
+    });
+    step(alloc, run, at, attributes)
 }
 
 fn setup(alloc: Global) -> Setup {
@@ -67,6 +105,25 @@ fn setup(alloc: Global) -> Setup {
     }
 }
 
+/// Whether the commands are served.
+fn are_served(commands: &[Command]) -> bool
+    ensures { result ≡ list_all is_served commands.now }
+{
+    commands.iter().all(is_served)
+}
+
+fn is_served(command: &Command) -> bool
+    ensures { result ≡ is_served command.now }
+{
+    matches!(
+        command,
+        Command::RecordMarker(_)
+            | Command::CompleteWorkflowExecution(_)
+            | Command::FailWorkflowExecution(_)
+            | Command::CancelWorkflowExecution(_)
+    )
+}
+
 /// Completes the started task by these commands, and says by which fault it failed.
 fn complete(
     alloc: Global,
@@ -74,6 +131,10 @@ fn complete(
     commands: &[Command],
     at: u64,
 ) -> Result<Option<Cause>, Fail> {
+    let is_started = run.task().phase.is_started();
+    if !run.is_open() || !is_started || !are_served(commands) {
+        return Err(Fail::from("a started task, and commands that are served"));
+    }
     let Completion { plan, fault } = plan_completion(
         alloc,
         run,
@@ -84,6 +145,18 @@ fn complete(
     )?;
     run.commit(plan);
     Ok(fault)
+}
+
+/// Fails the started task.
+fn fail(alloc: Global, run: &mut Run, at: u64) -> Result<(), Fail> {
+    let is_started = run.task().phase.is_started();
+    if !run.is_open() || !is_started {
+        return Err(Fail::from("a started task"));
+    }
+    let cause = Cause::WorkflowWorkerUnhandledFailure;
+    let plan = plan_failure(alloc, run, cause, text(alloc, "m")?, moment(at)?)?;
+    run.commit(plan);
+    Ok(())
 }
 
 /// The kinds and moments of the history from an event on, as text.
@@ -105,54 +178,49 @@ fn marker(alloc: Global) -> Result<Command, Fail> {
     }))
 }
 
-#[test]
-fn fails_and_closes_by_commands(rt: HostRuntime) -> Result<(), Fail> {
-    let alloc = rt.alloc();
-    let mut run = begun(alloc)?;
-    take(alloc, &mut run, 5)?;
-    let signal = Attributes::WorkflowExecutionSignaled(WorkflowExecutionSignaled {
-        name: text(alloc, "s")?,
-        input: Text::empty(alloc),
-    });
-    step(&mut run, 7, vec![in alloc; plain(signal)]?)?;
-    assert_eq!(rt; run.held(), 1);
+fn close(alloc: Global) -> Result<Command, Fail> {
+    Ok(Command::CompleteWorkflowExecution(text(alloc, "x")?))
+}
 
-    let close = || -> Result<Command, Fail> {
-        Ok(Command::CompleteWorkflowExecution(text(alloc, "x")?))
-    };
-    let fault = complete(alloc, &mut run, &[marker(alloc)?, close()?], 9)?;
+/// Two tasks that fail: by a command while a signal is held back, and by the worker.
+fn fail_twice<R: Abort + AllocGlobal>(rt: &R, run: &mut Run) -> Result<(), Fail> {
+    let alloc = rt.alloc();
+    take(alloc, run, 5)?;
+    signal(alloc, run, 7)?;
+    assert_eq!(rt; run.held(), 1);
+    let fault = complete(alloc, run, &[marker(alloc)?, close(alloc)?], 9)?;
     assert!(rt; matches!(fault, Some(Cause::UnhandledCommand)));
-    let after = shown(alloc, &run, 3)?;
+    let after = shown(alloc, run, 3)?;
     assert_eq!(rt;
         after.as_str(),
         "WorkflowTaskFailed@9 WorkflowExecutionSignaled@7 WorkflowTaskScheduled@9 "
     );
-    assert_eq!(rt; run.task().attempt, 2);
+    take(alloc, run, 10)?;
+    fail(alloc, run, 11)
+}
 
-    take(alloc, &mut run, 10)?;
-    let plan = plan_failure(
-        alloc,
-        &mut run,
-        Cause::WorkflowWorkerUnhandledFailure,
-        text(alloc, "m")?,
-        moment(11)?,
-    )?;
-    run.commit(plan);
+/// A task that fails by a command after the closing one, and one that closes the run.
+fn fail_and_close<R: Abort + AllocGlobal>(rt: &R, run: &mut Run) -> Result<(), Fail> {
+    let alloc = rt.alloc();
     assert_eq!(rt; run.task().attempt, 3);
-
-    take(alloc, &mut run, 12)?;
-    let fault = complete(alloc, &mut run, &[close()?, marker(alloc)?], 13)?;
+    take(alloc, run, 12)?;
+    let fault = complete(alloc, run, &[close(alloc)?, marker(alloc)?], 13)?;
     assert!(rt; matches!(fault, Some(Cause::CommandAfterClose)));
-    assert!(rt; run.is_open());
-
-    take(alloc, &mut run, 14)?;
-    let fault = complete(alloc, &mut run, &[marker(alloc)?, close()?], 15)?;
+    take(alloc, run, 14)?;
+    let fault = complete(alloc, run, &[marker(alloc)?, close(alloc)?], 15)?;
     assert!(rt; fault.is_none());
-    let after = shown(alloc, &run, 12)?;
+    let after = shown(alloc, run, 12)?;
     assert_eq!(rt;
         after.as_str(),
         "WorkflowTaskStarted@14 WorkflowTaskCompleted@15 MarkerRecorded@15 WorkflowExecutionCompleted@15 "
     );
     assert!(rt; matches!(run.status(), Status::Completed));
     Ok(())
+}
+
+#[test]
+fn fails_and_closes_by_commands(rt: HostRuntime) -> Result<(), Fail> {
+    let mut run = begun(rt.alloc())?;
+    fail_twice(&rt, &mut run)?;
+    fail_and_close(&rt, &mut run)
 }
