@@ -1,3 +1,3 @@
-mod IndexLemmas
-mod StartLemmas
-mod StepLemmas
+pub mod IndexLemmas
+pub mod StartLemmas
+pub mod StepLemmas
