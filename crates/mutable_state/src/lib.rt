@@ -7,6 +7,7 @@
 
 mod change;
 mod facts;
+mod pending;
 mod readers;
 mod run;
 mod step;
@@ -14,5 +15,6 @@ mod task;
 
 pub use change::{Change, Plan};
 pub use facts::plain;
+pub use pending::Pending;
 pub use run::Run;
 pub use task::{TaskPhase, WorkflowTask};

@@ -6,6 +6,9 @@ use Rattle.wf_event_values.specs.declared.policies.ReusePolicy.TheVariants.{Allo
 use Rattle.wf_event_values.specs.declared.policies.ConflictPolicy.{ConflictPolicy}
 use Rattle.wf_event_values.specs.declared.policies.ConflictPolicy.TheVariants.{Fail}
 use Rattle.wf_event_values.specs.declared.refusal.Refusal.TheVariants.{InvalidArgument}
+use Rattle.std.specs.List.{list_all}
+use Rattle.wf_command.specs.declared.command.Command.{Command}
+use Rattle.wf_command.specs.declared.command.Command.TheVariants.{RecordMarker, CompleteWorkflowExecution, FailWorkflowExecution, CancelWorkflowExecution}
 use Rattle.service_model.specs.declared.content.Content.{Content}
 use Rattle.service_model.specs.declared.content.Setup.{Setup}
 use Rattle.service_model.specs.declared.content.Dispatch.{Dispatch}
@@ -107,11 +110,27 @@ at_default_policies q rest =
     (cond (is_fail q.conflict) rest (refused (InvalidArgument field.Conflict)))
     (refused (InvalidArgument field.Reuse))
 
+-- the commands that are served so far
+abbrev pub is_served : Command → Bool
+is_served (RecordMarker m) = true
+is_served (CompleteWorkflowExecution result) = true
+is_served (FailWorkflowExecution message) = true
+is_served (CancelWorkflowExecution details) = true
+is_served _ = false
+
+-- completions are served with commands of these types so far, and others are refused
+abbrev pub at_served_commands : CompleteWorkflowTask → Outcome → Outcome
+at_served_commands q rest = cond (list_all is_served q.commands) rest (refused (InvalidArgument field.Type))
+
 -- what an operation does, at the step's moment
 unfoldable pub outcome_of : Content → ℕ → Operation → Outcome
 outcome_of S m (served.Start q) = at_default_policies q (outcome S m (ToStart q))
 outcome_of S m (served.Signal q) = outcome S m (ToSignal q)
+outcome_of S m (served.StartTask h) = outcome S m (ToStartTask h)
+outcome_of S m (served.CompleteWorkflowTask q) = at_served_commands q (outcome S m (ToCompleteWorkflowTask q))
+outcome_of S m (served.FailWorkflowTask q) = outcome S m (ToFailWorkflowTask q)
 outcome_of S m (served.History q) = outcome S m (ToShowHistory q)
+outcome_of S m (served.Describe q) = outcome S m (ToDescribe q)
 
 -- facts as entries of a step, by their places from n on
 abbrev pub entries : ℕ → ℕ → ℕ → List Fact → Journal

@@ -120,7 +120,11 @@ pub struct Acknowledge {
 pub enum Operation {
     Start(Start),
     Signal(Signal),
+    StartTask(Hint),
+    CompleteWorkflowTask(CompleteWorkflowTask),
+    FailWorkflowTask(FailWorkflowTask),
     History(Read),
+    Describe(Read),
 }
 
 /// A request, with the moment that it names.

@@ -1,5 +1,5 @@
 -- what a start does by the workflow ID's latest run, and which of a shard's runs are open
-use Rattle.std.proofs.Common.{◌≡◌, ℕ, ◌+◌, ◌-◌, ◌<◌, ◌≤◌, ◌^◌, true, false, [], ◌∷◌, length, refl, sym, ap, ◌∙◌, arith, cond, Option, Some, None, IfSome, slice_index_or, subst, List}
+use Rattle.std.proofs.Common.{◌≡◌, ℕ, ◌+◌, ◌-◌, ◌<◌, ◌≤◌, ◌^◌, true, false, [], ◌∷◌, length, refl, sym, ap, ◌∙◌, arith, cond, Option, Some, None, slice_index_or, subst, List}
 use Rattle.std.specs.Prelude.{Ok, string_bytes}
 use Rattle.wf_event_values.specs.Run.{Run}
 use Rattle.wf_event_values.specs.declared.policies.ConflictPolicy.{ConflictPolicy}
@@ -13,7 +13,7 @@ use Rattle.service_model.specs.declared.answer.Answer.TheVariants.{Existing, Sta
 use Rattle.service_model.specs.declared.request.Start.{Start}
 use Rattle.service_model.specs.IdPolicy.{decide, New, Same, Refused, on_open, on_status, is_same_request}
 use Rattle.service_model.specs.RunState.{RunState, no_run, is_open, is_open_status}
-use Rattle.service_model.specs.Outcome.{Outcome, Reply, Runs, outside, is_no_task, schedule_task, answered, refused, run_at, run_id, keep_open}
+use Rattle.service_model.specs.Outcome.{Outcome, Reply, Runs, outside, is_no_task, schedule_task, answered, refused, run_at, run_id}
 use Rattle.service_model.specs.Service.{is_fail, is_allow_duplicate}
 use Rattle.service_model.specs.Starts.{start_request, started_fact, first_task, by_decision, starts_new}
 use Rattle.service_model.specs.declared.answer.Answer.{Answer}

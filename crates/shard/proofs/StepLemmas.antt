@@ -1,5 +1,5 @@
 -- a shard that did what was planned stands for the next content
-use Rattle.std.proofs.Common.{◌≡◌, ℕ, ◌+◌, ◌-◌, ◌<◌, ◌≤◌, List, [], ◌∷◌, ◌++◌, length, refl, sym, ap, ◌∙◌, arith, Option, Some, None, zero, suc, slice_index_or, slice_set, subst, append-nil}
+use Rattle.std.proofs.Common.{◌≡◌, ℕ, ◌+◌, ◌-◌, ◌<◌, List, [], ◌∷◌, ◌++◌, length, refl, sym, ap, ◌∙◌, arith, Option, Some, zero, suc, slice_index_or, slice_set, subst, append-nil}
 use Rattle.std.specs.Prelude.{map, max, slice_get, string_bytes, unwrap_or, option_map}
 use Rattle.std.specs.List.{AllByRecursion}
 use Rattle.wf_event.specs.declared.event.Event.{Event}
@@ -149,7 +149,11 @@ outcome-in : (S : Content) (m : ℕ) (op : Operation) → outcome_of S m op ≡ 
 unfolding outcome outcome_of
 outcome-in S m (served.Start q) = refl
 outcome-in S m (served.Signal q) = refl
+outcome-in S m (served.StartTask h) = refl
+outcome-in S m (served.CompleteWorkflowTask q) = refl
+outcome-in S m (served.FailWorkflowTask q) = refl
 outcome-in S m (served.History q) = refl
+outcome-in S m (served.Describe q) = refl
 
 -- what was prepared on a shard that stands for a content is ready for it
 pub prepared : (v w : ShardView) (S : Content) (q : Request) (plan : Plan) → StandsFor v S → state w ≡ state v → FitsStep w plan (max q.at v.last) (outcome_in (runs_in v) q.operation) → IsReady w S q plan

@@ -3,6 +3,9 @@ use Rattle.std.specs.Prelude.{◌≡◌, ℕ, ◌+◌, ◌<◌, ◌≤◌, ◌^�
 use Rattle.std.specs.Prelude.{string_bytes}
 use Rattle.wf_event.specs.declared.attributes.Attributes.TheVariants.{WorkflowExecutionStarted}
 use Rattle.wf_event.specs.declared.payloads.WorkflowExecutionStarted.{WorkflowExecutionStarted as StartedAttributes}
+use Rattle.wf_event_values.specs.declared.policies.Cause.{Cause}
+use Rattle.service_model.specs.declared.answer.Answer.{Answer}
+use Rattle.service_model.specs.declared.answer.Answer.TheVariants.{Completed, TaskFailed}
 use Rattle.service_model.specs.declared.journal.Fact.{Fact}
 use Rattle.service_model.specs.declared.request.Start.{Start}
 use Rattle.service_model.specs.declared.request.Operation.{Operation}
@@ -11,8 +14,9 @@ use Rattle.service_model.specs.RunState.{RunState, no_run}
 use Rattle.service_model.specs.Outcome.{Outcome, Runs, latest_run, made_by, used_task_timeout}
 use Rattle.service_model.specs.Starts.{started_fact, first_task, start, decision, by_decision}
 use Rattle.service_model.specs.Signals.{signal}
-use Rattle.service_model.specs.Reads.{history}
-use Rattle.service_model.specs.Service.{at_default_policies}
+use Rattle.service_model.specs.Reads.{history, describe}
+use Rattle.service_model.specs.Tasks.{start_task, complete_workflow_task, fail_workflow_task}
+use Rattle.service_model.specs.Service.{at_default_policies, at_served_commands}
 use Rattle.mutable_state.specs.View.{RunView}
 use Rattle.mutable_state.specs.Steps.{begun, after_step, IsLater, FitFrom, FitStep}
 use Rattle.shard.specs.View.{ShardView, ShardState, states}
@@ -26,9 +30,13 @@ use Rattle.shard.specs.declared.plan.Plan.{Plan}
 abbrev pub state_at : List RunState → ℕ → RunState
 state_at runs n = slice_index_or runs n no_run
 
+-- the run at a place, with its room
+abbrev pub view_at : List RunView → ℕ → RunView
+view_at runs n = slice_index_or runs n (record { state = no_run; room = 0 })
+
 -- the room of the run at a place
 abbrev pub room_at : List RunView → ℕ → ℕ
-room_at runs n = (slice_index_or runs n (record { state = no_run; room = 0 })).room
+room_at runs n = (view_at runs n).room
 
 -- what a start writes first in a new run
 abbrev pub started_by : Start → StartedAttributes
@@ -82,8 +90,17 @@ decided_by R q latest_one = by_decision R (unwrap_or latest_one 0) (started_fact
 abbrev pub decided : Runs → Start → Outcome
 decided R q = decided_by R q (latest_run R.states q.workflow_id)
 
+-- what the end of a workflow task answers, by its fault
+abbrev pub ended : Option Cause → Answer
+ended None = Completed
+ended (Some cause) = TaskFailed cause
+
 -- what an operation does to the runs that a shard has
 abbrev pub outcome_in : Runs → Operation → Outcome
 outcome_in R (served.Start q) = at_default_policies q (start R q)
 outcome_in R (served.Signal q) = signal R q
+outcome_in R (served.StartTask h) = start_task R h
+outcome_in R (served.CompleteWorkflowTask q) = at_served_commands q (complete_workflow_task R q)
+outcome_in R (served.FailWorkflowTask q) = fail_workflow_task R q
 outcome_in R (served.History q) = history R q
+outcome_in R (served.Describe q) = describe R q

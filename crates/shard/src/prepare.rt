@@ -23,6 +23,10 @@ impl Shard {
             Operation::Start(start) => self.prepare_start(moment, start),
             Operation::Signal(signal) => self.prepare_signal(moment, signal),
             Operation::History(read) => self.prepare_history(moment, read),
+            Operation::Describe(read) => self.prepare_describe(moment, read),
+            Operation::StartTask(hint) => self.prepare_start_task(moment, *hint),
+            Operation::CompleteWorkflowTask(end) => self.prepare_completion(moment, end),
+            Operation::FailWorkflowTask(end) => self.prepare_failure(moment, end),
         }
     }
 }

@@ -1,6 +1,6 @@
 use Rattle.std.proofs.Common.{◌≡◌, ◌<◌, length, length-set, sym, ap, ◌∙◌, slice_index_or, slice_set}
 use Rattle.std.specs.Prelude.{unwrap_or, option_map, [], Option}
-use Rattle.service_model.specs.RunState.{RunState, Beginning, no_run, id_of}
+use Rattle.service_model.specs.RunState.{Beginning, no_run, id_of}
 use Rattle.service_model.specs.Outcome.{latest_run}
 use Rattle.mutable_state.specs.Steps.{after_step}
 use Rattle.mutable_state.specs.View.{RunView}

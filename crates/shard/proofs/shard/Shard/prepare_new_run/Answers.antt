@@ -1,4 +1,4 @@
-use Rattle.std.proofs.Common.{◌≡◌, ◌+◌, ◌∙◌, sym, ap, arith, length}
+use Rattle.std.proofs.Common.{◌≡◌, ◌+◌, ◌∙◌, ap, arith, length}
 use Rattle.service_model.specs.Outcome.{run_id}
 use Rattle.shard.specs.declared.plan.NewRun.{NewRun}
 use Rattle.shard.proofs.StartLemmas.{new-run-fits}

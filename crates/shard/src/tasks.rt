@@ -1,0 +1,307 @@
+//! Taking a workflow task, and its end.
+
+ghost use Rattle.std.specs.Prelude.{◌≡◌, ◌≤◌, ◌<◌, ◌+◌, ◌∷◌, [], length, map, true, is_some, IfOk, IfSome};
+ghost use Rattle.std.specs.List.{list_all};
+ghost use Rattle.wf_event.specs.declared.attributes.Attributes.TheVariants.{WorkflowTaskStarted};
+ghost use Rattle.wf_event_values.specs.declared.policies.Cause.TheVariants.{WorkflowWorkerUnhandledFailure};
+ghost use Rattle.service_model.specs.declared.answer.Answer.TheVariants.{Failed};
+ghost use Rattle.service_model.specs.Completion.{judge_all, failed_task};
+ghost use Rattle.service_model.specs.Journal.{plain};
+ghost use Rattle.service_model.specs.Outcome.{adds, next_ordinal, run_at, run_id};
+ghost use Rattle.service_model.specs.Pending.{IsStarted};
+ghost use Rattle.service_model.specs.RunState.{is_open};
+ghost use Rattle.service_model.specs.Service.{at_served_commands, is_served};
+ghost use Rattle.service_model.specs.Tasks.{start_task, take_by_kind, take_workflow, waits_workflow, runs_workflow, complete_workflow_task, complete_judged, fail_workflow_task};
+ghost use Rattle.task_completion.specs.Ends.{IsPlanned, IsCompletion};
+ghost use Rattle.shard.specs.View.{state, states, runs_in};
+ghost use Rattle.shard.specs.Fitting.{FitsStep, state_at, view_at, ended};
+
+use crate::plan::{Change, MoreOf, Plan};
+use crate::prepare::{answered, refused};
+use crate::shard::Shard;
+use mutable_state::{Change as MoreFacts, plain};
+use service_model::answer::{Answer, WorkflowTask};
+use service_model::journal::Fact;
+use service_model::request::{CompleteWorkflowTask, FailWorkflowTask, Hint, TakenTask};
+use std::alloc::{AllocError, Global};
+use task_completion::{Completion, plan_completion, plan_failure};
+use wf_command::Command;
+use wf_event::Attributes;
+use wf_event_values::{Cause, Field, Items, Moment, Refusal, TaskKind, Text};
+
+impl Shard {
+    /// A task is taken, where it waits. No activity is scheduled so far.
+    #[tactic(auto, unfolding(service_model::specs::Tasks::start_task))]
+    pub(crate) fn prepare_start_task(
+        &mut self,
+        moment: Moment,
+        hint: Hint,
+    ) -> Result<Plan, AllocError>
+        ensures same { state self.new ≡ state self.old }
+        ensures plan { IfOk result (λ plan. FitsStep self.new plan moment (start_task (runs_in self.old) hint)) }
+    {
+        match hint.kind {
+            TaskKind::Workflow => self.prepare_take(moment, hint),
+            TaskKind::Activity => Ok(self.take_activity(moment, hint)),
+        }
+    }
+
+    fn prepare_take(&mut self, moment: Moment, hint: Hint) -> Result<Plan, AllocError>
+        ensures same { state self.new ≡ state self.old }
+        ensures plan { IfOk result (λ plan. FitsStep self.new plan moment (take_workflow (runs_in self.old) hint)) }
+    {
+        match self.waiting(hint) {
+            Some(n) => self.prepare_taken(moment, n, hint),
+            None => Ok(answered(moment, Answer::Stale)),
+        }
+    }
+
+    /// The start of the scheduled task of the run with that ordinal.
+    fn prepare_taken(&mut self, moment: Moment, n: usize, hint: Hint) -> Result<Plan, AllocError>
+        requires from { 1 ≤ n }
+        requires to { n ≤ length self.old.runs }
+        requires run { n ≡ hint.run }
+        requires waits { waits_workflow (runs_in self.old) hint ≡ true }
+        requires open { is_open (run_at (runs_in self.old) n) ≡ true }
+        ensures same { state self.new ≡ state self.old }
+        ensures plan { IfOk result (λ plan. FitsStep self.new plan moment (take_workflow (runs_in self.old) hint)) }
+    {
+        let task = WorkflowTask {
+            attempt: hint.attempt,
+            run: self.run_id(n),
+            scheduled: hint.event,
+            started: self.runs[n - 1].events().len() as u64 + 1,
+            workflow_id: self.runs[n - 1].workflow_id().clone()?,
+        };
+        let facts = started_facts(self.alloc, hint.event)?;
+        let plan = self.prepare_in(n - 1, MoreFacts { moment, facts })?;
+        Ok(Plan {
+            moment,
+            change: Change::Added(MoreOf { index: n - 1, plan }),
+            reply: Ok(Answer::WorkflowTask(task)),
+        })
+    }
+
+    /// An activity's task, of which there is none: the hint is stale.
+    fn take_activity(&self, moment: Moment, hint: Hint) -> Plan
+        ensures { FitsStep self.now result moment (take_by_kind (runs_in self.now) hint TaskKind.Activity) }
+    {
+        if hint.shard != self.setup.shard || hint.run < 1 || hint.run > self.runs.len() as u64 {
+            return answered(moment, Answer::Stale);
+        }
+        let _ = self.runs[hint.run as usize - 1].pending();
+        answered(moment, Answer::Stale)
+    }
+
+    /// The ordinal of the run whose workflow task waits to be taken as the hint says.
+    fn waiting(&self, hint: Hint) -> Option<usize>
+        ensures waits { waits_workflow (runs_in self.now) hint ≡ is_some result }
+        ensures found { IfSome result (λ n. (n ≡ hint.run) × (1 ≤ n) × (n ≤ length self.now.runs)) }
+        ensures open { IfSome result (λ n. is_open (run_at (runs_in self.now) n) ≡ true) }
+    {
+        let n = hint.run as usize;
+        if hint.shard != self.setup.shard || n < 1 || n > self.runs.len() {
+            return None;
+        }
+        let task = self.runs[n - 1].task();
+        if task.phase.is_scheduled()
+            && task.scheduled == hint.event
+            && task.attempt == hint.attempt
+        {
+            Some(n)
+        } else {
+            None
+        }
+    }
+
+    /// The ordinal of the run whose workflow task is running at that attempt.
+    fn running(&self, taken: TakenTask) -> Option<usize>
+        ensures runs { runs_workflow (runs_in self.now) taken ≡ is_some result }
+        ensures found { IfSome result (λ n. (n ≡ taken.run) × (1 ≤ n) × (n ≤ length self.now.runs)) }
+    {
+        let n = taken.run as usize;
+        if taken.shard != self.setup.shard || n < 1 || n > self.runs.len() {
+            return None;
+        }
+        let task = self.runs[n - 1].task();
+        if task.phase.is_started()
+            && task.scheduled == taken.event
+            && task.attempt == taken.attempt
+        {
+            Some(n)
+        } else {
+            None
+        }
+    }
+
+    /// A workflow task is completed. Commands of other types than those served so far are refused.
+    pub(crate) fn prepare_completion(
+        &mut self,
+        moment: Moment,
+        request: &CompleteWorkflowTask,
+    ) -> Result<Plan, AllocError>
+        ensures same { state self.new ≡ state self.old }
+        ensures plan { IfOk result (λ plan. FitsStep self.new plan moment (at_served_commands request.now (complete_workflow_task (runs_in self.old) request.now))) }
+    {
+        if !are_served(request.commands.as_slice()) {
+            return Ok(refused(moment, Refusal::InvalidArgument(Field::Type)));
+        }
+        self.prepare_completion_here(moment, request)
+    }
+
+    /// The completion of a task by commands that are served.
+    #[tactic(auto, unfolding(service_model::specs::Tasks::complete_workflow_task))]
+    fn prepare_completion_here(
+        &mut self,
+        moment: Moment,
+        request: &CompleteWorkflowTask,
+    ) -> Result<Plan, AllocError>
+        requires served { list_all is_served request.now.commands ≡ true }
+        ensures same { state self.new ≡ state self.old }
+        ensures plan { IfOk result (λ plan. FitsStep self.new plan moment (complete_workflow_task (runs_in self.old) request.now)) }
+    {
+        match self.running(request.task) {
+            Some(n) => self.prepare_completed(moment, n, request),
+            None => Ok(refused(moment, Refusal::NotFound)),
+        }
+    }
+
+    /// The end of the started task of the run with that ordinal.
+    fn prepare_completed(
+        &mut self,
+        moment: Moment,
+        n: usize,
+        request: &CompleteWorkflowTask,
+    ) -> Result<Plan, AllocError>
+        requires from { 1 ≤ n }
+        requires to { n ≤ length self.old.runs }
+        requires run { n ≡ request.now.task.run }
+        requires runs { runs_workflow (runs_in self.old) request.now.task ≡ true }
+        requires served { list_all is_served request.now.commands ≡ true }
+        ensures same { state self.new ≡ state self.old }
+        ensures plan { IfOk result (λ plan. FitsStep self.new plan moment (complete_judged (runs_in self.old) request.now (judge_all self.old.setup (run_id self.old.setup (next_ordinal (runs_in self.old))) (run_at (runs_in self.old) request.now.task.run) [] request.now.commands))) }
+    {
+        let commands = request.commands.as_slice();
+        let Completion { plan, fault } = self.complete_in(n - 1, commands, moment)?;
+        Ok(Plan {
+            moment,
+            change: Change::Added(MoreOf { index: n - 1, plan }),
+            reply: Ok(ended(fault)),
+        })
+    }
+
+    /// The end of the started task of the run at a place.
+    fn complete_in(
+        &mut self,
+        index: usize,
+        commands: &[Command],
+        moment: Moment,
+    ) -> Result<Completion, AllocError>
+        requires there { index < length self.old.runs }
+        requires started { (state_at (states self.old.runs) index).task ≡ IsStarted }
+        requires served { list_all is_served commands.now ≡ true }
+        ensures same { state self.new ≡ state self.old }
+        ensures there { index < length self.new.runs }
+        ensures plan { IfOk result (λ c. IsCompletion (view_at self.new.runs index) moment (judge_all self.old.setup (run_id self.old.setup (length self.old.runs + 1)) (state_at (states self.old.runs) index) [] commands.now) c) }
+    {
+        let next = self.runs.len() as u64 + 1;
+        let run = &mut self.runs[index];
+        plan_completion(self.alloc, run, &self.setup, next, commands, moment)
+    }
+
+    /// A workflow task is failed by its worker.
+    #[tactic(auto, unfolding(service_model::specs::Tasks::fail_workflow_task))]
+    pub(crate) fn prepare_failure(
+        &mut self,
+        moment: Moment,
+        request: &FailWorkflowTask,
+    ) -> Result<Plan, AllocError>
+        ensures same { state self.new ≡ state self.old }
+        ensures plan { IfOk result (λ plan. FitsStep self.new plan moment (fail_workflow_task (runs_in self.old) request.now)) }
+    {
+        match self.running(request.task) {
+            Some(n) => self.prepare_failed(moment, n, request),
+            None => Ok(refused(moment, Refusal::NotFound)),
+        }
+    }
+
+    /// The failure of the started task of the run with that ordinal.
+    fn prepare_failed(
+        &mut self,
+        moment: Moment,
+        n: usize,
+        request: &FailWorkflowTask,
+    ) -> Result<Plan, AllocError>
+        requires from { 1 ≤ n }
+        requires to { n ≤ length self.old.runs }
+        requires run { n ≡ request.now.task.run }
+        requires runs { runs_workflow (runs_in self.old) request.now.task ≡ true }
+        ensures same { state self.new ≡ state self.old }
+        ensures plan { IfOk result (λ plan. FitsStep self.new plan moment (adds request.now.task.run (map plain (failed_task (run_at (runs_in self.old) request.now.task.run) WorkflowWorkerUnhandledFailure request.now.message)) Failed)) }
+    {
+        let message = request.message.clone()?;
+        let plan = self.fail_in(n - 1, message, moment)?;
+        Ok(Plan {
+            moment,
+            change: Change::Added(MoreOf { index: n - 1, plan }),
+            reply: Ok(Answer::Failed),
+        })
+    }
+
+    /// The failure of the started task of the run at a place.
+    fn fail_in(
+        &mut self,
+        index: usize,
+        message: Text,
+        moment: Moment,
+    ) -> Result<mutable_state::Plan, AllocError>
+        requires there { index < length self.old.runs }
+        requires started { (state_at (states self.old.runs) index).task ≡ IsStarted }
+        ensures same { state self.new ≡ state self.old }
+        ensures there { index < length self.new.runs }
+        ensures plan { IfOk result (λ plan. IsPlanned (view_at self.new.runs index) moment (failed_task (state_at (states self.old.runs) index) WorkflowWorkerUnhandledFailure message) plan) }
+    {
+        let run = &mut self.runs[index];
+        let cause = Cause::WorkflowWorkerUnhandledFailure;
+        plan_failure(self.alloc, run, cause, message, moment)
+    }
+}
+
+/// What the end of a task answers.
+fn ended(fault: Option<Cause>) -> Answer
+    ensures { result ≡ ended fault }
+{
+    match fault {
+        Some(cause) => Answer::TaskFailed(cause),
+        None => Answer::Completed,
+    }
+}
+
+/// What the start of a task adds to its run.
+fn started_facts(alloc: Global, scheduled: u64) -> Result<Items<Fact>, AllocError>
+    ensures { IfOk result (λ facts. facts ≡ plain (WorkflowTaskStarted scheduled) ∷ []) }
+{
+    let mut facts = Vec::new(alloc);
+    facts.push(plain(Attributes::WorkflowTaskStarted(scheduled)))?;
+    Ok(Items::from_vec(facts))
+}
+
+/// Whether the commands are served so far.
+fn are_served(commands: &[Command]) -> bool
+    ensures { result ≡ list_all is_served commands.now }
+{
+    commands.iter().all(is_served)
+}
+
+/// Whether a command is one of those that are served so far.
+fn is_served(command: &Command) -> bool
+    ensures { result ≡ is_served command.now }
+{
+    matches!(
+        command,
+        Command::RecordMarker(_)
+            | Command::CompleteWorkflowExecution(_)
+            | Command::FailWorkflowExecution(_)
+            | Command::CancelWorkflowExecution(_)
+    )
+}
