@@ -1,10 +1,15 @@
 -- a step of the gate is one of the service
-use Rattle.std.proofs.Common.{◌≡◌, ℕ, ◌+◌, ◌<◌, List, sym, ap, ◌∙◌, arith, zero, suc, Some, IfOk, Ok, Err}
+use Rattle.std.proofs.Common.{◌≡◌, ℕ, ◌+◌, ◌<◌, ◌≤◌, Bool, true, false, List, refl, sym, ap, subst, ◌∙◌, arith, zero, suc, Option, Some, None, IfOk, Ok, Err}
+use Rattle.std.proofs.lemmas.Bool.Decides.{nat_tests}
 use Rattle.std.proofs.lemmas.Nat.{mod_below}
-use Rattle.std.specs.Prelude.{map, slice_get, unwrap_or, Result}
+use Rattle.std.specs.Prelude.{map, slice_get, unwrap_or, if◌then◌else◌, nat_lt, ◌&&◌, Result}
 use Rattle.std.specs.List.{range_with_len}
+use Rattle.wf_event_values.specs.declared.refusal.Refusal.{Refusal}
 use Rattle.service_model.specs.declared.content.Content.{Content}
+use Rattle.service_model.specs.declared.request.Operation.{Operation}
+use Rattle.service_model.specs.declared.request.Operation.TheVariants as operation
 use Rattle.service_model.specs.declared.request.Request.{Request}
+use Rattle.service_model.specs.declared.request.TakenTask.{TakenTask}
 use Rattle.service_model.specs.declared.settings.Settings.{Settings}
 use Rattle.service_model.specs.Outcome.{Reply, hash_of}
 use Rattle.service_model.specs.Service.{answer, after, opening}
@@ -12,8 +17,8 @@ use Rattle.gate.specs.declared.view.View.{View}
 use Rattle.gate.specs.Passes as gate
 use Rattle.service.specs.declared.service.Service.{Service}
 use Rattle.service.specs.declared.service.Pass.{Pass}
-use Rattle.service.specs.Contents.{setup_of, opening_contents, named_id}
-use Rattle.service.specs.Services.{known_by, IsPassOf, IsServed, ServedAt, shard_of_request}
+use Rattle.service.specs.Contents.{setup_of, opening_contents, is_token, refusal_of, shard_of}
+use Rattle.service.specs.Services.{known_by, Answered, IsPassOf, IsServed, IsServedAt, shard_of_request}
 
 get-range : {X : Type 0} (f : ℕ → X) (a n k : ℕ) → k < n → slice_get (map f (range_with_len a n)) k ≡ Some (f (a + k))
 get-range f a zero k h = absurd (omega arith)
@@ -27,20 +32,50 @@ opening-at K starts shard start all below is =
     sym is ∙ ap (λ t. slice_get t shard) all ∙ get-range (λ n. opening (setup_of K n)) 0 K.shards shard below in
     ap (λ o. unwrap_or o start) found ∙ ap (λ n. opening (setup_of K n)) (omega arith)
 
+-- nothing refuses, so the test holds
+unrefused : (b : Bool) (rest : Option Refusal) (e : Refusal) → ◌≡◌ {A = Option Refusal} (if b then rest else Some e) None → b ≡ true
+unrefused true rest e none = refl
+unrefused false rest e none = absurd (cc)
+
+first-test : (a b : Bool) → (a && b) ≡ true → a ≡ true
+first-test true b h = refl
+first-test false b h = absurd (cc)
+
+token-below : (K : Settings) (t : TakenTask) → is_token K t ≡ true → t.shard < K.shards
+token-below K t h = let there : nat_lt t.shard K.shards ≡ true = first-test _ _ h in grind (arith, nat_tests)
+
+-- the shard of an operation that nothing refuses is there
+pub shard-below : (K : Settings) (o : Operation) → 1 ≤ K.shards → refusal_of K o ≡ None → shard_of K o < K.shards
+shard-below K (operation.Start q) some none = mod_below (hash_of q.workflow_id) K.shards (omega (arith, some))
+shard-below K (operation.Signal q) some none = mod_below (hash_of q.workflow_id) K.shards (omega (arith, some))
+shard-below K (operation.StartTask h) some none = let there : nat_lt h.shard K.shards ≡ true = unrefused _ _ _ none in grind (arith, nat_tests)
+shard-below K (operation.CompleteWorkflowTask q) some none = token-below K q.task (unrefused _ _ _ none)
+shard-below K (operation.FailWorkflowTask q) some none = token-below K q.task (unrefused _ _ _ none)
+shard-below K (operation.History q) some none = mod_below (hash_of q.workflow_id) K.shards (omega (arith, some))
+shard-below K (operation.Describe q) some none = mod_below (hash_of q.workflow_id) K.shards (omega (arith, some))
+
 -- the content that a pass knows the request's shard to have been opened with
-pub start-is : (p : Pass) (x : Service) (q : Request) (start : Content) → IsPassOf p x → slice_get (gate.starts (known_by p)) (shard_of_request x q) ≡ Some start → start ≡ opening (setup_of x.settings (shard_of_request x q))
-start-is p x q start own is =
+start-is : (p : Pass) (x : Service) (q : Request) (start : Content) → IsPassOf p x → refusal_of x.settings q.operation ≡ None → slice_get (gate.starts (known_by p)) (shard_of_request x q) ≡ Some start → start ≡ opening (setup_of x.settings (shard_of_request x q))
+start-is p x q start own none is =
     let starts : gate.starts (known_by p) ≡ opening_contents x.settings = ap (λ o. o.starts) own.own.1 ∙ own.opened.starts in
-    let below : shard_of_request x q < x.settings.shards = mod_below (hash_of (named_id q.operation)) x.settings.shards (omega (arith, own.opened.range.some_shard)) in
+    let below : shard_of_request x q < x.settings.shards = shard-below x.settings q.operation own.opened.range.some_shard none in
     opening-at x.settings (gate.starts (known_by p)) (shard_of_request x q) start starts below is
 
-pub served : (p : Pass) (w : View Request Content) (x : Service) (q : Request) (r : Reply) → IsPassOf p x → gate.Stepped after answer (known_by p) w (shard_of_request x q) q r → IsServed x (known_by p) w q r
-served p w x q r own step = record { step = step; start = start-is p x q step.start own step.opened }
+pub served : (p : Pass) (w : View Request Content) (x : Service) (q : Request) (r : Reply) → IsPassOf p x → refusal_of x.settings q.operation ≡ None → gate.Stepped after answer (known_by p) w (shard_of_request x q) q r → IsServed x (known_by p) w q r
+served p w x q r own none step = record { step = step; start = start-is p x q step.start own none step.opened }
 
-pub served-at : (p p' : Pass) (x : Service) (q : Request) (r : Reply) → IsPassOf p x → gate.SteppedAt after answer (known_by p) (known_by p') (shard_of_request x q) q r → ServedAt x p p' q r
-served-at p p' x q r own (met, waited, step) =
+pub served-at : (p : Pass) (w : View Request Content) (x : Service) (q : Request) (r : Reply) → IsPassOf p x → refusal_of x.settings q.operation ≡ None → gate.SteppedAt after answer (known_by p) w (shard_of_request x q) q r → IsServedAt x (known_by p) w q r
+served-at p w x q r own none (met, waited, step) =
     let same : slice_get (gate.starts (known_by p)) (shard_of_request x q) ≡ Some step.start = ap (λ o. slice_get o.starts (shard_of_request x q)) (sym waited.nothing.same.1) ∙ step.opened in
-    record { met = met; waited = waited; step = step; start = start-is p x q step.start own same }
+    record { met = met; waited = waited; step = step; start = start-is p x q step.start own none same }
+
+-- what was served is answered, where nothing refuses it
+pub by-step : (o : Option Refusal) (served : Type 0) (v w : View Request Content) (r : Reply) → o ≡ None → served → Answered o served v w r
+by-step o served v w r none h = let P : Option Refusal → Type 0 = λ o. Answered o served v w r in subst P (sym none) h
+
+-- a refusal answers, where the pass is as it was
+pub by-refusal : (o : Option Refusal) (served : Type 0) (v : View Request Content) (e : Refusal) → o ≡ Some e → Answered o served v v (Err e)
+by-refusal o served v e some = let P : Option Refusal → Type 0 = λ o. Answered o served v v (Err e) in subst P (sym some) (refl, refl)
 
 -- what holds of the value of an Ok
 pub weaker : {T E : Type 0} (r : Result T E) (P Q : T → Type 0) → ((x : T) → P x → Q x) → IfOk r P → IfOk r Q

@@ -5,6 +5,9 @@ use Rattle.service_model.specs.declared.request.Request.{Request}
 use Rattle.service_model.specs.declared.request.Start.{Start}
 use Rattle.service_model.specs.declared.request.Signal.{Signal}
 use Rattle.service_model.specs.declared.request.Read.{Read}
+use Rattle.service_model.specs.declared.request.Hint.{Hint}
+use Rattle.service_model.specs.declared.request.CompleteWorkflowTask.{CompleteWorkflowTask}
+use Rattle.service_model.specs.declared.request.FailWorkflowTask.{FailWorkflowTask}
 
 abbrev pub to_start : ℕ → Start → Request
 to_start at q = record { at = at; operation = operation.Start q }
@@ -12,5 +15,17 @@ to_start at q = record { at = at; operation = operation.Start q }
 abbrev pub to_signal : ℕ → Signal → Request
 to_signal at q = record { at = at; operation = operation.Signal q }
 
+abbrev pub to_start_task : ℕ → Hint → Request
+to_start_task at h = record { at = at; operation = operation.StartTask h }
+
+abbrev pub to_complete_workflow_task : ℕ → CompleteWorkflowTask → Request
+to_complete_workflow_task at q = record { at = at; operation = operation.CompleteWorkflowTask q }
+
+abbrev pub to_fail_workflow_task : ℕ → FailWorkflowTask → Request
+to_fail_workflow_task at q = record { at = at; operation = operation.FailWorkflowTask q }
+
 abbrev pub to_show_history : ℕ → Read → Request
 to_show_history at q = record { at = at; operation = operation.History q }
+
+abbrev pub to_describe : ℕ → Read → Request
+to_describe at q = record { at = at; operation = operation.Describe q }

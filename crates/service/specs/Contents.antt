@@ -1,11 +1,17 @@
--- the shards of a service: what each is opened with, and on which one a request is served
-use Rattle.std.specs.Prelude.{ℕ, ◌%◌, List, [], ◌∷◌, codes, map}
+-- the shards of a service: what each is opened with, which requests are refused before any is entered, and on which one the others are served
+use Rattle.std.specs.Prelude.{ℕ, ◌%◌, ◌&&◌, nat_le, nat_lt, Bool, if◌then◌else◌, List, [], ◌∷◌, codes, length, map, Option, None, Some}
 use Rattle.std.specs.List.{range_with_len}
+use Rattle.wf_event_values.specs.declared.field.Field.TheVariants as field
+use Rattle.wf_event_values.specs.declared.refusal.Refusal.{Refusal}
+use Rattle.wf_event_values.specs.declared.refusal.Refusal.TheVariants.{InvalidArgument, InvalidToken}
 use Rattle.service_model.specs.declared.content.Content.{Content}
 use Rattle.service_model.specs.declared.content.Setup.{Setup}
+use Rattle.service_model.specs.declared.request.CompleteWorkflowTask.{CompleteWorkflowTask}
+use Rattle.service_model.specs.declared.request.Hint.{Hint}
 use Rattle.service_model.specs.declared.request.Operation.{Operation}
 use Rattle.service_model.specs.declared.request.Operation.TheVariants as operation
 use Rattle.service_model.specs.declared.request.Request.{Request}
+use Rattle.service_model.specs.declared.request.TakenTask.{TakenTask}
 use Rattle.service_model.specs.declared.settings.Settings.{Settings}
 use Rattle.service_model.specs.Outcome.{hash_of}
 use Rattle.service_model.specs.Service.{opening}
@@ -18,12 +24,47 @@ setup_of K shard = record { service = K.service; shard = shard; shards = K.shard
 abbrev pub opening_contents : Settings → List Content
 opening_contents K = map (λ shard. opening (setup_of K shard)) (range_with_len 0 K.shards)
 
--- the workflow ID that an operation names
-abbrev pub named_id : Operation → List ℕ
-named_id (operation.Start q) = q.workflow_id
-named_id (operation.Signal q) = q.workflow_id
-named_id (operation.History q) = q.workflow_id
+-- the most commands that a completion may have
+abbrev pub most_commands : ℕ
+most_commands = 10000
 
--- the shard of a request: the hash of its workflow ID modulo the number of shards
+-- what a token may name: a shard that is there, and a run, an event and an attempt, which count from 1
+abbrev pub is_token : Settings → TakenTask → Bool
+is_token K t = nat_lt t.shard K.shards && (nat_le 1 t.run && (nat_le 1 t.event && nat_le 1 t.attempt))
+
+abbrev pub hint_refusal : Settings → Hint → Option Refusal
+hint_refusal K h = if nat_lt h.shard K.shards then None else Some (InvalidArgument field.Shard)
+
+abbrev pub token_refusal : Settings → TakenTask → Option Refusal
+token_refusal K t = if is_token K t then None else Some InvalidToken
+
+-- the token is looked at before the commands are counted
+abbrev pub completion_refusal : Settings → CompleteWorkflowTask → Option Refusal
+completion_refusal K q = if is_token K q.task then (if nat_le (length q.commands) most_commands then None else Some (InvalidArgument field.Commands)) else Some InvalidToken
+
+-- as what an operation is refused before any shard is entered, where it is
+abbrev pub refusal_of : Settings → Operation → Option Refusal
+refusal_of K (operation.Start q) = None
+refusal_of K (operation.Signal q) = None
+refusal_of K (operation.StartTask h) = hint_refusal K h
+refusal_of K (operation.CompleteWorkflowTask q) = completion_refusal K q
+refusal_of K (operation.FailWorkflowTask q) = token_refusal K q.task
+refusal_of K (operation.History q) = None
+refusal_of K (operation.Describe q) = None
+
+-- the shard of a workflow ID: its hash modulo the number of shards
+abbrev pub shard_of_id : Settings → List ℕ → ℕ
+shard_of_id K id = hash_of id % K.shards
+
+-- the shard of an operation: that of its workflow ID, or the one that its hint or its token names
+abbrev pub shard_of : Settings → Operation → ℕ
+shard_of K (operation.Start q) = shard_of_id K q.workflow_id
+shard_of K (operation.Signal q) = shard_of_id K q.workflow_id
+shard_of K (operation.StartTask h) = h.shard
+shard_of K (operation.CompleteWorkflowTask q) = q.task.shard
+shard_of K (operation.FailWorkflowTask q) = q.task.shard
+shard_of K (operation.History q) = shard_of_id K q.workflow_id
+shard_of K (operation.Describe q) = shard_of_id K q.workflow_id
+
 abbrev pub slot_of : Settings → Request → ℕ
-slot_of K q = hash_of (named_id q.operation) % K.shards
+slot_of K q = shard_of K q.operation

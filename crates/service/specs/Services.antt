@@ -1,5 +1,6 @@
 -- what a clause reads of a service and of its passes
-use Rattle.std.specs.Prelude.{◌≡◌, ℕ, ◌<◌, ◌≤◌, ◌^◌, [], map}
+use Rattle.std.specs.Prelude.{◌≡◌, ℕ, ◌<◌, ◌≤◌, ◌^◌, [], map, Option, None, Some, Err}
+use Rattle.wf_event_values.specs.declared.refusal.Refusal.{Refusal}
 use Rattle.service_model.specs.declared.content.Content.{Content}
 use Rattle.service_model.specs.declared.request.Request.{Request}
 use Rattle.service_model.specs.declared.settings.Settings.{Settings}
@@ -11,7 +12,7 @@ use Rattle.gate.specs.Gates as of_gate
 use Rattle.shard.specs.Standing as shard
 use Rattle.service.specs.declared.service.Service.{Service}
 use Rattle.service.specs.declared.service.Pass.{Pass}
-use Rattle.service.specs.Contents.{setup_of, opening_contents, slot_of}
+use Rattle.service.specs.Contents.{setup_of, opening_contents, refusal_of, slot_of}
 
 abbrev pub settings_of : Service → Settings
 settings_of x = x.settings
@@ -51,13 +52,23 @@ pub record IsServed (x : Service) (v w : View Request Content) (q : Request) (r 
   pub step : gate.Stepped after answer v w (shard_of_request x q) q r
   pub start : step.start ≡ opening (setup_of x.settings (shard_of_request x q))
 
--- the same of a pass before and after
-abbrev pub Served : Service → Pass → Pass → Request → Reply → Type 0
-Served x p p' q r = IsServed x (known_by p) (known_by p') q r
-
 -- the same, after perhaps some turns in which another pass was found there
-pub record ServedAt (x : Service) (p p' : Pass) (q : Request) (r : Reply) : Type 0 where
+pub record IsServedAt (x : Service) (v w : View Request Content) (q : Request) (r : Reply) : Type 0 where
   pub met : View Request Content
-  pub waited : gate.Waited (known_by p) met (shard_of_request x q)
-  pub step : gate.Stepped after answer met (known_by p') (shard_of_request x q) q r
+  pub waited : gate.Waited v met (shard_of_request x q)
+  pub step : gate.Stepped after answer met w (shard_of_request x q) q r
   pub start : step.start ≡ opening (setup_of x.settings (shard_of_request x q))
+
+-- By what refuses a request before any shard is entered, if anything does: nothing, and then it was served;
+-- or the reply is that refusal, and what the pass knows is as it was
+abbrev pub Answered : Option Refusal → Type 0 → View Request Content → View Request Content → Reply → Type 0
+Answered None served v w r = served
+Answered (Some e) served v w r = (r ≡ Err e) × (w ≡ v)
+
+-- the request was answered: it was served, or refused before any shard was entered
+abbrev pub Served : Service → Pass → Pass → Request → Reply → Type 0
+Served x p p' q r = Answered (refusal_of x.settings q.operation) (IsServed x (known_by p) (known_by p') q r) (known_by p) (known_by p') r
+
+-- the same, where it may have waited
+abbrev pub ServedAt : Service → Pass → Pass → Request → Reply → Type 0
+ServedAt x p p' q r = Answered (refusal_of x.settings q.operation) (IsServedAt x (known_by p) (known_by p') q r) (known_by p) (known_by p') r

@@ -2,7 +2,7 @@
 
 ghost use Rattle.std.specs.Prelude.{◌≡◌, IfOk, IfErr};
 ghost use Rattle.gate.specs.Passes.{number, Refuses, Waited};
-ghost use Rattle.service.specs.Asks.{to_start, to_signal, to_show_history};
+ghost use Rattle.service.specs.Asks.{to_start, to_signal, to_show_history, to_describe};
 
 use crate::service::{Pass, Service};
 use gate::Refused;
@@ -136,6 +136,49 @@ impl Service {
         ensures err { IfErr result (λ e. Waited (known_by pass.old) (known_by pass.new) (shard_of_request self.now (to_show_history at asked))) }
     {
         self.serve(rt, pass, request(at, Operation::History(asked)))
+    }
+
+    /// Describes the workflow ID's run, the named one or the latest: its status, and how much is
+    /// pending, held back and in its history. It never waits.
+    ///
+    /// # Errors
+    /// As [`Service::try_serve`].
+    pub fn try_describe(
+        &self,
+        pass: &mut Pass,
+        asked: Read,
+        at: Moment,
+    ) -> Result<Reply, (Refused, Request)>
+        requires { IsPassOf pass.old self.now }
+        ensures own { IsPassOf pass.new self.now }
+        ensures named { number (known_by pass.new) ≡ number (known_by pass.old) }
+        ensures ok { IfOk result (λ r. Served self.now pass.old pass.new (to_describe at asked) r) }
+        ensures back { IfErr result (λ e. e.1 ≡ to_describe at asked) }
+        ensures err { IfErr result (λ e. Refuses e.0 (known_by pass.old) (known_by pass.new) (shard_of_request self.now (to_describe at asked))) }
+    {
+        self.try_serve(pass, request(at, Operation::Describe(asked)))
+    }
+
+    /// Describes the workflow ID's run, the named one or the latest: its status, and how much is
+    /// pending, held back and in its history. It may wait for ever.
+    ///
+    /// # Errors
+    /// As [`Service::serve`].
+    pub fn describe<R: Wait>(
+        &self,
+        rt: &R,
+        pass: &mut Pass,
+        asked: Read,
+        at: Moment,
+    ) -> Result<Reply, (AllocError, Request)>
+        requires { IsPassOf pass.old self.now }
+        ensures own { IsPassOf pass.new self.now }
+        ensures named { number (known_by pass.new) ≡ number (known_by pass.old) }
+        ensures ok { IfOk result (λ r. ServedAt self.now pass.old pass.new (to_describe at asked) r) }
+        ensures back { IfErr result (λ e. e.1 ≡ to_describe at asked) }
+        ensures err { IfErr result (λ e. Waited (known_by pass.old) (known_by pass.new) (shard_of_request self.now (to_describe at asked))) }
+    {
+        self.serve(rt, pass, request(at, Operation::Describe(asked)))
     }
 }
 

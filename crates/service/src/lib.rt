@@ -1,4 +1,5 @@
-//! The service: its calls, each on the shard of the workflow ID that it names.
+//! The service: its calls, each on the shard of the workflow ID, the hint or the task token that it
+//! names.
 //!
 //! Many threads call one service at once, each with a [`Pass`] of its own. A shard lies with its
 //! record in one slot of a gate; a call enters that slot, serves its request, adds an entry to the
@@ -13,7 +14,9 @@ mod close;
 mod held;
 mod meet;
 mod open;
+mod route;
 mod service;
+mod tasks;
 
 pub use gate::{Record, Refused};
 pub use held::Held;

@@ -2,17 +2,15 @@
 
 ghost use Rattle.std.specs.Prelude.{◌≡◌, ◌<◌, ◌≤◌, length, vec_capacity, IfOk, IfErr};
 ghost use Rattle.gate.specs.Passes.{number, Refuses, Waited};
-ghost use Rattle.service.specs.Contents.{named_id};
 
 use crate::close::PassRoom;
 use gate::{Gate, Record, Refused};
 use service_model::answer::Reply;
-use service_model::request::{Operation, Request};
+use service_model::request::Request;
 use service_model::settings::Settings;
-use shard::{Shard, hash};
+use shard::Shard;
 use std::alloc::AllocError;
 use std::sync::{Mutex, Wait};
-use wf_event_values::Id;
 
 /// A workflow service.
 #[derive(Drop)]
@@ -44,7 +42,9 @@ impl Service {
         &self.settings
     }
 
-    /// Serves a request on the shard of its workflow ID, if no other pass is there. It never waits.
+    /// Serves a request on its shard, that of its workflow ID or the one that it names, if no other
+    /// pass is there. A request whose shard is not there, whose task token names none, or that has
+    /// more than 10,000 commands is answered by that refusal, and enters no shard. It never waits.
     ///
     /// # Errors
     /// With the request, and nothing seen or done: `Busy` where another pass was on that very shard,
@@ -57,12 +57,15 @@ impl Service {
         ensures back { IfErr result (λ e. e.1 ≡ request) }
         ensures err { IfErr result (λ e. Refuses e.0 (known_by pass.old) (known_by pass.new) (shard_of_request self.now request)) }
     {
+        if let Some(refusal) = self.refusal_of(&request.operation) {
+            return Ok(Err(refusal));
+        }
         let slot = self.slot_of(&request);
         self.gate.try_step(&mut pass.inner, slot, request)
     }
 
-    /// Serves a request on the shard of its workflow ID, trying again while another pass is there.
-    /// It may wait for ever.
+    /// Serves a request as `try_serve` does, trying again while another pass is there. It may wait
+    /// for ever.
     ///
     /// # Errors
     /// With the request, where a growth was refused. Nothing is seen or done then.
@@ -79,27 +82,10 @@ impl Service {
         ensures back { IfErr result (λ e. e.1 ≡ request) }
         ensures err { IfErr result (λ e. Waited (known_by pass.old) (known_by pass.new) (shard_of_request self.now request)) }
     {
+        if let Some(refusal) = self.refusal_of(&request.operation) {
+            return Ok(Err(refusal));
+        }
         let slot = self.slot_of(&request);
         self.gate.step(rt, &mut pass.inner, slot, request)
-    }
-
-    /// The slot of a request's shard.
-    pub(crate) fn slot_of(&self, request: &Request) -> usize
-        requires { 0 < (settings_of self.now).shards }
-        ensures { result ≡ shard_of_request self.now request.now }
-    {
-        let hash = hash(id_of(&request.operation).as_str().as_bytes());
-        (u64::from(hash) % self.settings.shards) as usize
-    }
-}
-
-/// The workflow ID that an operation names.
-fn id_of(operation: &Operation) -> &Id
-    ensures { result.now ≡ named_id operation.now }
-{
-    match operation {
-        Operation::Start(start) => &start.workflow_id,
-        Operation::Signal(signal) => &signal.workflow_id,
-        Operation::History(read) => &read.workflow_id,
     }
 }

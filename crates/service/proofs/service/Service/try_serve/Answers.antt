@@ -1,13 +1,26 @@
-use Rattle.std.proofs.Common.{subst, IfOk, ℕ}
+use Rattle.std.proofs.Common.{◌≡◌, ◌<◌, ◌∙◌, sym, subst, arith, IfOk, ℕ, None}
 use Rattle.service_model.specs.Service.{answer, after}
 use Rattle.gate.specs.Passes.{Stepped}
 use Rattle.service.specs.declared.service.Pass.{Pass}
-use Rattle.service.specs.Services.{known_by}
-use Rattle.service.proofs.ServedLemmas.{served, weaker}
+use Rattle.service.specs.Contents.{refusal_of}
+use Rattle.service.specs.Services.{known_by, shard_of_request}
+use Rattle.service.proofs.ServedLemmas.{by-refusal, by-step, shard-below, served, weaker}
 use Rattle.service.proofs.service.Service.try_serve.Goals as goal
+
+pub try_step-requires-clause-slot : goal.try_step-requires-clause-slot
+try_step-requires-clause-slot c =
+    let none : refusal_of c.args.self.now.settings c.args.request.operation ≡ None = sym c.refusal_of.ensures ∙ c.in_default.is in
+    let below : shard_of_request c.args.self.now c.args.request < c.args.self.now.settings.shards = shard-below c.args.self.now.settings c.args.request.operation c.requires.opened.range.some_shard none in
+    let slots = c.requires.opened.slots in
+    let slot = c.slot_of-slot.ensures in
+    omega (arith, below, slots, slot)
+
+pub returns-in-Some-clause-ok : goal.returns-in-Some-clause-ok
+returns-in-Some-clause-ok c = by-refusal _ _ _ _ (sym c.refusal_of.ensures ∙ c.in-Some.is)
 
 pub returns-clause-ok : goal.returns-clause-ok
 returns-clause-ok c =
     let p' : Pass = record { inner = c.try_step.new.pass } in
+    let none : refusal_of c.args.self.now.settings c.args.request.operation ≡ None = sym c.refusal_of.ensures ∙ c.in_default.is in
     let P : ℕ → Type 0 = λ k. IfOk c.try_step.result (λ r. Stepped after answer (known_by c.args.pass.now) (known_by p') k c.args.request r) in
-    weaker c.try_step.result _ _ (λ r step. served c.args.pass.now (known_by p') c.args.self.now c.args.request r c.requires step) (subst P c.slot_of-slot.ensures c.try_step.ensures.ok)
+    weaker c.try_step.result _ _ (λ r step. by-step _ _ _ _ r none (served c.args.pass.now (known_by p') c.args.self.now c.args.request r c.requires none step)) (subst P c.slot_of-slot.ensures c.try_step.ensures.ok)

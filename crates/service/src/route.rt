@@ -1,0 +1,100 @@
+//! To which shard a request goes, and which requests go to none.
+
+ghost use Rattle.std.specs.Prelude.{◌≡◌, ◌<◌};
+ghost use Rattle.service.specs.Contents.{completion_refusal, hint_refusal, is_token, refusal_of, shard_of_id, token_refusal};
+
+use crate::service::Service;
+use service_model::request::{CompleteWorkflowTask, Hint, Operation, Request, TakenTask};
+use service_model::settings::Settings;
+use shard::hash;
+use wf_event_values::{Field, Id, Refusal};
+
+/// The most commands that a completion may have.
+const MOST_COMMANDS: usize = 10_000;
+
+impl Service {
+    ghost use Rattle.service.specs.Services.{settings_of, shard_of_request};
+
+    /// As what an operation is refused before any shard is entered, where it is.
+    pub(crate) fn refusal_of(&self, operation: &Operation) -> Option<Refusal>
+        ensures { result ≡ refusal_of (settings_of self.now) operation.now }
+    {
+        match operation {
+            Operation::StartTask(hint) => hint_refusal(&self.settings, hint),
+            Operation::CompleteWorkflowTask(asked) => completion_refusal(&self.settings, asked),
+            Operation::FailWorkflowTask(asked) => token_refusal(&self.settings, &asked.task),
+            Operation::Start(_)
+            | Operation::Signal(_)
+            | Operation::History(_)
+            | Operation::Describe(_) => None,
+        }
+    }
+
+    /// The slot of a request's shard.
+    pub(crate) fn slot_of(&self, request: &Request) -> usize
+        requires { 0 < (settings_of self.now).shards }
+        ensures { result ≡ shard_of_request self.now request.now }
+    {
+        match &request.operation {
+            Operation::Start(start) => shard_of_id(&self.settings, &start.workflow_id),
+            Operation::Signal(signal) => shard_of_id(&self.settings, &signal.workflow_id),
+            Operation::History(read) | Operation::Describe(read) => {
+                shard_of_id(&self.settings, &read.workflow_id)
+            }
+            Operation::StartTask(hint) => usize::from(hint.shard),
+            Operation::CompleteWorkflowTask(asked) => usize::from(asked.task.shard),
+            Operation::FailWorkflowTask(asked) => usize::from(asked.task.shard),
+        }
+    }
+}
+
+/// The shard of a workflow ID: its hash modulo the number of shards.
+fn shard_of_id(settings: &Settings, id: &Id) -> usize
+    requires { 0 < settings.now.shards }
+    ensures { result ≡ shard_of_id settings.now id.now }
+{
+    let hash = hash(id.as_str().as_bytes());
+    (u64::from(hash) % settings.shards) as usize
+}
+
+/// A hint names a shard that is there.
+fn hint_refusal(settings: &Settings, hint: &Hint) -> Option<Refusal>
+    ensures { result ≡ hint_refusal settings.now hint.now }
+{
+    if u64::from(hint.shard) < settings.shards {
+        None
+    } else {
+        Some(Refusal::InvalidArgument(Field::Shard))
+    }
+}
+
+/// Whether a token may name the task: its shard is there, and its run, event and attempt count
+/// from 1.
+fn is_token(settings: &Settings, task: &TakenTask) -> bool
+    ensures { result ≡ is_token settings.now task.now }
+{
+    u64::from(task.shard) < settings.shards && task.run >= 1 && task.event >= 1 && task.attempt >= 1
+}
+
+fn token_refusal(settings: &Settings, task: &TakenTask) -> Option<Refusal>
+    ensures { result ≡ token_refusal settings.now task.now }
+{
+    if is_token(settings, task) {
+        None
+    } else {
+        Some(Refusal::InvalidToken)
+    }
+}
+
+/// The token is looked at before the commands are counted.
+fn completion_refusal(settings: &Settings, asked: &CompleteWorkflowTask) -> Option<Refusal>
+    ensures { result ≡ completion_refusal settings.now asked.now }
+{
+    if !is_token(settings, &asked.task) {
+        return Some(Refusal::InvalidToken);
+    }
+    if asked.commands.as_slice().len() > MOST_COMMANDS {
+        return Some(Refusal::InvalidArgument(Field::Commands));
+    }
+    None
+}

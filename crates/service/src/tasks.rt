@@ -1,0 +1,152 @@
+//! The calls on workflow tasks: each makes the request of its arguments and serves it on the shard
+//! that its hint or its task token names.
+
+ghost use Rattle.std.specs.Prelude.{◌≡◌, IfOk, IfErr};
+ghost use Rattle.gate.specs.Passes.{number, Refuses, Waited};
+ghost use Rattle.service.specs.Asks.{to_start_task, to_complete_workflow_task, to_fail_workflow_task};
+
+use crate::calls::request;
+use crate::service::{Pass, Service};
+use gate::Refused;
+use service_model::answer::Reply;
+use service_model::request::{CompleteWorkflowTask, FailWorkflowTask, Hint, Operation, Request};
+use std::alloc::AllocError;
+use std::sync::Wait;
+use wf_event_values::Moment;
+
+impl Service {
+    ghost use Rattle.service.specs.Services.{IsPassOf, Served, ServedAt, known_by, shard_of_request};
+
+    /// Takes the task of a hint for a worker, where it still waits to be taken, else answers `Stale`.
+    /// A hint whose shard is not there is an invalid argument `shard`. It never waits.
+    ///
+    /// # Errors
+    /// As [`Service::try_serve`].
+    pub fn try_start_task(
+        &self,
+        pass: &mut Pass,
+        hint: Hint,
+        at: Moment,
+    ) -> Result<Reply, (Refused, Request)>
+        requires { IsPassOf pass.old self.now }
+        ensures own { IsPassOf pass.new self.now }
+        ensures named { number (known_by pass.new) ≡ number (known_by pass.old) }
+        ensures ok { IfOk result (λ r. Served self.now pass.old pass.new (to_start_task at hint) r) }
+        ensures back { IfErr result (λ e. e.1 ≡ to_start_task at hint) }
+        ensures err { IfErr result (λ e. Refuses e.0 (known_by pass.old) (known_by pass.new) (shard_of_request self.now (to_start_task at hint))) }
+    {
+        self.try_serve(pass, request(at, Operation::StartTask(hint)))
+    }
+
+    /// Takes the task of a hint for a worker, where it still waits to be taken, else answers `Stale`.
+    /// A hint whose shard is not there is an invalid argument `shard`. It may wait for ever.
+    ///
+    /// # Errors
+    /// As [`Service::serve`].
+    pub fn start_task<R: Wait>(
+        &self,
+        rt: &R,
+        pass: &mut Pass,
+        hint: Hint,
+        at: Moment,
+    ) -> Result<Reply, (AllocError, Request)>
+        requires { IsPassOf pass.old self.now }
+        ensures own { IsPassOf pass.new self.now }
+        ensures named { number (known_by pass.new) ≡ number (known_by pass.old) }
+        ensures ok { IfOk result (λ r. ServedAt self.now pass.old pass.new (to_start_task at hint) r) }
+        ensures back { IfErr result (λ e. e.1 ≡ to_start_task at hint) }
+        ensures err { IfErr result (λ e. Waited (known_by pass.old) (known_by pass.new) (shard_of_request self.now (to_start_task at hint))) }
+    {
+        self.serve(rt, pass, request(at, Operation::StartTask(hint)))
+    }
+
+    /// Completes the workflow task that was taken by commands: all of them take effect, or the first
+    /// faulty one fails the task. A task that no token names is an invalid token, and more than
+    /// 10,000 commands are an invalid argument `commands`. It never waits.
+    ///
+    /// # Errors
+    /// As [`Service::try_serve`].
+    pub fn try_complete_workflow_task(
+        &self,
+        pass: &mut Pass,
+        asked: CompleteWorkflowTask,
+        at: Moment,
+    ) -> Result<Reply, (Refused, Request)>
+        requires { IsPassOf pass.old self.now }
+        ensures own { IsPassOf pass.new self.now }
+        ensures named { number (known_by pass.new) ≡ number (known_by pass.old) }
+        ensures ok { IfOk result (λ r. Served self.now pass.old pass.new (to_complete_workflow_task at asked) r) }
+        ensures back { IfErr result (λ e. e.1 ≡ to_complete_workflow_task at asked) }
+        ensures err { IfErr result (λ e. Refuses e.0 (known_by pass.old) (known_by pass.new) (shard_of_request self.now (to_complete_workflow_task at asked))) }
+    {
+        self.try_serve(pass, request(at, Operation::CompleteWorkflowTask(asked)))
+    }
+
+    /// Completes the workflow task that was taken by commands: all of them take effect, or the first
+    /// faulty one fails the task. A task that no token names is an invalid token, and more than
+    /// 10,000 commands are an invalid argument `commands`. It may wait for ever.
+    ///
+    /// # Errors
+    /// As [`Service::serve`].
+    pub fn complete_workflow_task<R: Wait>(
+        &self,
+        rt: &R,
+        pass: &mut Pass,
+        asked: CompleteWorkflowTask,
+        at: Moment,
+    ) -> Result<Reply, (AllocError, Request)>
+        requires { IsPassOf pass.old self.now }
+        ensures own { IsPassOf pass.new self.now }
+        ensures named { number (known_by pass.new) ≡ number (known_by pass.old) }
+        ensures ok { IfOk result (λ r. ServedAt self.now pass.old pass.new (to_complete_workflow_task at asked) r) }
+        ensures back { IfErr result (λ e. e.1 ≡ to_complete_workflow_task at asked) }
+        ensures err { IfErr result (λ e. Waited (known_by pass.old) (known_by pass.new) (shard_of_request self.now (to_complete_workflow_task at asked))) }
+    {
+        self.serve(
+            rt,
+            pass,
+            request(at, Operation::CompleteWorkflowTask(asked)),
+        )
+    }
+
+    /// Fails the workflow task that was taken. A task that no token names is an invalid token. It never waits.
+    ///
+    /// # Errors
+    /// As [`Service::try_serve`].
+    pub fn try_fail_workflow_task(
+        &self,
+        pass: &mut Pass,
+        asked: FailWorkflowTask,
+        at: Moment,
+    ) -> Result<Reply, (Refused, Request)>
+        requires { IsPassOf pass.old self.now }
+        ensures own { IsPassOf pass.new self.now }
+        ensures named { number (known_by pass.new) ≡ number (known_by pass.old) }
+        ensures ok { IfOk result (λ r. Served self.now pass.old pass.new (to_fail_workflow_task at asked) r) }
+        ensures back { IfErr result (λ e. e.1 ≡ to_fail_workflow_task at asked) }
+        ensures err { IfErr result (λ e. Refuses e.0 (known_by pass.old) (known_by pass.new) (shard_of_request self.now (to_fail_workflow_task at asked))) }
+    {
+        self.try_serve(pass, request(at, Operation::FailWorkflowTask(asked)))
+    }
+
+    /// Fails the workflow task that was taken. A task that no token names is an invalid token. It may wait for ever.
+    ///
+    /// # Errors
+    /// As [`Service::serve`].
+    pub fn fail_workflow_task<R: Wait>(
+        &self,
+        rt: &R,
+        pass: &mut Pass,
+        asked: FailWorkflowTask,
+        at: Moment,
+    ) -> Result<Reply, (AllocError, Request)>
+        requires { IsPassOf pass.old self.now }
+        ensures own { IsPassOf pass.new self.now }
+        ensures named { number (known_by pass.new) ≡ number (known_by pass.old) }
+        ensures ok { IfOk result (λ r. ServedAt self.now pass.old pass.new (to_fail_workflow_task at asked) r) }
+        ensures back { IfErr result (λ e. e.1 ≡ to_fail_workflow_task at asked) }
+        ensures err { IfErr result (λ e. Waited (known_by pass.old) (known_by pass.new) (shard_of_request self.now (to_fail_workflow_task at asked))) }
+    {
+        self.serve(rt, pass, request(at, Operation::FailWorkflowTask(asked)))
+    }
+}
