@@ -10,12 +10,17 @@ use Rattle.wf_event_values.specs.declared.policies.ConflictPolicy.{ConflictPolic
 use Rattle.wf_event_values.specs.declared.policies.ConflictPolicy.TheVariants.{Fail}
 use Rattle.service_model.specs.declared.request.Start.{Start}
 use Rattle.service_model.specs.declared.request.Signal.{Signal}
+use Rattle.service_model.specs.declared.request.CompleteWorkflowTask.{CompleteWorkflowTask}
+use Rattle.service_model.specs.declared.request.FailWorkflowTask.{FailWorkflowTask}
 use Rattle.service_model.specs.declared.request.Read.{Read}
 use Rattle.service_model.specs.declared.request.Operation.{Operation}
 use Rattle.service_model.specs.declared.request.Operation.TheVariants as operation
+use Rattle.service_model.specs.declared.settings.Settings.{Settings}
 use Rattle.wire_fields.specs.Steps.{◌>>=◌}
-use Rattle.wire_fields.specs.Kinds.{text_of, id_of, span_of, run_of, reuse_of, conflict_of}
+use Rattle.wire_fields.specs.Kinds.{text_of, id_of, span_of, run_of, token_of, reuse_of, conflict_of}
 use Rattle.wire_fields.specs.Fields.{required, or_default, optional}
+use Rattle.wire_requests.specs.Commands.{commands_of}
+use Rattle.wire_requests.specs.Tasks.{workflow_task_in}
 use Rattle.wire_requests.specs.declared.op.Op.{Op}
 use Rattle.wire_requests.specs.declared.op.Op.TheVariants as op
 
@@ -63,15 +68,32 @@ signal_of line = do
   request_id ← optional id_of field.RequestId line
   Ok (record { workflow_id = workflow_id; run = run; name = name; input = input; request_id = request_id })
 
--- history
-unfoldable pub history_of : Data → Result Read Refusal
-history_of line = do
+-- complete_workflow_task
+unfoldable pub complete_workflow_task_of : Settings → Data → Result CompleteWorkflowTask Refusal
+complete_workflow_task_of settings line = do
+  task ← required token_of field.Token line >>= workflow_task_in settings
+  commands ← required commands_of field.Commands line
+  Ok (record { task = task; commands = commands })
+
+-- fail_workflow_task
+unfoldable pub fail_workflow_task_of : Settings → Data → Result FailWorkflowTask Refusal
+fail_workflow_task_of settings line = do
+  task ← required token_of field.Token line >>= workflow_task_in settings
+  message ← or_default text_of [] field.Message line
+  Ok (record { task = task; message = message })
+
+-- history and describe
+unfoldable pub read_of : Data → Result Read Refusal
+read_of line = do
   workflow_id ← required id_of field.WorkflowId line
   run ← optional run_of field.Run line
   Ok (record { workflow_id = workflow_id; run = run })
 
 -- what a line of this operation asks for
-abbrev pub operation_of : Op → Data → Result Operation Refusal
-operation_of op.Start line = start_of line >>= (λ x. Ok (operation.Start x))
-operation_of op.Signal line = signal_of line >>= (λ x. Ok (operation.Signal x))
-operation_of op.History line = history_of line >>= (λ x. Ok (operation.History x))
+abbrev pub operation_of : Settings → Op → Data → Result Operation Refusal
+operation_of settings op.Start line = start_of line >>= (λ x. Ok (operation.Start x))
+operation_of settings op.Signal line = signal_of line >>= (λ x. Ok (operation.Signal x))
+operation_of settings op.CompleteWorkflowTask line = complete_workflow_task_of settings line >>= (λ x. Ok (operation.CompleteWorkflowTask x))
+operation_of settings op.FailWorkflowTask line = fail_workflow_task_of settings line >>= (λ x. Ok (operation.FailWorkflowTask x))
+operation_of settings op.History line = read_of line >>= (λ x. Ok (operation.History x))
+operation_of settings op.Describe line = read_of line >>= (λ x. Ok (operation.Describe x))

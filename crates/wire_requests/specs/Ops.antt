@@ -8,17 +8,20 @@ use Rattle.wf_event_values.specs.declared.refusal.Refusal.TheVariants.{InvalidAr
 use Rattle.wire_fields.specs.Kinds.{string_of, named}
 use Rattle.wire_fields.specs.Steps.{◌>>=◌}
 use Rattle.wire_requests.specs.declared.op.Op.{Op}
-use Rattle.wire_requests.specs.declared.op.Op.TheVariants.{Start, Signal, History}
+use Rattle.wire_requests.specs.declared.op.Op.TheVariants.{Start, Signal, CompleteWorkflowTask, FailWorkflowTask, History, Describe}
 
 -- the name of an operation
 abbrev pub op_name : Op → List ℕ
 op_name Start = codes "start"
 op_name Signal = codes "signal"
+op_name CompleteWorkflowTask = codes "complete_workflow_task"
+op_name FailWorkflowTask = codes "fail_workflow_task"
 op_name History = codes "history"
+op_name Describe = codes "describe"
 
 -- the operation that has this name
 abbrev pub op_named : List ℕ → Option Op
-op_named = named op_name (Start ∷ Signal ∷ History ∷ [])
+op_named = named op_name (Start ∷ Signal ∷ CompleteWorkflowTask ∷ FailWorkflowTask ∷ History ∷ Describe ∷ [])
 
 abbrev pub op_of : Field → Data → Result Op Refusal
 op_of field d = string_of field d >>= (λ text. ok_or (op_named text) (InvalidArgument field))

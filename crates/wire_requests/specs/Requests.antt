@@ -23,7 +23,7 @@ request_of_object settings line = do
   lane ← or_default number_of 0 field.Lane line >>= lane_in settings
   op ← required op_of field.Op line
   at ← or_default moment_of 0 field.At line
-  operation ← operation_of op line
+  operation ← operation_of settings op line
   Ok (lane, record { at = at; operation = operation })
 
 -- the lane and the request of a JSON value: a line is an object

@@ -13,7 +13,10 @@ use wire_fields::FieldValue;
 pub(crate) enum Op {
     Start,
     Signal,
+    CompleteWorkflowTask,
+    FailWorkflowTask,
     History,
+    Describe,
 }
 
 fn op_named(name: &str) -> Option<Op>
@@ -22,7 +25,10 @@ fn op_named(name: &str) -> Option<Op>
     match name {
         "start" => Some(Op::Start),
         "signal" => Some(Op::Signal),
+        "complete_workflow_task" => Some(Op::CompleteWorkflowTask),
+        "fail_workflow_task" => Some(Op::FailWorkflowTask),
         "history" => Some(Op::History),
+        "describe" => Some(Op::Describe),
         _ => None,
     }
 }

@@ -3,11 +3,16 @@
 ghost use Rattle.std.specs.Prelude.{◌≡◌, [], Ok, Err};
 ghost use Rattle.serde_json.specs.View.{view};
 ghost use Rattle.wf_event_values.specs.Gives.{Gives};
-ghost use Rattle.wire_requests.specs.Operations.{start_of, signal_of, history_of, operation_of, allowed_reuse, allowed_conflict};
+ghost use Rattle.wire_requests.specs.Operations.{start_of, signal_of, complete_workflow_task_of, fail_workflow_task_of, read_of, operation_of, allowed_reuse, allowed_conflict};
 
+use crate::commands::Commands;
 use crate::op::Op;
+use crate::tasks::workflow_task_in;
 use serde_json::Value;
-use service_model::request::{Operation, Read, Signal, Start};
+use service_model::request::{
+    CompleteWorkflowTask, FailWorkflowTask, Operation, Read, Signal, Start,
+};
+use service_model::settings::Settings;
 use std::alloc::Global;
 use wf_event_values::{ConflictPolicy, Field, Refusal, ReusePolicy, Span, Text};
 use wire_fields::{optional, or_default, required};
@@ -78,9 +83,40 @@ fn signal(alloc: Global, line: &Value) -> Result<Signal, Refusal>
     })
 }
 
-#[tactic(auto, unfolding(crate::specs::Operations::history_of))]
-fn history(alloc: Global, line: &Value) -> Result<Read, Refusal>
-    ensures { Gives result (history_of (view line.now)) }
+#[tactic(auto, unfolding(crate::specs::Operations::complete_workflow_task_of))]
+fn complete_workflow_task(
+    alloc: Global,
+    settings: &Settings,
+    line: &Value,
+) -> Result<CompleteWorkflowTask, Refusal>
+    ensures { Gives result (complete_workflow_task_of settings.now (view line.now)) }
+{
+    let token = required(alloc, line, Field::Token)?;
+    let task = workflow_task_in(settings, token)?;
+    let commands: Commands = required(alloc, line, Field::Commands)?;
+    Ok(CompleteWorkflowTask {
+        task,
+        commands: commands.all,
+    })
+}
+
+#[tactic(auto, unfolding(crate::specs::Operations::fail_workflow_task_of))]
+fn fail_workflow_task(
+    alloc: Global,
+    settings: &Settings,
+    line: &Value,
+) -> Result<FailWorkflowTask, Refusal>
+    ensures { Gives result (fail_workflow_task_of settings.now (view line.now)) }
+{
+    let token = required(alloc, line, Field::Token)?;
+    let task = workflow_task_in(settings, token)?;
+    let message = or_default(alloc, line, Field::Message, Text::empty(alloc))?;
+    Ok(FailWorkflowTask { task, message })
+}
+
+#[tactic(auto, unfolding(crate::specs::Operations::read_of))]
+fn read(alloc: Global, line: &Value) -> Result<Read, Refusal>
+    ensures { Gives result (read_of (view line.now)) }
 {
     let workflow_id = required(alloc, line, Field::WorkflowId)?;
     let run = optional(alloc, line, Field::Run)?;
@@ -88,12 +124,26 @@ fn history(alloc: Global, line: &Value) -> Result<Read, Refusal>
 }
 
 /// What an operation's line asks for.
-pub(crate) fn operation(alloc: Global, op: Op, line: &Value) -> Result<Operation, Refusal>
-    ensures { Gives result (operation_of op (view line.now)) }
+pub(crate) fn operation(
+    alloc: Global,
+    settings: &Settings,
+    op: Op,
+    line: &Value,
+) -> Result<Operation, Refusal>
+    ensures { Gives result (operation_of settings.now op (view line.now)) }
 {
     match op {
         Op::Start => Ok(Operation::Start(start(alloc, line)?)),
         Op::Signal => Ok(Operation::Signal(signal(alloc, line)?)),
-        Op::History => Ok(Operation::History(history(alloc, line)?)),
+        Op::CompleteWorkflowTask => {
+            let completion = complete_workflow_task(alloc, settings, line)?;
+            Ok(Operation::CompleteWorkflowTask(completion))
+        }
+        Op::FailWorkflowTask => {
+            let failure = fail_workflow_task(alloc, settings, line)?;
+            Ok(Operation::FailWorkflowTask(failure))
+        }
+        Op::History => Ok(Operation::History(read(alloc, line)?)),
+        Op::Describe => Ok(Operation::Describe(read(alloc, line)?)),
     }
 }

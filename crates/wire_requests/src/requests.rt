@@ -35,13 +35,13 @@ fn request_of_object(
     let lane = lane_in(settings, or_default(alloc, line, Field::Lane, 0)?)?;
     let op: Op = required(alloc, line, Field::Op)?;
     let at = or_default(alloc, line, Field::At, Moment::zero())?;
-    let operation = operation(alloc, op, line)?;
+    let operation = operation(alloc, settings, op, line)?;
     Ok((lane, Request { at, operation }))
 }
 
 /// The lane and the request of a line, or the line's first fault.
 ///
-/// Faults are looked for in this order: a line that is no JSON object, `lane`, `op`, `at`, and then the fields of the operation, as the definitions list them. A field that is missing without a default, of a wrong kind or out of its range is an invalid argument under that field's name; a `run` that is a text but no run id is `NotFound`. Keys that no field bears are ignored.
+/// Faults are looked for in this order: a line that is no JSON object, `lane`, `op`, `at`, and then the fields of the operation, as the definitions list them. A field that is missing without a default, of a wrong kind or out of its range is an invalid argument under that field's name; a `run` that is a text but no run id is `NotFound`; a `token` that is a text but no token, of another kind of task than the operation's or of a shard that is not there is `InvalidToken`. More than 10,000 `commands` are an invalid argument; of fewer the first faulty one counts, under the name of its own first faulty field. Keys that no field bears are ignored.
 pub fn read_request(
     alloc: Global,
     settings: &Settings,

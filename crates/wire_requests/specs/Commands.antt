@@ -1,0 +1,52 @@
+-- the commands of a completion
+use Rattle.std.specs.Prelude.{ℕ, List, [], ◌∷◌, codes, Option, Result, Ok}
+use Rattle.std.specs.Option.{ok_or}
+use Rattle.serde_json.specs.Data.{Data}
+use Rattle.wf_event_values.specs.declared.field.Field.{Field}
+use Rattle.wf_event_values.specs.declared.field.Field.TheVariants as field
+use Rattle.wf_event_values.specs.declared.refusal.Refusal.{Refusal}
+use Rattle.wf_event_values.specs.declared.refusal.Refusal.TheVariants.{InvalidArgument}
+use Rattle.wf_command.specs.declared.command.Command.{Command}
+use Rattle.wf_command.specs.declared.command.Command.TheVariants as command
+use Rattle.wf_command.specs.declared.command.RecordMarker.{RecordMarker as Marker}
+use Rattle.wire_fields.specs.Steps.{◌>>=◌, for_each}
+use Rattle.wire_fields.specs.Kinds.{string_of, text_of, named, elements_of}
+use Rattle.wire_fields.specs.Fields.{required, or_default}
+use Rattle.wire_requests.specs.declared.commands.CommandType.{CommandType}
+use Rattle.wire_requests.specs.declared.commands.CommandType.TheVariants.{RecordMarker, CompleteWorkflowExecution, FailWorkflowExecution, CancelWorkflowExecution}
+
+-- the name of a type of command
+abbrev pub type_name : CommandType → List ℕ
+type_name RecordMarker = codes "RecordMarker"
+type_name CompleteWorkflowExecution = codes "CompleteWorkflowExecution"
+type_name FailWorkflowExecution = codes "FailWorkflowExecution"
+type_name CancelWorkflowExecution = codes "CancelWorkflowExecution"
+
+-- the type that has this name, of those that are served so far
+abbrev pub type_named : List ℕ → Option CommandType
+type_named = named type_name (RecordMarker ∷ CompleteWorkflowExecution ∷ FailWorkflowExecution ∷ CancelWorkflowExecution ∷ [])
+
+abbrev pub type_of : Field → Data → Result CommandType Refusal
+type_of field d = string_of field d >>= (λ text. ok_or (type_named text) (InvalidArgument field))
+
+-- RecordMarker
+unfoldable pub marker_of : Data → Result Marker Refusal
+marker_of d = do
+  name ← or_default text_of [] field.Name d
+  details ← or_default text_of [] field.Details d
+  Ok (record { name = name; details = details })
+
+-- the fields of each type of command: their faults are looked for in the order in which they stand here
+abbrev pub fields_of : CommandType → Data → Result Command Refusal
+fields_of RecordMarker d = marker_of d >>= (λ x. Ok (command.RecordMarker x))
+fields_of CompleteWorkflowExecution d = or_default text_of [] field.Result d >>= (λ x. Ok (command.CompleteWorkflowExecution x))
+fields_of FailWorkflowExecution d = or_default text_of [] field.Message d >>= (λ x. Ok (command.FailWorkflowExecution x))
+fields_of CancelWorkflowExecution d = or_default text_of [] field.Details d >>= (λ x. Ok (command.CancelWorkflowExecution x))
+
+-- a command: its type, and the fields of that type
+unfoldable pub command_of : Data → Result Command Refusal
+command_of d = required type_of field.Type d >>= (λ type. fields_of type d)
+
+-- at most 10,000 commands; the first faulty one counts
+abbrev pub commands_of : Field → Data → Result (List Command) Refusal
+commands_of field d = elements_of 10000 field d >>= for_each command_of

@@ -1,0 +1,134 @@
+//! The commands of a completion (Temporal, Commands).
+
+ghost use Rattle.std.specs.Prelude.{◌≡◌, [], map};
+ghost use Rattle.serde_json.specs.View.{view};
+ghost use Rattle.wf_event_values.specs.Gives.{Gives};
+ghost use Rattle.wire_fields.specs.Steps.{for_each};
+ghost use Rattle.wire_fields.specs.Kinds.{text_of};
+ghost use Rattle.wire_fields.specs.Fields.{or_default};
+ghost use Rattle.wire_requests.specs.Commands.{type_named, type_of, marker_of, fields_of, command_of, commands_of};
+
+use serde_json::Value;
+use std::alloc::Global;
+use std::marker::Model;
+use wf_command::Command;
+use wf_command::command::RecordMarker;
+use wf_event_values::{Field, Items, Refusal, Text};
+use wire_fields::{FieldValue, elements, or_default, required};
+
+/// The types of command that are served so far.
+#[derive(Clone, Copy)]
+enum CommandType {
+    RecordMarker,
+    CompleteWorkflowExecution,
+    FailWorkflowExecution,
+    CancelWorkflowExecution,
+}
+
+fn type_named(name: &str) -> Option<CommandType>
+    ensures { result ≡ type_named name.now }
+{
+    match name {
+        "RecordMarker" => Some(CommandType::RecordMarker),
+        "CompleteWorkflowExecution" => Some(CommandType::CompleteWorkflowExecution),
+        "FailWorkflowExecution" => Some(CommandType::FailWorkflowExecution),
+        "CancelWorkflowExecution" => Some(CommandType::CancelWorkflowExecution),
+        _ => None,
+    }
+}
+
+impl FieldValue for CommandType {
+    ghost value_of = { type_of };
+
+    fn from_value(_alloc: Global, field: Field, value: &Value) -> Result<CommandType, Refusal> {
+        value
+            .as_str()
+            .and_then(type_named)
+            .ok_or(Refusal::InvalidArgument(field))
+    }
+}
+
+/// A text of a command, which is empty where it is missing.
+fn text(alloc: Global, object: &Value, field: Field) -> Result<Text, Refusal>
+    ensures { Gives result (or_default text_of [] field (view object.now)) }
+{
+    or_default(alloc, object, field, Text::empty(alloc))
+}
+
+#[tactic(auto, unfolding(crate::specs::Commands::marker_of))]
+fn marker(alloc: Global, object: &Value) -> Result<RecordMarker, Refusal>
+    ensures { Gives result (marker_of (view object.now)) }
+{
+    let name = text(alloc, object, Field::Name)?;
+    let details = text(alloc, object, Field::Details)?;
+    Ok(RecordMarker { name, details })
+}
+
+/// The command of that type whose fields an object has.
+fn fields(alloc: Global, of: CommandType, object: &Value) -> Result<Command, Refusal>
+    ensures { Gives result (fields_of of (view object.now)) }
+{
+    match of {
+        CommandType::RecordMarker => Ok(Command::RecordMarker(marker(alloc, object)?)),
+        CommandType::CompleteWorkflowExecution => {
+            let result = text(alloc, object, Field::Result)?;
+            Ok(Command::CompleteWorkflowExecution(result))
+        }
+        CommandType::FailWorkflowExecution => {
+            let message = text(alloc, object, Field::Message)?;
+            Ok(Command::FailWorkflowExecution(message))
+        }
+        CommandType::CancelWorkflowExecution => {
+            let details = text(alloc, object, Field::Details)?;
+            Ok(Command::CancelWorkflowExecution(details))
+        }
+    }
+}
+
+/// A command. One that is no object has no type.
+#[tactic(auto, unfolding(crate::specs::Commands::command_of))]
+fn command(alloc: Global, value: &Value) -> Result<Command, Refusal>
+    ensures { Gives result (command_of (view value.now)) }
+{
+    let of = required(alloc, value, Field::Type)?;
+    fields(alloc, of, value)
+}
+
+/// All commands, or the fault of the first faulty one.
+fn each_command(alloc: Global, values: &[Value]) -> Result<Items<Command>, Refusal>
+    ensures { Gives result (for_each command_of (map view values.now)) }
+{
+    let mut commands = Vec::new(alloc);
+    for value in values {
+        commands.push(command(alloc, value)?)?;
+    }
+    Ok(Items::from_vec(commands))
+}
+
+/// A completion has at most this many commands.
+const MOST_COMMANDS: usize = 10_000;
+
+/// The commands of a completion, as a field's value.
+#[derive(Drop)]
+pub(crate) struct Commands {
+    pub(crate) all: Items<Command>,
+}
+
+impl Model for Commands {
+    ghost use Rattle.std.specs.Prelude.{List};
+    ghost use Rattle.wf_command.specs.declared.command.Command.{Command};
+
+    ghost Value = { List Command };
+
+    ghost view = { λ c. c.all };
+}
+
+impl FieldValue for Commands {
+    ghost value_of = { commands_of };
+
+    /// Too many commands are found before any of them is looked at; of a faulty command its own field is named.
+    fn from_value(alloc: Global, field: Field, value: &Value) -> Result<Commands, Refusal> {
+        let all = each_command(alloc, elements(field, MOST_COMMANDS, value)?)?;
+        Ok(Commands { all })
+    }
+}
