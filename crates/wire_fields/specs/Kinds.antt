@@ -1,11 +1,11 @@
 -- what a field's value is, by its kind; a value of another kind, null among them, is an invalid argument
-use Rattle.std.specs.Prelude.{ℕ, List, [], ◌∷◌, bytes_eq, Option, find, option_and_then, Result}
+use Rattle.std.specs.Prelude.{ℕ, nat_le, List, [], ◌∷◌, length, bytes_eq, Option, find, option_and_then, Result, Ok, Err, if◌then◌else◌}
 use Rattle.std.specs.Option.{ok_or}
-use Rattle.serde_json.specs.Data.{Data}
-use Rattle.serde_json.specs.Find.{as_str, as_number, as_u64}
+use Rattle.serde_json.specs.Data.{Data, Items, no_items, item}
+use Rattle.serde_json.specs.Find.{as_str, as_number, as_u64, as_array}
 use Rattle.wf_event_values.specs.declared.field.Field.{Field}
 use Rattle.wf_event_values.specs.declared.refusal.Refusal.{Refusal}
-use Rattle.wf_event_values.specs.declared.refusal.Refusal.TheVariants.{InvalidArgument, NotFound}
+use Rattle.wf_event_values.specs.declared.refusal.Refusal.TheVariants.{InvalidArgument, NotFound, InvalidToken}
 use Rattle.wf_event_values.specs.declared.policies.ReusePolicy.{ReusePolicy}
 use Rattle.wf_event_values.specs.declared.policies.ReusePolicy.TheVariants.{AllowDuplicate, AllowDuplicateFailedOnly, RejectDuplicate}
 use Rattle.wf_event_values.specs.declared.policies.ConflictPolicy.{ConflictPolicy}
@@ -14,6 +14,8 @@ use Rattle.wf_event_values.specs.Limits.{text_in, id_in, moment_in, span_in}
 use Rattle.wf_event_values.specs.Names.{reuse_name, conflict_name}
 use Rattle.wf_event_values.specs.Run.{Run}
 use Rattle.task_token.specs.RunTexts.{run_named}
+use Rattle.task_token.specs.TokenTexts.{token_named}
+use Rattle.task_token.specs.declared.token.TaskToken.{TaskToken}
 use Rattle.wire_fields.specs.Steps.{◌>>=◌}
 
 -- a string
@@ -43,6 +45,23 @@ span_of field d = number_of field d >>= span_in field
 -- a run id's text; another text names no run
 abbrev pub run_of : Field → Data → Result Run Refusal
 run_of field d = string_of field d >>= (λ text. ok_or (run_named text) NotFound)
+
+-- a task token's text; another text is no token
+abbrev pub token_of : Field → Data → Result TaskToken Refusal
+token_of field d = string_of field d >>= (λ text. ok_or (token_named text) InvalidToken)
+
+-- an array's elements as a list
+abbrev pub elements : Items → List Data
+elements no_items = []
+elements (item d ds) = d ∷ elements ds
+
+-- a list of at most so many elements
+abbrev pub list_in : Field → ℕ → List Data → Result (List Data) Refusal
+list_in field most ds = if nat_le (length ds) most then Ok ds else Err (InvalidArgument field)
+
+-- the elements of an array, where it has at most so many
+abbrev pub elements_of : ℕ → Field → Data → Result (List Data) Refusal
+elements_of most field d = ok_or (as_array d) (InvalidArgument field) >>= (λ items. list_in field most (elements items))
 
 -- the one of some things whose name this is
 abbrev pub named : {A : Type 0} → (A → List ℕ) → List A → List ℕ → Option A

@@ -1,15 +1,15 @@
 //! What a field's value is read as.
 
-ghost use Rattle.std.specs.Prelude.{◌≡◌, Ok, Err, MatchResult};
+ghost use Rattle.std.specs.Prelude.{◌≡◌, Ok, Err, MatchResult, map};
 ghost use Rattle.std.specs.Option.{ok_or};
 ghost use Rattle.serde_json.specs.View.{view};
 ghost use Rattle.wf_event_values.specs.Gives.{Gives};
 ghost use Rattle.wf_event_values.specs.declared.refusal.Refusal.TheVariants.{InvalidArgument};
-ghost use Rattle.wire_fields.specs.Kinds.{string_of, text_of, id_of, number_of, moment_of, span_of, run_of, reuse_of, reuse_named, conflict_of, conflict_named};
+ghost use Rattle.wire_fields.specs.Kinds.{string_of, text_of, id_of, number_of, moment_of, span_of, run_of, token_of, elements_of, reuse_of, reuse_named, conflict_of, conflict_named};
 
 use serde_json::Value;
 use std::alloc::Global;
-use task_token::RunText;
+use task_token::{RunText, TaskToken};
 use wf_event_values::{ConflictPolicy, Field, Id, Moment, Refusal, ReusePolicy, RunId, Span, Text};
 
 /// A type that a field's value is read as.
@@ -80,6 +80,32 @@ impl FieldValue for RunId {
     /// A text that is no run id is `NotFound`.
     fn from_value(_alloc: Global, field: Field, value: &Value) -> Result<RunId, Refusal> {
         RunId::read(string(field, value)?)
+    }
+}
+
+impl FieldValue for TaskToken {
+    ghost value_of = { token_of };
+
+    /// A text that is no token is `InvalidToken`.
+    fn from_value(alloc: Global, field: Field, value: &Value) -> Result<TaskToken, Refusal> {
+        TaskToken::read(alloc, string(field, value)?)
+    }
+}
+
+/// The elements of an array; a longer array than that, or a value of another kind, is an invalid argument.
+pub fn elements(field: Field, most: usize, value: &Value) -> Result<&[Value], Refusal>
+    ensures { MatchResult result (λ elements. elements_of most field (view value.now) ≡ Ok (map view elements.now))
+        (λ e. elements_of most field (view value.now) ≡ Err e) }
+{
+    match value.as_array() {
+        Some(array) => {
+            let elements = array.as_slice();
+            if elements.len() > most {
+                return Err(Refusal::InvalidArgument(field));
+            }
+            Ok(elements)
+        }
+        None => Err(Refusal::InvalidArgument(field)),
     }
 }
 
