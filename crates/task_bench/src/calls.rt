@@ -1,0 +1,71 @@
+//! What the phases ask, and what they must be answered.
+
+use service::Refused;
+use service_model::answer::{Answer, Reply};
+use service_model::request::{CompleteWorkflowTask, Hint, Request, Start, TakenTask};
+use std::alloc::Global;
+use std::io::{self, ErrorKind};
+use wf_command::Command;
+use wf_event_values::{ConflictPolicy, Field, Id, Items, ReusePolicy, Span, TaskKind, Text};
+
+/// Another answer than the expected one.
+pub(crate) fn unexpected() -> io::Error {
+    io::Error::from(ErrorKind::InvalidData)
+}
+
+/// The answer of a call that met no other pass and found memory.
+pub(crate) fn answered(called: Result<Reply, (Refused, Request)>) -> io::Result<Answer> {
+    match called {
+        Ok(Ok(answer)) => Ok(answer),
+        _ => Err(unexpected()),
+    }
+}
+
+fn id(alloc: Global, text: &str) -> io::Result<Id> {
+    Id::new(alloc, Field::WorkflowId, text).ok().ok_or(unexpected())
+}
+
+fn text(alloc: Global, text: &str) -> io::Result<Text> {
+    Text::new(alloc, Field::Input, text).ok().ok_or(unexpected())
+}
+
+/// The start of the workflow of that number.
+pub(crate) fn start(alloc: Global, number: u64) -> io::Result<Start> {
+    let name = format!(in alloc; "order-{number}")?;
+    Ok(Start {
+        workflow_id: id(alloc, name.as_str())?,
+        workflow_type: text(alloc, "order")?,
+        task_queue: id(alloc, "main")?,
+        input: Text::empty(alloc),
+        request_id: None,
+        reuse: ReusePolicy::AllowDuplicate,
+        conflict: ConflictPolicy::Fail,
+        run_timeout: Span::none(),
+        task_timeout: Span::none(),
+    })
+}
+
+/// The first task of the run of that ordinal.
+pub(crate) fn first_task(run: u64) -> Hint {
+    Hint {
+        kind: TaskKind::Workflow,
+        shard: 0,
+        run,
+        event: 2,
+        attempt: 1,
+    }
+}
+
+/// The completion of that task, which closes the run.
+pub(crate) fn completion(alloc: Global, run: u64) -> io::Result<CompleteWorkflowTask> {
+    let close = Command::CompleteWorkflowExecution(text(alloc, "done")?);
+    Ok(CompleteWorkflowTask {
+        task: TakenTask {
+            shard: 0,
+            run,
+            event: 2,
+            attempt: 1,
+        },
+        commands: Items::from_vec(vec![in alloc; close]?),
+    })
+}

@@ -1,0 +1,85 @@
+//! One call of each workflow, one after another.
+
+ghost use Rattle.std.specs.Prelude.{IfOk};
+ghost use Rattle.service.specs.Services.{IsPassOf};
+
+use crate::calls::{answered, completion, first_task, start, unexpected};
+use service::{Pass, Service};
+use service_model::answer::Answer;
+use service_model::settings::Settings;
+use std::alloc::Global;
+use std::io;
+use wf_event_values::Moment;
+
+/// A service with one shard, and its only pass.
+pub(crate) fn open(alloc: Global) -> io::Result<(Service, Pass)>
+    ensures { IfOk result (λ opened. IsPassOf opened.1 opened.0) }
+{
+    let settings = Settings {
+        shards: 1,
+        passes: 1,
+        service: 1,
+    };
+    let Ok((service, mut passes)) = Service::open(alloc, &settings) else {
+        return Err(unexpected());
+    };
+    match passes.pop() {
+        Some(pass) => Ok((service, pass)),
+        None => Err(unexpected()),
+    }
+}
+
+/// Starts so many workflows.
+pub(crate) fn start_all(
+    alloc: Global,
+    service: &Service,
+    pass: &mut Pass,
+    count: u64,
+) -> io::Result<()>
+    requires { IsPassOf pass.old service.now }
+    ensures { IsPassOf pass.new service.now }
+{
+    for number in 0..count {
+        let asked = start(alloc, number)?;
+        match answered(service.try_start(pass, asked, Moment::zero()))? {
+            Answer::Started(_) => {}
+            _ => return Err(unexpected()),
+        }
+    }
+    Ok(())
+}
+
+/// Takes the first tasks of so many runs.
+pub(crate) fn take_all(service: &Service, pass: &mut Pass, count: u64) -> io::Result<()>
+    requires { IsPassOf pass.old service.now }
+    ensures { IsPassOf pass.new service.now }
+{
+    for number in 0..count {
+        let hint = first_task(number.saturating_add(1));
+        match answered(service.try_start_task(pass, hint, Moment::zero()))? {
+            Answer::WorkflowTask(_) => {}
+            _ => return Err(unexpected()),
+        }
+    }
+    Ok(())
+}
+
+/// Completes so many runs by their first tasks.
+pub(crate) fn complete_all(
+    alloc: Global,
+    service: &Service,
+    pass: &mut Pass,
+    count: u64,
+) -> io::Result<()>
+    requires { IsPassOf pass.old service.now }
+    ensures { IsPassOf pass.new service.now }
+{
+    for number in 0..count {
+        let asked = completion(alloc, number.saturating_add(1))?;
+        match answered(service.try_complete_workflow_task(pass, asked, Moment::zero()))? {
+            Answer::Completed => {}
+            _ => return Err(unexpected()),
+        }
+    }
+    Ok(())
+}
