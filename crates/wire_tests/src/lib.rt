@@ -12,4 +12,6 @@ mod made;
 #[cfg(test)]
 mod requests;
 #[cfg(test)]
+mod tasks;
+#[cfg(test)]
 mod workflows;

@@ -7,14 +7,14 @@ use std::process::Abort;
 use wf_event_values::{Refusal, RunId};
 use wire_requests::read_request;
 
-const SETTINGS: Settings = Settings {
+pub(crate) const SETTINGS: Settings = Settings {
     shards: 1,
     passes: 1,
     service: 1,
 };
 
 /// The field that an invalid argument names, or else the refusal's name.
-fn fault_of(refusal: &Refusal) -> &'static str {
+pub(crate) fn fault_of(refusal: &Refusal) -> &'static str {
     match refusal {
         Refusal::InvalidArgument(field) => field.name(),
         _ => refusal.name(),
@@ -22,7 +22,7 @@ fn fault_of(refusal: &Refusal) -> &'static str {
 }
 
 /// Asserts the first fault of a line.
-fn assert_fault<R: Abort + AllocGlobal>(rt: &R, line: &str, expected: &str) {
+pub(crate) fn assert_fault<R: Abort + AllocGlobal>(rt: &R, line: &str, expected: &str) {
     match read_request(rt.alloc(), &SETTINGS, line) {
         Ok(_) => panic!(rt; "no fault in {line}"),
         Err(refusal) => assert_eq!(rt; fault_of(&refusal), expected, "{line}"),
@@ -30,7 +30,7 @@ fn assert_fault<R: Abort + AllocGlobal>(rt: &R, line: &str, expected: &str) {
 }
 
 /// The request of a line on lane 0.
-fn request<R: Abort + AllocGlobal>(rt: &R, line: &str) -> Request {
+pub(crate) fn request<R: Abort + AllocGlobal>(rt: &R, line: &str) -> Request {
     match read_request(rt.alloc(), &SETTINGS, line) {
         Ok((lane, request)) => {
             assert_eq!(rt; lane, 0);
@@ -40,7 +40,7 @@ fn request<R: Abort + AllocGlobal>(rt: &R, line: &str) -> Request {
     }
 }
 
-fn is_run(run: Option<RunId>, service: u64, shard: u16, ordinal: u64) -> bool {
+pub(crate) fn is_run(run: Option<RunId>, service: u64, shard: u16, ordinal: u64) -> bool {
     run.is_some_and(|run| {
         run.service() == service && run.shard() == shard && run.ordinal() == ordinal
     })
@@ -72,7 +72,8 @@ fn finds_the_first_fault(rt: HostRuntime) {
         ("{\"op\":null}", "op"),
         ("{\"op\":1}", "op"),
         ("{\"op\":\"Start\"}", "op"),
-        ("{\"op\":\"complete_workflow_task\"}", "op"),
+        ("{\"op\":\"start_task\"}", "op"),
+        ("{\"op\":\"poll_workflow_task\"}", "op"),
         ("{\"barrier\":true}", "op"),
         ("{\"op\":\"start\",\"at\":-1}", "at"),
         ("{\"op\":\"start\",\"at\":1000000000000001}", "at"),
