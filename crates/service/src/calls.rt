@@ -138,8 +138,9 @@ impl Service {
         self.serve(rt, pass, request(at, Operation::History(asked)))
     }
 
-    /// Describes the workflow ID's run, the named one or the latest: its status, and how much is
-    /// pending, held back and in its history. It never waits.
+    /// Describes the workflow ID's run, the named one or the latest (Temporal,
+    /// DescribeWorkflowExecution): its status, and how much is pending, held back and in its history.
+    /// It never waits.
     ///
     /// # Errors
     /// As [`Service::try_serve`].
@@ -159,8 +160,9 @@ impl Service {
         self.try_serve(pass, request(at, Operation::Describe(asked)))
     }
 
-    /// Describes the workflow ID's run, the named one or the latest: its status, and how much is
-    /// pending, held back and in its history. It may wait for ever.
+    /// Describes the workflow ID's run, the named one or the latest (Temporal,
+    /// DescribeWorkflowExecution): its status, and how much is pending, held back and in its history.
+    /// It may wait for ever.
     ///
     /// # Errors
     /// As [`Service::serve`].

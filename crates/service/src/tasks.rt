@@ -17,8 +17,8 @@ use wf_event_values::Moment;
 impl Service {
     ghost use Rattle.service.specs.Services.{IsPassOf, Served, ServedAt, known_by, shard_of_request};
 
-    /// Takes the task of a hint for a worker, where it still waits to be taken, else answers `Stale`.
-    /// A hint whose shard is not there is an invalid argument `shard`. It never waits.
+    /// Takes the task that a hint names for a worker, where it still waits to be taken, else answers
+    /// `Stale`. A shard that is not there is an invalid argument `shard`. It never waits.
     ///
     /// # Errors
     /// As [`Service::try_serve`].
@@ -38,8 +38,8 @@ impl Service {
         self.try_serve(pass, request(at, Operation::StartTask(hint)))
     }
 
-    /// Takes the task of a hint for a worker, where it still waits to be taken, else answers `Stale`.
-    /// A hint whose shard is not there is an invalid argument `shard`. It may wait for ever.
+    /// Takes the task that a hint names for a worker, where it still waits to be taken, else answers
+    /// `Stale`. A shard that is not there is an invalid argument `shard`. It may wait for ever.
     ///
     /// # Errors
     /// As [`Service::serve`].
@@ -60,9 +60,11 @@ impl Service {
         self.serve(rt, pass, request(at, Operation::StartTask(hint)))
     }
 
-    /// Completes the workflow task that was taken by commands: all of them take effect, or the first
-    /// faulty one fails the task. A task that no token names is an invalid token, and more than
-    /// 10,000 commands are an invalid argument `commands`. It never waits.
+    /// Completes a taken workflow task by commands (Temporal, RespondWorkflowTaskCompleted): all of
+    /// them take effect, or the first faulty one fails the task. A shard that is not there, or a run,
+    /// an event or an attempt 0, is an invalid token; then more than 10,000 commands are an invalid
+    /// argument `commands` (ours). A task that isn't running at that attempt is not found.
+    /// It never waits.
     ///
     /// # Errors
     /// As [`Service::try_serve`].
@@ -82,9 +84,11 @@ impl Service {
         self.try_serve(pass, request(at, Operation::CompleteWorkflowTask(asked)))
     }
 
-    /// Completes the workflow task that was taken by commands: all of them take effect, or the first
-    /// faulty one fails the task. A task that no token names is an invalid token, and more than
-    /// 10,000 commands are an invalid argument `commands`. It may wait for ever.
+    /// Completes a taken workflow task by commands (Temporal, RespondWorkflowTaskCompleted): all of
+    /// them take effect, or the first faulty one fails the task. A shard that is not there, or a run,
+    /// an event or an attempt 0, is an invalid token; then more than 10,000 commands are an invalid
+    /// argument `commands` (ours). A task that isn't running at that attempt is not found.
+    /// It may wait for ever.
     ///
     /// # Errors
     /// As [`Service::serve`].
@@ -109,7 +113,9 @@ impl Service {
         )
     }
 
-    /// Fails the workflow task that was taken. A task that no token names is an invalid token. It never waits.
+    /// Fails a taken workflow task (Temporal, RespondWorkflowTaskFailed). A shard that is not there,
+    /// or a run, an event or an attempt 0, is an invalid token (ours). A task that isn't running at
+    /// that attempt is not found. It never waits.
     ///
     /// # Errors
     /// As [`Service::try_serve`].
@@ -129,7 +135,9 @@ impl Service {
         self.try_serve(pass, request(at, Operation::FailWorkflowTask(asked)))
     }
 
-    /// Fails the workflow task that was taken. A task that no token names is an invalid token. It may wait for ever.
+    /// Fails a taken workflow task (Temporal, RespondWorkflowTaskFailed). A shard that is not there,
+    /// or a run, an event or an attempt 0, is an invalid token (ours). A task that isn't running at
+    /// that attempt is not found. It may wait for ever.
     ///
     /// # Errors
     /// As [`Service::serve`].
