@@ -1,25 +1,27 @@
 -- a service with one pass: each step goes on from all that was done
-use Rattle.std.proofs.Common.{◌≡◌, ◌≢◌, ℕ, ◌+◌, ◌<◌, ◌≤◌, true, List, [], ◌∷◌, ◌++◌, length, refl, sym, ap, ◌∙◌, arith, zero, suc, Some, slice_index_or, slice_set, subst, length-append, append-nil, ◌⊎◌, inl, inr}
+use Rattle.std.proofs.Common.{◌≡◌, ◌≢◌, ℕ, ◌+◌, ◌<◌, ◌≤◌, true, List, [], ◌∷◌, ◌++◌, length, refl, sym, ap, ◌∙◌, arith, zero, suc, Option, None, Some, slice_index_or, slice_set, subst, length-append, append-nil, ◌⊎◌, inl, inr}
 use Rattle.std.proofs.lemmas.Bool.Decides.{nat_tests}
-use Rattle.std.proofs.lemmas.Nat.{mod_below}
 use Rattle.std.proofs.lemmas.List.FromFn.{get_or-map-range_with_len}
 use Rattle.std.specs.Prelude.{map, slice_get, ◌==◌, if◌then◌else◌, Result, Ok, Err, IfOk, IfErr}
+use Rattle.wf_event_values.specs.declared.refusal.Refusal.{Refusal}
 use Rattle.gate.specs.declared.object.Refused.{Refused}
 use Rattle.gate.specs.declared.object.Refused.TheVariants.{Busy, NoMemory}
 use Rattle.std.specs.List.{range_with_len}
 use Rattle.service_model.specs.declared.content.Content.{Content}
 use Rattle.service_model.specs.declared.request.Request.{Request}
 use Rattle.service_model.specs.declared.settings.Settings.{Settings}
-use Rattle.service_model.specs.Outcome.{Reply, hash_of}
+use Rattle.service_model.specs.Outcome.{Reply}
 use Rattle.service_model.specs.Service.{answer, after, opening}
+use Rattle.gate.specs.declared.view.View.{View}
 use Rattle.gate.specs.Passes as gate
 use Rattle.gate.specs.Records.{replay, by, past, FromGiven, Begins}
 use Rattle.service.specs.declared.service.Service.{Service}
 use Rattle.service.specs.declared.service.Pass.{Pass}
-use Rattle.service.specs.Contents.{setup_of, slot_of, named_id, opening_contents}
-use Rattle.service.specs.Services.{known_by, IsPassOf, Served, settings_of}
+use Rattle.service.specs.Contents.{setup_of, refusal_of, slot_of, opening_contents}
+use Rattle.service.specs.Services.{known_by, Answered, IsPassOf, IsServed, Served, settings_of}
+use Rattle.service.proofs.ServedLemmas.{shard-below}
 use Rattle.script.specs.OnePass.{content_seen, contents_seen, IsOnePass}
-use Rattle.script.specs.Serving.{reply_to_asked, contents_after_asked, content_at}
+use Rattle.script.specs.Serving.{reply_to_asked, contents_after_asked, content_at, reply_unless, contents_unless}
 
 -- all entries are of the one pass
 by-only : (es : List (ℕ × Request)) → FromGiven 1 es → by 0 es ≡ es
@@ -55,7 +57,7 @@ same-or-apart (suc m) zero = inr (λ h. omega (arith, h))
 same-or-apart (suc m) (suc n) = elim (same-or-apart m n) [ inl h ↦ inl (ap suc h) | inr h ↦ inr (λ e. h (omega (arith, e))) ]
 
 -- the shard of the request: all entries are the pass's own
-own-alone : (K : Settings) (x : Service) (p p' : Pass) (q : Request) (r : Reply) → IsOnePass K x p → Served x p p' q r → gate.seen (known_by p') (slot_of x.settings q) ≡ gate.mine (known_by p') (slot_of x.settings q)
+own-alone : (K : Settings) (x : Service) (p p' : Pass) (q : Request) (r : Reply) → IsOnePass K x p → IsServed x (known_by p) (known_by p') q r → gate.seen (known_by p') (slot_of x.settings q) ≡ gate.mine (known_by p') (slot_of x.settings q)
 own-alone K x p p' q r h done =
     let s = slot_of x.settings q in
     let es = gate.seen (known_by p') s in
@@ -69,14 +71,14 @@ own-alone K x p p' q r h done =
     ∙ done.step.own
 
 -- after a step the pass has still seen its own steps alone
-pub alone-after : (K : Settings) (x : Service) (p p' : Pass) (q : Request) (r : Reply) → IsOnePass K x p → Served x p p' q r → (s : ℕ) → gate.seen (known_by p') s ≡ gate.mine (known_by p') s
+alone-after : (K : Settings) (x : Service) (p p' : Pass) (q : Request) (r : Reply) → IsOnePass K x p → IsServed x (known_by p) (known_by p') q r → (s : ℕ) → gate.seen (known_by p') s ≡ gate.mine (known_by p') s
 alone-after K x p p' q r h done s = elim (same-or-apart s (slot_of x.settings q)) [
   | inl same ↦ let P : ℕ → Type 0 = λ k. gate.seen (known_by p') k ≡ gate.mine (known_by p') k in subst P (sym same) (own-alone K x p p' q r h done)
   | inr apart ↦ (done.step.others s apart).0 ∙ h.alone s ∙ sym (done.step.others s apart).1
 ]
 
 -- the step found all that the pass had seen
-front-is : (K : Settings) (x : Service) (p p' : Pass) (q : Request) (r : Reply) (h : IsOnePass K x p) (done : Served x p p' q r) → done.step.front ≡ gate.seen (known_by p) (slot_of x.settings q)
+front-is : (K : Settings) (x : Service) (p p' : Pass) (q : Request) (r : Reply) (h : IsOnePass K x p) (done : IsServed x (known_by p) (known_by p') q r) → done.step.front ≡ gate.seen (known_by p) (slot_of x.settings q)
 front-is K x p p' q r h done =
     let s = slot_of x.settings q in
     same-front (gate.seen (known_by p) s) done.step.front (gate.number (known_by p), q) done.step.extends
@@ -95,41 +97,64 @@ map-set f g a (suc n) (suc s) y there here others =
     ap (λ t. t ∷ map g (range_with_len (a + 1) n)) (others a (λ e. omega (arith, e)))
     ∙ ap (λ t. f a ∷ t) (map-set f g (a + 1) n s y (omega arith) (ap g (omega arith) ∙ here) (λ k apart. others k (λ e. apart (omega (arith, e)))))
 
-slot-below : (x : Service) (p : Pass) (q : Request) → IsPassOf p x → slot_of x.settings q < x.settings.shards
-slot-below x p q own = mod_below (hash_of (named_id q.operation)) x.settings.shards (omega (arith, own.opened.range.some_shard))
+content-here : (x : Service) (p : Pass) (q : Request) → IsPassOf p x → refusal_of x.settings q.operation ≡ None → content_at x.settings (contents_seen x.settings (known_by p)) (slot_of x.settings q) ≡ content_seen x.settings (known_by p) (slot_of x.settings q)
+content-here x p q own none =
+    let below : slot_of x.settings q < x.settings.shards = shard-below x.settings q.operation own.opened.range.some_shard none in
+    get_or-map-range_with_len (content_seen x.settings (known_by p)) 0 x.settings.shards (slot_of x.settings q) (slot_of x.settings q) (opening (setup_of x.settings (slot_of x.settings q))) below (omega arith)
 
-content-here : (x : Service) (p : Pass) (q : Request) → IsPassOf p x → content_at x.settings (contents_seen x.settings (known_by p)) (slot_of x.settings q) ≡ content_seen x.settings (known_by p) (slot_of x.settings q)
-content-here x p q own = get_or-map-range_with_len (content_seen x.settings (known_by p)) 0 x.settings.shards (slot_of x.settings q) (slot_of x.settings q) (opening (setup_of x.settings (slot_of x.settings q))) (slot-below x p q own) (omega arith)
-
-found-content : (K : Settings) (x : Service) (p p' : Pass) (q : Request) (r : Reply) (h : IsOnePass K x p) (done : Served x p p' q r) → replay after done.step.start done.step.front ≡ content_seen x.settings (known_by p) (slot_of x.settings q)
+found-content : (K : Settings) (x : Service) (p p' : Pass) (q : Request) (r : Reply) (h : IsOnePass K x p) (done : IsServed x (known_by p) (known_by p') q r) → replay after done.step.start done.step.front ≡ content_seen x.settings (known_by p) (slot_of x.settings q)
 found-content K x p p' q r h done = ap (λ c. replay after c done.step.front) done.start ∙ ap (replay after (opening (setup_of x.settings (slot_of x.settings q)))) (front-is K x p p' q r h done)
+
+-- the content of each shard after a step: the request's is one request on
+contents-served : (K : Settings) (x : Service) (p p' : Pass) (q : Request) (r : Reply) → IsOnePass K x p → refusal_of x.settings q.operation ≡ None → IsServed x (known_by p) (known_by p') q r →
+    contents_seen x.settings (known_by p') ≡ slice_set (contents_seen x.settings (known_by p)) (slot_of x.settings q) (after (content_at x.settings (contents_seen x.settings (known_by p)) (slot_of x.settings q)) q)
+contents-served K x p p' q r h none done =
+    let s = slot_of x.settings q in
+    let start = opening (setup_of x.settings s) in
+    let below : s < x.settings.shards = shard-below x.settings q.operation h.own.opened.range.some_shard none in
+    let here : content_seen x.settings (known_by p') s ≡ after (content_at x.settings (contents_seen x.settings (known_by p)) s) q =
+    ap (replay after start) done.step.last ∙ replay-push start done.step.front (gate.number (known_by p), q)
+    ∙ ap (λ c. after c q) (ap (replay after start) (front-is K x p p' q r h done) ∙ sym (content-here x p q h.own none)) in
+    map-set (content_seen x.settings (known_by p)) (content_seen x.settings (known_by p')) 0 x.settings.shards s _ below
+    (ap (content_seen x.settings (known_by p')) (omega arith) ∙ here)
+    (λ k apart. ap (replay after (opening (setup_of x.settings k))) (done.step.others k (λ e. apart (e ∙ omega arith))).0)
 
 -- the reply is the sequential service's
 pub reply-is : (K : Settings) (x : Service) (p p' : Pass) (q : Request) (r : Reply) → IsOnePass K x p → Served x p p' q r → r ≡ reply_to_asked K (contents_seen K (known_by p)) (Ok (0, q))
 reply-is K x p p' q r h done =
     let T : Settings → Type 0 = λ k. r ≡ reply_to_asked k (contents_seen k (known_by p)) (Ok (0, q)) in
-    subst T h.settings (done.step.reply ∙ ap (λ c. answer c q) (found-content K x p p' q r h done ∙ sym (content-here x p q h.own)))
+    subst T h.settings (by (refusal_of x.settings q.operation) refl done)
+  where
+    by : (o : Option Refusal) → refusal_of x.settings q.operation ≡ o → Answered o (IsServed x (known_by p) (known_by p') q r) (known_by p) (known_by p') r
+        → r ≡ reply_unless o (answer (content_at x.settings (contents_seen x.settings (known_by p)) (slot_of x.settings q)) q)
+    by None none done = done.step.reply ∙ ap (λ c. answer c q) (found-content K x p p' q r h done ∙ sym (content-here x p q h.own none))
+    by (Some e) some done = done.0
 
 -- and so are the contents that it leaves
 pub contents-are : (K : Settings) (x : Service) (p p' : Pass) (q : Request) (r : Reply) → IsOnePass K x p → Served x p p' q r → contents_seen K (known_by p') ≡ contents_after_asked K (contents_seen K (known_by p)) (Ok (0, q))
 contents-are K x p p' q r h done =
-    let s = slot_of x.settings q in
-    let start = opening (setup_of x.settings s) in
     let T : Settings → Type 0 = λ k. contents_seen k (known_by p') ≡ contents_after_asked k (contents_seen k (known_by p)) (Ok (0, q)) in
-    let here : content_seen x.settings (known_by p') s ≡ after (content_at x.settings (contents_seen x.settings (known_by p)) s) q =
-    ap (replay after start) done.step.last ∙ replay-push start done.step.front (gate.number (known_by p), q)
-    ∙ ap (λ c. after c q) (ap (replay after start) (front-is K x p p' q r h done) ∙ sym (content-here x p q h.own)) in
-    subst T h.settings (map-set (content_seen x.settings (known_by p)) (content_seen x.settings (known_by p')) 0 x.settings.shards s _ (slot-below x p q h.own)
-    (ap (content_seen x.settings (known_by p')) (omega arith) ∙ here)
-    (λ k apart. ap (replay after (opening (setup_of x.settings k))) (done.step.others k (λ e. apart (e ∙ omega arith))).0))
+    subst T h.settings (by (refusal_of x.settings q.operation) refl done)
+  where
+    by : (o : Option Refusal) → refusal_of x.settings q.operation ≡ o → Answered o (IsServed x (known_by p) (known_by p') q r) (known_by p) (known_by p') r
+        → contents_seen x.settings (known_by p') ≡ contents_unless o (contents_seen x.settings (known_by p))
+        (slice_set (contents_seen x.settings (known_by p)) (slot_of x.settings q) (after (content_at x.settings (contents_seen x.settings (known_by p)) (slot_of x.settings q)) q))
+    by None none done = contents-served K x p p' q r h none done
+    by (Some e) some done = ap (contents_seen x.settings) done.1
 
 -- a pass that was refused for memory is as it was
 pub keeps-one : (K : Settings) (x : Service) (p p' : Pass) → IsOnePass K x p → IsPassOf p' x → gate.SeenNothing (known_by p) (known_by p') → IsOnePass K x p'
 keeps-one K x p p' h own nothing = record { own = own; settings = h.settings; one = h.one; first = nothing.same.0 ∙ h.first; alone = λ s. nothing.sees s ∙ h.alone s ∙ sym (nothing.has s) }
 
--- a pass that made a step is still the only one
+-- a pass whose request was answered is still the only one
 pub goes-on : (K : Settings) (x : Service) (p p' : Pass) (q : Request) (r : Reply) → IsOnePass K x p → IsPassOf p' x → Served x p p' q r → IsOnePass K x p'
-goes-on K x p p' q r h own done = record { own = own; settings = h.settings; one = h.one; first = done.step.same.0 ∙ h.first; alone = alone-after K x p p' q r h done }
+goes-on K x p p' q r h own done = by (refusal_of x.settings q.operation) done
+  where
+    by : (o : Option Refusal) → Answered o (IsServed x (known_by p) (known_by p') q r) (known_by p) (known_by p') r → IsOnePass K x p'
+    by None done = record { own = own; settings = h.settings; one = h.one; first = done.step.same.0 ∙ h.first; alone = alone-after K x p p' q r h done }
+    by (Some e) done =
+        let Alone : View Request Content → Type 0 = λ v. (s : ℕ) → gate.seen v s ≡ gate.mine v s in
+        record { own = own; settings = h.settings; one = h.one; first = ap gate.number done.1 ∙ h.first; alone = subst Alone (sym done.1) h.alone }
 
 -- with one pass no other is found
 pub never-busy : (K : Settings) (x : Service) (p p' : Pass) (s : ℕ) → IsOnePass K x p → gate.TurnedAway (known_by p) (known_by p') s → ⊥
