@@ -5,8 +5,14 @@
 #[cfg(test)]
 mod asked;
 #[cfg(test)]
+mod called;
+#[cfg(test)]
 mod passes;
 #[cfg(test)]
 mod rows;
+#[cfg(test)]
+mod shards;
+#[cfg(test)]
+mod task_rows;
 #[cfg(test)]
 mod threads;

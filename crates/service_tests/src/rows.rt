@@ -1,26 +1,16 @@
-//! Worked examples by the calls that never wait, each with its reply as it is written.
+//! Worked examples over the calls, each with its reply as it is written.
 
-ghost use Rattle.std.specs.Prelude.{◌≡◌, ◌<◌};
-ghost use Rattle.service.specs.Services.{IsPassOf};
+ghost use Rattle.std.specs.Prelude.{◌<◌};
 
-use crate::asked::TWO_SHARDS;
+use crate::asked::{DEFAULTS, TWO_SHARDS, asked_by};
+use crate::called::{Form, assert_answer};
 use crate::passes::{open, take_pass};
-use service::{Pass, Refused, Service};
-use service_model::answer::Reply;
-use service_model::request::{Operation, Request};
+use service::Service;
 use service_model::settings::Settings;
 use std::alloc::AllocGlobal;
 use std::process::Abort;
+use std::sync::Wait;
 use wf_event_values::Refusal;
-use wire_replies::reply_text;
-use wire_requests::read_request;
-
-/// One shard, one pass, service 1: what the program takes where no option is given.
-const DEFAULTS: Settings = Settings {
-    shards: 1,
-    passes: 1,
-    service: 1,
-};
 
 const START: &str =
     r#"{"op":"start","request_id":"r1","task_queue":"main","workflow_id":"a","workflow_type":"w"}"#;
@@ -28,53 +18,30 @@ const START: &str =
 const STARTED: &str =
     "{\"line\":1,\"ok\":\"started\",\"run\":\"00000000-0001-8000-8000-000000000001\"}\n";
 
-/// The reply of a call that met no other pass and found memory.
-fn answered<R: Abort>(rt: &R, answer: Result<Reply, (Refused, Request)>) -> Reply {
-    match answer {
-        Ok(reply) => reply,
-        Err((Refused::Busy, _)) => panic!(rt; "another pass was there"),
-        Err((Refused::NoMemory, _)) => panic!(rt; "no memory"),
-    }
-}
-
-/// Makes the call that a request stands for.
-fn call<R: Abort>(rt: &R, service: &Service, pass: &mut Pass, request: Request) -> Reply
-    requires { IsPassOf pass.old service.now }
-    ensures { IsPassOf pass.new service.now }
-{
-    let Request { at, operation } = request;
-    match operation {
-        Operation::Start(asked) => answered(rt, service.try_start(pass, asked, at)),
-        Operation::Signal(asked) => answered(rt, service.try_signal(pass, asked, at)),
-        Operation::History(asked) => answered(rt, service.try_history(pass, asked, at)),
-    }
-}
-
-/// The reply to a line: the call's, or the fault of a line that says no call.
-fn reply<R: Abort + AllocGlobal>(rt: &R, service: &Service, pass: &mut Pass, line: &str) -> Reply
-    requires { IsPassOf pass.old service.now }
-    ensures { IsPassOf pass.new service.now }
-{
-    match read_request(rt.alloc(), service.settings(), line) {
-        Ok((_lane, request)) => call(rt, service, pass, request),
-        Err(refusal) => Err(refusal),
-    }
-}
-
-/// Each line is answered as it says beside it.
-fn assert_answers<R: Abort + AllocGlobal>(rt: &R, settings: &Settings, rows: &[(&str, &str)])
+/// Each line is answered as it says beside it, by calls of one form.
+fn assert_answers_by<R: Abort + AllocGlobal + Wait>(
+    rt: &R,
+    settings: &Settings,
+    form: Form,
+    rows: &[(&str, &str)],
+)
     requires { 0 < settings.now.passes }
 {
     let (service, mut passes) = open(rt, settings);
     let mut pass = take_pass(&service, &mut passes);
     for (i, (line, expected)) in rows.iter().enumerate() {
-        let reply = reply(rt, &service, &mut pass, line);
+        let asked = asked_by(rt, settings, line);
         let number = (i as u64).saturating_add(1);
-        match reply_text(rt.alloc(), number, &reply) {
-            Ok(text) => assert_eq!(rt; text.as_str(), *expected),
-            Err(_) => panic!(rt; "no memory"),
-        }
+        assert_answer(rt, &service, &mut pass, form, asked, number, expected);
     }
+}
+
+/// Each line is answered as it says beside it, by the calls that never wait and by those that may.
+fn assert_answers<R: Abort + AllocGlobal + Wait>(rt: &R, settings: &Settings, rows: &[(&str, &str)])
+    requires { 0 < settings.now.passes }
+{
+    assert_answers_by(rt, settings, Form::NeverWaits, rows);
+    assert_answers_by(rt, settings, Form::MayWait, rows);
 }
 
 #[test]

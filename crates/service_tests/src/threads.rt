@@ -37,12 +37,15 @@ fn is_already_started(reply: &Reply) -> bool {
     matches!(reply, Err(Refusal::AlreadyStarted(run)) if is_first_run(*run, 0))
 }
 
-/// The workflow ID that a request names.
+/// The workflow ID that a request names, where it names one.
 fn workflow_of(request: &Request) -> &str {
     match &request.operation {
         Operation::Start(asked) => asked.workflow_id.as_str(),
         Operation::Signal(asked) => asked.workflow_id.as_str(),
-        Operation::History(asked) => asked.workflow_id.as_str(),
+        Operation::History(asked) | Operation::Describe(asked) => asked.workflow_id.as_str(),
+        Operation::StartTask(_)
+        | Operation::CompleteWorkflowTask(_)
+        | Operation::FailWorkflowTask(_) => "",
     }
 }
 
