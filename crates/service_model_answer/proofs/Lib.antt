@@ -1,5 +1,8 @@
-pub mod FoundLemmas
-pub mod EarlyLemmas
-pub mod FormedLemmas
-pub mod ReplayLemmas
-pub mod StartLemmas
+mod FoundLemmas
+mod WindowLemmas
+mod BegunLemmas
+mod JudgeLemmas
+mod PendingLemmas
+mod TaskLemmas
+mod ReplayLemmas
+mod StartLemmas

@@ -1,4 +1,4 @@
 pub mod Entries
-pub mod Early
 pub mod Replayed
 pub mod Outcomes
+pub mod Classes

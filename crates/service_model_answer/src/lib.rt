@@ -3,11 +3,19 @@
 #![tactic(auto)]
 
 mod entry;
+mod history;
 mod journal;
+mod judging;
+mod made;
+mod order;
 mod outcome;
+mod pending;
 mod plain;
 mod replay;
 mod requests;
+mod role;
 mod state;
+mod tasks;
+mod window;
 
 pub use plain::answer;

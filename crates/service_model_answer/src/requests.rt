@@ -6,23 +6,25 @@ ghost use Rattle.service_model.specs.RunState.{state_of, beginning};
 ghost use Rattle.service_model.specs.Service.{at_default_policies, is_allow_duplicate, is_fail};
 ghost use Rattle.service_model.specs.Starts.{start, starts_new, started_fact, first_task};
 ghost use Rattle.service_model.specs.Signals.{signal, signal_at, signal_fact};
-ghost use Rattle.service_model.specs.Reads.{history, history_at};
+ghost use Rattle.service_model.specs.Reads.{history, history_at, describe, describe_at};
+ghost use Rattle.service_model.specs.Tasks.{start_task};
 ghost use Rattle.service_model_answer.specs.Outcomes.{says};
 ghost use Rattle.service_model_answer.specs.Replayed.{IsReady, runs_in, outcome_in, decided, decided_by};
 
 use crate::entry::Task;
 use crate::outcome::Outcome;
 use crate::replay::Replay;
-use crate::state;
-use service_model::answer::{Answer, History};
+use crate::role::Class;
+use crate::{history, pending, state};
+use service_model::answer::{Answer, Description, History};
 use service_model::journal::{EventFact, Fact, JournalEntry};
-use service_model::request::{Operation, Read, Signal, Start};
+use service_model::request::{Hint, Operation, Read, Signal, Start};
 use std::alloc::{AllocError, Global};
 use wf_event::Attributes;
 use wf_event::payloads::{
     WorkflowExecutionSignaled, WorkflowExecutionStarted, WorkflowTaskScheduled,
 };
-use wf_event_values::{ConflictPolicy, Field, Id, Items, Refusal, ReusePolicy, Span};
+use wf_event_values::{ConflictPolicy, Field, Id, Items, Refusal, ReusePolicy, Span, TaskKind};
 
 impl Replay<'_> {
     /// What an operation does.
@@ -36,7 +38,11 @@ impl Replay<'_> {
         match operation {
             Operation::Start(start) => self.start(start),
             Operation::Signal(signal) => self.signal(signal),
+            Operation::StartTask(hint) => self.start_task(hint),
+            Operation::CompleteWorkflowTask(completion) => self.complete(completion),
+            Operation::FailWorkflowTask(failure) => self.fail(failure),
             Operation::History(read) => self.history(read),
+            Operation::Describe(read) => self.describe(read),
         }
     }
 
@@ -166,8 +172,63 @@ impl Replay<'_> {
         ensures { IfOk result (λ o. says o ≡ history_at (runs_in self.now) (Some n)) }
     {
         let run = self.run_id(n)?;
-        let events = state::shown(self.alloc, self.runs[n - 1].entries())?;
+        let events = history::shown(self.alloc, self.runs[n - 1].entries())?;
         Ok(Outcome::answered(Answer::History(History { run, events })))
+    }
+
+    #[tactic(auto, unfolding(service_model::specs::Reads::describe))]
+    fn describe(&self, request: &Read) -> Result<Outcome, AllocError>
+        requires { IsReady self.now }
+        ensures { IfOk result (λ o. says o ≡ describe (runs_in self.now) request.now) }
+    {
+        if !self.is_own(&request.workflow_id) {
+            return Ok(Outcome::refused(Refusal::InvalidArgument(Field::WorkflowId)));
+        }
+        match self.named_run(&request.workflow_id, request.run) {
+            Some(n) => self.describe_run(n),
+            None => Ok(Outcome::refused(Refusal::NotFound)),
+        }
+    }
+
+    /// The run with that ordinal in numbers.
+    fn describe_run(&self, n: usize) -> Result<Outcome, AllocError>
+        requires ready { IsReady self.now }
+        requires from { 1 ≤ n }
+        requires to { n ≤ length self.now.runs }
+        ensures { IfOk result (λ o. says o ≡ describe_at (runs_in self.now) (Some n)) }
+    {
+        let run = self.run_id(n)?;
+        let journal = self.journal(n);
+        let activities = pending::count(self.alloc, Class::Activity, journal)?;
+        let cancels = pending::count(self.alloc, Class::Cancel, journal)?;
+        let children = pending::count(self.alloc, Class::Child, journal)?;
+        let signals = pending::count(self.alloc, Class::Signal, journal)?;
+        let timers = pending::count(self.alloc, Class::Timer, journal)?;
+        let held = history::held_count(self.alloc, journal)?;
+        let length = history::shown_count(self.alloc, journal)?;
+        Ok(Outcome::answered(Answer::Described(Description {
+            activities,
+            cancels,
+            children,
+            held,
+            length,
+            run,
+            signals,
+            status: state::status(journal),
+            timers,
+        })))
+    }
+
+    /// Takes a task.
+    #[tactic(auto, unfolding(service_model::specs::Tasks::start_task))]
+    fn start_task(&self, hint: &Hint) -> Result<Outcome, AllocError>
+        requires { IsReady self.now }
+        ensures { IfOk result (λ o. says o ≡ start_task (runs_in self.now) hint.now) }
+    {
+        match hint.kind {
+            TaskKind::Workflow => self.take_workflow(hint),
+            TaskKind::Activity => Err(AllocError),
+        }
     }
 }
 

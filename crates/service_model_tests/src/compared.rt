@@ -5,6 +5,7 @@ ghost use Rattle.service_model.specs.declared.content.Content.{Content};
 ghost use Rattle.shard.specs.Standing.{StandsFor};
 
 use crate::draws::Draws;
+use crate::known::Known;
 use crate::requests::request;
 use gate::Object;
 use service_model::answer::{Answer, Reply};
@@ -22,7 +23,7 @@ use wire_replies::reply_text;
 const COUNT: u64 = 400;
 
 /// How many kinds of reply there are.
-const KINDS: usize = 11;
+const KINDS: usize = 18;
 
 /// Service 1's shard, with the queue `main`.
 fn setup(alloc: Global, shard: u16, shards: u16) -> Result<Setup, Refusal>
@@ -51,7 +52,7 @@ fn serve(shard: &mut Shard, request: &Request) -> Result<Reply, AllocError>
 
 /// Which kind of reply it is, if it is one that these requests get.
 fn kind(reply: &Reply) -> Option<usize>
-    ensures { IfSome result (λ k. k < 11) }
+    ensures { IfSome result (λ k. k < 18) }
 {
     match reply {
         Ok(Answer::Started(_)) => Some(0),
@@ -65,6 +66,13 @@ fn kind(reply: &Reply) -> Option<usize>
         Err(Refusal::InvalidArgument(Field::WorkflowId)) => Some(8),
         Err(Refusal::InvalidArgument(Field::Reuse)) => Some(9),
         Err(Refusal::InvalidArgument(Field::Conflict)) => Some(10),
+        Err(Refusal::InvalidArgument(Field::Type)) => Some(11),
+        Ok(Answer::WorkflowTask(_)) => Some(12),
+        Ok(Answer::Stale) => Some(13),
+        Ok(Answer::Completed) => Some(14),
+        Ok(Answer::TaskFailed(_)) => Some(15),
+        Ok(Answer::Failed) => Some(16),
+        Ok(Answer::Described(_)) => Some(17),
         _ => None,
     }
 }
@@ -84,9 +92,10 @@ fn compare<R: Abort + AllocGlobal>(
     let mut object = Shard::new(alloc, setup(alloc, shard, shards)?);
     let mut record = Vec::new(alloc);
     let mut draws = Draws::new(seed);
+    let mut known = Known::new(alloc);
     let mut seen = [0_u64; KINDS];
     for number in 0..COUNT {
-        let request = request(alloc, &mut draws, number)?;
+        let request = request(alloc, &mut draws, &known, number)?;
         let served = serve(&mut object, &request)?;
         let plain = answer(alloc, &own, &record, &request)?;
         let served_text = reply_text(alloc, number, &served)?;
@@ -96,6 +105,7 @@ fn compare<R: Abort + AllocGlobal>(
             Some(kind) => seen[kind] = seen[kind].saturating_add(1),
             None => panic!(rt; "a reply of no kind that is awaited"),
         }
+        known.learn(shard, &served)?;
         record.push(RecordEntry { pass: 0, request })?;
     }
     Ok(seen)

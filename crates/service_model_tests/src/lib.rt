@@ -7,4 +7,6 @@ mod compared;
 #[cfg(test)]
 mod draws;
 #[cfg(test)]
+mod known;
+#[cfg(test)]
 mod requests;

@@ -1,12 +1,20 @@
 //! Drawn requests: few workflow IDs and request ids, moments that go back, unknown queues, run ids
-//! of this shard and of others, and now and then a policy that isn't served.
+//! of this shard and of others, now and then a policy or a command that isn't served, and tasks that
+//! wait, were taken, or were ended long ago.
 
 ghost use Rattle.std.specs.Prelude.{◌≡◌};
 
 use crate::draws::Draws;
-use service_model::request::{Operation, Read, Request, Signal, Start};
+use crate::known::Known;
+use service_model::request::{
+    CompleteWorkflowTask, FailWorkflowTask, Operation, Read, Request, Signal, Start,
+};
 use std::alloc::Global;
-use wf_event_values::{ConflictPolicy, Field, Id, Moment, Refusal, ReusePolicy, RunId, Span, Text};
+use wf_command::Command;
+use wf_command::command::RecordMarker;
+use wf_event_values::{
+    ConflictPolicy, Field, Id, Items, Moment, Refusal, ReusePolicy, RunId, Span, Text,
+};
 
 /// How many workflow IDs there are.
 const WORKFLOWS: u64 = 10;
@@ -15,15 +23,63 @@ const WORKFLOWS: u64 = 10;
 const REQUESTS: u64 = 4;
 
 /// A request whose moment is near that of the step with this number.
-pub(crate) fn request(alloc: Global, draws: &mut Draws, number: u64) -> Result<Request, Refusal> {
+pub(crate) fn request(
+    alloc: Global,
+    draws: &mut Draws,
+    known: &Known,
+    number: u64,
+) -> Result<Request, Refusal> {
     let millis = number.saturating_mul(10).saturating_add(draws.below(60));
     let at = Moment::new(Field::At, millis)?;
-    let operation = match draws.below(8) {
-        0..=1 => Operation::Start(start(alloc, draws)?),
-        2..=5 => Operation::Signal(signal(alloc, draws)?),
-        _ => Operation::History(read(alloc, draws)?),
-    };
+    let operation = operation(alloc, draws, known)?;
     Ok(Request { at, operation })
+}
+
+fn operation(alloc: Global, draws: &mut Draws, known: &Known) -> Result<Operation, Refusal> {
+    match draws.below(16) {
+        0..=1 => Ok(Operation::Start(start(alloc, draws)?)),
+        2..=4 => Ok(Operation::Signal(signal(alloc, draws)?)),
+        5..=8 => Ok(Operation::StartTask(known.hint(draws))),
+        9..=10 => Ok(Operation::CompleteWorkflowTask(completion(
+            alloc, draws, known,
+        )?)),
+        11 => Ok(Operation::FailWorkflowTask(FailWorkflowTask {
+            task: known.token(draws),
+            message: input(alloc, draws)?,
+        })),
+        12..=14 => Ok(Operation::History(read(alloc, draws)?)),
+        _ => Ok(Operation::Describe(read(alloc, draws)?)),
+    }
+}
+
+/// A completion by up to three commands.
+fn completion(
+    alloc: Global,
+    draws: &mut Draws,
+    known: &Known,
+) -> Result<CompleteWorkflowTask, Refusal> {
+    let mut commands = Vec::new(alloc);
+    for _ in 0..draws.below(4) {
+        commands.push(command(alloc, draws)?)?;
+    }
+    Ok(CompleteWorkflowTask {
+        task: known.token(draws),
+        commands: Items::from_vec(commands),
+    })
+}
+
+/// A marker half of the time, seldom a command that isn't served, and else one that closes.
+fn command(alloc: Global, draws: &mut Draws) -> Result<Command, Refusal> {
+    match draws.below(16) {
+        0..=9 => Ok(Command::RecordMarker(RecordMarker {
+            name: Text::new(alloc, Field::Name, "mark")?,
+            details: input(alloc, draws)?,
+        })),
+        10..=11 => Ok(Command::CompleteWorkflowExecution(input(alloc, draws)?)),
+        12..=13 => Ok(Command::FailWorkflowExecution(input(alloc, draws)?)),
+        14 => Ok(Command::CancelWorkflowExecution(input(alloc, draws)?)),
+        _ => Ok(Command::RequestCancelActivityTask(draws.below(9))),
+    }
 }
 
 fn start(alloc: Global, draws: &mut Draws) -> Result<Start, Refusal> {
