@@ -117,6 +117,31 @@ fn ids_lie_on_their_shards(rt: HostRuntime) -> Result<(), ScriptFault> {
     Ok(())
 }
 
+/// The ends of tasks that no worker took, and the run as it is described.
+#[test]
+fn tasks_that_no_worker_took(rt: HostRuntime) -> Result<(), ScriptFault> {
+    assert_prints(
+        &rt,
+        br#"{"op":"start","request_id":"r1","task_queue":"main","workflow_id":"a","workflow_type":"w"}
+{"op":"complete_workflow_task","token":"AQEAAAAAAAAAAAABAAAAAAAAAAIAAAAB","commands":[]}
+{"op":"fail_workflow_task","token":"AQEAAAAAAAAAAAABAAAAAAAAAAIAAAAB"}
+{"op":"fail_workflow_task","token":"AQEAAAAAAAAAAAABAAAAAAAAAAIAAAA"}
+{"op":"fail_workflow_task","token":"AQEAAQAAAAAAAAABAAAAAAAAAAIAAAAB"}
+{"op":"describe","workflow_id":"a"}
+{"op":"describe","workflow_id":"b"}
+"#,
+        r#"{"line":1,"ok":"started","run":"00000000-0001-8000-8000-000000000001"}
+{"error":"NotFound","line":2,"no":2}
+{"error":"NotFound","line":3,"no":2}
+{"error":"InvalidToken","line":4,"no":5}
+{"error":"InvalidToken","line":5,"no":5}
+{"activities":0,"cancels":0,"children":0,"held":0,"length":2,"line":6,"ok":"described","run":"00000000-0001-8000-8000-000000000001","signals":0,"status":"Running","timers":0}
+{"error":"NotFound","line":7,"no":2}
+"#,
+        true,
+    )
+}
+
 #[test]
 fn settings_out_of_range(rt: HostRuntime) {
     let settings = [
