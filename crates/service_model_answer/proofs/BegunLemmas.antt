@@ -1,5 +1,5 @@
 -- every run that a request makes begins, and stays begun
-use Rattle.std.proofs.Common.{◌≡◌, ℕ, ◌+◌, ◌-◌, Bool, true, false, List, [], ◌∷◌, ◌++◌, refl, sym, ap, ◌∙◌, cond, Option, Some, None, IsSome, is_some, subst, zero, suc, slice_index_or, slice_set}
+use Rattle.std.proofs.Common.{ℕ, ◌+◌, ◌-◌, Bool, true, false, List, [], ◌∷◌, ◌++◌, refl, sym, ap, ◌∙◌, cond, Option, Some, None, IsSome, is_some, subst, zero, suc, slice_index_or, slice_set}
 use Rattle.std.specs.Prelude.{Ok, Err, unwrap_or, map, ◌==◌, ◌&&◌}
 use Rattle.std.proofs.lemmas.List.Elements.{filter_map-append}
 use Rattle.std.specs.List.{AllByRecursion, list_all}
@@ -23,7 +23,7 @@ use Rattle.service_model.specs.declared.request.CompleteWorkflowTask.{CompleteWo
 use Rattle.service_model.specs.declared.request.Operation.{Operation}
 use Rattle.service_model.specs.declared.request.Operation.TheVariants as served
 use Rattle.service_model.specs.Journal.{Journal, Made, events_made, latest, first_some, plain}
-use Rattle.service_model.specs.RunState.{RunState, ActivityRow, Beginning, beginning_part}
+use Rattle.service_model.specs.RunState.{ActivityRow, Beginning, beginning_part}
 use Rattle.service_model.specs.IdPolicy.{Decision, New, Same, Existing, TerminateThenNew, Refused}
 use Rattle.service_model.specs.Outcome.{Outcome, Added, Runs, shard_of, knows_queue, latest_run, answered, refused, adds, run_id, run_at, has_run, next_ordinal, named_run, open_run, outside, noted}
 use Rattle.service_model.specs.Starts.{start, decision, by_decision, started_fact, first_task}

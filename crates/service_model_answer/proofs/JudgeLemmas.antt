@@ -1,14 +1,13 @@
 -- commands judged one after another, and what is held back
 use Rattle.std.proofs.Common.{◌≡◌, ℕ, ◌+◌, ◌<◌, Bool, true, false, List, [], ◌∷◌, ◌++◌, drop, length, get_or, refl, sym, ap, ◌∙◌, arith, cond, zero, suc}
 use Rattle.std.proofs.Math.Seq.{drop-cons}
-use Rattle.std.specs.Prelude.{not, filter, map, None, Option, ◌||◌, ◌&&◌, Result, Ok, Err, IfOk}
+use Rattle.std.specs.Prelude.{not, filter, map, None, ◌||◌, ◌&&◌, Result, Ok, Err, IfOk}
 use Rattle.std.specs.List.{list_any, list_all}
 use Rattle.wf_event_values.specs.Run.{Run}
 use Rattle.wf_event.specs.Role.{role}
 use Rattle.wf_event.specs.declared.attributes.Attributes.{Attributes}
 use Rattle.wf_command.specs.declared.command.Command.{Command}
-use Rattle.wf_command.specs.declared.command.Command.TheVariants.{ScheduleActivityTask, RequestCancelActivityTask, StartTimer, CancelTimer, RecordMarker, CompleteWorkflowExecution, FailWorkflowExecution, CancelWorkflowExecution, ContinueAsNewWorkflowExecution, StartChildWorkflowExecution, SignalExternalWorkflowExecution, RequestCancelExternalWorkflowExecution}
-use Rattle.wf_command.specs.declared.command.ContinueAsNew.{ContinueAsNew}
+use Rattle.wf_command.specs.declared.command.Command.TheVariants.{ContinueAsNewWorkflowExecution}
 use Rattle.service_model.specs.declared.content.Setup.{Setup}
 use Rattle.service_model.specs.declared.journal.NewEvent.{NewEvent}
 use Rattle.service_model.specs.Journal.{Made, latest, first_some}
@@ -16,7 +15,7 @@ use Rattle.service_model.specs.Shown.{new_event}
 use Rattle.service_model.specs.RunState.{RunState}
 use Rattle.service_model.specs.Service.{is_served}
 use Rattle.service_model.specs.Tasks.{continue_part}
-use Rattle.service_model.specs.Completion.{is_taken_away, has_members, Judged, judge, judge_all, go_on}
+use Rattle.service_model.specs.Completion.{is_taken_away, has_members, judge, judge_all, go_on}
 
 -- whether an event that is held back stays so
 pub any-kept : (F : List Attributes) (es : List Made) →

@@ -1,6 +1,7 @@
 mod FoundLemmas
 mod WindowLemmas
 mod BegunLemmas
+mod IdleLemmas
 mod JudgeLemmas
 mod PendingLemmas
 mod TaskLemmas

@@ -1,5 +1,5 @@
 -- where a task waits or runs, and what its end writes
-use Rattle.std.proofs.Common.{◌≡◌, ℕ, ◌+◌, Bool, true, false, List, [], ◌∷◌, ◌++◌, refl, sym, ap, ◌∙◌, cond, subst}
+use Rattle.std.proofs.Common.{◌≡◌, ℕ, ◌+◌, Bool, true, false, List, [], ◌∷◌, ◌++◌, refl, ap, ◌∙◌, cond, subst}
 use Rattle.std.specs.Prelude.{◌&&◌, ◌==◌, map, length, Option, None, Some, Result, Ok, Err, IfOk}
 use Rattle.std.proofs.lemmas.List.{map-append}
 use Rattle.wf_event.specs.declared.attributes.Attributes.{Attributes}

@@ -1,4 +1,4 @@
-use Rattle.std.proofs.Common.{◌≡◌, ◌++◌, ◌∷◌, [], List, true, false, append-nil, sym, ap, ◌∙◌}
+use Rattle.std.proofs.Common.{◌≡◌, ◌++◌, ◌∷◌, [], true, false, append-nil, sym, ap, ◌∙◌}
 use Rattle.std.specs.Prelude.{map}
 use Rattle.wf_event.specs.declared.attributes.Attributes.TheVariants.{WorkflowTaskCompleted}
 use Rattle.service_model.specs.declared.journal.Fact.{Fact}

@@ -1,4 +1,4 @@
-use Rattle.std.proofs.Common.{◌≡◌, ◌++◌, ◌∷◌, [], sym, ap, ◌∙◌}
+use Rattle.std.proofs.Common.{◌≡◌, ◌++◌, ◌∷◌, [], ap, ◌∙◌}
 use Rattle.wf_event.specs.declared.attributes.Attributes.TheVariants.{WorkflowTaskFailed}
 use Rattle.service_model.specs.declared.journal.Fact.{Fact}
 use Rattle.service_model.specs.Journal.{plain}

@@ -1,10 +1,4 @@
-use Rattle.std.proofs.Common.{◌∙◌, sym, ap}
-use Rattle.std.specs.Prelude.{map}
-use Rattle.wf_event_values.specs.declared.policies.Cause.TheVariants.{WorkflowWorkerUnhandledFailure}
-use Rattle.service_model.specs.declared.answer.Answer.TheVariants.{Failed}
-use Rattle.service_model.specs.Journal.{plain}
-use Rattle.service_model.specs.Outcome.{adds, run_at}
-use Rattle.service_model.specs.Completion.{failed_task}
+use Rattle.std.proofs.Common.{◌∙◌, sym}
 use Rattle.service_model.specs.Tasks.{runs_workflow}
 use Rattle.service_model_answer.specs.Replayed.{runs_in}
 use Rattle.service_model_answer.proofs.TaskLemmas.{found-there, found-none, ok-says, complete-runs, complete-refused}

@@ -1,8 +1,8 @@
 use Rattle.std.proofs.Common.{◌≡◌, ◌∙◌, sym, ap, length}
 use Rattle.wf_event.specs.Role.{AnActivity, ATimer, AChild, ASignal, ACancel}
 use Rattle.service_model.specs.declared.answer.Answer.TheVariants.{Described}
-use Rattle.service_model.specs.RunState.{RunState, state_of, pending}
-use Rattle.service_model.specs.Outcome.{Outcome, answered, run_at, run_id}
+use Rattle.service_model.specs.RunState.{state_of, pending}
+use Rattle.service_model.specs.Outcome.{answered, run_at, run_id}
 use Rattle.service_model_answer.specs.Replayed.{runs_in}
 use Rattle.service_model_answer.proofs.replay.Replay.describe_run.Goals as goal
 

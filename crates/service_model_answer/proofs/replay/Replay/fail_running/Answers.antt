@@ -1,11 +1,11 @@
-use Rattle.std.proofs.Common.{◌≡◌, ◌+◌, ◌-◌, ◌∙◌, [], sym, ap, arith}
+use Rattle.std.proofs.Common.{◌≡◌, ◌+◌, ◌-◌, ◌∙◌, sym, ap, arith}
 use Rattle.std.specs.Prelude.{map}
 use Rattle.wf_event_values.specs.declared.policies.Cause.TheVariants.{WorkflowWorkerUnhandledFailure}
-use Rattle.service_model.specs.declared.answer.Answer.TheVariants.{Completed, TaskFailed, Failed}
+use Rattle.service_model.specs.declared.answer.Answer.TheVariants.{Failed}
 use Rattle.service_model.specs.Journal.{plain}
 use Rattle.service_model.specs.RunState.{state_of}
 use Rattle.service_model.specs.Outcome.{adds}
-use Rattle.service_model.specs.Completion.{failed_task, completed_task}
+use Rattle.service_model.specs.Completion.{failed_task}
 use Rattle.service_model_answer.proofs.replay.Replay.fail_running.Goals as goal
 
 pub returns : goal.returns

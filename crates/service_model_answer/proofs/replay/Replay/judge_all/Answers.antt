@@ -1,9 +1,8 @@
-use Rattle.std.proofs.Common.{◌≡◌, ◌+◌, ◌++◌, List, [], drop, sym, ap, ◌∙◌, arith}
+use Rattle.std.proofs.Common.{◌+◌, ◌++◌, drop, sym, ap, ◌∙◌, arith}
 use Rattle.std.specs.Prelude.{Ok}
 use Rattle.std.proofs.Math.ListN.{drop_of_length-le}
-use Rattle.wf_event.specs.declared.attributes.Attributes.{Attributes}
 use Rattle.service_model.specs.Outcome.{run_at, run_id, next_ordinal}
-use Rattle.service_model.specs.Completion.{Judged, judge, judge_all, go_on}
+use Rattle.service_model.specs.Completion.{judge, judge_all, go_on}
 use Rattle.service_model_answer.specs.Replayed.{runs_in}
 use Rattle.service_model_answer.proofs.JudgeLemmas.{judge-next, served-there}
 use Rattle.service_model_answer.proofs.replay.Replay.judge_all.Goals as goal

@@ -5,7 +5,7 @@ use Rattle.wf_event.specs.declared.attributes.Attributes.TheVariants.{WorkflowTa
 use Rattle.service_model.specs.declared.answer.Answer.{Answer}
 use Rattle.service_model.specs.declared.answer.Answer.TheVariants.{WorkflowTask}
 use Rattle.service_model.specs.Journal.{plain}
-use Rattle.service_model.specs.RunState.{RunState, Beginning, id_of, state_of}
+use Rattle.service_model.specs.RunState.{Beginning, id_of, state_of}
 use Rattle.service_model.specs.Outcome.{adds, run_at, run_id}
 use Rattle.service_model_answer.specs.Entries.{begun}
 use Rattle.service_model_answer.specs.Replayed.{runs_in}
