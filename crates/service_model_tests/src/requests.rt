@@ -38,8 +38,8 @@ pub(crate) fn request(
 fn operation(alloc: Global, draws: &mut Draws, known: &Known) -> Result<Operation, Refusal> {
     match draws.below(16) {
         0..=1 => Ok(Operation::Start(start(alloc, draws)?)),
-        2..=4 => Ok(Operation::Signal(signal(alloc, draws)?)),
-        5..=8 => Ok(Operation::StartTask(known.hint(draws))),
+        2..=5 => Ok(Operation::Signal(signal(alloc, draws)?)),
+        6..=8 => Ok(Operation::StartTask(known.hint(draws))),
         9..=10 => Ok(Operation::CompleteWorkflowTask(completion(alloc, draws, known)?)),
         11 => Ok(Operation::FailWorkflowTask(FailWorkflowTask {
             task: known.token(draws),
