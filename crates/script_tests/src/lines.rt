@@ -129,7 +129,7 @@ fn fields_that_are_no_arguments(rt: HostRuntime) -> Result<(), ScriptFault> {
     let lines: [(&[u8], &str); 24] = [
         (br#"{}"#, "op"),
         (br#"{"op":null}"#, "op"),
-        (br#"{"op":"describe","workflow_id":"a"}"#, "op"),
+        (br#"{"op":"terminate","workflow_id":"a"}"#, "op"),
         (br#"{"lane":1,"op":"x"}"#, "lane"),
         (br#"{"lane":"0","op":"history","workflow_id":"a"}"#, "lane"),
         (br#"{"at":-1,"op":"x"}"#, "op"),
