@@ -22,11 +22,15 @@ pub(crate) fn answered(called: Result<Reply, (Refused, Request)>) -> io::Result<
 }
 
 fn id(alloc: Global, text: &str) -> io::Result<Id> {
-    Id::new(alloc, Field::WorkflowId, text).ok().ok_or(unexpected())
+    Id::new(alloc, Field::WorkflowId, text)
+        .ok()
+        .ok_or(unexpected())
 }
 
 fn text(alloc: Global, text: &str) -> io::Result<Text> {
-    Text::new(alloc, Field::Input, text).ok().ok_or(unexpected())
+    Text::new(alloc, Field::Input, text)
+        .ok()
+        .ok_or(unexpected())
 }
 
 /// The start of the workflow of that number.
