@@ -7,7 +7,7 @@ use Rattle.gate.specs.Ends.{IsEnd, HasDone}
 use Rattle.service.specs.Services.{known_by}
 use Rattle.service.specs.Ends.{base_of}
 use Rattle.service.proofs.CloseLemmas.{opened-by}
-use Rattle.service.proofs.OpenLemmas.{get-map, map-get}
+use Rattle.service_model.proofs.ListLemmas.{get-map, map-get}
 use Rattle.service.proofs.service.Service.close.Goals as goal
 
 pub close-requires-clause-own : goal.close-requires-clause-own

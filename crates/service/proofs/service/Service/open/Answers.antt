@@ -6,7 +6,8 @@ use Rattle.gate.specs.Gated.{at}
 use Rattle.shard.specs.Standing.{opened}
 use Rattle.service.specs.declared.service.Pass.{Pass}
 use Rattle.service.specs.Services.{known_by}
-use Rattle.service.proofs.OpenLemmas.{bases-at, get-map, standing-at, in-range}
+use Rattle.service_model.proofs.ListLemmas.{get-map}
+use Rattle.service.proofs.OpenLemmas.{bases-at, standing-at, in-range}
 use Rattle.service.proofs.service.Service.open.Goals as goal
 
 pub open-requires-clause-standing : goal.open-requires-clause-standing
