@@ -1,6 +1,7 @@
 //! The shard as an object of the gate.
 
 ghost use Rattle.std.specs.Prelude.{◌≡◌, IfOk, OnErr};
+ghost use Rattle.service_model.specs.Growth.{KeepsHistories, keeps-on, keeps-same};
 ghost use Rattle.service_model.specs.Service.{after, answer};
 ghost use Rattle.shard.specs.Standing.{StandsFor, IsReady, opened};
 
@@ -29,6 +30,12 @@ impl<T: KeepsRun> Object for Shard<T> {
     ghost answer = { answer };
 
     ghost after = { after };
+
+    ghost keeps = { KeepsHistories };
+
+    ghost keeps_same = { keeps-same };
+
+    ghost keeps_on = { keeps-on };
 
     ghost ready = { IsReady };
 

@@ -1,14 +1,13 @@
 use Rattle.std.proofs.Common.{ℕ, List, ap, sym, ◌∙◌, subst, arith}
 use Rattle.std.proofs.lemmas.List.{length-map}
 use Rattle.std.specs.Prelude.{slice_get, length, vec_capacity}
-use Rattle.std.proofs.lemmas.Option.{slice_get_within}
 use Rattle.service_model.specs.declared.request.Request.{Request}
 use Rattle.gate.specs.Gates as of_gate
 use Rattle.gate.specs.Ends.{IsEnd, HasDone}
 use Rattle.service.specs.Services.{known_by}
-use Rattle.service.specs.Ends.{base_of, IsStoodFor}
-use Rattle.service.proofs.CloseLemmas.{opened-by, stood-for}
-use Rattle.service.proofs.OpenLemmas.{get-map, map-get}
+use Rattle.service.specs.Ends.{base_of}
+use Rattle.service.proofs.CloseLemmas.{opened-by}
+use Rattle.service_model.proofs.ListLemmas.{get-map, map-get}
 use Rattle.service.proofs.service.Service.close.Goals as goal
 
 pub close-requires-clause-own : goal.close-requires-clause-own
@@ -37,18 +36,6 @@ pub returns-clause-count : goal.returns-clause-count
 returns-clause-count c =
     let opened = opened-by c.args.passes.items c.args.self c.args.self.some_pass c.requires.own c.requires.all in
     ap length c.records_of.ensures ∙ length-map c.close.result.items (λ x. x.1) ∙ c.close.ensures.count ∙ ap of_gate.slots c.into_parts-gate.ensures.gate ∙ opened.slots
-
-pub returns-clause-stands : goal.returns-clause-stands
-returns-clause-stands c = λ k log there.
-    let opened = opened-by c.args.passes.items c.args.self c.args.self.some_pass c.requires.own c.requires.all in
-    let (x, place, is) = get-map (λ x. x.1) c.close.result.items k log (ap (λ t. slice_get t k) (sym c.records_of.ensures) ∙ there) in
-    let gate = c.into_parts-gate.ensures.gate in
-    let slots = ap of_gate.slots gate ∙ opened.slots in
-    let count = c.close.ensures.count in
-    let inside = slice_get_within _ k x place in
-    let laid = rw gate at c.close.ensures.opened in
-    let P : List (ℕ × Request) → Type 0 = λ l. IsStoodFor c.args.self.settings k l in
-    subst P (sym is) (stood-for c.args.self.settings _ k x.0 x.1 opened.starts (omega arith) (laid k x place) (c.close.ensures.stands k x place))
 
 pub returns-clause-records : goal.returns-clause-records
 returns-clause-records c = λ k log there.
