@@ -74,20 +74,6 @@ impl Service {
         (gate, handed_down, records)
     }
 
-    /// The gate, and the room that closing needs.
-    pub(crate) fn into_parts(self) -> (Gate<Shard>, Mutex<PassRoom>, Vec<Record<Request>>)
-        ensures gate { result.0 ≡ self.gate }
-        ensures records { result.2 ≡ self.records }
-    {
-        let Service {
-            settings: _,
-            gate,
-            handed_down,
-            records,
-        } = self;
-        (gate, handed_down, records)
-    }
-
     /// The settings with which the service was opened.
     pub fn settings(&self) -> &Settings
         ensures { result.now ≡ settings_of self.now }
