@@ -47,7 +47,7 @@ keeping-at [] k x empty is = absurd (cc)
 keeping-at (y ∷ xs) zero x empty is =
     let same : y ≡ x = ap (λ o. unwrap_or o y) is in
     let P : List (ℕ × Request) → Type 0 = λ log. KeepsAll after KeepsHistories (opened x.0) log in
-    subst P (sym (ap (λ (z : Laid). z.1) (sym same) ∙ empty.0)) (keeps-same (opened x.0))
+    subst P (sym (ap (λ (z : ShardView × List (ℕ × Request)). z.1) (sym same) ∙ empty.0)) (keeps-same (opened x.0))
 keeping-at (y ∷ xs) (suc k) x empty is = keeping-at xs k x empty.1 is
 
 -- each shard stands for the replay of its empty record

@@ -1,4 +1,4 @@
-use Rattle.std.proofs.Common.{◌≡◌, ◌<◌, ◌∙◌, sym, subst, arith, IfOk, IfErr, ℕ, None, tt, refl}
+use Rattle.std.proofs.Common.{◌≡◌, ◌<◌, ◌∙◌, sym, subst, arith, IfOk, IfErr, ℕ, None, refl}
 use Rattle.service_model.specs.Growth.{KeepsHistories}
 use Rattle.service_model.specs.Service.{answer, after}
 use Rattle.gate.specs.Passes.{Refuses, Stepped}
