@@ -4,10 +4,9 @@ ghost use Rattle.std.specs.Prelude.{◌≡◌, ℕ, ◌<◌, ◌≤◌, Some, le
 ghost use Rattle.gate.specs.Passes.{number};
 ghost use Rattle.gate.specs.Ends.{IsEnd, HasDone};
 
-use crate::service::{Pass, Service};
+use crate::service::{Pass, Service, Shard};
 use gate::Record;
 use service_model::request::Request;
-use shard::Shard;
 use std::alloc::{AllocError, Global};
 
 /// The most passes that a service gives.

@@ -8,9 +8,11 @@ use gate::{Gate, Record, Refused};
 use service_model::answer::Reply;
 use service_model::request::Request;
 use service_model::settings::Settings;
-use shard::Shard;
 use std::alloc::AllocError;
 use std::sync::{Mutex, Wait};
+
+/// A shard, whose runs are kept by tables.
+pub(crate) type Shard = shard::Shard<mutable_state::Run>;
 
 /// A workflow service.
 pub struct Service {

@@ -1,7 +1,7 @@
 use Rattle.std.proofs.Common.{◌≡◌, ℕ, None, ap, subst}
 use Rattle.service_model.specs.declared.request.Request.{Request}
 use Rattle.service_model.specs.Service.{answer, after}
-use Rattle.gate.specs.Passes.{Stepped}
+use Rattle.gate.specs.Passes.{Stepped, view}
 use Rattle.gate.specs.Helds as of_held
 use Rattle.service.specs.Contents.{refusal_of}
 use Rattle.service.specs.Services.{known_by, IsServed}
@@ -15,4 +15,5 @@ returns-in-Ok-clause-ok c =
     let P : ℕ → Type 0 = λ k. Stepped after answer (known_by c.args.pass) w k c.request-request.result r in
     let Q : Request → Type 0 = λ q. IsServed c.args.self.now (known_by c.args.pass) w q r in
     let none : refusal_of c.args.self.now.settings c.request-request.result.operation ≡ None = ap (λ q. refusal_of c.args.self.now.settings q.operation) c.request-request.ensures in
-    subst Q c.request-request.ensures (served c.args.pass w c.args.self.now c.request-request.result r c.requires none (subst P c.slot_of-slot.ensures c.in-Ok.ensures.ok))
+    let entered = rw (ap view c.into_inner.ensures) at c.in-Ok.ensures.ok in
+    subst Q c.request-request.ensures (served c.args.pass w c.args.self.now c.request-request.result r c.requires none (subst P c.slot_of-slot.ensures entered))
