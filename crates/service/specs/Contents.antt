@@ -13,6 +13,7 @@ use Rattle.service_model.specs.declared.request.Operation.TheVariants as operati
 use Rattle.service_model.specs.declared.request.Request.{Request}
 use Rattle.service_model.specs.declared.request.TakenTask.{TakenTask}
 use Rattle.service_model.specs.declared.settings.Settings.{Settings}
+use Rattle.service_model.specs.Limits.{most_commands}
 use Rattle.service_model.specs.Outcome.{hash_of}
 use Rattle.service_model.specs.Service.{opening}
 
@@ -23,10 +24,6 @@ setup_of K shard = record { service = K.service; shard = shard; shards = K.shard
 -- the contents of all shards at opening
 abbrev pub opening_contents : Settings → List Content
 opening_contents K = map (λ shard. opening (setup_of K shard)) (range_with_len 0 K.shards)
-
--- the most commands that a completion may have
-abbrev pub most_commands : ℕ
-most_commands = 10000
 
 -- what a token may name: a shard that is there, and a run, an event and an attempt, which count from 1
 abbrev pub is_token : Settings → TakenTask → Bool

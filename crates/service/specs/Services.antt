@@ -1,9 +1,10 @@
 -- what a clause reads of a service and of its passes
-use Rattle.std.specs.Prelude.{◌≡◌, ℕ, ◌<◌, ◌≤◌, ◌^◌, [], map, Option, None, Some, Err, Result, IfOk, IfErr}
+use Rattle.std.specs.Prelude.{◌≡◌, ℕ, ◌<◌, ◌≤◌, [], map, Option, None, Some, Err, Result, IfOk, IfErr}
 use Rattle.wf_event_values.specs.declared.refusal.Refusal.{Refusal}
 use Rattle.service_model.specs.declared.content.Content.{Content}
 use Rattle.service_model.specs.declared.request.Request.{Request}
 use Rattle.service_model.specs.declared.settings.Settings.{Settings}
+use Rattle.service_model.specs.Limits.{most_passes, most_shards, service_numbers}
 use Rattle.service_model.specs.Growth.{KeepsHistories}
 use Rattle.service_model.specs.Outcome.{Reply}
 use Rattle.service_model.specs.Service.{answer, after, opening}
@@ -30,10 +31,10 @@ known_by p = gate.view p.inner
 -- the settings are in their ranges
 pub record IsInRange (K : Settings) : Type 0 where
   pub some_shard : 1 ≤ K.shards
-  pub few_shards : K.shards ≤ 64
+  pub few_shards : K.shards ≤ most_shards
   pub some_pass : 1 ≤ K.passes
-  pub few_passes : K.passes ≤ 256
-  pub service : K.service < 2 ^ 48
+  pub few_passes : K.passes ≤ most_passes
+  pub service : K.service < service_numbers
 
 -- the service was opened by its settings, without records
 pub record IsOpened (x : Service) : Type 0 where

@@ -6,11 +6,9 @@ ghost use Rattle.gate.specs.Ends.{IsEnd, HasDone};
 
 use crate::service::{Pass, Service, Shard};
 use gate::Record;
+use service_model::limits::MOST_PASSES;
 use service_model::request::Request;
 use std::alloc::{AllocError, Global};
-
-/// The most passes that a service gives.
-const MOST_PASSES: usize = 256;
 
 /// Room for all the gate's passes. One takes a byte.
 #[derive(Drop)]
@@ -22,7 +20,7 @@ pub(crate) struct PassRoom {
 
 impl PassRoom {
     pub(crate) fn new(alloc: Global) -> Result<PassRoom, AllocError> {
-        let passes = Vec::with_capacity(alloc, MOST_PASSES)?;
+        let passes = Vec::with_capacity(alloc, MOST_PASSES as usize)?;
         Ok(PassRoom { passes })
     }
 }

@@ -17,6 +17,7 @@ use crate::close::PassRoom;
 use crate::service::{Pass, Service, Shard};
 use gate::{Gate, Record};
 use service_model::content::Setup;
+use service_model::limits::{MOST_PASSES, MOST_SHARDS, SERVICE_NUMBERS};
 use service_model::request::Request;
 use service_model::settings::Settings;
 use std::alloc::{AllocError, Global};
@@ -57,13 +58,13 @@ impl Service {
 fn check_ranges(settings: &Settings) -> Result<(), Refusal>
     ensures { result ≡ range_fault settings.now }
 {
-    if settings.shards < 1 || settings.shards > 64 {
+    if settings.shards < 1 || settings.shards > MOST_SHARDS {
         return Err(Refusal::InvalidArgument(Field::Shards));
     }
-    if settings.passes < 1 || settings.passes > 256 {
+    if settings.passes < 1 || settings.passes > MOST_PASSES {
         return Err(Refusal::InvalidArgument(Field::Passes));
     }
-    if settings.service >= 281_474_976_710_656 {
+    if settings.service >= SERVICE_NUMBERS {
         return Err(Refusal::InvalidArgument(Field::Service));
     }
     Ok(())

@@ -4,13 +4,11 @@ ghost use Rattle.std.specs.Prelude.{◌≡◌, ◌<◌};
 ghost use Rattle.service.specs.Contents.{completion_refusal, hint_refusal, is_token, refusal_of, shard_of_id, token_refusal};
 
 use crate::service::Service;
+use service_model::limits::MOST_COMMANDS;
 use service_model::request::{CompleteWorkflowTask, Hint, Operation, Request, TakenTask};
 use service_model::settings::Settings;
 use shard::hash;
 use wf_event_values::{Field, Id, Refusal};
-
-/// The most commands that a completion may have.
-const MOST_COMMANDS: usize = 10_000;
 
 impl Service {
     ghost use Rattle.service.specs.Services.{settings_of, shard_of_request};

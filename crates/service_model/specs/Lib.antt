@@ -1,3 +1,4 @@
+pub mod Limits
 pub mod Journal
 pub mod Windows
 pub mod Shown

@@ -14,14 +14,12 @@ use mutable_state::{Change as MoreFacts, plain};
 use mutable_state_keeper::{KeepsRun, Run};
 use service_model::answer::Answer;
 use service_model::journal::Fact;
+use service_model::limits::MOST_MEMBERS;
 use service_model::request::Start;
 use std::alloc::{AllocError, Global};
 use wf_event::Attributes;
 use wf_event::payloads::{WorkflowExecutionStarted, WorkflowTaskScheduled};
 use wf_event_values::{ConflictPolicy, Field, Id, Items, Moment, Refusal, ReusePolicy, Span};
-
-/// The most runs of a shard.
-const MOST: usize = 1_152_921_504_606_846_975;
 
 impl<T: KeepsRun> Shard<T> {
     pub(crate) fn prepare_start(
@@ -118,7 +116,7 @@ impl<T: KeepsRun> Shard<T> {
         ensures room { OnOk result (0 < self.new.room) }
         ensures few { OnOk result (length self.new.runs + 1 < 2 ^ 60) }
     {
-        if self.runs.len() >= MOST {
+        if self.runs.len() >= MOST_MEMBERS {
             return Err(AllocError);
         }
         self.runs.reserve(1)?;

@@ -9,6 +9,7 @@ use Rattle.wf_event_values.specs.declared.refusal.Refusal.TheVariants.{InvalidAr
 use Rattle.wf_command.specs.declared.command.Command.{Command}
 use Rattle.wf_command.specs.declared.command.Command.TheVariants as command
 use Rattle.wf_command.specs.declared.command.RecordMarker.{RecordMarker as Marker}
+use Rattle.service_model.specs.Limits.{most_commands}
 use Rattle.wire_fields.specs.Steps.{◌>>=◌, for_each}
 use Rattle.wire_fields.specs.Kinds.{string_of, text_of, named, elements_of}
 use Rattle.wire_fields.specs.Fields.{required, or_default}
@@ -49,4 +50,4 @@ command_of d = required type_of field.Type d >>= (λ type. fields_of type d)
 
 -- at most 10,000 commands; the first faulty one counts
 abbrev pub commands_of : Field → Data → Result (List Command) Refusal
-commands_of field d = elements_of 10000 field d >>= for_each command_of
+commands_of field d = elements_of most_commands field d >>= for_each command_of

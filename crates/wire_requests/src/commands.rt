@@ -9,6 +9,7 @@ ghost use Rattle.wire_fields.specs.Fields.{or_default};
 ghost use Rattle.wire_requests.specs.Commands.{type_named, type_of, marker_of, fields_of, command_of, commands_of};
 
 use serde_json::Value;
+use service_model::limits::MOST_COMMANDS;
 use std::alloc::Global;
 use std::marker::Model;
 use wf_command::Command;
@@ -104,9 +105,6 @@ fn each_command(alloc: Global, values: &[Value]) -> Result<Items<Command>, Refus
     }
     Ok(Items::from_vec(commands))
 }
-
-/// A completion has at most this many commands.
-const MOST_COMMANDS: usize = 10_000;
 
 /// The commands of a completion, as a field's value.
 #[derive(Drop)]

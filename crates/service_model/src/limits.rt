@@ -1,0 +1,16 @@
+//! The limits of the profile. A definition of `specs/Limits` stands beside each.
+
+/// The most shards of a service.
+pub const MOST_SHARDS: u64 = 64;
+
+/// The most passes of a service.
+pub const MOST_PASSES: u64 = 256;
+
+/// The number below which a service's own number lies: it has 48 bits in a run id.
+pub const SERVICE_NUMBERS: u64 = 281_474_976_710_656;
+
+/// The most commands of a completion.
+pub const MOST_COMMANDS: usize = 10_000;
+
+/// The most members of a list that a run or a shard keeps.
+pub const MOST_MEMBERS: usize = 1_152_921_504_606_846_975;
