@@ -1,10 +1,8 @@
 -- one shard of the sequential service: what each request is answered, and the content that it leaves
 use Rattle.std.specs.Prelude.{Bool, true, false, ℕ, ◌+◌, ◌-◌, max, cond, ◌==◌, List, [], ◌∷◌, ◌++◌, length, map, filter, Option, None, Some, replicate, slice_index_or, slice_set}
 use Rattle.wf_event_values.specs.declared.field.Field.TheVariants as field
-use Rattle.wf_event_values.specs.declared.policies.ReusePolicy.{ReusePolicy}
-use Rattle.wf_event_values.specs.declared.policies.ReusePolicy.TheVariants.{AllowDuplicate}
 use Rattle.wf_event_values.specs.declared.policies.ConflictPolicy.{ConflictPolicy}
-use Rattle.wf_event_values.specs.declared.policies.ConflictPolicy.TheVariants.{Fail}
+use Rattle.wf_event_values.specs.declared.policies.ConflictPolicy.TheVariants.{TerminateExisting}
 use Rattle.wf_event_values.specs.declared.refusal.Refusal.TheVariants.{InvalidArgument}
 use Rattle.std.specs.List.{list_all, fold}
 use Rattle.wf_command.specs.declared.command.Command.{Command}
@@ -94,20 +92,13 @@ outcome S m (ToAcknowledge q) = acknowledge S.setup S.outgoing q
 outcome S m ToShowDispatch = next_dispatch S.dispatches S.dispatched
 outcome S m (ToCountDispatch number) = dispatched S.dispatches S.dispatched number
 
-abbrev pub is_allow_duplicate : ReusePolicy → Bool
-is_allow_duplicate AllowDuplicate = true
-is_allow_duplicate _ = false
+abbrev pub is_terminate_existing : ConflictPolicy → Bool
+is_terminate_existing TerminateExisting = true
+is_terminate_existing _ = false
 
-abbrev pub is_fail : ConflictPolicy → Bool
-is_fail Fail = true
-is_fail _ = false
-
--- starts are served at the default policies so far, and others are refused
-abbrev pub at_default_policies : Start → Outcome → Outcome
-at_default_policies q rest =
-    cond (is_allow_duplicate q.reuse)
-    (cond (is_fail q.conflict) rest (refused (InvalidArgument field.Conflict)))
-    (refused (InvalidArgument field.Reuse))
+-- a start that would terminate a run isn't served yet, and is refused by name
+abbrev pub at_served_policies : Start → Outcome → Outcome
+at_served_policies q rest = cond (is_terminate_existing q.conflict) (refused (InvalidArgument field.Conflict)) rest
 
 -- the commands that are served so far
 abbrev pub is_served : Command → Bool
@@ -123,7 +114,7 @@ at_served_commands q rest = cond (list_all is_served q.commands) rest (refused (
 
 -- what an operation does, at the step's moment
 unfoldable pub outcome_of : Content → ℕ → Operation → Outcome
-outcome_of S m (served.Start q) = at_default_policies q (outcome S m (ToStart q))
+outcome_of S m (served.Start q) = at_served_policies q (outcome S m (ToStart q))
 outcome_of S m (served.Signal q) = outcome S m (ToSignal q)
 outcome_of S m (served.StartTask h) = outcome S m (ToStartTask h)
 outcome_of S m (served.CompleteWorkflowTask q) = at_served_commands q (outcome S m (ToCompleteWorkflowTask q))

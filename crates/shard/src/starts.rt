@@ -1,8 +1,9 @@
 //! Starting a run.
 
-ghost use Rattle.std.specs.Prelude.{◌≡◌, ◌+◌, ◌<◌, ◌≤◌, ◌^◌, length, OnOk, IfOk, Some, None, ◌∷◌, [], true};
-ghost use Rattle.service_model.specs.Service.{at_default_policies, is_allow_duplicate, is_fail};
-ghost use Rattle.service_model.specs.Starts.{start, starts_new, started_fact, first_task};
+ghost use Rattle.std.specs.Prelude.{◌≡◌, ◌+◌, ◌<◌, ◌≤◌, ◌^◌, length, OnOk, IfOk, Some, None, ◌∷◌, [], false};
+ghost use Rattle.id_policy.specs.Decisions.{says};
+ghost use Rattle.service_model.specs.Service.{at_served_policies, is_terminate_existing};
+ghost use Rattle.service_model.specs.Starts.{decision, start, starts_new, started_fact, first_task};
 ghost use Rattle.shard.specs.View.{state, runs_in};
 ghost use Rattle.shard.specs.Fitting.{FitsStep, decided, decided_by, started_by, new_run};
 
@@ -10,6 +11,7 @@ use crate::index::{knows_queue, shard_of};
 use crate::plan::{Change, NewRun, Plan};
 use crate::prepare::{answered, refused};
 use crate::shard::Shard;
+use id_policy::{Decision, Latest, decide};
 use mutable_state::{Change as MoreFacts, plain};
 use mutable_state_keeper::{KeepsRun, Run};
 use service_model::answer::Answer;
@@ -19,7 +21,7 @@ use service_model::request::Start;
 use std::alloc::{AllocError, Global};
 use wf_event::Attributes;
 use wf_event::payloads::{WorkflowExecutionStarted, WorkflowTaskScheduled};
-use wf_event_values::{ConflictPolicy, Field, Id, Items, Moment, Refusal, ReusePolicy, Span};
+use wf_event_values::{ConflictPolicy, Field, Id, Items, Moment, Refusal, Span};
 
 impl<T: KeepsRun> Shard<T> {
     pub(crate) fn prepare_start(
@@ -28,22 +30,18 @@ impl<T: KeepsRun> Shard<T> {
         request: &Start,
     ) -> Result<Plan<T>, AllocError>
         ensures same { state self.new ≡ state self.old }
-        ensures plan { IfOk result (λ plan. FitsStep self.new plan moment (at_default_policies request.now (start (runs_in self.old) request.now))) }
+        ensures plan { IfOk result (λ plan. FitsStep self.new plan moment (at_served_policies request.now (start (runs_in self.old) request.now))) }
     {
-        if !is_allow_duplicate(request.reuse) {
-            return Ok(refused(moment, Refusal::InvalidArgument(Field::Reuse)));
-        }
-        if !is_fail(request.conflict) {
+        if is_terminate_existing(request.conflict) {
             return Ok(refused(moment, Refusal::InvalidArgument(Field::Conflict)));
         }
         self.prepare_start_here(moment, request)
     }
 
-    /// A start at the default policies.
+    /// A start at policies that are served.
     #[tactic(auto, unfolding(service_model::specs::Starts::start))]
     fn prepare_start_here(&mut self, moment: Moment, request: &Start) -> Result<Plan<T>, AllocError>
-        requires reuse { is_allow_duplicate request.now.reuse ≡ true }
-        requires conflict { is_fail request.now.conflict ≡ true }
+        requires conflict { is_terminate_existing request.now.conflict ≡ false }
         ensures same { state self.new ≡ state self.old }
         ensures plan { IfOk result (λ plan. FitsStep self.new plan moment (start (runs_in self.old) request.now)) }
     {
@@ -58,8 +56,7 @@ impl<T: KeepsRun> Shard<T> {
 
     /// A start, decided by the workflow ID's latest run.
     fn prepare_decided(&mut self, moment: Moment, request: &Start) -> Result<Plan<T>, AllocError>
-        requires reuse { is_allow_duplicate request.now.reuse ≡ true }
-        requires conflict { is_fail request.now.conflict ≡ true }
+        requires conflict { is_terminate_existing request.now.conflict ≡ false }
         ensures same { state self.new ≡ state self.old }
         ensures plan { IfOk result (λ plan. FitsStep self.new plan moment (decided (runs_in self.old) request.now)) }
     {
@@ -79,19 +76,32 @@ impl<T: KeepsRun> Shard<T> {
         requires from { 1 ≤ n }
         requires to { n ≤ length self.old.runs }
         requires few { length self.old.runs < 2 ^ 60 }
-        requires reuse { is_allow_duplicate request.now.reuse ≡ true }
-        requires conflict { is_fail request.now.conflict ≡ true }
+        requires conflict { is_terminate_existing request.now.conflict ≡ false }
         ensures same { state self.new ≡ state self.old }
         ensures plan { IfOk result (λ plan. FitsStep self.new plan moment (decided_by (runs_in self.old) request.now (Some n))) }
     {
         let run = self.run_id(n);
-        if self.runs[n - 1].was_started_by(&request.request_id) {
-            return Ok(answered(moment, Answer::Existing(run)));
+        match self.decision_by(n, request) {
+            Decision::New => self.prepare_new_run(moment, request),
+            Decision::Same | Decision::Existing => Ok(answered(moment, Answer::Existing(run))),
+            Decision::TerminateThenNew => unreachable!(),
+            Decision::Refused => Ok(refused(moment, Refusal::AlreadyStarted(run))),
         }
-        if self.runs[n - 1].is_open() {
-            return Ok(refused(moment, Refusal::AlreadyStarted(run)));
-        }
-        self.prepare_new_run(moment, request)
+    }
+
+    /// What the policies decide where the workflow ID's latest run has that ordinal.
+    fn decision_by(&self, n: usize, request: &Start) -> Decision
+        requires from { 1 ≤ n }
+        requires to { n ≤ length self.now.runs }
+        ensures { says result ≡ decision (runs_in self.now) request.now (Some n) }
+    {
+        let run = &self.runs[n - 1];
+        let latest = Latest {
+            status: run.status(),
+            request_id: run.start_request(),
+        };
+        let given = request.request_id.as_ref();
+        decide(Some(&latest), request.reuse, request.conflict, given)
     }
 
     /// The run of a start that nothing stands in the way of.
@@ -124,18 +134,11 @@ impl<T: KeepsRun> Shard<T> {
     }
 }
 
-/// Whether a closed run's workflow ID may always be used again, which is the default.
-fn is_allow_duplicate(reuse: ReusePolicy) -> bool
-    ensures { result ≡ is_allow_duplicate reuse }
+/// Whether a start would terminate the open run of its workflow ID.
+fn is_terminate_existing(conflict: ConflictPolicy) -> bool
+    ensures { result ≡ is_terminate_existing conflict }
 {
-    matches!(reuse, ReusePolicy::AllowDuplicate)
-}
-
-/// Whether a start fails while a run of its workflow ID is open, which is the default.
-fn is_fail(conflict: ConflictPolicy) -> bool
-    ensures { result ≡ is_fail conflict }
-{
-    matches!(conflict, ConflictPolicy::Fail)
+    matches!(conflict, ConflictPolicy::TerminateExisting)
 }
 
 /// The run that a start makes, with its first workflow task.

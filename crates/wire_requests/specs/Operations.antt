@@ -4,10 +4,9 @@ use Rattle.serde_json.specs.Data.{Data}
 use Rattle.wf_event_values.specs.declared.refusal.Refusal.{Refusal}
 use Rattle.wf_event_values.specs.declared.refusal.Refusal.TheVariants.{InvalidArgument}
 use Rattle.wf_event_values.specs.declared.field.Field.TheVariants as field
-use Rattle.wf_event_values.specs.declared.policies.ReusePolicy.{ReusePolicy}
 use Rattle.wf_event_values.specs.declared.policies.ReusePolicy.TheVariants.{AllowDuplicate}
 use Rattle.wf_event_values.specs.declared.policies.ConflictPolicy.{ConflictPolicy}
-use Rattle.wf_event_values.specs.declared.policies.ConflictPolicy.TheVariants.{Fail}
+use Rattle.wf_event_values.specs.declared.policies.ConflictPolicy.TheVariants.{Fail, TerminateExisting}
 use Rattle.service_model.specs.declared.request.Start.{Start}
 use Rattle.service_model.specs.declared.request.Signal.{Signal}
 use Rattle.service_model.specs.declared.request.CompleteWorkflowTask.{CompleteWorkflowTask}
@@ -24,15 +23,10 @@ use Rattle.wire_requests.specs.Tasks.{workflow_task_in}
 use Rattle.wire_requests.specs.declared.op.Op.{Op}
 use Rattle.wire_requests.specs.declared.op.Op.TheVariants as op
 
--- the reuse policies that are served so far
-abbrev pub allowed_reuse : ReusePolicy → Result ReusePolicy Refusal
-allowed_reuse AllowDuplicate = Ok AllowDuplicate
-allowed_reuse _ = Err (InvalidArgument field.Reuse)
-
--- the conflict policies that are served so far
+-- the conflict policies that are served: each but the one that terminates a run
 abbrev pub allowed_conflict : ConflictPolicy → Result ConflictPolicy Refusal
-allowed_conflict Fail = Ok Fail
-allowed_conflict _ = Err (InvalidArgument field.Conflict)
+allowed_conflict TerminateExisting = Err (InvalidArgument field.Conflict)
+allowed_conflict policy = Ok policy
 
 -- start
 unfoldable pub start_of : Data → Result Start Refusal
@@ -42,7 +36,7 @@ start_of line = do
   task_queue ← required id_of field.TaskQueue line
   input ← or_default text_of [] field.Input line
   request_id ← optional id_of field.RequestId line
-  reuse ← or_default reuse_of AllowDuplicate field.Reuse line >>= allowed_reuse
+  reuse ← or_default reuse_of AllowDuplicate field.Reuse line
   conflict ← or_default conflict_of Fail field.Conflict line >>= allowed_conflict
   run_timeout ← or_default span_of 0 field.RunTimeout line
   task_timeout ← or_default span_of 0 field.TaskTimeout line

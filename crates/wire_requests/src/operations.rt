@@ -3,7 +3,7 @@
 ghost use Rattle.std.specs.Prelude.{◌≡◌, [], Ok, Err};
 ghost use Rattle.serde_json.specs.View.{view};
 ghost use Rattle.wf_event_values.specs.Gives.{Gives};
-ghost use Rattle.wire_requests.specs.Operations.{start_of, signal_of, complete_workflow_task_of, fail_workflow_task_of, read_of, operation_of, allowed_reuse, allowed_conflict};
+ghost use Rattle.wire_requests.specs.Operations.{start_of, signal_of, complete_workflow_task_of, fail_workflow_task_of, read_of, operation_of, allowed_conflict};
 
 use crate::commands::Commands;
 use crate::op::Op;
@@ -17,23 +17,13 @@ use std::alloc::Global;
 use wf_event_values::{ConflictPolicy, Field, Refusal, ReusePolicy, Span, Text};
 use wire_fields::{optional, or_default, required};
 
-/// A reuse policy that is served so far: the default alone.
-fn allowed_reuse(reuse: ReusePolicy) -> Result<ReusePolicy, Refusal>
-    ensures { result ≡ allowed_reuse reuse }
-{
-    match reuse {
-        ReusePolicy::AllowDuplicate => Ok(reuse),
-        _ => Err(Refusal::InvalidArgument(Field::Reuse)),
-    }
-}
-
-/// A conflict policy that is served so far: the default alone.
+/// A conflict policy that is served: each but the one that terminates a run.
 fn allowed_conflict(conflict: ConflictPolicy) -> Result<ConflictPolicy, Refusal>
     ensures { result ≡ allowed_conflict conflict }
 {
     match conflict {
-        ConflictPolicy::Fail => Ok(conflict),
-        _ => Err(Refusal::InvalidArgument(Field::Conflict)),
+        ConflictPolicy::TerminateExisting => Err(Refusal::InvalidArgument(Field::Conflict)),
+        _ => Ok(conflict),
     }
 }
 
@@ -47,7 +37,6 @@ fn start(alloc: Global, line: &Value) -> Result<Start, Refusal>
     let input = or_default(alloc, line, Field::Input, Text::empty(alloc))?;
     let request_id = optional(alloc, line, Field::RequestId)?;
     let reuse = or_default(alloc, line, Field::Reuse, ReusePolicy::AllowDuplicate)?;
-    let reuse = allowed_reuse(reuse)?;
     let conflict = or_default(alloc, line, Field::Conflict, ConflictPolicy::Fail)?;
     let conflict = allowed_conflict(conflict)?;
     let run_timeout = or_default(alloc, line, Field::RunTimeout, Span::none())?;
