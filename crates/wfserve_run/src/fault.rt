@@ -7,7 +7,7 @@ use thiserror::Error;
 
 /// Why the program ends with status 2.
 #[derive(Debug, Drop, Error)]
-pub(crate) enum Fault {
+pub enum Fault {
     #[error("out of memory")]
     Memory(#[from(alloc)] AllocError),
     #[error("the command line: {0}")]
