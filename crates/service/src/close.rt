@@ -35,7 +35,7 @@ fn handed_down(passes: Vec<Pass>, room: PassRoom) -> Vec<gate::Pass<Shard>>
 {
     let PassRoom { passes: mut all } = room;
     for pass in passes {
-        all.push_reserved(pass.inner);
+        all.push_reserved(pass.into_inner());
     }
     all
 }
@@ -69,12 +69,7 @@ impl Service {
         ensures records { (k : ℕ) (log : _) → slice_get result.items k ≡ Some log → IsEnd (base_of self k) (settings_of self).passes log }
         ensures passes { (k : ℕ) (log : _) (j : ℕ) (p : Pass) → slice_get result.items k ≡ Some log → slice_get passes.items j ≡ Some p → HasDone (base_of self k) (known_by p) k log }
     {
-        let Service {
-            settings: _,
-            gate,
-            handed_down: room,
-            records,
-        } = self;
+        let (gate, room, records) = self.into_parts();
         let passes = handed_down(passes, room.into_inner());
         records_of(gate.close(passes), records)
     }

@@ -41,7 +41,7 @@ impl Service {
     {
         let request = request(at, Operation::Start(asked));
         let slot = self.slot_of(&request);
-        match self.gate.try_enter(pass.inner, slot, request) {
+        match self.gate.try_enter(pass.into_inner(), slot, request) {
             Ok(inner) => Ok(Held { inner }),
             Err((why, inner, request)) => Err((why, Pass { inner }, request)),
         }

@@ -13,7 +13,6 @@ use std::alloc::AllocError;
 use std::sync::{Mutex, Wait};
 
 /// A workflow service.
-#[derive(Drop)]
 pub struct Service {
     pub(crate) settings: Settings,
     pub(crate) gate: Gate<Shard>,
@@ -26,14 +25,53 @@ pub struct Service {
     ghost roomy: { (length records.items ≡ 0) × (settings.shards ≤ vec_capacity records) },
 }
 
+impl Drop for Service {
+    fn drop(self) {
+        let Service {
+            settings: _,
+            gate: _,
+            handed_down: _,
+            records: _,
+        } = self;
+    }
+}
+
 /// The right to call one service. It is one thread's at a time.
-#[derive(Drop)]
 pub struct Pass {
     pub(crate) inner: gate::Pass<Shard>,
 }
 
+impl Drop for Pass {
+    fn drop(self) {
+        let Pass { inner: _ } = self;
+    }
+}
+
+impl Pass {
+    pub(crate) fn into_inner(self) -> gate::Pass<Shard>
+        ensures { result ≡ self.inner }
+    {
+        let Pass { inner } = self;
+        inner
+    }
+}
+
 impl Service {
     ghost use Rattle.service.specs.Services.{IsPassOf, Served, ServedAt, known_by, shard_of_request, settings_of};
+
+    /// The gate, and the room that closing needs.
+    pub(crate) fn into_parts(self) -> (Gate<Shard>, Mutex<PassRoom>, Vec<Record<Request>>)
+        ensures gate { result.0 ≡ self.gate }
+        ensures records { result.2 ≡ self.records }
+    {
+        let Service {
+            settings: _,
+            gate,
+            handed_down,
+            records,
+        } = self;
+        (gate, handed_down, records)
+    }
 
     /// The settings with which the service was opened.
     pub fn settings(&self) -> &Settings

@@ -7,7 +7,6 @@ use wf_event_values::{
 };
 
 /// A workflow task that was taken.
-#[derive(Drop)]
 pub struct WorkflowTask {
     pub attempt: u32,
     pub run: RunId,
@@ -16,8 +15,19 @@ pub struct WorkflowTask {
     pub workflow_id: Id,
 }
 
+impl Drop for WorkflowTask {
+    fn drop(self) {
+        let WorkflowTask {
+            attempt: _,
+            run: _,
+            scheduled: _,
+            started: _,
+            workflow_id: _,
+        } = self;
+    }
+}
+
 /// An activity's attempt that was taken.
-#[derive(Drop)]
 pub struct ActivityTask {
     pub activity_id: Id,
     pub activity_type: Text,
@@ -29,6 +39,21 @@ pub struct ActivityTask {
     pub workflow_id: Id,
 }
 
+impl Drop for ActivityTask {
+    fn drop(self) {
+        let ActivityTask {
+            activity_id: _,
+            activity_type: _,
+            attempt: _,
+            details: _,
+            input: _,
+            run: _,
+            scheduled: _,
+            workflow_id: _,
+        } = self;
+    }
+}
+
 /// An attempt that is to be tried again.
 #[derive(Clone, Copy)]
 pub struct Retrying {
@@ -37,14 +62,18 @@ pub struct Retrying {
 }
 
 /// A run's history.
-#[derive(Drop)]
 pub struct History {
     pub run: RunId,
     pub events: Items<Event>,
 }
 
+impl Drop for History {
+    fn drop(self) {
+        let History { run: _, events: _ } = self;
+    }
+}
+
 /// A run in numbers.
-#[derive(Drop)]
 pub struct Description {
     pub activities: u64,
     pub cancels: u64,
@@ -57,6 +86,22 @@ pub struct Description {
     pub timers: u64,
 }
 
+impl Drop for Description {
+    fn drop(self) {
+        let Description {
+            activities: _,
+            cancels: _,
+            children: _,
+            held: _,
+            length: _,
+            run: _,
+            signals: _,
+            status: _,
+            timers: _,
+        } = self;
+    }
+}
+
 /// A deadline that fired.
 #[derive(Clone, Copy)]
 pub struct Fired {
@@ -67,10 +112,18 @@ pub struct Fired {
 }
 
 /// The dispatch that is next, under its number.
-#[derive(Drop)]
 pub struct NumberedDispatch {
     pub number: u64,
     pub dispatch: Dispatch,
+}
+
+impl Drop for NumberedDispatch {
+    fn drop(self) {
+        let NumberedDispatch {
+            number: _,
+            dispatch: _,
+        } = self;
+    }
 }
 
 /// How a count was moved on.
@@ -82,7 +135,6 @@ pub enum Acknowledged {
 }
 
 /// What a step answers.
-#[derive(Drop)]
 pub enum Answer {
     Started(RunId),
     Existing(RunId),
@@ -115,6 +167,44 @@ pub enum Answer {
     Counted(Acknowledged),
     Dispatch(NumberedDispatch),
     NoDispatch,
+}
+
+impl Drop for Answer {
+    fn drop(self) {
+        match self {
+            Answer::Started(_) => {}
+            Answer::Existing(_) => {}
+            Answer::Signaled => {}
+            Answer::Repeated => {}
+            Answer::SignaledRun(_) => {}
+            Answer::RepeatedRun(_) => {}
+            Answer::CancelRequested => {}
+            Answer::Terminated => {}
+            Answer::WorkflowTask(_) => {}
+            Answer::ActivityTask(_) => {}
+            Answer::Stale => {}
+            Answer::Completed => {}
+            Answer::TaskFailed(_) => {}
+            Answer::Failed => {}
+            Answer::ActivityCompleted => {}
+            Answer::Retrying(_) => {}
+            Answer::ActivityFailed(_) => {}
+            Answer::ActivityCanceled => {}
+            Answer::Heartbeat(_) => {}
+            Answer::History(_) => {}
+            Answer::Described(_) => {}
+            Answer::Fired(_) => {}
+            Answer::NothingDue => {}
+            Answer::Transfer(_) => {}
+            Answer::NoTransfer => {}
+            Answer::Accepted(_) => {}
+            Answer::AlreadyDelivered(_) => {}
+            Answer::OutOfOrder(_) => {}
+            Answer::Counted(_) => {}
+            Answer::Dispatch(_) => {}
+            Answer::NoDispatch => {}
+        }
+    }
 }
 
 /// A step's reply.

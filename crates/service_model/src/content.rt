@@ -5,7 +5,6 @@ use crate::transfer::TransferContent;
 use wf_event_values::{Id, Items, Moment};
 
 /// A shard's settings.
-#[derive(Drop)]
 pub struct Setup {
     pub service: u64,
     pub shard: u16,
@@ -13,22 +12,45 @@ pub struct Setup {
     pub queues: Items<Id>,
 }
 
+impl Drop for Setup {
+    fn drop(self) {
+        let Setup {
+            service: _,
+            shard: _,
+            shards: _,
+            queues: _,
+        } = self;
+    }
+}
+
 /// All transfers ever issued to one shard, and how many it acknowledged.
-#[derive(Drop)]
 pub struct Outgoing {
     pub issued: Items<TransferContent>,
     pub acknowledged: u64,
 }
 
+impl Drop for Outgoing {
+    fn drop(self) {
+        let Outgoing {
+            issued: _,
+            acknowledged: _,
+        } = self;
+    }
+}
+
 /// A hint with the queue that it is to be pushed to.
-#[derive(Drop)]
 pub struct Dispatch {
     pub queue: Id,
     pub hint: Hint,
 }
 
+impl Drop for Dispatch {
+    fn drop(self) {
+        let Dispatch { queue: _, hint: _ } = self;
+    }
+}
+
 /// A shard's content.
-#[derive(Drop)]
 pub struct Content {
     pub setup: Setup,
     pub runs: Items<Items<JournalEntry>>,
@@ -38,4 +60,19 @@ pub struct Content {
     pub dispatched: u64,
     pub last_moment: Moment,
     pub steps: u64,
+}
+
+impl Drop for Content {
+    fn drop(self) {
+        let Content {
+            setup: _,
+            runs: _,
+            outgoing: _,
+            accepted: _,
+            dispatches: _,
+            dispatched: _,
+            last_moment: _,
+            steps: _,
+        } = self;
+    }
 }

@@ -5,7 +5,6 @@ use wf_event_values::{
 };
 
 /// Starts a run.
-#[derive(Drop)]
 pub struct Start {
     pub workflow_id: Id,
     pub workflow_type: Text,
@@ -18,8 +17,23 @@ pub struct Start {
     pub task_timeout: Span,
 }
 
+impl Drop for Start {
+    fn drop(self) {
+        let Start {
+            workflow_id: _,
+            workflow_type: _,
+            task_queue: _,
+            input: _,
+            request_id: _,
+            reuse: _,
+            conflict: _,
+            run_timeout: _,
+            task_timeout: _,
+        } = self;
+    }
+}
+
 /// Signals a run.
-#[derive(Drop)]
 pub struct Signal {
     pub workflow_id: Id,
     pub run: Option<RunId>,
@@ -28,35 +42,82 @@ pub struct Signal {
     pub request_id: Option<Id>,
 }
 
+impl Drop for Signal {
+    fn drop(self) {
+        let Signal {
+            workflow_id: _,
+            run: _,
+            name: _,
+            input: _,
+            request_id: _,
+        } = self;
+    }
+}
+
 /// Signals the open run of an ID, or starts one and signals it.
-#[derive(Drop)]
 pub struct SignalWithStart {
     pub start: Start,
     pub name: Text,
     pub signal_input: Text,
 }
 
+impl Drop for SignalWithStart {
+    fn drop(self) {
+        let SignalWithStart {
+            start: _,
+            name: _,
+            signal_input: _,
+        } = self;
+    }
+}
+
 /// Asks a run to cancel.
-#[derive(Drop)]
 pub struct RequestCancel {
     pub workflow_id: Id,
     pub run: Option<RunId>,
     pub request_id: Option<Id>,
 }
 
+impl Drop for RequestCancel {
+    fn drop(self) {
+        let RequestCancel {
+            workflow_id: _,
+            run: _,
+            request_id: _,
+        } = self;
+    }
+}
+
 /// Terminates a run.
-#[derive(Drop)]
 pub struct Terminate {
     pub workflow_id: Id,
     pub run: Option<RunId>,
     pub reason: Text,
 }
 
+impl Drop for Terminate {
+    fn drop(self) {
+        let Terminate {
+            workflow_id: _,
+            run: _,
+            reason: _,
+        } = self;
+    }
+}
+
 /// Names a run to be read.
-#[derive(Drop)]
 pub struct Read {
     pub workflow_id: Id,
     pub run: Option<RunId>,
+}
+
+impl Drop for Read {
+    fn drop(self) {
+        let Read {
+            workflow_id: _,
+            run: _,
+        } = self;
+    }
 }
 
 /// A task that may wait to be taken.
@@ -79,28 +140,48 @@ pub struct TakenTask {
 }
 
 /// Completes a workflow task by commands.
-#[derive(Drop)]
 pub struct CompleteWorkflowTask {
     pub task: TakenTask,
     pub commands: Items<Command>,
 }
 
+impl Drop for CompleteWorkflowTask {
+    fn drop(self) {
+        let CompleteWorkflowTask {
+            task: _,
+            commands: _,
+        } = self;
+    }
+}
+
 /// Fails a workflow task.
-#[derive(Drop)]
 pub struct FailWorkflowTask {
     pub task: TakenTask,
     pub message: Text,
 }
 
+impl Drop for FailWorkflowTask {
+    fn drop(self) {
+        let FailWorkflowTask {
+            task: _,
+            message: _,
+        } = self;
+    }
+}
+
 /// Ends an activity's attempt, or reports on it, by a text.
-#[derive(Drop)]
 pub struct ActivityText {
     pub task: TakenTask,
     pub text: Text,
 }
 
+impl Drop for ActivityText {
+    fn drop(self) {
+        let ActivityText { task: _, text: _ } = self;
+    }
+}
+
 /// Fails an activity's attempt.
-#[derive(Drop)]
 pub struct FailActivity {
     pub task: TakenTask,
     pub message: Text,
@@ -108,15 +189,30 @@ pub struct FailActivity {
     pub non_retryable: bool,
 }
 
+impl Drop for FailActivity {
+    fn drop(self) {
+        let FailActivity {
+            task: _,
+            message: _,
+            error_type: _,
+            non_retryable: _,
+        } = self;
+    }
+}
+
 /// Counts on the transfers to a shard.
-#[derive(Drop)]
 pub struct Acknowledge {
     pub to: u16,
     pub number: u64,
 }
 
+impl Drop for Acknowledge {
+    fn drop(self) {
+        let Acknowledge { to: _, number: _ } = self;
+    }
+}
+
 /// What a shard serves.
-#[derive(Drop)]
 pub enum Operation {
     Start(Start),
     Signal(Signal),
@@ -127,16 +223,46 @@ pub enum Operation {
     Describe(Read),
 }
 
+impl Drop for Operation {
+    fn drop(self) {
+        match self {
+            Operation::Start(_) => {}
+            Operation::Signal(_) => {}
+            Operation::StartTask(_) => {}
+            Operation::CompleteWorkflowTask(_) => {}
+            Operation::FailWorkflowTask(_) => {}
+            Operation::History(_) => {}
+            Operation::Describe(_) => {}
+        }
+    }
+}
+
 /// A request, with the moment that it names.
-#[derive(Drop)]
 pub struct Request {
     pub at: Moment,
     pub operation: Operation,
 }
 
+impl Drop for Request {
+    fn drop(self) {
+        let Request {
+            at: _,
+            operation: _,
+        } = self;
+    }
+}
+
 /// A record's entry: which pass asked what.
-#[derive(Drop)]
 pub struct RecordEntry {
     pub pass: u8,
     pub request: Request,
+}
+
+impl Drop for RecordEntry {
+    fn drop(self) {
+        let RecordEntry {
+            pass: _,
+            request: _,
+        } = self;
+    }
 }

@@ -5,7 +5,6 @@ ghost use Rattle.std.specs.Prelude.{◌≡◌};
 use wf_event_values::{Id, ParentClosePolicy, ReusePolicy, RunId, Span, Status, Text};
 
 /// Starts a child.
-#[derive(Drop)]
 pub struct StartChildTransfer {
     pub parent_run: RunId,
     pub initiated: u64,
@@ -18,23 +17,55 @@ pub struct StartChildTransfer {
     pub task_timeout: Span,
 }
 
+impl Drop for StartChildTransfer {
+    fn drop(self) {
+        let StartChildTransfer {
+            parent_run: _,
+            initiated: _,
+            workflow_id: _,
+            workflow_type: _,
+            task_queue: _,
+            input: _,
+            reuse: _,
+            run_timeout: _,
+            task_timeout: _,
+        } = self;
+    }
+}
+
 /// A child was started.
-#[derive(Drop)]
 pub struct ChildStarted {
     pub parent_run: RunId,
     pub initiated: u64,
     pub run: RunId,
 }
 
+impl Drop for ChildStarted {
+    fn drop(self) {
+        let ChildStarted {
+            parent_run: _,
+            initiated: _,
+            run: _,
+        } = self;
+    }
+}
+
 /// A child was not started.
-#[derive(Drop)]
 pub struct ChildStartFailed {
     pub parent_run: RunId,
     pub initiated: u64,
 }
 
+impl Drop for ChildStartFailed {
+    fn drop(self) {
+        let ChildStartFailed {
+            parent_run: _,
+            initiated: _,
+        } = self;
+    }
+}
+
 /// A child closed.
-#[derive(Drop)]
 pub struct ChildClosed {
     pub parent_run: RunId,
     pub initiated: u64,
@@ -43,8 +74,19 @@ pub struct ChildClosed {
     pub text: Text,
 }
 
+impl Drop for ChildClosed {
+    fn drop(self) {
+        let ChildClosed {
+            parent_run: _,
+            initiated: _,
+            run: _,
+            status: _,
+            text: _,
+        } = self;
+    }
+}
+
 /// The parent closed.
-#[derive(Drop)]
 pub struct CloseChild {
     pub parent_run: RunId,
     pub initiated: u64,
@@ -52,8 +94,18 @@ pub struct CloseChild {
     pub policy: ParentClosePolicy,
 }
 
+impl Drop for CloseChild {
+    fn drop(self) {
+        let CloseChild {
+            parent_run: _,
+            initiated: _,
+            workflow_id: _,
+            policy: _,
+        } = self;
+    }
+}
+
 /// A signal to another workflow.
-#[derive(Drop)]
 pub struct SignalExternalTransfer {
     pub from_run: RunId,
     pub initiated: u64,
@@ -63,13 +115,36 @@ pub struct SignalExternalTransfer {
     pub input: Text,
 }
 
+impl Drop for SignalExternalTransfer {
+    fn drop(self) {
+        let SignalExternalTransfer {
+            from_run: _,
+            initiated: _,
+            workflow_id: _,
+            run: _,
+            name: _,
+            input: _,
+        } = self;
+    }
+}
+
 /// A request to another workflow to cancel.
-#[derive(Drop)]
 pub struct CancelExternalTransfer {
     pub from_run: RunId,
     pub initiated: u64,
     pub workflow_id: Id,
     pub run: Option<RunId>,
+}
+
+impl Drop for CancelExternalTransfer {
+    fn drop(self) {
+        let CancelExternalTransfer {
+            from_run: _,
+            initiated: _,
+            workflow_id: _,
+            run: _,
+        } = self;
+    }
 }
 
 /// Which external request is answered.
@@ -80,7 +155,6 @@ pub enum ExternalKind {
 }
 
 /// An external request was done or failed.
-#[derive(Drop)]
 pub struct ExternalDoneTransfer {
     pub to_run: RunId,
     pub initiated: u64,
@@ -88,8 +162,18 @@ pub struct ExternalDoneTransfer {
     pub done: bool,
 }
 
+impl Drop for ExternalDoneTransfer {
+    fn drop(self) {
+        let ExternalDoneTransfer {
+            to_run: _,
+            initiated: _,
+            kind: _,
+            done: _,
+        } = self;
+    }
+}
+
 /// What a transfer says.
-#[derive(Drop)]
 pub enum TransferContent {
     StartChild(StartChildTransfer),
     ChildStarted(ChildStarted),
@@ -101,12 +185,36 @@ pub enum TransferContent {
     ExternalDone(ExternalDoneTransfer),
 }
 
+impl Drop for TransferContent {
+    fn drop(self) {
+        match self {
+            TransferContent::StartChild(_) => {}
+            TransferContent::ChildStarted(_) => {}
+            TransferContent::ChildStartFailed(_) => {}
+            TransferContent::ChildClosed(_) => {}
+            TransferContent::CloseChild(_) => {}
+            TransferContent::SignalExternal(_) => {}
+            TransferContent::CancelExternal(_) => {}
+            TransferContent::ExternalDone(_) => {}
+        }
+    }
+}
+
 /// A transfer under its number between two shards.
-#[derive(Drop)]
 pub struct Transfer {
     pub from: u16,
     pub number: u64,
     pub content: TransferContent,
+}
+
+impl Drop for Transfer {
+    fn drop(self) {
+        let Transfer {
+            from: _,
+            number: _,
+            content: _,
+        } = self;
+    }
 }
 
 impl Transfer {

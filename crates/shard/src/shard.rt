@@ -19,7 +19,6 @@ use std::marker::Model;
 use wf_event_values::Moment;
 
 /// A shard of a workflow service.
-#[derive(Drop)]
 pub struct Shard {
     pub(crate) alloc: Global,
     pub(crate) setup: Setup,
@@ -27,6 +26,18 @@ pub struct Shard {
     /// The place of each workflow ID's latest run.
     pub(crate) index: IndexMap<String, usize>,
     pub(crate) last: Moment,
+}
+
+impl Drop for Shard {
+    fn drop(self) {
+        let Shard {
+            alloc: _,
+            setup: _,
+            runs: _,
+            index: _,
+            last: _,
+        } = self;
+    }
 }
 
 impl Model for Shard {

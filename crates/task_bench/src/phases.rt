@@ -41,7 +41,7 @@ pub(crate) fn start_all(
 {
     for number in 0..count {
         let asked = start(alloc, number)?;
-        match answered(service.try_start(pass, asked, Moment::zero()))? {
+        match &answered(service.try_start(pass, asked, Moment::zero()))? {
             Answer::Started(_) => {}
             _ => return Err(unexpected()),
         }
@@ -56,7 +56,7 @@ pub(crate) fn take_all(service: &Service, pass: &mut Pass, count: u64) -> io::Re
 {
     for number in 0..count {
         let hint = first_task(number.saturating_add(1));
-        match answered(service.try_start_task(pass, hint, Moment::zero()))? {
+        match &answered(service.try_start_task(pass, hint, Moment::zero()))? {
             Answer::WorkflowTask(_) => {}
             _ => return Err(unexpected()),
         }
@@ -76,7 +76,7 @@ pub(crate) fn complete_all(
 {
     for number in 0..count {
         let asked = completion(alloc, number.saturating_add(1))?;
-        match answered(service.try_complete_workflow_task(pass, asked, Moment::zero()))? {
+        match &answered(service.try_complete_workflow_task(pass, asked, Moment::zero()))? {
             Answer::Completed => {}
             _ => return Err(unexpected()),
         }

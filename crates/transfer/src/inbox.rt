@@ -20,9 +20,14 @@ pub enum Delivery {
 }
 
 /// How many transfers a shard accepted from each source, by the source's number.
-#[derive(Drop)]
 pub struct Inbox {
     accepted: Vec<u64>,
+}
+
+impl Drop for Inbox {
+    fn drop(self) {
+        let Inbox { accepted: _ } = self;
+    }
 }
 
 impl Model for Inbox {

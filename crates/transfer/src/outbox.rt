@@ -12,9 +12,14 @@ use std::alloc::{AllocError, Global};
 use std::marker::Model;
 
 /// All transfers that a shard ever issued to each destination, by the destination's number, and how many of them are acknowledged.
-#[derive(Drop)]
 pub struct Outbox {
     logs: Vec<IssueLog<TransferContent>>,
+}
+
+impl Drop for Outbox {
+    fn drop(self) {
+        let Outbox { logs: _ } = self;
+    }
 }
 
 impl Model for Outbox {
