@@ -1,10 +1,9 @@
 //! Lines as calls of the service.
 
-ghost use Rattle.std.specs.Prelude.{◌≡◌};
 ghost use Rattle.service.specs.Services.{IsPassOf};
 
 use crate::case::{Case, Step};
-use crate::transcript::{push_line, transcript};
+use crate::transcript::transcript;
 use script::LINE_LIMIT;
 use script_settings::settings_of;
 use service::{Pass, Service};
@@ -28,6 +27,7 @@ pub(crate) enum Call {
 /// A service with a pass of it.
 #[derive(Drop)]
 struct Opened {
+    settings: Settings,
     service: Service,
     pass: Pass,
     ghost own: { IsPassOf pass service },
@@ -40,50 +40,46 @@ impl Opened {
         let Some(pass) = passes.pop() else {
             return Err(Refusal::Busy);
         };
-        Ok(Opened { service, pass })
+        Ok(Opened {
+            settings: *settings,
+            service,
+            pass,
+        })
     }
 
-    /// The reply of the call that a request stands for, in the form that may wait. None for want of
-    /// memory.
-    fn reply<R: Wait>(&mut self, rt: &R, request: Request) -> Option<Reply> {
-        let Request { at, operation } = request;
-        let pass = &mut self.pass;
-        match operation {
-            Operation::Start(asked) => self.service.start(rt, pass, asked, at).ok(),
-            Operation::Signal(asked) => self.service.signal(rt, pass, asked, at).ok(),
-            Operation::StartTask(hint) => self.service.start_task(rt, pass, hint, at).ok(),
-            Operation::CompleteWorkflowTask(asked) => {
-                self.service
-                    .complete_workflow_task(rt, pass, asked, at)
-                    .ok()
-            }
-            Operation::FailWorkflowTask(asked) => {
-                self.service.fail_workflow_task(rt, pass, asked, at).ok()
-            }
-            Operation::History(asked) => self.service.history(rt, pass, asked, at).ok(),
-            Operation::Describe(asked) => self.service.describe(rt, pass, asked, at).ok(),
-        }
+    /// The reply of a call. With one pass no other one is ever on a shard, so only memory can be
+    /// what it lacks.
+    fn reply<R: Wait>(
+        &mut self,
+        rt: &R,
+        call: Call,
+        request: Request,
+    ) -> Result<Reply, AllocError> {
+        let reply = match call {
+            Call::MayWait => self.service.serve(rt, &mut self.pass, request).ok(),
+            Call::NeverWaits => self.service.try_serve(&mut self.pass, request).ok(),
+        };
+        reply.ok_or(AllocError)
     }
 
-    /// The reply of the call that a request stands for, in the form that never waits. None for want
-    /// of memory, or where another pass is on the shard.
-    fn reply_now(&mut self, request: Request) -> Option<Reply> {
-        let Request { at, operation } = request;
-        let pass = &mut self.pass;
-        match operation {
-            Operation::Start(asked) => self.service.try_start(pass, asked, at).ok(),
-            Operation::Signal(asked) => self.service.try_signal(pass, asked, at).ok(),
-            Operation::StartTask(hint) => self.service.try_start_task(pass, hint, at).ok(),
-            Operation::CompleteWorkflowTask(asked) => {
-                self.service
-                    .try_complete_workflow_task(pass, asked, at)
-                    .ok()
-            }
-            Operation::FailWorkflowTask(asked) => {
-                self.service.try_fail_workflow_task(pass, asked, at).ok()
-            }
-            Operation::History(asked) => self.service.try_history(pass, asked, at).ok(),
-            Operation::Describe(asked) => self.service.try_describe(pass, asked, at).ok(),
+    /// What is answered to a step, or nothing where it asks nothing.
+    fn answer<R: AllocGlobal + Wait>(
+        &mut self,
+        rt: &R,
+        call: Call,
+        step: &Step,
+    ) -> Result<Option<Reply>, AllocError> {
+        let asked = match step {
+            Step::Line(line) => asked(rt.alloc(), &self.settings, line),
+            Step::StartTask { hint, at } => Ok(Request {
+                at: *at,
+                operation: Operation::StartTask(*hint),
+            }),
+            Step::Skip => return Ok(None),
+        };
+        match asked {
+            Ok(request) => Ok(Some(self.reply(rt, call, request)?)),
+            Err(refusal) => Ok(Some(Err(refusal))),
         }
     }
 }
@@ -100,56 +96,38 @@ fn asked(alloc: Global, settings: &Settings, line: &[u8]) -> Result<Request, Ref
     Ok(request)
 }
 
-/// What a step asks. None where it asks nothing.
-fn asked_by(
-    alloc: Global,
-    settings: &Settings,
-    step: &Step,
-) -> Option<Result<Request, Refusal>> {
-    match step {
-        Step::Line(line) => Some(asked(alloc, settings, line)),
-        Step::StartTask { hint, at } => Some(Ok(Request {
-            at: *at,
-            operation: Operation::StartTask(*hint),
-        })),
-        Step::Skip => None,
+/// The service that a case's command line opens, or nothing where the case can't be run by calls:
+/// its lines stand in a file, its standard output gets full, or no service is opened.
+fn opened_for(alloc: Global, case: &Case) -> Option<Opened> {
+    if case.room().is_some() {
+        return None;
+    }
+    match settings_of(alloc, case.words()) {
+        Ok((settings, None)) => Opened::open(alloc, &settings).ok(),
+        _ => None,
     }
 }
 
-/// The replies of the calls, one after another, or nothing where the case can't be run by calls: its
-/// lines stand in a file, its standard output gets full, or no service is opened.
+/// What the calls answer, or nothing where the case can't be run by calls.
 pub(crate) fn by_calls<R: AllocGlobal + Wait>(
     rt: &R,
     case: &Case,
     call: Call,
 ) -> io::Result<Option<String>> {
     let alloc = rt.alloc();
-    if case.room().is_some() {
-        return Ok(None);
-    }
-    let Ok((settings, None)) = settings_of(alloc, case.words()) else {
-        return Ok(None);
-    };
-    let Ok(mut opened) = Opened::open(alloc, &settings) else {
+    let Some(mut opened) = opened_for(alloc, case) else {
         return Ok(None);
     };
     let mut output = String::new(alloc);
     let mut refused = false;
     for (place, step) in case.steps().iter().enumerate() {
-        let Some(asked) = asked_by(alloc, &settings, step) else {
+        let Some(reply) = opened.answer(rt, call, step)? else {
             continue;
-        };
-        let reply = match (asked, call) {
-            (Err(refusal), _) => Some(Err(refusal)),
-            (Ok(request), Call::MayWait) => opened.reply(rt, request),
-            (Ok(request), Call::NeverWaits) => opened.reply_now(request),
-        };
-        let Some(reply) = reply else {
-            return Err(io::Error::from(AllocError));
         };
         refused |= reply.is_err();
         let number = (place as u64).saturating_add(1);
         output.push_str(reply_text(alloc, number, &reply)?.as_str())?;
     }
-    Ok(Some(transcript(alloc, output.as_bytes(), b"", u8::from(refused))?))
+    let status = u8::from(refused);
+    Ok(Some(transcript(alloc, output.as_bytes(), b"", status)?))
 }

@@ -44,5 +44,8 @@ pub(crate) fn first_difference<'a>(wanted: &'a str, got: &'a str) -> Option<(&'a
             return Some((wanted_line, got_line));
         }
     }
-    got_lines.next().map(|line| ("", line))
+    match got_lines.next() {
+        Some(got_line) => Some(("", got_line)),
+        None => None,
+    }
 }

@@ -73,12 +73,15 @@ fn child_end(alloc: Global, said: &str) -> io::Result<ChildEndText> {
     })
 }
 
-fn print_ends<R: Print + AllocGlobal>(rt: &R) -> io::Result<()> {
-    let alloc = rt.alloc();
-    let stop = ChildEnd {
+fn stop() -> ChildEnd {
+    ChildEnd {
         initiated: 5,
         run: run(2),
-    };
+    }
+}
+
+fn print_ends<R: Print + AllocGlobal>(rt: &R) -> io::Result<()> {
+    let alloc = rt.alloc();
     let completed = child_end(alloc, "y")?;
     print_event(
         rt,
@@ -95,8 +98,13 @@ fn print_ends<R: Print + AllocGlobal>(rt: &R) -> io::Result<()> {
         8,
         Attributes::ChildWorkflowExecutionCanceled(canceled),
     )?;
-    print_event(rt, 0, 8, Attributes::ChildWorkflowExecutionTimedOut(stop))?;
-    print_event(rt, 0, 8, Attributes::ChildWorkflowExecutionTerminated(stop))
+    print_event(rt, 0, 8, Attributes::ChildWorkflowExecutionTimedOut(stop()))?;
+    print_event(
+        rt,
+        0,
+        8,
+        Attributes::ChildWorkflowExecutionTerminated(stop()),
+    )
 }
 
 fn signal(alloc: Global, run: Option<RunId>) -> io::Result<Attributes> {

@@ -1,10 +1,10 @@
 //! Vectors of waits and verdicts.
 
-use crate::{Ended, RetryPolicy, Verdict};
+use retry::{Ended, RetryPolicy, Verdict};
 use std::alloc::{AllocError, Global};
 use std::test::Fail;
 use wf_event::payloads::PolicyFields;
-use wf_event_values::{Cause, Field, Items, Moment, Text};
+use wf_event_values::{Field, Items, Moment, Text};
 
 fn fields(alloc: Global, initial: u64, factor: u64, maximum: u64) -> PolicyFields {
     PolicyFields {
@@ -51,46 +51,37 @@ fn waits(rt: HostRuntime) {
     }
 }
 
-#[test]
-fn refuses_numbers_out_of_range(rt: HostRuntime) {
-    let vectors = [
-        (0, 2, 0),
-        (1_000_000_000_001, 2, 0),
-        (1000, 0, 0),
-        (1000, 1001, 0),
-        (1000, 2, 999),
-        (1000, 2, 1_000_000_000_001),
-    ];
-    for (initial, factor, maximum) in vectors {
-        let policy = RetryPolicy::new(fields(rt.alloc(), initial, factor, maximum));
-        assert!(rt;
-            matches!(policy, Err(Cause::BadScheduleActivityAttributes)),
-            "{initial} {factor} {maximum}"
-        );
-    }
-}
-
 /// So many empty texts.
 fn texts(alloc: Global, count: u32) -> Result<Items<Text>, AllocError> {
     let mut texts = Vec::new(alloc);
-    for _text in 0..count {
+    for _ in 0..count {
         texts.push(Text::empty(alloc))?;
     }
     Ok(Items::from_vec(texts))
 }
 
 #[test]
-fn refuses_too_many_attempts_and_types(rt: HostRuntime) -> Result<(), Fail> {
+fn policies_by_their_ranges(rt: HostRuntime) -> Result<(), Fail> {
     let vectors = [
-        (4_294_967_295, 100, true),
-        (4_294_967_296, 100, false),
-        (0, 101, false),
+        (0, 2, 0, 0, 0, false),
+        (1_000_000_000_001, 2, 0, 0, 0, false),
+        (1000, 0, 0, 0, 0, false),
+        (1000, 1001, 0, 0, 0, false),
+        (1000, 2, 999, 0, 0, false),
+        (1000, 2, 1_000_000_000_001, 0, 0, false),
+        (1000, 2, 0, 4_294_967_296, 100, false),
+        (1000, 2, 0, 0, 101, false),
+        (1, 1000, 1, 4_294_967_295, 100, true),
     ];
-    for (attempts, types, is_good) in vectors {
-        let mut fields = fields(rt.alloc(), 1000, 2, 0);
+    for (initial, factor, maximum, attempts, types, is_good) in vectors {
+        let mut fields = fields(rt.alloc(), initial, factor, maximum);
         fields.attempts = attempts;
         fields.non_retryable = texts(rt.alloc(), types)?;
-        assert_eq!(rt; RetryPolicy::new(fields).is_ok(), is_good);
+        assert_eq!(rt;
+            RetryPolicy::new(fields).is_ok(),
+            is_good,
+            "{initial} {factor} {maximum} {attempts} {types}"
+        );
     }
     Ok(())
 }

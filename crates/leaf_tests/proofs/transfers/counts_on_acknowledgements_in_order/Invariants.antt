@@ -1,5 +1,5 @@
 use Rattle.std.proofs.Common.{◌≡◌, length}
-use Rattle.transfer.proofs.tests.counts_on_acknowledgements_in_order.Given as goal
+use Rattle.leaf_tests.proofs.transfers.counts_on_acknowledgements_in_order.Given as goal
 
 abbrev pub invariant-loop-initiated : goal.invariant-loop-initiated
 invariant-loop-initiated g l = length l.outbox ≡ 2

@@ -1,6 +1,6 @@
 //! The table of decisions.
 
-use crate::{Decision, Latest, decide};
+use id_policy::{Decision, Latest, decide};
 use std::test::Fail;
 use wf_event_values::{ConflictPolicy, Field, Id, ReusePolicy, Status};
 

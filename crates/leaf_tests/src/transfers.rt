@@ -2,10 +2,10 @@
 
 ghost use Rattle.std.specs.Prelude.{◌<◌, length};
 
-use crate::{Delivery, Inbox, Outbox};
 use service_model::answer::Acknowledged;
 use service_model::transfer::{ChildStartFailed, Transfer, TransferContent};
 use std::test::Fail;
+use transfer::{Delivery, Inbox, Outbox};
 use wf_event_values::RunId;
 
 fn content(initiated: u64) -> TransferContent {

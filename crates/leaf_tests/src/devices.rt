@@ -1,7 +1,7 @@
 //! Devices that fail in the middle of a text.
 
-use crate::{Counted, read_some, write_whole};
 use std::io::{self, Error, ErrorKind, Read, Write};
+use wire_counted::{Counted, read_some, write_whole};
 
 /// Takes or gives three bytes a call at most; each second call is interrupted.
 #[derive(Drop)]
