@@ -6,9 +6,9 @@ use Rattle.atomic_table.specs.Table.{rest, Allows, step}
 use Rattle.gate.specs.declared.view.Origin.{Origin}
 use Rattle.gate.proofs.Leaves.{backs_out}
 use Rattle.gate.proofs.Lists.{slice_of}
-use Rattle.gate.proofs.Growth.{at_nils, at_zeros, begins_longer, past_append, past_longer, by-append, by_own, given-append, at-longest, longer_first, longer_second}
+use Rattle.gate.proofs.Growth.{at_nils, at_zeros, begins_longer, kept-since, past_append, past_longer, by-append, by_own, given-append, at-longest, longer_first, longer_second}
 use Rattle.gate.specs.declared.view.View.{View}
-use Rattle.gate.specs.Records.{Begins, past, by, FromGiven, replay}
+use Rattle.gate.specs.Records.{Begins, past, by, FromGiven, KeepsAll, replay}
 use Rattle.gate.specs.Gated.{Lying, IsGated, at}
 use Rattle.gate.specs.Plays.{Sat, fresh, Found, FoundOther, within, turned_away, recorded, backed_out, longer, longest}
 use Rattle.gate.specs.Passes.{seen, mine, base, IsFresh, Stepped, TurnedAway, Agree}
@@ -43,14 +43,14 @@ module _ {Q C : Type 0} where
   backs_from o slots id k v y {m} is l kind in_k start log = subst (λ (z : Sat Q C). Allows (IsGated o) slots id z k (λ _. 0) (λ _. backed_out (step slots k 0 0 none) z 0)) (sym is)
       (backs_out o slots id k (v, (k, Some y) ∷ []) y refl l kind in_k start log)
 
-  module _ {R : Type 0} (after : C → Q → C) (answer : C → Q → R) where
-    pub served_of : (v : View Q C) (m : Sat Q C) (s : ℕ) (q : Q) (r : R) → Inside after answer v m s q r → Served m s
+  module _ {R : Type 0} (after : C → Q → C) (answer : C → Q → R) (keeps : C → C → Type 0) where
+    pub served_of : (v : View Q C) (m : Sat Q C) (s : ℕ) (q : Q) (r : R) → Inside after answer keeps v m s q r → Served m s
     served_of v m s q r h = subst (λ (z : Sat Q C). Served z s) (sym h.me) (h.start, q, refl, h.found.start)
 
     -- a step, from what its enter found
     stepped_at : (v : View Q C) (s : ℕ) (q : Q) (r : R) (start : C) (front : List (ℕ × Q)) → Found v s (start, front) → r ≡ answer (replay after start front) q
-        → Stepped after answer v (recorded (within v s front) s (front ++ (v.number, q) ∷ [])) s q r
-    stepped_at v s q r start front found reply =
+        → KeepsAll after keeps start (front ++ (v.number, q) ∷ []) → Stepped after answer keeps v (recorded (within v s front) s (front ++ (v.number, q) ∷ [])) s q r
+    stepped_at v s q r start front found reply kept =
         let e : ℕ × Q = (v.number, q) in let log : List (ℕ × Q) = front ++ e ∷ [] in let w : View Q C = recorded (within v s front) s log in
         let last : seen w s ≡ log = get_or-set_same v.seen s log [] found.widths.0 in
         let more : List (ℕ × Q) = mine v s ++ past front log in
@@ -72,17 +72,18 @@ module _ {Q C : Type 0} where
           start = start;
           opened = slice_of v.origin.starts s start found.start;
           reply = reply;
+          kept = let (rest, is) = begins_longer (seen v s) front (e ∷ []) found.seen in subst (λ (z : List (ℕ × Q)). keeps (replay after start (seen v s)) (replay after start z)) (sym last) (kept-since after keeps start log (seen v s) rest is kept);
         }
 
-    pub stepped_of : (v : View Q C) (m m' : Sat Q C) (s : ℕ) (q : Q) (r : R) → Inside after answer v m s q r
-        → ((start : C) (log : List (ℕ × Q)) → m.1 ≡ (s, Some (start, log)) ∷ [] → m'.0 ≡ recorded m.0 s log) → Stepped after answer v m'.0 s q r
+    pub stepped_of : (v : View Q C) (m m' : Sat Q C) (s : ℕ) (q : Q) (r : R) → Inside after answer keeps v m s q r
+        → ((start : C) (log : List (ℕ × Q)) → m.1 ≡ (s, Some (start, log)) ∷ [] → m'.0 ≡ recorded m.0 s log) → Stepped after answer keeps v m'.0 s q r
     stepped_of v m m' s q r h left =
         let e : ℕ × Q = (v.number, q) in
         let now : m'.0 ≡ recorded (within v s h.front) s (h.front ++ e ∷ []) = left h.start (h.front ++ e ∷ []) (ap (λ (z : Sat Q C). z.1) h.me) ∙ ap (λ (z : Sat Q C). recorded z.0 s (h.front ++ e ∷ [])) h.me in
-        subst (λ (w : View Q C). Stepped after answer v w s q r) (sym now) (stepped_at v s q r h.start h.front h.found h.reply)
+        subst (λ (w : View Q C). Stepped after answer keeps v w s q r) (sym now) (stepped_at v s q r h.start h.front h.found h.reply h.kept)
 
     -- the seat afterwards is the pass's, in no slot
-    pub idle_of : (v : View Q C) (m m' : Sat Q C) (s number : ℕ) (q : Q) (r : R) → v.kind ≡ 1 → v.number ≡ number → Inside after answer v m s q r
+    pub idle_of : (v : View Q C) (m m' : Sat Q C) (s number : ℕ) (q : Q) (r : R) → v.kind ≡ 1 → v.number ≡ number → Inside after answer keeps v m s q r
         → ((start : C) (log : List (ℕ × Q)) → m.1 ≡ (s, Some (start, log)) ∷ [] → m'.0 ≡ recorded m.0 s log) → (m'.0.kind ≡ 1) × (m'.0.number ≡ number) × (m'.0.inside ≡ 0)
     idle_of v m m' s number q r kind is h left =
         let e : ℕ × Q = (v.number, q) in
@@ -94,7 +95,7 @@ module _ {Q C : Type 0} where
     log_in d _ = d
 
     -- a step whose pass has not left yet
-    pub held_step : (v : View Q C) (m : Sat Q C) (s : ℕ) (q : Q) (r : R) (y : Lying Q C) → Inside after answer v m s q r → m.1 ≡ (s, Some y) ∷ [] → Stepped after answer v (recorded m.0 s y.1) s q r
+    pub held_step : (v : View Q C) (m : Sat Q C) (s : ℕ) (q : Q) (r : R) (y : Lying Q C) → Inside after answer keeps v m s q r → m.1 ≡ (s, Some y) ∷ [] → Stepped after answer keeps v (recorded m.0 s y.1) s q r
     held_step v m s q r y h hand = stepped_of v m (recorded m.0 s y.1, []) s q r h (λ start log e. ap (recorded m.0 s) (ap (log_in []) (sym hand ∙ e)))
 
   -- both have seen the longer of what they had seen

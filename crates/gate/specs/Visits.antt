@@ -3,17 +3,18 @@ use Rattle.std.specs.Prelude.{◌≡◌, ℕ, List, [], ◌∷◌, ◌++◌, Som
 use mathlib.Core.Option.{some}
 use lib.ListN.{get_elem?}
 use Rattle.gate.specs.declared.view.View.{View}
-use Rattle.gate.specs.Records.{replay}
+use Rattle.gate.specs.Records.{replay, KeepsAll}
 use Rattle.gate.specs.Plays.{Sat, Found, within}
 
 module _ {Q C : Type 0} where
   -- the seat is inside slot s, and the request is served
-  pub record Inside {R : Type 0} (after : C → Q → C) (answer : C → Q → R) (v : View Q C) (m : Sat Q C) (s : ℕ) (q : Q) (r : R) : Type 0 where
+  pub record Inside {R : Type 0} (after : C → Q → C) (answer : C → Q → R) (keeps : C → C → Type 0) (v : View Q C) (m : Sat Q C) (s : ℕ) (q : Q) (r : R) : Type 0 where
     pub start : C
     pub front : List (ℕ × Q)
     pub me : m ≡ (within v s front, (s, Some (start, front ++ (v.number, q) ∷ [])) ∷ [])
     pub found : Found v s (start, front)
     pub reply : r ≡ answer (replay after start front) q
+    pub kept : KeepsAll after keeps start (front ++ (v.number, q) ∷ [])
 
   -- the seat has slot s in hand, with one entry of its own more than it found
   abbrev pub Served : Sat Q C → ℕ → Type 0

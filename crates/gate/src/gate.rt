@@ -1,6 +1,6 @@
 //! The gate itself, and the steps on it that end at once.
 ghost use Rattle.std.specs.Prelude.{◌≡◌, ℕ, ◌<◌, ◌≤◌, Some, length, slice_get, vec_capacity, IfOk, IfErr};
-ghost use Rattle.gate.specs.Records.{replay};
+ghost use Rattle.gate.specs.Records.{KeepsAll, replay};
 ghost use Rattle.gate.specs.Passes.{view, number, IsFresh, Refuses, Stepped, SteppedAt, Waited};
 
 use crate::object::{Object, Refused};
@@ -44,6 +44,7 @@ impl<O: Object> Gate<O> {
         requires slots { (1 ≤ length objects.items) × (length objects.items ≤ 64) }
         requires passes { (1 ≤ passes) × (passes ≤ 256) }
         requires standing { (k : ℕ) (x : _) → slice_get objects.items k ≡ Some x → O.stands x.0 (replay O.after (O.opening x.0) x.1) }
+        requires keeping { (k : ℕ) (x : _) → slice_get objects.items k ≡ Some x → KeepsAll O.after O.keeps (O.opening x.0) x.1 }
         ensures slots { IfOk result (λ r. slots r.0 ≡ length objects.items) }
         ensures opened { IfOk result (λ r. opened r.0 ≡ objects.items) }
         ensures given { IfOk result (λ r. (given r.0 ≡ passes) × (length r.1.items ≡ passes)) }
@@ -80,7 +81,7 @@ impl<O: Object> Gate<O> {
         requires slot { slot < slots self.now }
         ensures own { IsPassOf pass.new self.now }
         ensures named { number (view pass.new) ≡ number (view pass.old) }
-        ensures ok { IfOk result (λ r. Stepped O.after O.answer (view pass.old) (view pass.new) slot request r) }
+        ensures ok { IfOk result (λ r. Stepped O.after O.answer O.keeps (view pass.old) (view pass.new) slot request r) }
         ensures back { IfErr result (λ e. e.1 ≡ request) }
         ensures err { IfErr result (λ e. Refuses e.0 (view pass.old) (view pass.new) slot) }
     {
@@ -104,7 +105,7 @@ impl<O: Object> Gate<O> {
         requires slot { slot < slots self.now }
         ensures own { IsPassOf pass.new self.now }
         ensures named { number (view pass.new) ≡ number (view pass.old) }
-        ensures ok { IfOk result (λ r. SteppedAt O.after O.answer (view pass.old) (view pass.new) slot request r) }
+        ensures ok { IfOk result (λ r. SteppedAt O.after O.answer O.keeps (view pass.old) (view pass.new) slot request r) }
         ensures back { IfErr result (λ e. e.1 ≡ request) }
         ensures err { IfErr result (λ _. Waited (view pass.old) (view pass.new) slot) }
     {

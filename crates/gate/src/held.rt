@@ -47,7 +47,7 @@ impl<O: Object> Gate<O> {
         requires own { IsPassOf pass self.now }
         requires slot { slot < slots self.now }
         ensures own { IfOk result (λ h. IsHeldBy O.opening h self.entry.now) }
-        ensures ok { IfOk result (λ h. Stepped O.after O.answer (view pass) (leaving h) slot request (promised h)) }
+        ensures ok { IfOk result (λ h. Stepped O.after O.answer O.keeps (view pass) (leaving h) slot request (promised h)) }
         ensures back { IfErr result (λ e. IsPassOf e.1 self.entry.now × (e.2 ≡ request)) }
         ensures err { IfErr result (λ e. Refuses e.0 (view pass) (view e.1) slot) }
     {

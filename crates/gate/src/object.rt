@@ -38,6 +38,9 @@ pub trait Object: Drop {
     // The content after a request.
     ghost after: { Self.Content → Self.Request → Self.Content };
 
+    // What every content keeps of each one before it: a relation from the earlier to the later.
+    ghost keeps: { Self.Content → Self.Content → Type 0 };
+
     // The object is ready to do, by this plan, what the request asks at the content.
     ghost ready: { Self → Self.Content → Self.Request → Self.Plan → Type 0 };
 
@@ -56,5 +59,12 @@ pub trait Object: Drop {
         requires { (c : Self.Content) × (q : Self.Request) × ready self.old c q plan }
         ensures opening { opening self.new ≡ opening self.old }
         ensures stands { (c : Self.Content) (q : Self.Request) → ready self.old c q plan → stands self.new (after c q) }
-        ensures reply { (c : Self.Content) (q : Self.Request) → ready self.old c q plan → result ≡ answer c q };
+        ensures reply { (c : Self.Content) (q : Self.Request) → ready self.old c q plan → result ≡ answer c q }
+        ensures keeps { (c : Self.Content) (q : Self.Request) → ready self.old c q plan → keeps c (after c q) };
+
+    // A content keeps all of itself.
+    ghost keeps_same: { (c : Self.Content) → keeps c c };
+
+    // What is kept of one that is kept is kept.
+    ghost keeps_on: { (a b c : Self.Content) → keeps a b → keeps b c → keeps a c };
 }

@@ -2,7 +2,7 @@
 ghost use Rattle.std.specs.Prelude.{◌≡◌, ℕ, ◌<◌, ◌≤◌, Some, map, slice_get, vec_len, vec_capacity, IfOk};
 ghost use Rattle.gate.specs.Plays.{maker as making, fresh};
 ghost use Rattle.gate.specs.Passes.{view};
-ghost use Rattle.gate.specs.Records.{replay};
+ghost use Rattle.gate.specs.Records.{KeepsAll, replay};
 
 use crate::object::Object;
 use crate::pass::Pass;
@@ -16,7 +16,8 @@ pub(crate) fn lay_slots<O: Object>(
     alloc: Global,
     objects: Vec<(O, Record<O::Request>)>,
 ) -> Result<Vec<Option<Slot<O>>>, AllocError>
-    requires { (k : ℕ) (x : _) → slice_get objects.items k ≡ Some x → O.stands x.0 (replay O.after (O.opening x.0) x.1) }
+    requires standing { (k : ℕ) (x : _) → slice_get objects.items k ≡ Some x → O.stands x.0 (replay O.after (O.opening x.0) x.1) }
+    requires keeping { (k : ℕ) (x : _) → slice_get objects.items k ≡ Some x → KeepsAll O.after O.keeps (O.opening x.0) x.1 }
     ensures { IfOk result (λ v. v.items ≡ map (λ x. Some (O.opening x.0, x.1)) objects.items) }
 {
     let mut slots = Vec::new(alloc);

@@ -44,6 +44,13 @@ impl Object for Counter {
 
     ghost after = { λ c q. (c + q) % 2 ^ 64 };
 
+    // A sum that wraps keeps nothing of an earlier one.
+    ghost keeps = { λ _ _. Unit {0} };
+
+    ghost keeps_same = { λ _. tt };
+
+    ghost keeps_on = { λ _ _ _ _ _. tt };
+
     ghost ready = { λ s c q plan. (s.value ≡ c) × (plan ≡ q) };
 
     fn prepare(&mut self, request: &u64) -> Result<u64, AllocError> {

@@ -10,16 +10,25 @@ use clap::{Arg, ArgMatches, Command, Error};
 use service_model::settings::Settings;
 use std::alloc::{AllocError, Global};
 
-/// One more option with a value.
+const ABOUT: &str = "Serves a workflow service's calls: a JSON line in, a reply line out.";
+
+const SHARDS: &str = "How many shards keep the workflows: 1 to 64, 1 by default";
+
+const SERVICE: &str = "The service's number, part of each run id: 0 to 2^48 - 1, 1 by default";
+
+const FILE: &str = "The file whose lines are served; standard input by default";
+
+/// One more option with a value: what it is, its range and its default.
 #[tactic(auto, unfolding(crate::specs::CommandLine::option_rule))]
 fn with_option<'a>(
     alloc: Global,
     command: Command<'a>,
     name: &'a str,
+    help: &'a str,
 ) -> Result<Command<'a>, AllocError>
     ensures { IfOk result (λ r. app_of r ≡ with_rule (app_of command.entry) (option_rule name.entry.now)) }
 {
-    command.arg(Arg::new(alloc, name).long(name))
+    command.arg(Arg::new(alloc, name).long(name).help(help))
 }
 
 /// The words, matched with the command's options.
@@ -27,10 +36,10 @@ fn matched<'a>(alloc: Global, words: &'a [&'a str]) -> Result<ArgMatches<'a>, Er
     ensures rows { IfOk result (λ m. rows_of (found_of m) ≡ matches_in (map (λ w. w.now) words.entry.now)) }
     ensures fails { FailsBy (faults_in (map (λ w. w.now) words.entry.now)) result }
 {
-    let command = Command::new(alloc, "wfserve");
-    let command = with_option(alloc, command, "shards")?;
-    let command = with_option(alloc, command, "service")?;
-    let command = command.arg(Arg::new(alloc, "FILE"))?;
+    let command = Command::new(alloc, "wfserve").about(ABOUT);
+    let command = with_option(alloc, command, "shards", SHARDS)?;
+    let command = with_option(alloc, command, "service", SERVICE)?;
+    let command = command.arg(Arg::new(alloc, "FILE").help(FILE))?;
     command.try_get_matches_from(words)
 }
 

@@ -7,9 +7,11 @@ use Rattle.wf_event_values.specs.declared.refusal.Refusal.{Refusal}
 use Rattle.std.specs.List.{range_with_len, AllByRecursion}
 use Rattle.service_model.specs.declared.request.Request.{Request}
 use Rattle.service_model.specs.declared.settings.Settings.{Settings}
+use Rattle.service_model.specs.Growth.{KeepsHistories, keeps-same}
 use Rattle.service_model.specs.Service.{opening, after}
+use Rattle.service_model.proofs.ListLemmas.{all-push, map-push}
 use Rattle.gate.specs.Gated.{at}
-use Rattle.gate.specs.Records.{replay}
+use Rattle.gate.specs.Records.{KeepsAll, replay}
 use Rattle.shard.specs.View.{ShardView}
 use Rattle.shard.specs.Standing.{StandsFor, opened}
 use Rattle.service.specs.Contents.{setup_of}
@@ -19,14 +21,6 @@ use Rattle.service.specs.Services.{IsInRange}
 
 Laid : Type 0
 Laid = ShardView × List (ℕ × Request)
-
-all-push : {A : Type 0} (P : A → Type 0) (xs : List A) (x : A) → AllByRecursion P xs → P x → AllByRecursion P (xs ++ x ∷ [])
-all-push P [] x h here = (here, tt)
-all-push P (y ∷ xs) x h here = (h.0, all-push P xs x h.1 here)
-
-pub map-push : {A B : Type 0} (f : A → B) (xs : List A) (x : A) → map f (xs ++ x ∷ []) ≡ map f xs ++ f x ∷ []
-map-push f [] x = refl
-map-push f (y ∷ xs) x = ap (λ t. f y ∷ t) (map-push f xs x)
 
 -- one more shard
 pub laid-more : (K : Settings) (xs ys : List (ShardView × List (ℕ × Request))) (s : ShardView) (log : List (ℕ × Request)) (n : ℕ) → ys ≡ xs ++ (s, log) ∷ [] → log ≡ [] → opened s ≡ opening (setup_of K n) → StandsFor s (opened s) → IsLaid K xs n → IsLaid K ys (n + 1)
@@ -46,24 +40,15 @@ bases-at [] s h = refl
 bases-at (x ∷ xs) zero h = h.0
 bases-at (x ∷ xs) (suc s) h = bases-at xs s h.1
 
--- what stands at a place of a list that was made of another
-pub get-map : {A B : Type 0} (f : A → B) (xs : List A) (k : ℕ) (y : B) → slice_get (map f xs) k ≡ Some y → (x : A) × (slice_get xs k ≡ Some x) × (y ≡ f x)
-get-map f [] k y is = absurd (cc)
-get-map f (x ∷ xs) zero y is = (x, refl, some_same y (f x) (sym is))
-  where
-    some_same : {B : Type 0} (y z : B) → Some y ≡ Some z → y ≡ z
-    some_same y z e = ap (λ o. option_or o y) e
-      where
-        option_or : {B : Type 0} → Option B → B → B
-        option_or None d = d
-        option_or (Some x) d = x
-get-map f (x ∷ xs) (suc k) y is = get-map f xs k y is
-
--- what is made of what stands at a place
-pub map-get : {A B : Type 0} (f : A → B) (xs : List A) (k : ℕ) (x : A) → slice_get xs k ≡ Some x → slice_get (map f xs) k ≡ Some (f x)
-map-get f [] k x is = absurd (cc)
-map-get f (y ∷ xs) zero x is = ap (λ o. Some (f (unwrap_or o y))) is
-map-get f (y ∷ xs) (suc k) x is = map-get f xs k x is
+-- an empty record keeps what was there
+pub keeping-at : (xs : List (ShardView × List (ℕ × Request))) (k : ℕ) (x : ShardView × List (ℕ × Request)) → AllByRecursion (λ (x : ShardView × List (ℕ × Request)). x.1 ≡ []) xs →
+    slice_get xs k ≡ Some x → KeepsAll after KeepsHistories (opened x.0) x.1
+keeping-at [] k x empty is = absurd (cc)
+keeping-at (y ∷ xs) zero x empty is =
+    let same : y ≡ x = ap (λ o. unwrap_or o y) is in
+    let P : List (ℕ × Request) → Type 0 = λ log. KeepsAll after KeepsHistories (opened x.0) log in
+    subst P (sym (ap (λ (z : ShardView × List (ℕ × Request)). z.1) (sym same) ∙ empty.0)) (keeps-same (opened x.0))
+keeping-at (y ∷ xs) (suc k) x empty is = keeping-at xs k x empty.1 is
 
 -- each shard stands for the replay of its empty record
 pub standing-at : (xs : List (ShardView × List (ℕ × Request))) (k : ℕ) (x : ShardView × List (ℕ × Request)) → AllByRecursion (λ (x : ShardView × List (ℕ × Request)). x.1 ≡ []) xs → AllByRecursion (λ (x : ShardView × List (ℕ × Request)). StandsFor x.0 (opened x.0)) xs →

@@ -11,6 +11,7 @@ use Rattle.service_model.specs.declared.request.Operation.TheVariants as operati
 use Rattle.service_model.specs.declared.request.Request.{Request}
 use Rattle.service_model.specs.declared.request.TakenTask.{TakenTask}
 use Rattle.service_model.specs.declared.settings.Settings.{Settings}
+use Rattle.service_model.specs.Growth.{KeepsHistories}
 use Rattle.service_model.specs.Outcome.{Reply, hash_of}
 use Rattle.service_model.specs.Service.{answer, after, opening}
 use Rattle.gate.specs.declared.view.View.{View}
@@ -18,7 +19,7 @@ use Rattle.gate.specs.Passes as gate
 use Rattle.service.specs.declared.service.Service.{Service}
 use Rattle.service.specs.declared.service.Pass.{Pass}
 use Rattle.service.specs.Contents.{setup_of, opening_contents, is_token, refusal_of, shard_of}
-use Rattle.service.specs.Services.{known_by, Answered, IsPassOf, IsServed, IsServedAt, shard_of_request}
+use Rattle.service.specs.Services.{known_by, Answered, IsPassOf, IsServedAtLast, IsServedOn, shard_of_request}
 
 get-range : {X : Type 0} (f : ℕ → X) (a n k : ℕ) → k < n → slice_get (map f (range_with_len a n)) k ≡ Some (f (a + k))
 get-range f a zero k h = absurd (omega arith)
@@ -54,20 +55,19 @@ shard-below K (operation.FailWorkflowTask q) some none = token-below K q.task (u
 shard-below K (operation.History q) some none = mod_below (hash_of q.workflow_id) K.shards (omega (arith, some))
 shard-below K (operation.Describe q) some none = mod_below (hash_of q.workflow_id) K.shards (omega (arith, some))
 
--- the content that a pass knows the request's shard to have been opened with
-start-is : (p : Pass) (x : Service) (q : Request) (start : Content) → IsPassOf p x → refusal_of x.settings q.operation ≡ None → slice_get (gate.starts (known_by p)) (shard_of_request x q) ≡ Some start → start ≡ opening (setup_of x.settings (shard_of_request x q))
-start-is p x q start own none is =
+-- the content that a pass knows a shard to have been opened with
+start-is : (p : Pass) (x : Service) (shard : ℕ) (start : Content) → IsPassOf p x → shard < x.settings.shards → slice_get (gate.starts (known_by p)) shard ≡ Some start → start ≡ opening (setup_of x.settings shard)
+start-is p x shard start own below is =
     let starts : gate.starts (known_by p) ≡ opening_contents x.settings = ap (λ o. o.starts) own.own.1 ∙ own.opened.starts in
-    let below : shard_of_request x q < x.settings.shards = shard-below x.settings q.operation own.opened.range.some_shard none in
-    opening-at x.settings (gate.starts (known_by p)) (shard_of_request x q) start starts below is
+    opening-at x.settings (gate.starts (known_by p)) shard start starts below is
 
-pub served : (p : Pass) (w : View Request Content) (x : Service) (q : Request) (r : Reply) → IsPassOf p x → refusal_of x.settings q.operation ≡ None → gate.Stepped after answer (known_by p) w (shard_of_request x q) q r → IsServed x (known_by p) w q r
-served p w x q r own none step = record { step = step; start = start-is p x q step.start own none step.opened }
+pub served : (p : Pass) (w : View Request Content) (x : Service) (shard : ℕ) (q : Request) (r : Reply) → IsPassOf p x → shard < x.settings.shards → gate.Stepped after answer KeepsHistories (known_by p) w shard q r → IsServedOn x (known_by p) w shard q r
+served p w x shard q r own below step = record { step = step; start = start-is p x shard step.start own below step.opened }
 
-pub served-at : (p : Pass) (w : View Request Content) (x : Service) (q : Request) (r : Reply) → IsPassOf p x → refusal_of x.settings q.operation ≡ None → gate.SteppedAt after answer (known_by p) w (shard_of_request x q) q r → IsServedAt x (known_by p) w q r
-served-at p w x q r own none (met, waited, step) =
-    let same : slice_get (gate.starts (known_by p)) (shard_of_request x q) ≡ Some step.start = ap (λ o. slice_get o.starts (shard_of_request x q)) (sym waited.nothing.same.1) ∙ step.opened in
-    record { met = met; waited = waited; step = step; start = start-is p x q step.start own none same }
+pub served-at-last : (p : Pass) (w : View Request Content) (x : Service) (shard : ℕ) (q : Request) (r : Reply) → IsPassOf p x → shard < x.settings.shards → gate.SteppedAt after answer KeepsHistories (known_by p) w shard q r → IsServedAtLast x (known_by p) w shard q r
+served-at-last p w x shard q r own below (met, waited, step) =
+    let same : slice_get (gate.starts (known_by p)) shard ≡ Some step.start = ap (λ o. slice_get o.starts shard) (sym waited.nothing.same.1) ∙ step.opened in
+    record { met = met; waited = waited; served = record { step = step; start = start-is p x shard step.start own below same } }
 
 -- what was served is answered, where nothing refuses it
 pub by-step : (o : Option Refusal) (served : Type 0) (v w : View Request Content) (r : Reply) → o ≡ None → served → Answered o served v w r

@@ -1,11 +1,13 @@
 -- what a clause reads of a service and of its passes
-use Rattle.std.specs.Prelude.{◌≡◌, ℕ, ◌<◌, ◌≤◌, ◌^◌, [], map, Option, None, Some, Err}
+use Rattle.std.specs.Prelude.{◌≡◌, ℕ, ◌<◌, ◌≤◌, ◌^◌, [], map, Option, None, Some, Err, Result, IfOk, IfErr}
 use Rattle.wf_event_values.specs.declared.refusal.Refusal.{Refusal}
 use Rattle.service_model.specs.declared.content.Content.{Content}
 use Rattle.service_model.specs.declared.request.Request.{Request}
 use Rattle.service_model.specs.declared.settings.Settings.{Settings}
+use Rattle.service_model.specs.Growth.{KeepsHistories}
 use Rattle.service_model.specs.Outcome.{Reply}
 use Rattle.service_model.specs.Service.{answer, after, opening}
+use Rattle.gate.specs.declared.object.Refused.{Refused}
 use Rattle.gate.specs.declared.view.View.{View}
 use Rattle.gate.specs.Passes as gate
 use Rattle.gate.specs.Gates as of_gate
@@ -46,18 +48,22 @@ pub record IsPassOf (p : Pass) (x : Service) : Type 0 where
   pub opened : IsOpened x
   pub own : of_gate.IsPassOf p.inner x.gate
 
--- A request was served to a pass that knew v and then knows w: the record that it then has seen of the request's shard
--- is all that it had seen there, perhaps other entries, and this one, and the reply is the sequential service's after the entries before
-pub record IsServed (x : Service) (v w : View Request Content) (q : Request) (r : Reply) : Type 0 where
-  pub step : gate.Stepped after answer v w (shard_of_request x q) q r
-  pub start : step.start ≡ opening (setup_of x.settings (shard_of_request x q))
+-- A request was served on a shard to a pass that knew v and then knows w: the record that it then has seen of that shard
+-- is all that it had seen there, perhaps other entries, and this one, the reply is the sequential service's after the entries before,
+-- and each history that was there begins with what it was
+pub record IsServedOn (x : Service) (v w : View Request Content) (shard : ℕ) (q : Request) (r : Reply) : Type 0 where
+  pub step : gate.Stepped after answer KeepsHistories v w shard q r
+  pub start : step.start ≡ opening (setup_of x.settings shard)
 
--- the same, after perhaps some turns in which another pass was found there
-pub record IsServedAt (x : Service) (v w : View Request Content) (q : Request) (r : Reply) : Type 0 where
+-- the same on the request's own shard
+abbrev pub IsServed : Service → View Request Content → View Request Content → Request → Reply → Type 0
+IsServed x v w q r = IsServedOn x v w (shard_of_request x q) q r
+
+-- a request was served on a shard, after perhaps some turns in which another pass was found there
+pub record IsServedAtLast (x : Service) (v w : View Request Content) (shard : ℕ) (q : Request) (r : Reply) : Type 0 where
   pub met : View Request Content
-  pub waited : gate.Waited v met (shard_of_request x q)
-  pub step : gate.Stepped after answer met w (shard_of_request x q) q r
-  pub start : step.start ≡ opening (setup_of x.settings (shard_of_request x q))
+  pub waited : gate.Waited v met shard
+  pub served : IsServedOn x met w shard q r
 
 -- By what refuses a request before any shard is entered, if anything does: nothing, and then it was served;
 -- or the reply is that refusal, and what the pass knows is as it was
@@ -70,5 +76,23 @@ abbrev pub Served : Service → Pass → Pass → Request → Reply → Type 0
 Served x p p' q r = Answered (refusal_of x.settings q.operation) (IsServed x (known_by p) (known_by p') q r) (known_by p) (known_by p') r
 
 -- the same, where it may have waited
-abbrev pub ServedAt : Service → Pass → Pass → Request → Reply → Type 0
-ServedAt x p p' q r = Answered (refusal_of x.settings q.operation) (IsServedAt x (known_by p) (known_by p') q r) (known_by p) (known_by p') r
+abbrev pub ServedAtLast : Service → Pass → Pass → Request → Reply → Type 0
+ServedAtLast x p p' q r = Answered (refusal_of x.settings q.operation) (IsServedAtLast x (known_by p) (known_by p') (shard_of_request x q) q r) (known_by p) (known_by p') r
+
+-- What a call that never waits made of a request: it was answered; or it comes back, nothing was seen or done,
+-- and another pass was found on that very shard, or a growth was refused
+pub record IsTried (x : Service) (p p' : Pass) (q : Request) (result : Result Reply (Refused × Request)) : Type 0 where
+  pub own : IsPassOf p' x
+  pub named : gate.number (known_by p') ≡ gate.number (known_by p)
+  pub ok : IfOk result (λ r. Served x p p' q r)
+  pub back : IfErr result (λ e. e.1 ≡ q)
+  pub err : IfErr result (λ e. gate.Refuses e.0 (known_by p) (known_by p') (shard_of_request x q))
+
+-- What a call that may wait made of a request: it was answered; or it comes back, nothing was seen or done,
+-- and a growth was refused
+pub record IsServedBy {E : Type 0} (x : Service) (p p' : Pass) (q : Request) (result : Result Reply (E × Request)) : Type 0 where
+  pub own : IsPassOf p' x
+  pub named : gate.number (known_by p') ≡ gate.number (known_by p)
+  pub ok : IfOk result (λ r. ServedAtLast x p p' q r)
+  pub back : IfErr result (λ e. e.1 ≡ q)
+  pub err : IfErr result (λ e. gate.Waited (known_by p) (known_by p') (shard_of_request x q))

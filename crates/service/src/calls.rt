@@ -1,7 +1,6 @@
 //! The calls by name: each makes the request of its arguments and serves it.
 
-ghost use Rattle.std.specs.Prelude.{◌≡◌, IfOk, IfErr};
-ghost use Rattle.gate.specs.Passes.{number, Refuses, Waited};
+ghost use Rattle.std.specs.Prelude.{◌≡◌};
 ghost use Rattle.service.specs.Asks.{to_start, to_signal, to_show_history, to_describe};
 
 use crate::service::{Pass, Service};
@@ -13,7 +12,7 @@ use std::sync::Wait;
 use wf_event_values::Moment;
 
 impl Service {
-    ghost use Rattle.service.specs.Services.{IsPassOf, Served, ServedAt, known_by, shard_of_request};
+    ghost use Rattle.service.specs.Services.{IsPassOf, IsServedBy, IsTried};
 
     /// Starts a run of a workflow ID, where the policies allow it. It never waits.
     ///
@@ -26,11 +25,7 @@ impl Service {
         at: Moment,
     ) -> Result<Reply, (Refused, Request)>
         requires { IsPassOf pass.old self.now }
-        ensures own { IsPassOf pass.new self.now }
-        ensures named { number (known_by pass.new) ≡ number (known_by pass.old) }
-        ensures ok { IfOk result (λ r. Served self.now pass.old pass.new (to_start at asked) r) }
-        ensures back { IfErr result (λ e. e.1 ≡ to_start at asked) }
-        ensures err { IfErr result (λ e. Refuses e.0 (known_by pass.old) (known_by pass.new) (shard_of_request self.now (to_start at asked))) }
+        ensures { IsTried self.now pass.old pass.new (to_start at asked) result }
     {
         self.try_serve(pass, request(at, Operation::Start(asked)))
     }
@@ -47,11 +42,7 @@ impl Service {
         at: Moment,
     ) -> Result<Reply, (AllocError, Request)>
         requires { IsPassOf pass.old self.now }
-        ensures own { IsPassOf pass.new self.now }
-        ensures named { number (known_by pass.new) ≡ number (known_by pass.old) }
-        ensures ok { IfOk result (λ r. ServedAt self.now pass.old pass.new (to_start at asked) r) }
-        ensures back { IfErr result (λ e. e.1 ≡ to_start at asked) }
-        ensures err { IfErr result (λ e. Waited (known_by pass.old) (known_by pass.new) (shard_of_request self.now (to_start at asked))) }
+        ensures { IsServedBy self.now pass.old pass.new (to_start at asked) result }
     {
         self.serve(rt, pass, request(at, Operation::Start(asked)))
     }
@@ -67,11 +58,7 @@ impl Service {
         at: Moment,
     ) -> Result<Reply, (Refused, Request)>
         requires { IsPassOf pass.old self.now }
-        ensures own { IsPassOf pass.new self.now }
-        ensures named { number (known_by pass.new) ≡ number (known_by pass.old) }
-        ensures ok { IfOk result (λ r. Served self.now pass.old pass.new (to_signal at asked) r) }
-        ensures back { IfErr result (λ e. e.1 ≡ to_signal at asked) }
-        ensures err { IfErr result (λ e. Refuses e.0 (known_by pass.old) (known_by pass.new) (shard_of_request self.now (to_signal at asked))) }
+        ensures { IsTried self.now pass.old pass.new (to_signal at asked) result }
     {
         self.try_serve(pass, request(at, Operation::Signal(asked)))
     }
@@ -88,11 +75,7 @@ impl Service {
         at: Moment,
     ) -> Result<Reply, (AllocError, Request)>
         requires { IsPassOf pass.old self.now }
-        ensures own { IsPassOf pass.new self.now }
-        ensures named { number (known_by pass.new) ≡ number (known_by pass.old) }
-        ensures ok { IfOk result (λ r. ServedAt self.now pass.old pass.new (to_signal at asked) r) }
-        ensures back { IfErr result (λ e. e.1 ≡ to_signal at asked) }
-        ensures err { IfErr result (λ e. Waited (known_by pass.old) (known_by pass.new) (shard_of_request self.now (to_signal at asked))) }
+        ensures { IsServedBy self.now pass.old pass.new (to_signal at asked) result }
     {
         self.serve(rt, pass, request(at, Operation::Signal(asked)))
     }
@@ -108,11 +91,7 @@ impl Service {
         at: Moment,
     ) -> Result<Reply, (Refused, Request)>
         requires { IsPassOf pass.old self.now }
-        ensures own { IsPassOf pass.new self.now }
-        ensures named { number (known_by pass.new) ≡ number (known_by pass.old) }
-        ensures ok { IfOk result (λ r. Served self.now pass.old pass.new (to_show_history at asked) r) }
-        ensures back { IfErr result (λ e. e.1 ≡ to_show_history at asked) }
-        ensures err { IfErr result (λ e. Refuses e.0 (known_by pass.old) (known_by pass.new) (shard_of_request self.now (to_show_history at asked))) }
+        ensures { IsTried self.now pass.old pass.new (to_show_history at asked) result }
     {
         self.try_serve(pass, request(at, Operation::History(asked)))
     }
@@ -129,11 +108,7 @@ impl Service {
         at: Moment,
     ) -> Result<Reply, (AllocError, Request)>
         requires { IsPassOf pass.old self.now }
-        ensures own { IsPassOf pass.new self.now }
-        ensures named { number (known_by pass.new) ≡ number (known_by pass.old) }
-        ensures ok { IfOk result (λ r. ServedAt self.now pass.old pass.new (to_show_history at asked) r) }
-        ensures back { IfErr result (λ e. e.1 ≡ to_show_history at asked) }
-        ensures err { IfErr result (λ e. Waited (known_by pass.old) (known_by pass.new) (shard_of_request self.now (to_show_history at asked))) }
+        ensures { IsServedBy self.now pass.old pass.new (to_show_history at asked) result }
     {
         self.serve(rt, pass, request(at, Operation::History(asked)))
     }
@@ -151,11 +126,7 @@ impl Service {
         at: Moment,
     ) -> Result<Reply, (Refused, Request)>
         requires { IsPassOf pass.old self.now }
-        ensures own { IsPassOf pass.new self.now }
-        ensures named { number (known_by pass.new) ≡ number (known_by pass.old) }
-        ensures ok { IfOk result (λ r. Served self.now pass.old pass.new (to_describe at asked) r) }
-        ensures back { IfErr result (λ e. e.1 ≡ to_describe at asked) }
-        ensures err { IfErr result (λ e. Refuses e.0 (known_by pass.old) (known_by pass.new) (shard_of_request self.now (to_describe at asked))) }
+        ensures { IsTried self.now pass.old pass.new (to_describe at asked) result }
     {
         self.try_serve(pass, request(at, Operation::Describe(asked)))
     }
@@ -174,11 +145,7 @@ impl Service {
         at: Moment,
     ) -> Result<Reply, (AllocError, Request)>
         requires { IsPassOf pass.old self.now }
-        ensures own { IsPassOf pass.new self.now }
-        ensures named { number (known_by pass.new) ≡ number (known_by pass.old) }
-        ensures ok { IfOk result (λ r. ServedAt self.now pass.old pass.new (to_describe at asked) r) }
-        ensures back { IfErr result (λ e. e.1 ≡ to_describe at asked) }
-        ensures err { IfErr result (λ e. Waited (known_by pass.old) (known_by pass.new) (shard_of_request self.now (to_describe at asked))) }
+        ensures { IsServedBy self.now pass.old pass.new (to_describe at asked) result }
     {
         self.serve(rt, pass, request(at, Operation::Describe(asked)))
     }

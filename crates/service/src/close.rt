@@ -4,10 +4,9 @@ ghost use Rattle.std.specs.Prelude.{◌≡◌, ℕ, ◌<◌, ◌≤◌, Some, le
 ghost use Rattle.gate.specs.Passes.{number};
 ghost use Rattle.gate.specs.Ends.{IsEnd, HasDone};
 
-use crate::service::{Pass, Service};
+use crate::service::{Pass, Service, Shard};
 use gate::Record;
 use service_model::request::Request;
-use shard::Shard;
 use std::alloc::{AllocError, Global};
 
 /// The most passes that a service gives.
@@ -56,7 +55,7 @@ fn records_of(
 
 impl Service {
     ghost use Rattle.service.specs.Services.{IsPassOf, known_by, settings_of};
-    ghost use Rattle.service.specs.Ends.{base_of, IsStoodFor};
+    ghost use Rattle.service.specs.Ends.{base_of};
 
     /// Gives the record of each shard, in the order of the shards. The passes are all that were
     /// given, so none is on a shard. It takes no memory.
@@ -65,7 +64,6 @@ impl Service {
         requires count { length passes.items ≡ (settings_of self).passes }
         requires all { (n : ℕ) → n < (settings_of self).passes → (k : ℕ) × (p : Pass) × (slice_get passes.items k ≡ Some p) × (number (known_by p) ≡ n) }
         ensures count { length result.items ≡ (settings_of self).shards }
-        ensures stands { (k : ℕ) (log : _) → slice_get result.items k ≡ Some log → IsStoodFor (settings_of self) k log }
         ensures records { (k : ℕ) (log : _) → slice_get result.items k ≡ Some log → IsEnd (base_of self k) (settings_of self).passes log }
         ensures passes { (k : ℕ) (log : _) (j : ℕ) (p : Pass) → slice_get result.items k ≡ Some log → slice_get passes.items j ≡ Some p → HasDone (base_of self k) (known_by p) k log }
     {

@@ -5,11 +5,10 @@ ghost use Rattle.gate.specs.Passes.{Refuses};
 ghost use Rattle.service.specs.Asks.{to_start};
 
 use crate::calls::request;
-use crate::service::{Pass, Service};
+use crate::service::{Pass, Service, Shard};
 use gate::Refused;
 use service_model::answer::Reply;
 use service_model::request::{Operation, Request, Start};
-use shard::Shard;
 use wf_event_values::Moment;
 
 /// A pass that keeps others from the shard where its start was served. It can't be dropped: `leave`

@@ -14,12 +14,11 @@ ghost use Rattle.service.specs.Ranges.{range_fault};
 ghost use Rattle.service.specs.Services.{IsPassOf, IsInRange, known_by, settings_of};
 
 use crate::close::PassRoom;
-use crate::service::{Pass, Service};
+use crate::service::{Pass, Service, Shard};
 use gate::{Gate, Record};
 use service_model::content::Setup;
 use service_model::request::Request;
 use service_model::settings::Settings;
-use shard::Shard;
 use std::alloc::{AllocError, Global};
 use std::sync::Mutex;
 use wf_event_values::{Field, Id, Items, Refusal};

@@ -1,16 +1,17 @@
 //! The service and its passes, and the request that every call makes.
 
-ghost use Rattle.std.specs.Prelude.{◌≡◌, ◌<◌, ◌≤◌, length, vec_capacity, IfOk, IfErr};
-ghost use Rattle.gate.specs.Passes.{number, Refuses, Waited};
+ghost use Rattle.std.specs.Prelude.{◌≡◌, ◌<◌, ◌≤◌, length, vec_capacity};
 
 use crate::close::PassRoom;
 use gate::{Gate, Record, Refused};
 use service_model::answer::Reply;
 use service_model::request::Request;
 use service_model::settings::Settings;
-use shard::Shard;
 use std::alloc::AllocError;
 use std::sync::{Mutex, Wait};
+
+/// A shard, whose runs are kept by tables.
+pub(crate) type Shard = shard::Shard<mutable_state::Run>;
 
 /// A workflow service.
 pub struct Service {
@@ -57,7 +58,7 @@ impl Pass {
 }
 
 impl Service {
-    ghost use Rattle.service.specs.Services.{IsPassOf, Served, ServedAt, known_by, shard_of_request, settings_of};
+    ghost use Rattle.service.specs.Services.{IsPassOf, IsServedBy, IsTried, settings_of};
 
     /// The gate, and the room that closing needs.
     pub(crate) fn into_parts(self) -> (Gate<Shard>, Mutex<PassRoom>, Vec<Record<Request>>)
@@ -89,11 +90,7 @@ impl Service {
     /// `NoMemory` where a growth was refused.
     pub fn try_serve(&self, pass: &mut Pass, request: Request) -> Result<Reply, (Refused, Request)>
         requires { IsPassOf pass.old self.now }
-        ensures own { IsPassOf pass.new self.now }
-        ensures named { number (known_by pass.new) ≡ number (known_by pass.old) }
-        ensures ok { IfOk result (λ r. Served self.now pass.old pass.new request r) }
-        ensures back { IfErr result (λ e. e.1 ≡ request) }
-        ensures err { IfErr result (λ e. Refuses e.0 (known_by pass.old) (known_by pass.new) (shard_of_request self.now request)) }
+        ensures { IsTried self.now pass.old pass.new request result }
     {
         if let Some(refusal) = self.refusal_of(&request.operation) {
             return Ok(Err(refusal));
@@ -114,11 +111,7 @@ impl Service {
         request: Request,
     ) -> Result<Reply, (AllocError, Request)>
         requires { IsPassOf pass.old self.now }
-        ensures own { IsPassOf pass.new self.now }
-        ensures named { number (known_by pass.new) ≡ number (known_by pass.old) }
-        ensures ok { IfOk result (λ r. ServedAt self.now pass.old pass.new request r) }
-        ensures back { IfErr result (λ e. e.1 ≡ request) }
-        ensures err { IfErr result (λ e. Waited (known_by pass.old) (known_by pass.new) (shard_of_request self.now request)) }
+        ensures { IsServedBy self.now pass.old pass.new request result }
     {
         if let Some(refusal) = self.refusal_of(&request.operation) {
             return Ok(Err(refusal));

@@ -1,8 +1,6 @@
 //! The calls on workflow tasks: each makes the request of its arguments and serves it on the shard
 //! that its hint or its task token names.
 
-ghost use Rattle.std.specs.Prelude.{◌≡◌, IfOk, IfErr};
-ghost use Rattle.gate.specs.Passes.{number, Refuses, Waited};
 ghost use Rattle.service.specs.Asks.{to_start_task, to_complete_workflow_task, to_fail_workflow_task};
 
 use crate::calls::request;
@@ -15,7 +13,7 @@ use std::sync::Wait;
 use wf_event_values::Moment;
 
 impl Service {
-    ghost use Rattle.service.specs.Services.{IsPassOf, Served, ServedAt, known_by, shard_of_request};
+    ghost use Rattle.service.specs.Services.{IsPassOf, IsServedBy, IsTried};
 
     /// Takes the task that a hint names for a worker, where it still waits to be taken, else answers
     /// `Stale`. A shard that is not there is an invalid argument `shard`. It never waits.
@@ -29,11 +27,7 @@ impl Service {
         at: Moment,
     ) -> Result<Reply, (Refused, Request)>
         requires { IsPassOf pass.old self.now }
-        ensures own { IsPassOf pass.new self.now }
-        ensures named { number (known_by pass.new) ≡ number (known_by pass.old) }
-        ensures ok { IfOk result (λ r. Served self.now pass.old pass.new (to_start_task at hint) r) }
-        ensures back { IfErr result (λ e. e.1 ≡ to_start_task at hint) }
-        ensures err { IfErr result (λ e. Refuses e.0 (known_by pass.old) (known_by pass.new) (shard_of_request self.now (to_start_task at hint))) }
+        ensures { IsTried self.now pass.old pass.new (to_start_task at hint) result }
     {
         self.try_serve(pass, request(at, Operation::StartTask(hint)))
     }
@@ -51,11 +45,7 @@ impl Service {
         at: Moment,
     ) -> Result<Reply, (AllocError, Request)>
         requires { IsPassOf pass.old self.now }
-        ensures own { IsPassOf pass.new self.now }
-        ensures named { number (known_by pass.new) ≡ number (known_by pass.old) }
-        ensures ok { IfOk result (λ r. ServedAt self.now pass.old pass.new (to_start_task at hint) r) }
-        ensures back { IfErr result (λ e. e.1 ≡ to_start_task at hint) }
-        ensures err { IfErr result (λ e. Waited (known_by pass.old) (known_by pass.new) (shard_of_request self.now (to_start_task at hint))) }
+        ensures { IsServedBy self.now pass.old pass.new (to_start_task at hint) result }
     {
         self.serve(rt, pass, request(at, Operation::StartTask(hint)))
     }
@@ -75,11 +65,7 @@ impl Service {
         at: Moment,
     ) -> Result<Reply, (Refused, Request)>
         requires { IsPassOf pass.old self.now }
-        ensures own { IsPassOf pass.new self.now }
-        ensures named { number (known_by pass.new) ≡ number (known_by pass.old) }
-        ensures ok { IfOk result (λ r. Served self.now pass.old pass.new (to_complete_workflow_task at asked) r) }
-        ensures back { IfErr result (λ e. e.1 ≡ to_complete_workflow_task at asked) }
-        ensures err { IfErr result (λ e. Refuses e.0 (known_by pass.old) (known_by pass.new) (shard_of_request self.now (to_complete_workflow_task at asked))) }
+        ensures { IsTried self.now pass.old pass.new (to_complete_workflow_task at asked) result }
     {
         self.try_serve(pass, request(at, Operation::CompleteWorkflowTask(asked)))
     }
@@ -100,11 +86,7 @@ impl Service {
         at: Moment,
     ) -> Result<Reply, (AllocError, Request)>
         requires { IsPassOf pass.old self.now }
-        ensures own { IsPassOf pass.new self.now }
-        ensures named { number (known_by pass.new) ≡ number (known_by pass.old) }
-        ensures ok { IfOk result (λ r. ServedAt self.now pass.old pass.new (to_complete_workflow_task at asked) r) }
-        ensures back { IfErr result (λ e. e.1 ≡ to_complete_workflow_task at asked) }
-        ensures err { IfErr result (λ e. Waited (known_by pass.old) (known_by pass.new) (shard_of_request self.now (to_complete_workflow_task at asked))) }
+        ensures { IsServedBy self.now pass.old pass.new (to_complete_workflow_task at asked) result }
     {
         self.serve(
             rt,
@@ -126,11 +108,7 @@ impl Service {
         at: Moment,
     ) -> Result<Reply, (Refused, Request)>
         requires { IsPassOf pass.old self.now }
-        ensures own { IsPassOf pass.new self.now }
-        ensures named { number (known_by pass.new) ≡ number (known_by pass.old) }
-        ensures ok { IfOk result (λ r. Served self.now pass.old pass.new (to_fail_workflow_task at asked) r) }
-        ensures back { IfErr result (λ e. e.1 ≡ to_fail_workflow_task at asked) }
-        ensures err { IfErr result (λ e. Refuses e.0 (known_by pass.old) (known_by pass.new) (shard_of_request self.now (to_fail_workflow_task at asked))) }
+        ensures { IsTried self.now pass.old pass.new (to_fail_workflow_task at asked) result }
     {
         self.try_serve(pass, request(at, Operation::FailWorkflowTask(asked)))
     }
@@ -149,11 +127,7 @@ impl Service {
         at: Moment,
     ) -> Result<Reply, (AllocError, Request)>
         requires { IsPassOf pass.old self.now }
-        ensures own { IsPassOf pass.new self.now }
-        ensures named { number (known_by pass.new) ≡ number (known_by pass.old) }
-        ensures ok { IfOk result (λ r. ServedAt self.now pass.old pass.new (to_fail_workflow_task at asked) r) }
-        ensures back { IfErr result (λ e. e.1 ≡ to_fail_workflow_task at asked) }
-        ensures err { IfErr result (λ e. Waited (known_by pass.old) (known_by pass.new) (shard_of_request self.now (to_fail_workflow_task at asked))) }
+        ensures { IsServedBy self.now pass.old pass.new (to_fail_workflow_task at asked) result }
     {
         self.serve(rt, pass, request(at, Operation::FailWorkflowTask(asked)))
     }

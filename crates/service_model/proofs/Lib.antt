@@ -1,3 +1,4 @@
+pub mod ListLemmas
 mod RowWords
 mod TaskRows
 mod TimerRows

@@ -2,15 +2,14 @@
 use Rattle.std.specs.Prelude.{◌≡◌, ℕ, ◌-◌, ◌≤◌, List, slice_get, Some}
 use Rattle.service_model.specs.declared.content.Content.{Content}
 use Rattle.service_model.specs.declared.content.Setup.{Setup}
-use Rattle.service_model.specs.declared.request.RecordEntry.{RecordEntry}
 use Rattle.service_model.specs.Counts.{outgoing_to}
 use Rattle.service_model.specs.Deliveries.{accepted_from}
-use Rattle.service_model.specs.Service.{Asked, ToDeliver, ToAcknowledge, replay}
+use Rattle.service_model.specs.Service.{Asked, ToDeliver, ToAcknowledge, Entry, replay}
 
 -- a shard's record, with the shard's setup
 pub record ShardRecord : Type 0 where
   pub setup : Setup
-  pub record_so_far : List RecordEntry
+  pub record_so_far : List Entry
 
 abbrev pub content_of : ShardRecord → Content
 content_of r = replay r.setup r.record_so_far

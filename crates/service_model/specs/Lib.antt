@@ -20,3 +20,4 @@ pub mod Deliveries
 pub mod Issued
 pub mod Service
 pub mod Grounds
+pub mod Growth

@@ -6,7 +6,7 @@ use Rattle.wf_event_values.specs.declared.policies.ReusePolicy.TheVariants.{Allo
 use Rattle.wf_event_values.specs.declared.policies.ConflictPolicy.{ConflictPolicy}
 use Rattle.wf_event_values.specs.declared.policies.ConflictPolicy.TheVariants.{Fail}
 use Rattle.wf_event_values.specs.declared.refusal.Refusal.TheVariants.{InvalidArgument}
-use Rattle.std.specs.List.{list_all}
+use Rattle.std.specs.List.{list_all, fold}
 use Rattle.wf_command.specs.declared.command.Command.{Command}
 use Rattle.wf_command.specs.declared.command.Command.TheVariants.{RecordMarker, CompleteWorkflowExecution, FailWorkflowExecution, CancelWorkflowExecution}
 use Rattle.service_model.specs.declared.content.Content.{Content}
@@ -17,7 +17,6 @@ use Rattle.service_model.specs.declared.journal.Fact.{Fact}
 use Rattle.service_model.specs.declared.request.Operation.{Operation}
 use Rattle.service_model.specs.declared.request.Operation.TheVariants as served
 use Rattle.service_model.specs.declared.request.Request.{Request}
-use Rattle.service_model.specs.declared.request.RecordEntry.{RecordEntry}
 use Rattle.service_model.specs.declared.request.Start.{Start}
 use Rattle.service_model.specs.declared.request.Signal.{Signal}
 use Rattle.service_model.specs.declared.request.SignalWithStart.{SignalWithStart}
@@ -235,11 +234,10 @@ opening setup = record {
   steps = 0;
 }
 
--- the content that requests leave, one after another
-abbrev pub replay_from : Content → List RecordEntry → Content
-replay_from S [] = S
-replay_from S (e ∷ R) = replay_from (after S e.request) R
+-- a record's entry: the number of the pass that asked, and what it asked
+abbrev pub Entry : Type 0
+Entry = ℕ × Request
 
 -- the content that a record leaves
-abbrev pub replay : Setup → List RecordEntry → Content
-replay setup R = replay_from (opening setup) R
+abbrev pub replay : Setup → List Entry → Content
+replay setup R = fold (λ S (e : Entry). after S e.1) (opening setup) R

@@ -251,18 +251,3 @@ impl Drop for Request {
         } = self;
     }
 }
-
-/// A record's entry: which pass asked what.
-pub struct RecordEntry {
-    pub pass: u8,
-    pub request: Request,
-}
-
-impl Drop for RecordEntry {
-    fn drop(self) {
-        let RecordEntry {
-            pass: _,
-            request: _,
-        } = self;
-    }
-}

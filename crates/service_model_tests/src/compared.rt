@@ -1,4 +1,4 @@
-//! The two side by side.
+//! A shard that keeps its runs by tables beside one that keeps them by their journals.
 
 ghost use Rattle.std.specs.Prelude.{◌≡◌, ◌<◌, ◌≤◌, ◌^◌, IfOk, IfSome, OnOk};
 ghost use Rattle.service_model.specs.declared.content.Content.{Content};
@@ -10,14 +10,16 @@ use crate::requests::request;
 use gate::Object;
 use service_model::answer::{Answer, Reply};
 use service_model::content::Setup;
-use service_model::request::{RecordEntry, Request};
+use service_model::request::Request;
 use service_model_answer::answer;
-use shard::Shard;
 use std::alloc::{AllocError, AllocGlobal, Global};
 use std::process::Abort;
 use std::test::Fail;
 use wf_event_values::{Field, Id, Items, Refusal};
 use wire_replies::reply_text;
+
+/// A shard as the service runs it: its runs are kept by tables.
+type Shard = shard::Shard<mutable_state::Run>;
 
 /// How many requests each test draws.
 const COUNT: u64 = 400;
@@ -88,7 +90,6 @@ fn compare<R: Abort + AllocGlobal>(
     requires shards { 0 < shards }
 {
     let alloc = rt.alloc();
-    let own = setup(alloc, shard, shards)?;
     let mut object = Shard::new(alloc, setup(alloc, shard, shards)?);
     let mut record = Vec::new(alloc);
     let mut draws = Draws::new(seed);
@@ -97,7 +98,7 @@ fn compare<R: Abort + AllocGlobal>(
     for number in 0..COUNT {
         let request = request(alloc, &mut draws, &known, number)?;
         let served = serve(&mut object, &request)?;
-        let plain = answer(alloc, &own, &record, &request)?;
+        let plain = answer(alloc, setup(alloc, shard, shards)?, &record, &request)?;
         let served_text = reply_text(alloc, number, &served)?;
         let plain_text = reply_text(alloc, number, &plain)?;
         assert_eq!(rt; served_text.as_str(), plain_text.as_str());
@@ -106,7 +107,7 @@ fn compare<R: Abort + AllocGlobal>(
             None => panic!(rt; "a reply of no kind that is awaited"),
         }
         known.learn(shard, &served)?;
-        record.push(RecordEntry { pass: 0, request })?;
+        record.push((0, request))?;
     }
     Ok(seen)
 }

@@ -1,5 +1,5 @@
-//! The plain program and the shard side by side: both answer the same drawn requests, each of them
-//! behind all earlier ones.
+//! The shard and the plain program side by side: both answer the same drawn requests, each of them
+//! behind all earlier ones. So what tables say of a run is compared with what its journal says.
 #![tactic(auto)]
 
 #[cfg(test)]

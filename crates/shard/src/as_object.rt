@@ -1,23 +1,25 @@
 //! The shard as an object of the gate.
 
 ghost use Rattle.std.specs.Prelude.{◌≡◌, IfOk, OnErr};
+ghost use Rattle.service_model.specs.Growth.{KeepsHistories, keeps-on, keeps-same};
 ghost use Rattle.service_model.specs.Service.{after, answer};
 ghost use Rattle.shard.specs.Standing.{StandsFor, IsReady, opened};
 
 use crate::plan::Plan;
 use crate::shard::Shard;
 use gate::Object;
+use mutable_state_keeper::KeepsRun;
 use service_model::answer::Reply;
 use service_model::content::Content;
 use service_model::request::Request;
 use std::alloc::AllocError;
 
-impl Object for Shard {
+impl<T: KeepsRun> Object for Shard<T> {
     type Request = Request;
 
     type Reply = Reply;
 
-    type Plan = Plan;
+    type Plan = Plan<T>;
 
     type Content = Content;
 
@@ -29,13 +31,19 @@ impl Object for Shard {
 
     ghost after = { after };
 
+    ghost keeps = { KeepsHistories };
+
+    ghost keeps_same = { keeps-same };
+
+    ghost keeps_on = { keeps-on };
+
     ghost ready = { IsReady };
 
-    fn prepare(&mut self, request: &Request) -> Result<Plan, AllocError> {
+    fn prepare(&mut self, request: &Request) -> Result<Plan<T>, AllocError> {
         Shard::prepare(self, request)
     }
 
-    fn commit(&mut self, plan: Plan) -> Reply {
+    fn commit(&mut self, plan: Plan<T>) -> Reply {
         Shard::commit(self, plan)
     }
 }

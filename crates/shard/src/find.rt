@@ -5,9 +5,10 @@ ghost use Rattle.service_model.specs.Outcome.{named_run, latest_run, open_run, r
 ghost use Rattle.shard.specs.View.{states, runs_in};
 
 use crate::shard::Shard;
+use mutable_state_keeper::KeepsRun;
 use wf_event_values::{Id, RunId};
 
-impl Shard {
+impl<T: KeepsRun> Shard<T> {
     /// The ordinal of the latest run of a workflow ID.
     pub(crate) fn latest(&self, id: &Id) -> Option<usize>
         ensures found { result ≡ latest_run (states self.now.runs) id.now }

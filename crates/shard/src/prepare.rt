@@ -7,14 +7,15 @@ ghost use Rattle.shard.specs.Fitting.{FitsStep, outcome_in};
 
 use crate::plan::{Change, Plan};
 use crate::shard::Shard;
+use mutable_state_keeper::KeepsRun;
 use service_model::answer::Answer;
 use service_model::request::{Operation, Request};
 use std::alloc::AllocError;
 use wf_event_values::{Moment, Refusal};
 
-impl Shard {
+impl<T: KeepsRun> Shard<T> {
     /// Makes all that the request's step needs. The shard stands for the same contents, whatever the result.
-    pub fn prepare(&mut self, request: &Request) -> Result<Plan, AllocError>
+    pub fn prepare(&mut self, request: &Request) -> Result<Plan<T>, AllocError>
         ensures same { state self.new ≡ state self.old }
         ensures plan { IfOk result (λ plan. FitsStep self.new plan (max request.now.at self.old.last) (outcome_in (runs_in self.old) request.now.operation)) }
     {
@@ -32,7 +33,7 @@ impl Shard {
 }
 
 /// A step that changes no run, and answers.
-pub fn answered(moment: Moment, answer: Answer) -> Plan
+pub fn answered<T: KeepsRun>(moment: Moment, answer: Answer) -> Plan<T>
     ensures { result ≡ record { moment = moment; change = Change.Nothing; reply = (answered answer).reply } }
 {
     Plan {
@@ -43,7 +44,7 @@ pub fn answered(moment: Moment, answer: Answer) -> Plan
 }
 
 /// A step that changes no run, and refuses.
-pub fn refused(moment: Moment, refusal: Refusal) -> Plan
+pub fn refused<T: KeepsRun>(moment: Moment, refusal: Refusal) -> Plan<T>
     ensures { result ≡ record { moment = moment; change = Change.Nothing; reply = (refused refusal).reply } }
 {
     Plan {

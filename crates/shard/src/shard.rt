@@ -11,24 +11,24 @@ ghost use Rattle.shard.specs.Standing.{Grows};
 
 use crate::plan::{Change, MoreOf, NewRun, Plan};
 use indexmap::IndexMap;
-use mutable_state::Run;
+use mutable_state_keeper::{KeepsRun, Run};
 use service_model::answer::Reply;
 use service_model::content::Setup;
 use std::alloc::{AllocError, Global};
 use std::marker::Model;
 use wf_event_values::Moment;
 
-/// A shard of a workflow service.
-pub struct Shard {
+/// A shard of a workflow service, whose runs are kept by `T`.
+pub struct Shard<T: KeepsRun> {
     pub(crate) alloc: Global,
     pub(crate) setup: Setup,
-    pub(crate) runs: Vec<Run>,
+    pub(crate) runs: Vec<Run<T>>,
     /// The place of each workflow ID's latest run.
     pub(crate) index: IndexMap<String, usize>,
     pub(crate) last: Moment,
 }
 
-impl Drop for Shard {
+impl<T: KeepsRun> Drop for Shard<T> {
     fn drop(self) {
         let Shard {
             alloc: _,
@@ -40,7 +40,7 @@ impl Drop for Shard {
     }
 }
 
-impl Model for Shard {
+impl<T: KeepsRun> Model for Shard<T> {
     ghost use Rattle.std.specs.Prelude.{◌-◌, ◌<◌, ◌^◌, length, min, vec_capacity, vec_len};
     ghost use Rattle.indexmap.specs.IndexMap.{get_by_text, spare};
     ghost use Rattle.shard.specs.View.{ShardView, IsIndexed, IsSetup};
@@ -52,9 +52,9 @@ impl Model for Shard {
     ghost invariant = { λ a. IsSetup a.setup × IsIndexed (get_by_text a.index) a.runs.items × (length a.runs.items < 2 ^ 60) };
 }
 
-impl Shard {
+impl<T: KeepsRun> Shard<T> {
     /// A shard without runs.
-    pub fn new(alloc: Global, setup: Setup) -> Shard
+    pub fn new(alloc: Global, setup: Setup) -> Shard<T>
         requires { IsSetup setup }
         ensures { state result ≡ record { setup = setup; runs = []; last = 0 } }
     {
@@ -68,7 +68,7 @@ impl Shard {
     }
 
     /// Does what was planned. It takes no memory.
-    pub fn commit(&mut self, plan: Plan) -> Reply
+    pub fn commit(&mut self, plan: Plan<T>) -> Reply
         requires { (o : Outcome) × FitsChange self.old plan.moment plan.change o }
         ensures state { state self.new ≡ state_after plan (state self.old) }
 
@@ -80,16 +80,12 @@ impl Shard {
         self.carry_out(plan)
     }
 
-    fn carry_out(&mut self, plan: Plan) -> Reply
+    fn carry_out(&mut self, plan: Plan<T>) -> Reply
         requires { (o : Outcome) × FitsChange self.old plan.moment plan.change o }
         ensures state { state self.new ≡ state_after plan (state self.old) }
         ensures reply { result ≡ plan.reply }
     {
-        let Plan {
-            moment,
-            change,
-            reply,
-        } = plan;
+        let (moment, change, reply) = plan.into_parts();
         match change {
             Change::Nothing => {}
             Change::Created(created) => self.add(created),
@@ -100,7 +96,7 @@ impl Shard {
     }
 
     /// Adds a run.
-    fn add(&mut self, created: NewRun)
+    fn add(&mut self, created: NewRun<T>)
         requires room { 0 < self.old.room }
         requires few { length self.old.runs + 1 < 2 ^ 60 }
         requires named { id_of created.run.state ≡ string_bytes created.key }

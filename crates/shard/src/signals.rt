@@ -13,7 +13,8 @@ use crate::plan::{Change, MoreOf, Plan};
 use crate::prepare::{answered, refused};
 use crate::shard::Shard;
 use crate::starts::copied;
-use mutable_state::{Change as MoreFacts, Run, TaskPhase, plain};
+use mutable_state::{Change as MoreFacts, TaskPhase, plain};
+use mutable_state_keeper::{KeepsRun, Run};
 use service_model::answer::Answer;
 use service_model::journal::{EventFact, Fact};
 use service_model::request::Signal;
@@ -22,13 +23,13 @@ use wf_event::Attributes;
 use wf_event::payloads::WorkflowExecutionSignaled;
 use wf_event_values::{Field, Items, Moment, Refusal};
 
-impl Shard {
+impl<T: KeepsRun> Shard<T> {
     #[tactic(auto, unfolding(service_model::specs::Signals::signal))]
     pub(crate) fn prepare_signal(
         &mut self,
         moment: Moment,
         request: &Signal,
-    ) -> Result<Plan, AllocError>
+    ) -> Result<Plan<T>, AllocError>
         ensures same { state self.new ≡ state self.old }
         ensures plan { IfOk result (λ plan. FitsStep self.new plan moment (signal (runs_in self.old) request.now)) }
     {
@@ -47,7 +48,7 @@ impl Shard {
         moment: Moment,
         n: usize,
         request: &Signal,
-    ) -> Result<Plan, AllocError>
+    ) -> Result<Plan<T>, AllocError>
         requires from { 1 ≤ n }
         requires to { n ≤ length self.old.runs }
         requires open { is_open (run_at (runs_in self.old) n) ≡ true }
@@ -84,7 +85,11 @@ impl Shard {
 }
 
 /// The facts of a signal, with a workflow task where none is scheduled or started.
-fn signal_facts(alloc: Global, run: &Run, request: &Signal) -> Result<Items<Fact>, AllocError>
+fn signal_facts<T: KeepsRun>(
+    alloc: Global,
+    run: &Run<T>,
+    request: &Signal,
+) -> Result<Items<Fact>, AllocError>
     ensures { IfOk result (λ facts. facts ≡ outside run.now.state (signal_fact request.now.request_id request.now.name request.now.input ∷ [])) }
 {
     let mut facts = Vec::new(alloc);
@@ -95,7 +100,7 @@ fn signal_facts(alloc: Global, run: &Run, request: &Signal) -> Result<Items<Fact
         }),
         request_id: copied(&request.request_id)?,
     }))?;
-    if is_none(run.task().phase) {
+    if is_none(run.task(alloc)?.phase) {
         facts.push(plain(run.schedule_task(1)?))?;
     }
     Ok(Items::from_vec(facts))

@@ -10,7 +10,8 @@ use crate::index::{knows_queue, shard_of};
 use crate::plan::{Change, NewRun, Plan};
 use crate::prepare::{answered, refused};
 use crate::shard::Shard;
-use mutable_state::{Change as MoreFacts, Run, plain};
+use mutable_state::{Change as MoreFacts, plain};
+use mutable_state_keeper::{KeepsRun, Run};
 use service_model::answer::Answer;
 use service_model::journal::Fact;
 use service_model::request::Start;
@@ -22,12 +23,12 @@ use wf_event_values::{ConflictPolicy, Field, Id, Items, Moment, Refusal, ReusePo
 /// The most runs of a shard.
 const MOST: usize = 1_152_921_504_606_846_975;
 
-impl Shard {
+impl<T: KeepsRun> Shard<T> {
     pub(crate) fn prepare_start(
         &mut self,
         moment: Moment,
         request: &Start,
-    ) -> Result<Plan, AllocError>
+    ) -> Result<Plan<T>, AllocError>
         ensures same { state self.new ≡ state self.old }
         ensures plan { IfOk result (λ plan. FitsStep self.new plan moment (at_default_policies request.now (start (runs_in self.old) request.now))) }
     {
@@ -42,7 +43,7 @@ impl Shard {
 
     /// A start at the default policies.
     #[tactic(auto, unfolding(service_model::specs::Starts::start))]
-    fn prepare_start_here(&mut self, moment: Moment, request: &Start) -> Result<Plan, AllocError>
+    fn prepare_start_here(&mut self, moment: Moment, request: &Start) -> Result<Plan<T>, AllocError>
         requires reuse { is_allow_duplicate request.now.reuse ≡ true }
         requires conflict { is_fail request.now.conflict ≡ true }
         ensures same { state self.new ≡ state self.old }
@@ -58,7 +59,7 @@ impl Shard {
     }
 
     /// A start, decided by the workflow ID's latest run.
-    fn prepare_decided(&mut self, moment: Moment, request: &Start) -> Result<Plan, AllocError>
+    fn prepare_decided(&mut self, moment: Moment, request: &Start) -> Result<Plan<T>, AllocError>
         requires reuse { is_allow_duplicate request.now.reuse ≡ true }
         requires conflict { is_fail request.now.conflict ≡ true }
         ensures same { state self.new ≡ state self.old }
@@ -76,7 +77,7 @@ impl Shard {
         moment: Moment,
         n: usize,
         request: &Start,
-    ) -> Result<Plan, AllocError>
+    ) -> Result<Plan<T>, AllocError>
         requires from { 1 ≤ n }
         requires to { n ≤ length self.old.runs }
         requires few { length self.old.runs < 2 ^ 60 }
@@ -96,7 +97,7 @@ impl Shard {
     }
 
     /// The run of a start that nothing stands in the way of.
-    fn prepare_new_run(&mut self, moment: Moment, request: &Start) -> Result<Plan, AllocError>
+    fn prepare_new_run(&mut self, moment: Moment, request: &Start) -> Result<Plan<T>, AllocError>
         ensures same { state self.new ≡ state self.old }
         ensures plan { IfOk result (λ plan. FitsStep self.new plan moment (starts_new (runs_in self.old) None (started_fact request.now ∷ first_task request.now.task_queue ∷ []))) }
     {
@@ -140,7 +141,7 @@ fn is_fail(conflict: ConflictPolicy) -> bool
 }
 
 /// The run that a start makes, with its first workflow task.
-fn new_run(alloc: Global, moment: Moment, start: &Start) -> Result<Run, AllocError>
+fn new_run<T: KeepsRun>(alloc: Global, moment: Moment, start: &Start) -> Result<Run<T>, AllocError>
     ensures { IfOk result (λ run. run.state ≡ new_run moment start.now) }
 {
     let started = started_by(start)?;

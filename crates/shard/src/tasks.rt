@@ -20,6 +20,7 @@ use crate::plan::{Change, MoreOf, Plan};
 use crate::prepare::{answered, refused};
 use crate::shard::Shard;
 use mutable_state::{Change as MoreFacts, plain};
+use mutable_state_keeper::KeepsRun;
 use service_model::answer::{Answer, WorkflowTask};
 use service_model::journal::Fact;
 use service_model::request::{CompleteWorkflowTask, FailWorkflowTask, Hint, TakenTask};
@@ -29,35 +30,35 @@ use wf_command::Command;
 use wf_event::Attributes;
 use wf_event_values::{Cause, Field, Items, Moment, Refusal, TaskKind, Text};
 
-impl Shard {
+impl<T: KeepsRun> Shard<T> {
     /// A task is taken, where it waits. No activity is scheduled so far.
     #[tactic(auto, unfolding(service_model::specs::Tasks::start_task))]
     pub(crate) fn prepare_start_task(
         &mut self,
         moment: Moment,
         hint: Hint,
-    ) -> Result<Plan, AllocError>
+    ) -> Result<Plan<T>, AllocError>
         ensures same { state self.new ≡ state self.old }
         ensures plan { IfOk result (λ plan. FitsStep self.new plan moment (start_task (runs_in self.old) hint)) }
     {
         match hint.kind {
             TaskKind::Workflow => self.prepare_take(moment, hint),
-            TaskKind::Activity => Ok(self.take_activity(moment, hint)),
+            TaskKind::Activity => self.take_activity(moment, hint),
         }
     }
 
-    fn prepare_take(&mut self, moment: Moment, hint: Hint) -> Result<Plan, AllocError>
+    fn prepare_take(&mut self, moment: Moment, hint: Hint) -> Result<Plan<T>, AllocError>
         ensures same { state self.new ≡ state self.old }
         ensures plan { IfOk result (λ plan. FitsStep self.new plan moment (take_workflow (runs_in self.old) hint)) }
     {
-        match self.waiting(hint) {
+        match self.waiting(hint)? {
             Some(n) => self.prepare_taken(moment, n, hint),
             None => Ok(answered(moment, Answer::Stale)),
         }
     }
 
     /// The start of the scheduled task of the run with that ordinal.
-    fn prepare_taken(&mut self, moment: Moment, n: usize, hint: Hint) -> Result<Plan, AllocError>
+    fn prepare_taken(&mut self, moment: Moment, n: usize, hint: Hint) -> Result<Plan<T>, AllocError>
         requires from { 1 ≤ n }
         requires to { n ≤ length self.old.runs }
         requires run { n ≡ hint.run }
@@ -66,11 +67,12 @@ impl Shard {
         ensures same { state self.new ≡ state self.old }
         ensures plan { IfOk result (λ plan. FitsStep self.new plan moment (take_workflow (runs_in self.old) hint)) }
     {
+        let shown = self.runs[n - 1].shown(self.alloc)?;
         let task = WorkflowTask {
             attempt: hint.attempt,
             run: self.run_id(n),
             scheduled: hint.event,
-            started: self.runs[n - 1].events().len() as u64 + 1,
+            started: shown as u64 + 1,
             workflow_id: self.runs[n - 1].workflow_id().clone()?,
         };
         let facts = started_facts(self.alloc, hint.event)?;
@@ -83,54 +85,54 @@ impl Shard {
     }
 
     /// An activity's task, of which there is none: the hint is stale.
-    fn take_activity(&self, moment: Moment, hint: Hint) -> Plan
-        ensures { FitsStep self.now result moment (take_by_kind (runs_in self.now) hint TaskKind.Activity) }
+    fn take_activity(&self, moment: Moment, hint: Hint) -> Result<Plan<T>, AllocError>
+        ensures { IfOk result (λ plan. FitsStep self.now plan moment (take_by_kind (runs_in self.now) hint TaskKind.Activity)) }
     {
         if hint.shard != self.setup.shard || hint.run < 1 || hint.run > self.runs.len() as u64 {
-            return answered(moment, Answer::Stale);
+            return Ok(answered(moment, Answer::Stale));
         }
-        let _ = self.runs[hint.run as usize - 1].pending();
-        answered(moment, Answer::Stale)
+        let _ = self.runs[hint.run as usize - 1].pending(self.alloc)?;
+        Ok(answered(moment, Answer::Stale))
     }
 
     /// The ordinal of the run whose workflow task waits to be taken as the hint says.
-    fn waiting(&self, hint: Hint) -> Option<usize>
-        ensures waits { waits_workflow (runs_in self.now) hint ≡ is_some result }
-        ensures found { IfSome result (λ n. (n ≡ hint.run) × (1 ≤ n) × (n ≤ length self.now.runs)) }
-        ensures open { IfSome result (λ n. is_open (run_at (runs_in self.now) n) ≡ true) }
+    fn waiting(&self, hint: Hint) -> Result<Option<usize>, AllocError>
+        ensures waits { IfOk result (λ found. waits_workflow (runs_in self.now) hint ≡ is_some found) }
+        ensures found { IfOk result (λ found. IfSome found (λ n. (n ≡ hint.run) × (1 ≤ n) × (n ≤ length self.now.runs))) }
+        ensures open { IfOk result (λ found. IfSome found (λ n. is_open (run_at (runs_in self.now) n) ≡ true)) }
     {
         let n = hint.run as usize;
         if hint.shard != self.setup.shard || n < 1 || n > self.runs.len() {
-            return None;
+            return Ok(None);
         }
-        let task = self.runs[n - 1].task();
+        let task = self.runs[n - 1].task(self.alloc)?;
         if task.phase.is_scheduled()
             && task.scheduled == hint.event
             && task.attempt == hint.attempt
         {
-            Some(n)
+            Ok(Some(n))
         } else {
-            None
+            Ok(None)
         }
     }
 
     /// The ordinal of the run whose workflow task is running at that attempt.
-    fn running(&self, taken: TakenTask) -> Option<usize>
-        ensures runs { runs_workflow (runs_in self.now) taken ≡ is_some result }
-        ensures found { IfSome result (λ n. (n ≡ taken.run) × (1 ≤ n) × (n ≤ length self.now.runs)) }
+    fn running(&self, taken: TakenTask) -> Result<Option<usize>, AllocError>
+        ensures runs { IfOk result (λ found. runs_workflow (runs_in self.now) taken ≡ is_some found) }
+        ensures found { IfOk result (λ found. IfSome found (λ n. (n ≡ taken.run) × (1 ≤ n) × (n ≤ length self.now.runs))) }
     {
         let n = taken.run as usize;
         if taken.shard != self.setup.shard || n < 1 || n > self.runs.len() {
-            return None;
+            return Ok(None);
         }
-        let task = self.runs[n - 1].task();
+        let task = self.runs[n - 1].task(self.alloc)?;
         if task.phase.is_started()
             && task.scheduled == taken.event
             && task.attempt == taken.attempt
         {
-            Some(n)
+            Ok(Some(n))
         } else {
-            None
+            Ok(None)
         }
     }
 
@@ -139,7 +141,7 @@ impl Shard {
         &mut self,
         moment: Moment,
         request: &CompleteWorkflowTask,
-    ) -> Result<Plan, AllocError>
+    ) -> Result<Plan<T>, AllocError>
         ensures same { state self.new ≡ state self.old }
         ensures plan { IfOk result (λ plan. FitsStep self.new plan moment (at_served_commands request.now (complete_workflow_task (runs_in self.old) request.now))) }
     {
@@ -155,12 +157,12 @@ impl Shard {
         &mut self,
         moment: Moment,
         request: &CompleteWorkflowTask,
-    ) -> Result<Plan, AllocError>
+    ) -> Result<Plan<T>, AllocError>
         requires served { list_all is_served request.now.commands ≡ true }
         ensures same { state self.new ≡ state self.old }
         ensures plan { IfOk result (λ plan. FitsStep self.new plan moment (complete_workflow_task (runs_in self.old) request.now)) }
     {
-        match self.running(request.task) {
+        match self.running(request.task)? {
             Some(n) => self.prepare_completed(moment, n, request),
             None => Ok(refused(moment, Refusal::NotFound)),
         }
@@ -172,7 +174,7 @@ impl Shard {
         moment: Moment,
         n: usize,
         request: &CompleteWorkflowTask,
-    ) -> Result<Plan, AllocError>
+    ) -> Result<Plan<T>, AllocError>
         requires from { 1 ≤ n }
         requires to { n ≤ length self.old.runs }
         requires run { n ≡ request.now.task.run }
@@ -215,11 +217,11 @@ impl Shard {
         &mut self,
         moment: Moment,
         request: &FailWorkflowTask,
-    ) -> Result<Plan, AllocError>
+    ) -> Result<Plan<T>, AllocError>
         ensures same { state self.new ≡ state self.old }
         ensures plan { IfOk result (λ plan. FitsStep self.new plan moment (fail_workflow_task (runs_in self.old) request.now)) }
     {
-        match self.running(request.task) {
+        match self.running(request.task)? {
             Some(n) => self.prepare_failed(moment, n, request),
             None => Ok(refused(moment, Refusal::NotFound)),
         }
@@ -231,7 +233,7 @@ impl Shard {
         moment: Moment,
         n: usize,
         request: &FailWorkflowTask,
-    ) -> Result<Plan, AllocError>
+    ) -> Result<Plan<T>, AllocError>
         requires from { 1 ≤ n }
         requires to { n ≤ length self.old.runs }
         requires run { n ≡ request.now.task.run }

@@ -6,11 +6,15 @@ use Rattle.gate.specs.Gated.{at}
 use Rattle.shard.specs.Standing.{opened}
 use Rattle.service.specs.declared.service.Pass.{Pass}
 use Rattle.service.specs.Services.{known_by}
-use Rattle.service.proofs.OpenLemmas.{bases-at, get-map, standing-at, in-range}
+use Rattle.service_model.proofs.ListLemmas.{get-map}
+use Rattle.service.proofs.OpenLemmas.{bases-at, keeping-at, standing-at, in-range}
 use Rattle.service.proofs.service.Service.open.Goals as goal
 
 pub open-requires-clause-standing : goal.open-requires-clause-standing
 open-requires-clause-standing c = λ k x there. standing-at c.in_ok-objects.objects.items k x c.in_ok-objects.ensures.laid.bases c.in_ok-objects.ensures.laid.stands there
+
+pub open-requires-clause-keeping : goal.open-requires-clause-keeping
+open-requires-clause-keeping c = λ k x there. keeping-at c.in_ok-objects.objects.items k x c.in_ok-objects.ensures.laid.bases there
 
 pub invariant_of-service : goal.invariant_of-service
 invariant_of-service c =

@@ -1,18 +1,21 @@
 use Rattle.std.proofs.Common.{◌≡◌, ℕ, None, ap, subst}
 use Rattle.service_model.specs.declared.request.Request.{Request}
+use Rattle.service_model.specs.Growth.{KeepsHistories}
 use Rattle.service_model.specs.Service.{answer, after}
-use Rattle.gate.specs.Passes.{Stepped}
+use Rattle.gate.specs.Passes.{Stepped, view}
 use Rattle.gate.specs.Helds as of_held
 use Rattle.service.specs.Contents.{refusal_of}
 use Rattle.service.specs.Services.{known_by, IsServed}
-use Rattle.service.proofs.ServedLemmas.{served}
+use Rattle.service.proofs.ServedLemmas.{served, shard-below}
 use Rattle.service.proofs.service.Service.try_enter_start.Goals as goal
 
 pub returns-in-Ok-clause-ok : goal.returns-in-Ok-clause-ok
 returns-in-Ok-clause-ok c =
     let w = of_held.leaving c.in-Ok.inner in
     let r = of_held.promised c.in-Ok.inner in
-    let P : ℕ → Type 0 = λ k. Stepped after answer (known_by c.args.pass) w k c.request-request.result r in
+    let P : ℕ → Type 0 = λ k. Stepped after answer KeepsHistories (known_by c.args.pass) w k c.request-request.result r in
     let Q : Request → Type 0 = λ q. IsServed c.args.self.now (known_by c.args.pass) w q r in
     let none : refusal_of c.args.self.now.settings c.request-request.result.operation ≡ None = ap (λ q. refusal_of c.args.self.now.settings q.operation) c.request-request.ensures in
-    subst Q c.request-request.ensures (served c.args.pass w c.args.self.now c.request-request.result r c.requires none (subst P c.slot_of-slot.ensures c.in-Ok.ensures.ok))
+    let below = shard-below c.args.self.now.settings c.request-request.result.operation c.requires.opened.range.some_shard none in
+    let entered = rw (ap view c.into_inner.ensures) at c.in-Ok.ensures.ok in
+    subst Q c.request-request.ensures (served c.args.pass w c.args.self.now _ c.request-request.result r c.requires below (subst P c.slot_of-slot.ensures entered))

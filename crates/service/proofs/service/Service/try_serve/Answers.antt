@@ -1,6 +1,7 @@
-use Rattle.std.proofs.Common.{◌≡◌, ◌<◌, ◌∙◌, sym, subst, arith, IfOk, ℕ, None}
+use Rattle.std.proofs.Common.{◌≡◌, ◌<◌, ◌∙◌, sym, subst, arith, IfOk, IfErr, ℕ, None, refl}
+use Rattle.service_model.specs.Growth.{KeepsHistories}
 use Rattle.service_model.specs.Service.{answer, after}
-use Rattle.gate.specs.Passes.{Stepped}
+use Rattle.gate.specs.Passes.{Refuses, Stepped}
 use Rattle.service.specs.declared.service.Pass.{Pass}
 use Rattle.service.specs.Contents.{refusal_of}
 use Rattle.service.specs.Services.{known_by, shard_of_request}
@@ -15,12 +16,20 @@ try_step-requires-clause-slot c =
     let slot = c.slot_of-slot.ensures in
     omega (arith, below, slots, slot)
 
-pub returns-in-Some-clause-ok : goal.returns-in-Some-clause-ok
-returns-in-Some-clause-ok c = by-refusal _ _ _ _ (sym c.refusal_of.ensures ∙ c.in-Some.is)
+pub returns-in-Some : goal.returns-in-Some
+returns-in-Some c = record { own = c.requires; named = refl; ok = by-refusal _ _ _ _ (sym c.refusal_of.ensures ∙ c.in-Some.is); back = tt; err = tt }
 
-pub returns-clause-ok : goal.returns-clause-ok
-returns-clause-ok c =
+pub returns : goal.returns
+returns c =
     let p' : Pass = record { inner = c.try_step.new.pass } in
     let none : refusal_of c.args.self.now.settings c.args.request.operation ≡ None = sym c.refusal_of.ensures ∙ c.in_default.is in
-    let P : ℕ → Type 0 = λ k. IfOk c.try_step.result (λ r. Stepped after answer (known_by c.args.pass.now) (known_by p') k c.args.request r) in
-    weaker c.try_step.result _ _ (λ r step. by-step _ _ _ _ r none (served c.args.pass.now (known_by p') c.args.self.now c.args.request r c.requires none step)) (subst P c.slot_of-slot.ensures c.try_step.ensures.ok)
+    let below = shard-below c.args.self.now.settings c.args.request.operation c.requires.opened.range.some_shard none in
+    let P : ℕ → Type 0 = λ k. IfOk c.try_step.result (λ r. Stepped after answer KeepsHistories (known_by c.args.pass.now) (known_by p') k c.args.request r) in
+    let E : ℕ → Type 0 = λ k. IfErr c.try_step.result (λ e. Refuses e.0 (known_by c.args.pass.now) (known_by p') k) in
+    record {
+      own = record { opened = c.requires.opened; own = c.try_step.ensures.own };
+      named = c.try_step.ensures.named;
+      ok = weaker c.try_step.result _ _ (λ r step. by-step _ _ _ _ r none (served c.args.pass.now (known_by p') c.args.self.now _ c.args.request r c.requires below step)) (subst P c.slot_of-slot.ensures c.try_step.ensures.ok);
+      back = c.try_step.ensures.back;
+      err = subst E c.slot_of-slot.ensures c.try_step.ensures.err;
+    }

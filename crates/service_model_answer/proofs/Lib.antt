@@ -1,9 +1,0 @@
-mod FoundLemmas
-mod WindowLemmas
-mod BegunLemmas
-mod IdleLemmas
-mod JudgeLemmas
-mod PendingLemmas
-mod TaskLemmas
-mod ReplayLemmas
-mod StartLemmas

@@ -1,4 +1,0 @@
-pub mod Entries
-pub mod Replayed
-pub mod Outcomes
-pub mod Classes

@@ -1,0 +1,113 @@
+#!/usr/bin/env python3
+"""Proves and builds one program of this repository, and says on standard error how far it is.
+
+    tools/build_program.py NAME
+
+The program and the crates below it are copied to out/build, where crates that don't stand on each
+other are proved side by side. The program then is out/build/crates/NAME/out/NAME.
+"""
+import os
+import pathlib
+import shutil
+import subprocess
+import sys
+
+ROOT = pathlib.Path(__file__).resolve().parent.parent
+BUILD = ROOT / "out" / "build"
+PARTS = ("src", "specs", "proofs")
+# A proof takes up to this much memory.
+BYTES_FOR_A_PROOF = 4 << 30
+
+
+def lines_of_crates():
+    """Returns the line of crates.txt for each crate, and the crates that it stands on."""
+    lines, below = {}, {}
+    for line in (ROOT / "crates.txt").read_text().splitlines():
+        line = line.split("#")[0].strip()
+        if line:
+            head, _, names = line.partition(":")
+            name = head.split()[0]
+            lines[name], below[name] = line, names.split()
+    return lines, below
+
+
+def needed(name, below, found):
+    """Adds to found the crate and those of the repository that it stands on, lowest first."""
+    for other in below[name]:
+        if other in below and other not in found:
+            needed(other, below, found)
+    found.append(name)
+    return found
+
+
+def copy(names, lines):
+    """Copies the crates' sources. What an earlier build kept in out/ folders stays."""
+    kept = BUILD / "crates"
+    kept.mkdir(parents=True, exist_ok=True)
+    for folder in kept.iterdir():
+        if folder.name not in names:
+            shutil.rmtree(folder)
+    for name in names:
+        for part in PARTS:
+            shutil.rmtree(kept / name / part, ignore_errors=True)
+            if (ROOT / "crates" / name / part).is_dir():
+                shutil.copytree(ROOT / "crates" / name / part, kept / name / part)
+    (BUILD / "crates.txt").write_text("".join(f"{lines[name]}\n" for name in names))
+    shutil.copy(ROOT / "HANDLES", BUILD / "HANDLES")
+
+
+def at_once():
+    """Returns how many proofs the machine has processors and memory for."""
+    memory = os.sysconf("SC_PAGE_SIZE") * os.sysconf("SC_PHYS_PAGES")
+    return max(1, min(len(os.sched_getaffinity(0)), memory // BYTES_FOR_A_PROOF))
+
+
+def prove(names):
+    """Proves the crates, and prints a line for each that is through. Returns the last lines if one fails."""
+    said, done = [], 0
+    call = ["rt", "all", "check", "--jobs", str(at_once())]
+    with subprocess.Popen(
+        call, cwd=BUILD / "crates", stdout=subprocess.PIPE, stderr=subprocess.STDOUT, text=True
+    ) as run:
+        for line in run.stdout:
+            said.append(line)
+            if line.startswith("== "):
+                done += 1
+                print(f"build: {done} of {len(names)}: {line[3:].strip()}", file=sys.stderr)
+    return "".join(said[-30:]) if run.returncode else None
+
+
+def link(name):
+    """Links the proved program. Returns what was printed if that fails."""
+    call = ["rt", "run", "--", "--no-such-option"]
+    run = subprocess.run(
+        call,
+        cwd=BUILD / "crates" / name,
+        stdin=subprocess.DEVNULL,
+        stdout=subprocess.PIPE,
+        stderr=subprocess.STDOUT,
+        text=True,
+    )
+    program = BUILD / "crates" / name / "out" / name
+    return None if program.exists() else run.stdout
+
+
+def main():
+    name = sys.argv[1]
+    lines, below = lines_of_crates()
+    names = needed(name, below, [])
+    copy(names, lines)
+    print(
+        f"build: proving {name} and the {len(names) - 1} crates below it, {at_once()} at a time;"
+        " the first time that takes about 10 minutes on four cores",
+        file=sys.stderr,
+    )
+    failure = prove(names) or link(name)
+    if failure:
+        print(failure, end="", file=sys.stderr)
+        print("build: the build failed", file=sys.stderr)
+    return 2 if failure else 0
+
+
+if __name__ == "__main__":
+    sys.exit(main())
