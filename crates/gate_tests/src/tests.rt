@@ -6,10 +6,12 @@ ghost use Rattle.std.specs.Thread.{IsSync};
 use crate::Counter;
 use gate::{Gate, Pass, Record, Refused};
 use std::alloc::{AllocError, Global};
-use std::sync::Wait;
+use std::rt::Clock;
+use std::sync::{Barrier, Wait};
 use std::test::Fail;
 use std::thread;
 use std::thread::Threads;
+use std::time::Duration;
 
 const SLOTS: u64 = 3;
 
@@ -120,6 +122,57 @@ fn a_pass_inside_keeps_others_out(rt: HostRuntime) -> Result<(), Fail> {
     assert!(rt; all[0].0.value() == 9);
     assert!(rt; all[0].1.as_slice() == [(0, 5), (1, 4)].as_slice());
     assert!(rt; all[1].1.as_slice() == [(1, 3)].as_slice());
+    Ok(())
+}
+
+// Enters the slot, and leaves it some time after the other thread has begun to step there.
+fn enter_and_leave_late<R: Wait + Clock>(
+    rt: &R,
+    begun: &Barrier,
+    gate: &Gate<Counter>,
+    pass: Pass<Counter>,
+) -> Option<u64>
+    requires { IsPassOf pass gate.now × (0 < slots gate.now) }
+{
+    let held = gate.try_enter(pass, 0, 5).ok()?;
+    begun.wait(rt);
+    thread::sleep(rt, Duration::from_millis(50));
+    Some(held.leave().1)
+}
+
+// Steps on the slot once the other thread is inside.
+fn step_behind<R: Wait>(
+    rt: &R,
+    begun: &Barrier,
+    gate: &Gate<Counter>,
+    mut pass: Pass<Counter>,
+) -> Result<u64, (AllocError, u64)>
+    requires { IsPassOf pass gate.now × (0 < slots gate.now) }
+{
+    begun.wait(rt);
+    gate.step(rt, &mut pass, 0, 4)
+}
+
+// A step that finds another pass inside waits until that one has left. It doesn't say that memory
+// is wanting.
+#[test]
+fn a_step_waits_for_a_pass_inside(rt: HostRuntime) -> Result<(), Fail> {
+    let (gate, mut passes) = Gate::open(rt.alloc(), counters(rt.alloc(), 1)?, 2)?;
+    let two = pop_pass(&gate, &mut passes);
+    let one = pop_pass(&gate, &mut passes);
+    let begun = Barrier::new(2);
+    let (shared, met, handle) = (&gate, &begun, &rt);
+    let (left, stepped) = thread::join(
+        &rt,
+        move || -> Option<u64>
+            requires { IsPassOf one shared.now × (0 < slots shared.now) }
+        { enter_and_leave_late(handle, met, shared, one) },
+        move || -> Result<u64, (AllocError, u64)>
+            requires { IsPassOf two shared.now × (0 < slots shared.now) }
+        { step_behind(handle, met, shared, two) },
+    );
+    assert!(rt; left == Some(5));
+    assert!(rt; stepped == Ok(9));
     Ok(())
 }
 

@@ -2,8 +2,6 @@
 #![tactic(auto)]
 
 mod policy;
-#[cfg(test)]
-mod tests;
 mod verdict;
 
 pub use policy::RetryPolicy;

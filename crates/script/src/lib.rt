@@ -13,4 +13,5 @@ mod script;
 mod serving;
 
 pub use fault::ScriptFault;
+pub use line::LINE_LIMIT;
 pub use run::{Outcome, run_one};

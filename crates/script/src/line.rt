@@ -7,7 +7,7 @@ use std::alloc::{AllocError, Global};
 use std::marker::Model;
 
 /// The most bytes that a line may have, its line feed not counted.
-const LIMIT: usize = 1_048_576;
+pub const LINE_LIMIT: usize = 1_048_576;
 
 /// A line so far: its bytes, or nothing once they are more than a line may have.
 #[derive(Drop)]
@@ -37,7 +37,7 @@ impl Line {
         ensures { OnOk result (self.new ≡ longer self.old byte) }
     {
         if let Some(bytes) = &mut self.bytes {
-            if bytes.len() < LIMIT {
+            if bytes.len() < LINE_LIMIT {
                 bytes.push(byte)?;
             } else {
                 self.bytes = None;

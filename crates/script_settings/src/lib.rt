@@ -6,6 +6,3 @@ mod words;
 
 pub use fault::Fault;
 pub use words::settings_of;
-
-#[cfg(test)]
-mod tests;

@@ -1,16 +1,30 @@
-//! A reader and a writer that fail at each byte, and one that waits for its replies.
+//! A reader and a writer that fail at each byte, and a writer whose flushes fail.
 
-use crate::printed::{DEFAULTS, printed};
 use script::{ScriptFault, run_one};
-use std::cell::Cell;
+use service_model::settings::Settings;
 use std::io::{self, Error, ErrorKind, Read, Write};
 use wire_counted::Counted;
 
+/// One shard, one pass, service 1: what the program takes where no option is given.
+pub(crate) const DEFAULTS: Settings = Settings {
+    shards: 1,
+    passes: 1,
+    service: 1,
+};
+
+/// A script whose last line has no line feed.
 const SCRIPT: &[u8] =
     br#"{"op":"start","request_id":"r1","task_queue":"main","workflow_id":"a","workflow_type":"w"}
 x
 {"name":"s","op":"signal","workflow_id":"a"}
 {"op":"history","workflow_id":"a"}"#;
+
+/// What the script prints.
+const OUTPUT: &[u8] = br#"{"line":1,"ok":"started","run":"00000000-0001-8000-8000-000000000001"}
+{"error":"InvalidArgument","field":"json","line":2,"no":1}
+{"line":3,"ok":"signaled"}
+{"events":[{"at":0,"attrs":{"input":"","run_timeout":0,"task_queue":"main","task_timeout":10000,"workflow_id":"a","workflow_type":"w"},"id":1,"type":"WorkflowExecutionStarted"},{"at":0,"attrs":{"attempt":1,"task_queue":"main"},"id":2,"type":"WorkflowTaskScheduled"},{"at":0,"attrs":{"input":"","name":"s"},"id":3,"type":"WorkflowExecutionSignaled"}],"line":4,"ok":"history","run":"00000000-0001-8000-8000-000000000001"}
+"#;
 
 /// Gives so many bytes of an input, and then fails.
 #[derive(Drop)]
@@ -31,11 +45,12 @@ impl Read for CutShort<'_> {
     }
 }
 
-/// Has room for so many bytes, and then takes none.
+/// Has room for so many bytes, and then takes none. So many flushes are done, and then one fails.
 #[derive(Drop)]
 struct Full {
     held: Vec<u8>,
     room: usize,
+    flushes: u64,
 }
 
 impl Write for Full {
@@ -47,6 +62,10 @@ impl Write for Full {
     }
 
     fn flush(&mut self) -> io::Result<()> {
+        if self.flushes == 0 {
+            return Err(Error::from(ErrorKind::Other));
+        }
+        self.flushes -= 1;
         Ok(())
     }
 }
@@ -57,9 +76,8 @@ fn ended(bytes: &[u8]) -> usize {
 }
 
 #[test]
-fn a_reader_that_fails_at_each_byte(rt: HostRuntime) -> Result<(), ScriptFault> {
+fn a_reader_that_fails_at_each_byte(rt: HostRuntime) {
     let alloc = rt.alloc();
-    let (output, _) = printed(&rt, &DEFAULTS, SCRIPT)?;
     for left in 0..=SCRIPT.len() {
         let mut reader = Counted::new(CutShort {
             input: SCRIPT,
@@ -70,103 +88,46 @@ fn a_reader_that_fails_at_each_byte(rt: HostRuntime) -> Result<(), ScriptFault> 
         assert!(rt; matches!(result, Err(ScriptFault::Read(_))), "{left}");
         assert_eq!(rt; reader.failures, 1);
         assert_eq!(rt; writer.failures, 0);
-        assert!(rt; output.starts_with(&writer.inner), "{left}");
+        assert!(rt; OUTPUT.starts_with(&writer.inner), "{left}");
         assert_eq!(rt; ended(&writer.inner), ended(&SCRIPT[..left]), "{left}");
     }
-    Ok(())
 }
 
 #[test]
-fn a_writer_that_fails_at_each_byte(rt: HostRuntime) -> Result<(), ScriptFault> {
+fn a_writer_that_fails_at_each_byte(rt: HostRuntime) {
     let alloc = rt.alloc();
-    let (output, _) = printed(&rt, &DEFAULTS, SCRIPT)?;
-    for room in 0..output.len() {
+    for room in 0..OUTPUT.len() {
         let mut reader = Counted::new(SCRIPT);
         let mut writer = Counted::new(Full {
             held: Vec::new(alloc),
             room,
+            flushes: u64::MAX,
         });
         let result = run_one(&rt, alloc, &DEFAULTS, &mut reader, &mut writer);
         assert!(rt; matches!(result, Err(ScriptFault::Write(_))), "{room}");
         assert_eq!(rt; reader.failures, 0);
         assert_eq!(rt; writer.failures, 1);
-        assert_eq!(rt; writer.inner.held.as_slice(), &output[..room], "{room}");
-    }
-    Ok(())
-}
-
-/// A user who types a line only once the replies to all earlier ones are shown.
-#[derive(Drop)]
-struct Terminal {
-    typed: Cell<u64>,
-    written: Cell<u64>,
-    shown: Cell<u64>,
-    waited_in_vain: Cell<bool>,
-}
-
-#[derive(Drop)]
-struct Keyboard<'a> {
-    terminal: &'a Terminal,
-    input: &'a [u8],
-}
-
-impl Read for Keyboard<'_> {
-    fn read(&mut self, buf: &mut [u8]) -> io::Result<usize> {
-        if self.terminal.shown.get() < self.terminal.typed.get() {
-            self.terminal.waited_in_vain.set(true);
-        }
-        let end = self.input.iter().position(|byte| *byte == b'\n');
-        let line = end.map_or(self.input.len(), |place| place.saturating_add(1));
-        let typed = self.terminal.typed.get().saturating_add(1);
-        self.terminal.typed.set(typed);
-        let most = buf.len().min(line);
-        self.input.read(&mut buf[..most])
+        assert_eq!(rt; writer.inner.held.as_slice(), &OUTPUT[..room], "{room}");
     }
 }
 
-#[derive(Drop)]
-struct Screen<'a> {
-    terminal: &'a Terminal,
-}
-
-impl Write for Screen<'_> {
-    fn write(&mut self, buf: &[u8]) -> io::Result<usize> {
-        for byte in buf {
-            if *byte == b'\n' {
-                let written = self.terminal.written.get().saturating_add(1);
-                self.terminal.written.set(written);
-            }
-        }
-        Ok(buf.len())
-    }
-
-    fn flush(&mut self) -> io::Result<()> {
-        self.terminal.shown.set(self.terminal.written.get());
-        Ok(())
-    }
-}
-
+/// The replies are flushed behind what was read, at the end of the input, and behind the reply to
+/// the last line, which has no line feed. None of these flushes is lost where it fails.
 #[test]
-fn replies_are_shown_before_more_is_read(rt: HostRuntime) -> Result<(), ScriptFault> {
-    let terminal = Terminal {
-        typed: Cell::new(0),
-        written: Cell::new(0),
-        shown: Cell::new(0),
-        waited_in_vain: Cell::new(false),
-    };
-    let mut reader = Counted::new(Keyboard {
-        terminal: &terminal,
-        input: br#"{"op":"history","workflow_id":"a"}
-x
-{"op":"history","workflow_id":"a"}
-"#,
-    });
-    let mut writer = Counted::new(Screen {
-        terminal: &terminal,
-    });
-    let outcome = run_one(&rt, rt.alloc(), &DEFAULTS, &mut reader, &mut writer)?;
-    assert!(rt; outcome.refused);
-    assert_eq!(rt; terminal.shown.get(), 3);
-    assert!(rt; !terminal.waited_in_vain.get());
-    Ok(())
+fn a_writer_whose_flush_fails(rt: HostRuntime) {
+    let alloc = rt.alloc();
+    for flushes in 0..=3 {
+        let mut reader = Counted::new(SCRIPT);
+        let mut writer = Counted::new(Full {
+            held: Vec::new(alloc),
+            room: usize::MAX,
+            flushes,
+        });
+        let result = run_one(&rt, alloc, &DEFAULTS, &mut reader, &mut writer);
+        let is_lost = matches!(result, Err(ScriptFault::Write(_)));
+        assert_eq!(rt; is_lost, flushes < 3, "{flushes}");
+        assert_eq!(rt; writer.failures, u64::from(is_lost), "{flushes}");
+        let is_whole = writer.inner.held.as_slice() == OUTPUT;
+        assert_eq!(rt; is_whole, flushes >= 2, "{flushes}");
+    }
 }

@@ -1,11 +1,10 @@
-//! Scripts from their bytes to the bytes of their replies, over memory and over devices that fail.
+//! Scripts over readers and writers that fail or wait, and the texts of faults. What scripts print is
+//! shown by `cases`.
 #![tactic(auto)]
 
 #[cfg(test)]
 mod devices;
 #[cfg(test)]
-mod lines;
+mod faults;
 #[cfg(test)]
-mod printed;
-#[cfg(test)]
-mod rows;
+mod terminal;

@@ -1,18 +1,10 @@
 //! What the tests ask.
 
-use service_model::request::{Request, Signal, Start};
+use service_model::request::{Signal, Start};
 use service_model::settings::Settings;
 use std::alloc::AllocGlobal;
 use std::process::Abort;
-use wf_event_values::{ConflictPolicy, Field, Id, Moment, Refusal, ReusePolicy, RunId, Span, Text};
-use wire_requests::read_request;
-
-/// One shard, one pass, service 1: what the program takes where no option is given.
-pub(crate) const DEFAULTS: Settings = Settings {
-    shards: 1,
-    passes: 1,
-    service: 1,
-};
+use wf_event_values::{ConflictPolicy, Field, Id, Moment, ReusePolicy, RunId, Span, Text};
 
 /// Two shards, of which `a` lies on the first and `b` on the second.
 pub(crate) const TWO_SHARDS: Settings = Settings {
@@ -40,16 +32,6 @@ pub(crate) fn moment<R: Abort>(rt: &R, millis: u64) -> Moment {
         Ok(moment) => moment,
         Err(_) => panic!(rt; "no moment"),
     }
-}
-
-/// What a line asks.
-pub(crate) fn asked_by<R: AllocGlobal>(
-    rt: &R,
-    settings: &Settings,
-    line: &str,
-) -> Result<Request, Refusal> {
-    let (_lane, request) = read_request(rt.alloc(), settings, line)?;
-    Ok(request)
 }
 
 /// A start under the default policies.

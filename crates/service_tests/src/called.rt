@@ -1,124 +1,146 @@
-//! Requests as calls, each by the form that never waits and by the one that may.
+//! Each call by its name, in the form that may wait and in the one that never does. What they answer
+//! is shown by `cases`, over the calls that serve any request.
 
 ghost use Rattle.std.specs.Prelude.{◌≡◌};
-ghost use Rattle.gate.specs.Passes.{number};
-ghost use Rattle.service.specs.Services.{IsPassOf, known_by};
+ghost use Rattle.service.specs.Services.{IsPassOf};
 
-use service::{Pass, Refused, Service};
-use service_model::answer::Reply;
-use service_model::request::{Operation, Request};
-use std::alloc::{AllocError, AllocGlobal};
+use crate::asked::{TWO_SHARDS, id, signal, start};
+use crate::passes::{open, take_pass};
+use service::{Pass, Service};
+use service_model::answer::{Answer, Reply};
+use service_model::request::{CompleteWorkflowTask, FailWorkflowTask, Hint, Read, TakenTask};
+use std::alloc::{AllocGlobal, Global};
 use std::process::Abort;
 use std::sync::Wait;
-use wf_event_values::Refusal;
-use wire_replies::reply_text;
+use wf_event_values::{Items, Moment, TaskKind, Text};
 
-/// Which form of a call is made.
-#[derive(Clone, Copy)]
-pub(crate) enum Form {
-    NeverWaits,
-    MayWait,
-}
-
-/// The reply of a call that met no other pass and found memory.
-fn answered<R: Abort>(rt: &R, answer: Result<Reply, (Refused, Request)>) -> Reply {
-    match answer {
-        Ok(reply) => reply,
-        Err((Refused::Busy, _)) => panic!(rt; "another pass was there"),
-        Err((Refused::NoMemory, _)) => panic!(rt; "no memory"),
+/// The first task of the first shard's first run, at its first attempt or the second, by the event
+/// that scheduled it.
+fn hint(event: u64, attempt: u32) -> Hint {
+    Hint {
+        kind: TaskKind::Workflow,
+        shard: 0,
+        run: 1,
+        event,
+        attempt,
     }
 }
 
-/// The reply of a call that found memory.
-fn answered_at_last<R: Abort>(rt: &R, answer: Result<Reply, (AllocError, Request)>) -> Reply {
-    match answer {
-        Ok(reply) => reply,
-        Err(_) => panic!(rt; "no memory"),
+fn task(event: u64, attempt: u32) -> TakenTask {
+    TakenTask {
+        shard: 0,
+        run: 1,
+        event,
+        attempt,
     }
 }
 
-/// Makes the call that a request stands for, in the form that never waits.
-fn call_now<R: Abort>(rt: &R, service: &Service, pass: &mut Pass, request: Request) -> Reply
-    requires { IsPassOf pass.old service.now }
-    ensures own { IsPassOf pass.new service.now }
-    ensures named { number (known_by pass.new) ≡ number (known_by pass.old) }
-{
-    let Request { at, operation } = request;
-    match operation {
-        Operation::Start(asked) => answered(rt, service.try_start(pass, asked, at)),
-        Operation::Signal(asked) => answered(rt, service.try_signal(pass, asked, at)),
-        Operation::StartTask(hint) => answered(rt, service.try_start_task(pass, hint, at)),
-        Operation::CompleteWorkflowTask(asked) => {
-            answered(rt, service.try_complete_workflow_task(pass, asked, at))
-        }
-        Operation::FailWorkflowTask(asked) => answered(
-            rt,
-            service.try_fail_workflow_task(pass, asked, at),
-        ),
-        Operation::History(asked) => answered(rt, service.try_history(pass, asked, at)),
-        Operation::Describe(asked) => answered(rt, service.try_describe(pass, asked, at)),
+fn failure(alloc: Global) -> FailWorkflowTask {
+    FailWorkflowTask {
+        task: task(2, 1),
+        message: Text::empty(alloc),
     }
 }
 
-/// Makes the call that a request stands for, in the form that may wait.
-fn call<R: Abort + Wait>(rt: &R, service: &Service, pass: &mut Pass, request: Request) -> Reply
-    requires { IsPassOf pass.old service.now }
-    ensures own { IsPassOf pass.new service.now }
-    ensures named { number (known_by pass.new) ≡ number (known_by pass.old) }
-{
-    let Request { at, operation } = request;
-    match operation {
-        Operation::Start(asked) => answered_at_last(rt, service.start(rt, pass, asked, at)),
-        Operation::Signal(asked) => answered_at_last(rt, service.signal(rt, pass, asked, at)),
-        Operation::StartTask(hint) => answered_at_last(rt, service.start_task(rt, pass, hint, at)),
-        Operation::CompleteWorkflowTask(asked) => {
-            answered_at_last(rt, service.complete_workflow_task(rt, pass, asked, at))
-        }
-        Operation::FailWorkflowTask(asked) => answered_at_last(
-            rt,
-            service.fail_workflow_task(rt, pass, asked, at),
-        ),
-        Operation::History(asked) => answered_at_last(rt, service.history(rt, pass, asked, at)),
-        Operation::Describe(asked) => answered_at_last(rt, service.describe(rt, pass, asked, at)),
+fn completion(alloc: Global) -> CompleteWorkflowTask {
+    CompleteWorkflowTask {
+        task: task(5, 2),
+        commands: Items::from_vec(Vec::new(alloc)),
     }
 }
 
-/// The reply to what a line asks: the call's, or the fault of a line that says no call.
-fn reply<R: Abort + Wait>(
+fn read<R: Abort + AllocGlobal>(rt: &R) -> Read {
+    Read {
+        workflow_id: id(rt, "a"),
+        run: None,
+    }
+}
+
+/// The name of what was answered.
+fn shown<E: Drop>(reply: Result<Reply, E>) -> &'static str {
+    match &reply {
+        Ok(Ok(Answer::Started(_))) => "started",
+        Ok(Ok(Answer::WorkflowTask(_))) => "task",
+        Ok(Ok(Answer::Failed)) => "failed",
+        Ok(Ok(Answer::Completed)) => "completed",
+        Ok(Ok(Answer::Signaled)) => "signaled",
+        Ok(Ok(Answer::History(_))) => "history",
+        Ok(Ok(Answer::Described(_))) => "described",
+        Ok(_) => "another answer",
+        Err(_) => "no answer",
+    }
+}
+
+fn assert_calls_that_may_wait<R: Abort + AllocGlobal + Wait>(
     rt: &R,
     service: &Service,
     pass: &mut Pass,
-    form: Form,
-    asked: Result<Request, Refusal>,
-) -> Reply
-    requires { IsPassOf pass.old service.now }
-    ensures own { IsPassOf pass.new service.now }
-    ensures named { number (known_by pass.new) ≡ number (known_by pass.old) }
-{
-    let request = asked?;
-    match form {
-        Form::NeverWaits => call_now(rt, service, pass, request),
-        Form::MayWait => call(rt, service, pass, request),
-    }
-}
-
-/// What is asked is answered by this text, as the line of that number.
-pub(crate) fn assert_answer<R: Abort + AllocGlobal + Wait>(
-    rt: &R,
-    service: &Service,
-    pass: &mut Pass,
-    form: Form,
-    asked: Result<Request, Refusal>,
-    line: u64,
-    expected: &str,
 )
     requires { IsPassOf pass.old service.now }
-    ensures own { IsPassOf pass.new service.now }
-    ensures named { number (known_by pass.new) ≡ number (known_by pass.old) }
 {
-    let reply = reply(rt, service, pass, form, asked);
-    match reply_text(rt.alloc(), line, &reply) {
-        Ok(text) => assert_eq!(rt; text.as_str(), expected),
-        Err(_) => panic!(rt; "no memory"),
-    }
+    let alloc = rt.alloc();
+    let at = Moment::zero();
+    assert_eq!(rt;
+        shown(service.start(rt, pass, start(rt, "a", None), at)),
+        "started"
+    );
+    assert_eq!(rt; shown(service.start_task(rt, pass, hint(2, 1), at)), "task");
+    assert_eq!(rt;
+        shown(service.fail_workflow_task(rt, pass, failure(alloc), at)),
+        "failed"
+    );
+    assert_eq!(rt; shown(service.start_task(rt, pass, hint(5, 2), at)), "task");
+    let completed = service.complete_workflow_task(rt, pass, completion(alloc), at);
+    assert_eq!(rt; shown(completed), "completed");
+    assert_eq!(rt;
+        shown(service.signal(rt, pass, signal(rt, "a"), at)),
+        "signaled"
+    );
+    assert_eq!(rt; shown(service.history(rt, pass, read(rt), at)), "history");
+    assert_eq!(rt;
+        shown(service.describe(rt, pass, read(rt), at)),
+        "described"
+    );
+}
+
+fn assert_calls_that_never_wait<R: Abort + AllocGlobal>(rt: &R, service: &Service, pass: &mut Pass)
+    requires { IsPassOf pass.old service.now }
+{
+    let alloc = rt.alloc();
+    let at = Moment::zero();
+    assert_eq!(rt;
+        shown(service.try_start(pass, start(rt, "a", None), at)),
+        "started"
+    );
+    assert_eq!(rt; shown(service.try_start_task(pass, hint(2, 1), at)), "task");
+    assert_eq!(rt;
+        shown(service.try_fail_workflow_task(pass, failure(alloc), at)),
+        "failed"
+    );
+    assert_eq!(rt; shown(service.try_start_task(pass, hint(5, 2), at)), "task");
+    let completed = service.try_complete_workflow_task(pass, completion(alloc), at);
+    assert_eq!(rt; shown(completed), "completed");
+    assert_eq!(rt;
+        shown(service.try_signal(pass, signal(rt, "a"), at)),
+        "signaled"
+    );
+    assert_eq!(rt; shown(service.try_history(pass, read(rt), at)), "history");
+    assert_eq!(rt;
+        shown(service.try_describe(pass, read(rt), at)),
+        "described"
+    );
+}
+
+#[test]
+fn calls_that_may_wait(rt: HostRuntime) {
+    let (service, mut passes) = open(&rt, &TWO_SHARDS);
+    let mut pass = take_pass(&service, &mut passes);
+    assert_calls_that_may_wait(&rt, &service, &mut pass);
+}
+
+#[test]
+fn calls_that_never_wait(rt: HostRuntime) {
+    let (service, mut passes) = open(&rt, &TWO_SHARDS);
+    let mut pass = take_pass(&service, &mut passes);
+    assert_calls_that_never_wait(&rt, &service, &mut pass);
 }

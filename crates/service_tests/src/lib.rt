@@ -1,5 +1,5 @@
 //! The service over its calls: what no contract says of them, that they succeed and that threads
-//! get through.
+//! get through. What the calls answer is shown by `cases`.
 #![tactic(auto)]
 
 #[cfg(test)]
@@ -7,12 +7,10 @@ mod asked;
 #[cfg(test)]
 mod called;
 #[cfg(test)]
+mod limits;
+#[cfg(test)]
 mod passes;
 #[cfg(test)]
-mod rows;
-#[cfg(test)]
-mod shards;
-#[cfg(test)]
-mod task_rows;
+mod refusals;
 #[cfg(test)]
 mod threads;

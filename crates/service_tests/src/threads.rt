@@ -190,7 +190,7 @@ fn signal_in_turn<R: Abort + AllocGlobal + Wait>(rt: &R, service: &Service, mut 
     for i in 0..SIGNALS {
         let asked = signal(rt, WORKFLOWS[i as usize % WORKFLOWS.len()]);
         match service.signal(rt, &mut pass, asked, moment(rt, i)) {
-            Ok(reply) => assert!(rt; matches!(reply, Ok(Answer::Signaled))),
+            Ok(reply) => assert!(rt; matches!(&reply, Ok(Answer::Signaled))),
             Err(_) => panic!(rt; "no memory"),
         }
     }
@@ -230,7 +230,7 @@ fn start_all<R: Abort + AllocGlobal>(rt: &R, service: &Service, mut pass: Pass) 
 {
     for workflow in WORKFLOWS {
         match service.try_start(&mut pass, start(rt, workflow, None), Moment::zero()) {
-            Ok(reply) => assert!(rt; matches!(reply, Ok(Answer::Started(_)))),
+            Ok(reply) => assert!(rt; matches!(&reply, Ok(Answer::Started(_)))),
             Err(_) => panic!(rt; "the shards were free"),
         }
     }

@@ -2,8 +2,6 @@
 #![tactic(auto)]
 
 mod run;
-#[cfg(test)]
-mod tests;
 mod token;
 
 pub use run::RunText;

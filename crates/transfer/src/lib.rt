@@ -6,8 +6,6 @@
 mod inbox;
 mod issue_log;
 mod outbox;
-#[cfg(test)]
-mod tests;
 
 pub use inbox::{Delivery, Inbox};
 pub use issue_log::IssueLog;

@@ -6,6 +6,3 @@ mod whole;
 
 pub use counted::Counted;
 pub use whole::{read_some, write_whole};
-
-#[cfg(test)]
-mod tests;

@@ -1,0 +1,133 @@
+//! Lines as calls of the service.
+
+ghost use Rattle.service.specs.Services.{IsPassOf};
+
+use crate::case::{Case, Step};
+use crate::transcript::transcript;
+use script::LINE_LIMIT;
+use script_settings::settings_of;
+use service::{Pass, Service};
+use service_model::answer::Reply;
+use service_model::request::{Operation, Request};
+use service_model::settings::Settings;
+use std::alloc::{AllocError, AllocGlobal, Global};
+use std::io;
+use std::sync::Wait;
+use wf_event_values::{Field, Refusal};
+use wire_replies::reply_text;
+use wire_requests::read_request;
+
+/// Which form of a call is made.
+#[derive(Clone, Copy)]
+pub(crate) enum Call {
+    MayWait,
+    NeverWaits,
+}
+
+/// A service with a pass of it.
+#[derive(Drop)]
+struct Opened {
+    settings: Settings,
+    service: Service,
+    pass: Pass,
+    ghost own: { IsPassOf pass service },
+}
+
+impl Opened {
+    /// A service with its last pass.
+    fn open(alloc: Global, settings: &Settings) -> Result<Opened, Refusal> {
+        let (service, mut passes) = Service::open(alloc, settings)?;
+        let Some(pass) = passes.pop() else {
+            return Err(Refusal::Busy);
+        };
+        Ok(Opened {
+            settings: *settings,
+            service,
+            pass,
+        })
+    }
+
+    /// The reply of a call. With one pass no other one is ever on a shard, so only memory can be
+    /// what it lacks.
+    fn reply<R: Wait>(
+        &mut self,
+        rt: &R,
+        call: Call,
+        request: Request,
+    ) -> Result<Reply, AllocError> {
+        let reply = match call {
+            Call::MayWait => self.service.serve(rt, &mut self.pass, request).ok(),
+            Call::NeverWaits => self.service.try_serve(&mut self.pass, request).ok(),
+        };
+        reply.ok_or(AllocError)
+    }
+
+    /// What is answered to a step, or nothing where it asks nothing.
+    fn answer<R: AllocGlobal + Wait>(
+        &mut self,
+        rt: &R,
+        call: Call,
+        step: &Step,
+    ) -> Result<Option<Reply>, AllocError> {
+        let asked = match step {
+            Step::Line(line) => asked(rt.alloc(), &self.settings, line),
+            Step::StartTask { hint, at } => Ok(Request {
+                at: *at,
+                operation: Operation::StartTask(*hint),
+            }),
+            Step::Skip => return Ok(None),
+        };
+        match asked {
+            Ok(request) => Ok(Some(self.reply(rt, call, request)?)),
+            Err(refusal) => Ok(Some(Err(refusal))),
+        }
+    }
+}
+
+/// What a line asks, or the fault that a script finds in it.
+fn asked(alloc: Global, settings: &Settings, line: &[u8]) -> Result<Request, Refusal> {
+    if line.len() > LINE_LIMIT {
+        return Err(Refusal::InvalidArgument(Field::Line));
+    }
+    let Ok(text) = str::from_utf8(line) else {
+        return Err(Refusal::InvalidArgument(Field::Json));
+    };
+    let (_lane, request) = read_request(alloc, settings, text)?;
+    Ok(request)
+}
+
+/// The service that a case's command line opens, or nothing where the case can't be run by calls:
+/// its lines stand in a file, its standard output gets full, or no service is opened.
+fn opened_for(alloc: Global, case: &Case) -> Option<Opened> {
+    if case.room().is_some() {
+        return None;
+    }
+    match settings_of(alloc, case.words()) {
+        Ok((settings, None)) => Opened::open(alloc, &settings).ok(),
+        _ => None,
+    }
+}
+
+/// What the calls answer, or nothing where the case can't be run by calls.
+pub(crate) fn by_calls<R: AllocGlobal + Wait>(
+    rt: &R,
+    case: &Case,
+    call: Call,
+) -> io::Result<Option<String>> {
+    let alloc = rt.alloc();
+    let Some(mut opened) = opened_for(alloc, case) else {
+        return Ok(None);
+    };
+    let mut output = String::new(alloc);
+    let mut refused = false;
+    for (place, step) in case.steps().iter().enumerate() {
+        let Some(reply) = opened.answer(rt, call, step)? else {
+            continue;
+        };
+        refused |= reply.is_err();
+        let number = (place as u64).saturating_add(1);
+        output.push_str(reply_text(alloc, number, &reply)?.as_str())?;
+    }
+    let status = u8::from(refused);
+    Ok(Some(transcript(alloc, output.as_bytes(), b"", status)?))
+}

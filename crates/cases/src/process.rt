@@ -1,0 +1,132 @@
+//! A process that gives the program its arguments and its input, and keeps what it writes.
+
+use crate::transcript::transcript;
+use std::alloc::{AllocError, Allocator, Global};
+use std::cell::Cell;
+use std::env::FillError;
+use std::fmt::Display;
+use std::io::{self, BufRead, Error, ErrorKind, Input, Lines};
+use std::rt::Env;
+
+/// A process over memory.
+#[derive(Drop)]
+pub(crate) struct Process<'a> {
+    alloc: Global,
+    words: &'a [&'a str],
+    input: &'a [u8],
+    room: Cell<usize>,
+    output: Cell<Vec<u8>>,
+    errors: Cell<Vec<u8>>,
+}
+
+/// Puts the bytes behind those that the cell has.
+fn write_into(alloc: Global, cell: &Cell<Vec<u8>>, bytes: &[u8]) -> Result<(), AllocError> {
+    let mut all = cell.replace(Vec::new(alloc));
+    let written = all.extend_from_slice(bytes);
+    cell.set(all);
+    written
+}
+
+impl<'a> Process<'a> {
+    /// A process with these arguments and this input, whose standard output takes so many bytes.
+    pub(crate) fn new(
+        alloc: Global,
+        words: &'a [&'a str],
+        input: &'a [u8],
+        room: usize,
+    ) -> Process<'a> {
+        Process {
+            alloc,
+            words,
+            input,
+            room: Cell::new(room),
+            output: Cell::new(Vec::new(alloc)),
+            errors: Cell::new(Vec::new(alloc)),
+        }
+    }
+
+    /// What was written, and the exit status.
+    pub(crate) fn transcript(&self, status: u8) -> Result<String, AllocError> {
+        let output = self.output.replace(Vec::new(self.alloc));
+        let errors = self.errors.replace(Vec::new(self.alloc));
+        transcript(self.alloc, &output, &errors, status)
+    }
+}
+
+impl Env for Process<'_> {
+    fn arg(&self, i: usize, buf: &mut [u8]) -> Result<usize, FillError> {
+        let Some(word) = self.words.get(i) else {
+            return Err(FillError::NotPresent);
+        };
+        let bytes = word.as_bytes();
+        if bytes.len() > buf.len() {
+            return Err(FillError::TooLong);
+        }
+        buf[..bytes.len()].copy_from_slice(bytes);
+        Ok(bytes.len())
+    }
+
+    fn var(&self, _name: &str, _buf: &mut [u8]) -> Result<usize, FillError> {
+        Err(FillError::NotPresent)
+    }
+
+    fn var_at(&self, _i: usize, _buf: &mut [u8]) -> Result<usize, FillError> {
+        Err(FillError::NotPresent)
+    }
+}
+
+impl<'a> Input for Process<'a> {
+    type Reader = &'a [u8];
+
+    fn read_line<A: Allocator + Clone>(&self, buf: &mut String<A>) -> io::Result<usize> {
+        self.reader().read_line(buf)
+    }
+
+    fn lines<A: Allocator>(&self, alloc: A) -> Lines<&'a [u8], A> {
+        self.reader().lines(alloc)
+    }
+
+    fn reader(&self) -> &'a [u8] {
+        self.input
+    }
+}
+
+impl Print for Process<'_> {
+    fn print<D: Display + Drop>(&self, value: D) -> io::Result<()> {
+        self.write_all(value.to_string(self.alloc)?.as_bytes())
+    }
+
+    fn println<D: Display + Drop>(&self, value: D) -> io::Result<()> {
+        self.print(value)?;
+        self.write_all(b"\n")
+    }
+
+    fn write_all(&self, bytes: &[u8]) -> io::Result<()> {
+        if self.write_some(bytes)? < bytes.len() {
+            return Err(Error::from(ErrorKind::WriteZero));
+        }
+        Ok(())
+    }
+
+    fn write_some(&self, bytes: &[u8]) -> io::Result<usize> {
+        let room = self.room.get();
+        let count = bytes.len().min(room);
+        write_into(self.alloc, &self.output, &bytes[..count])?;
+        self.room.set(room - count);
+        Ok(count)
+    }
+}
+
+impl Eprint for Process<'_> {
+    fn eprint<D: Display + Drop>(&self, value: D) -> io::Result<()> {
+        let text = value.to_string(self.alloc)?;
+        write_into(self.alloc, &self.errors, text.as_bytes())?;
+        Ok(())
+    }
+
+    fn eprintln<D: Display + Drop>(&self, value: D) -> io::Result<()> {
+        self.eprint(value)?;
+        write_into(self.alloc, &self.errors, b"\n")?;
+        Ok(())
+    }
+}

@@ -1,0 +1,16 @@
+//! What no contract of the leaves says: values from outside, that their calls find memory, and
+//! devices that fail in the middle of a text.
+#![tactic(auto)]
+
+#[cfg(test)]
+mod deadlines;
+#[cfg(test)]
+mod decisions;
+#[cfg(test)]
+mod devices;
+#[cfg(test)]
+mod retries;
+#[cfg(test)]
+mod texts;
+#[cfg(test)]
+mod transfers;

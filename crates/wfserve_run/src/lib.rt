@@ -1,0 +1,14 @@
+//! The program `wfserve [--shards N] [--service K] [FILE]`, over whatever gives it its arguments and
+//! takes what it writes.
+//!
+//! It serves each line of FILE, or of standard input, and prints one reply line for each. Its exit
+//! status is 0, or 1 where a reply was a refusal, or 2 for a fault, whose text goes to standard
+//! error. Faults are looked for in this order: the command line, the file, the settings' ranges,
+//! and then reading, writing and memory.
+#![tactic(auto)]
+
+mod fault;
+mod program;
+
+pub use fault::Fault;
+pub use program::{run, status};
