@@ -71,7 +71,7 @@ def prove(names):
     ) as run:
         for line in run.stdout:
             said.append(line)
-            if line.startswith("== "):
+            if line.startswith("== ") and line[3:].strip() in names:
                 done += 1
                 print(f"build: {done} of {len(names)}: {line[3:].strip()}", file=sys.stderr)
     return "".join(said[-30:]) if run.returncode else None
