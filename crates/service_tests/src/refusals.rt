@@ -70,7 +70,7 @@ fn assert_refused<R: Abort + Wait>(
         at: Moment::zero(),
         operation,
     };
-    match service.serve(rt, pass, request) {
+    match &service.serve(rt, pass, request) {
         Ok(Err(Refusal::InvalidArgument(field))) => assert_eq!(rt; field.name(), expected),
         Ok(Err(refusal)) => assert_eq!(rt; refusal.name(), expected),
         _ => panic!(rt; "{expected}"),
