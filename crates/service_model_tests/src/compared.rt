@@ -25,7 +25,7 @@ type Shard = shard::Shard<mutable_state::Run>;
 const COUNT: u64 = 400;
 
 /// How many kinds of reply there are.
-const KINDS: usize = 18;
+const KINDS: usize = 17;
 
 /// Service 1's shard, with the queue `main`.
 fn setup(alloc: Global, shard: u16, shards: u16) -> Result<Setup, Refusal>
@@ -54,7 +54,7 @@ fn serve(shard: &mut Shard, request: &Request) -> Result<Reply, AllocError>
 
 /// Which kind of reply it is, if it is one that these requests get.
 fn kind(reply: &Reply) -> Option<usize>
-    ensures { IfSome result (λ k. k < 18) }
+    ensures { IfSome result (λ k. k < 17) }
 {
     match reply {
         Ok(Answer::Started(_)) => Some(0),
@@ -66,15 +66,14 @@ fn kind(reply: &Reply) -> Option<usize>
         Err(Refusal::NotFound) => Some(6),
         Err(Refusal::UnknownTaskQueue) => Some(7),
         Err(Refusal::InvalidArgument(Field::WorkflowId)) => Some(8),
-        Err(Refusal::InvalidArgument(Field::Reuse)) => Some(9),
-        Err(Refusal::InvalidArgument(Field::Conflict)) => Some(10),
-        Err(Refusal::InvalidArgument(Field::Type)) => Some(11),
-        Ok(Answer::WorkflowTask(_)) => Some(12),
-        Ok(Answer::Stale) => Some(13),
-        Ok(Answer::Completed) => Some(14),
-        Ok(Answer::TaskFailed(_)) => Some(15),
-        Ok(Answer::Failed) => Some(16),
-        Ok(Answer::Described(_)) => Some(17),
+        Err(Refusal::InvalidArgument(Field::Conflict)) => Some(9),
+        Err(Refusal::InvalidArgument(Field::Type)) => Some(10),
+        Ok(Answer::WorkflowTask(_)) => Some(11),
+        Ok(Answer::Stale) => Some(12),
+        Ok(Answer::Completed) => Some(13),
+        Ok(Answer::TaskFailed(_)) => Some(14),
+        Ok(Answer::Failed) => Some(15),
+        Ok(Answer::Described(_)) => Some(16),
         _ => None,
     }
 }

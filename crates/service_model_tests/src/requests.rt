@@ -92,10 +92,10 @@ fn start(alloc: Global, draws: &mut Draws) -> Result<Start, Refusal> {
         } else {
             ReusePolicy::AllowDuplicate
         },
-        conflict: if draws.one_in(16) {
-            ConflictPolicy::UseExisting
-        } else {
-            ConflictPolicy::Fail
+        conflict: match draws.below(16) {
+            0 => ConflictPolicy::TerminateExisting,
+            1 => ConflictPolicy::UseExisting,
+            _ => ConflictPolicy::Fail,
         },
         run_timeout: span(draws)?,
         task_timeout: span(draws)?,
