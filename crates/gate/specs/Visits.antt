@@ -1,8 +1,9 @@
 -- What is known of a seat between an enter and a leave.
-use Rattle.std.specs.Prelude.{◌≡◌, ℕ, List, [], ◌∷◌, ◌++◌, Some}
+use Rattle.std.specs.Prelude.{◌≡◌, ℕ, List, [], ◌∷◌, ◌++◌, Some, None}
 use mathlib.Core.Option.{some}
 use lib.ListN.{get_elem?}
 use Rattle.gate.specs.declared.view.View.{View}
+use Rattle.gate.specs.declared.view.Holder.TheVariants.{Pass}
 use Rattle.gate.specs.Records.{replay, KeepsAll}
 use Rattle.gate.specs.Plays.{Sat, Found, within}
 
@@ -22,4 +23,4 @@ module _ {Q C : Type 0} where
 
   -- the seat is a pass's, in no slot
   abbrev pub Idles : Sat Q C → Type 0
-  Idles m = (m.0.kind ≡ 1) × (m.0.inside ≡ 0) × (m.1 ≡ [])
+  Idles m = (m.0.kind ≡ Pass) × (m.0.inside ≡ None) × (m.1 ≡ [])

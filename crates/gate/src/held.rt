@@ -1,4 +1,5 @@
 //! A pass that stays inside a slot.
+ghost use Rattle.gate.specs.declared.view.Holder.TheVariants.{Pass};
 ghost use Rattle.std.specs.Prelude.{◌≡◌, ◌<◌, ◌+◌, ◌++◌, [], ◌∷◌, Some, IfOk, IfErr};
 ghost use mathlib.Core.Option.{some};
 ghost use lib.ListN.{get_elem?};
@@ -21,7 +22,7 @@ pub struct Held<'a, O: Object> {
     // What was asked, and what lies in the slot since: snapshots take no bytes.
     asked: Snapshot<O::Request>,
     lying: Snapshot<Slot<O>>,
-    ghost sits: { (seat.me.0.kind ≡ 1) × (seat.me.0.number ≡ number) × (seat.me.0.inside ≡ slot + 1) },
+    ghost sits: { (seat.me.0.kind ≡ Pass) × (seat.me.0.number ≡ number) × (seat.me.0.inside ≡ Some slot) },
     ghost own: { (seat.table_id ≡ gate.now.board.shared.table_id) × (slot < gate.now.board.shared.table_id.slots) },
     ghost hand: { seat.me.1 ≡ (slot, Some lying.value) ∷ [] },
     ghost start: { get_elem? seat.me.0.origin.starts slot ≡ some lying.value.0 },
