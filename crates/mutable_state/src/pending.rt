@@ -3,6 +3,7 @@
 ghost use Rattle.std.specs.Prelude.{◌≡◌, []};
 ghost use Rattle.mutable_state.specs.View.{pending_in};
 
+use crate::open::Class;
 use crate::run::Run;
 
 /// How much is pending in a run, by class.
@@ -18,18 +19,17 @@ pub struct Pending {
 }
 
 impl Run {
-    /// What is pending: nothing, as no event that a run takes so far opens anything.
+    /// What is pending: in use, and settled by nothing that is held back. No activity is, so far.
     pub fn pending(&self) -> Pending
         ensures count { result ≡ pending_in self.now.state }
         ensures activities { self.now.state.activities ≡ [] }
     {
-        let _ = &self.status;
         Pending {
-            activities: 0,
-            timers: 0,
-            children: 0,
-            signals: 0,
-            cancels: 0,
+            activities: self.in_use.count(Class::Activity),
+            timers: self.in_use.count(Class::Timer),
+            children: self.in_use.count(Class::Child),
+            signals: self.in_use.count(Class::Signal),
+            cancels: self.in_use.count(Class::Cancel),
         }
     }
 }
