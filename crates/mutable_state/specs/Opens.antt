@@ -1,11 +1,12 @@
 -- what is kept of what is in use in a run: each thing by its class and the id of the event that opened it
-use Rattle.std.specs.Prelude.{◌≡◌, ℕ, Bool, true, false, cond, not, ◌&&◌, ◌||◌, ◌==◌, List, [], ◌∷◌, ◌++◌, filter, filter_map, find, map, length, Option, None, Some, option_map, IsSome}
+use Rattle.std.specs.Prelude.{◌≡◌, ℕ, Bool, true, false, cond, not, ◌&&◌, ◌||◌, ◌==◌, List, [], ◌∷◌, ◌++◌, filter, filter_map, map, length, Option, None, Some, option_map, IsSome}
 use Rattle.std.specs.List.{AllByRecursion}
 use Rattle.wf_event.specs.declared.event.Event.{Event}
 use Rattle.wf_event.specs.declared.attributes.Attributes.{Attributes}
 use Rattle.wf_event.specs.Role.{Role, TimerCancels, role, is_closing_role, Class, AnActivity, ATimer, AChild, ASignal, ACancel, opens, Settled, settles}
 use Rattle.service_model.specs.Pending.{Task, class_number, is_settling, is_settled}
 use Rattle.buffered.specs.Buffers.{Buffer, unheld, flushed}
+pub use Rattle.buffered.specs.Buffers.{event_at}
 use Rattle.mutable_state.specs.declared.open.Class.{Class as KeptClass}
 use Rattle.mutable_state.specs.declared.open.Class.TheVariants as kept
 use Rattle.mutable_state.specs.declared.open.Opener.{Opener}
@@ -77,10 +78,6 @@ abbrev pub way_made : Bool → Option ℕ → Buffer → Buffer
 way_made true canceled b = flushed b
 way_made false None b = b
 way_made false (Some started) b = unheld started b
-
--- the event of a history that has this id
-abbrev pub event_at : ℕ → List Event → Option Event
-event_at id es = find (λ (e : Event). e.id == id) es
 
 abbrev pub is_of : Class → Open → Bool
 is_of c o = class_number c == class_number (class_in o.opener.class)

@@ -258,20 +258,23 @@ used-ids c s F h =
     let q : Event → Bool = λ e. in_use_now c e.id s F in
     all-weaker (λ (e : Event). (e.id ≤ n) × (q e ≡ true)) (λ (e : Event). e.id ≤ n) (λ e k. k.0) (filter q (opened_so_far c s F)) (all-filter (λ (e : Event). e.id ≤ n) q (opened_so_far c s F) (h.ids c))
 
--- before any command all that is used is in use so far
+nothing-taken : (l : List Attributes) → filter (λ a. not (is_taken_away [] (role a))) l ≡ l
+nothing-taken [] = refl
+nothing-taken (a ∷ l) = ap (λ b. cond (not b) (a ∷ filter (λ x. not (is_taken_away [] (role x))) l) (filter (λ x. not (is_taken_away [] (role x))) l)) (none (role a)) ∙ ap (λ t. a ∷ t) (nothing-taken l)
+  where
+    none : (r : Role) → is_taken_away [] r ≡ false
+    none (TimerFires n) = refl
+    none _ = refl
+
+-- before any command all that is held back still is, and all that is used is in use so far
+pub all-held : (s : RunState) → still_held s [] ≡ held_attributes s
+all-held s = nothing-taken (held_attributes s)
+
 pub all-in-use : (c : Class) (s : RunState) → in_use_so_far c s [] ≡ used c s
 unfolding in_use_so_far
 all-in-use c s =
     ap (filter (λ e. in_use_now c e.id s [])) (append-nil (used c s)) ∙ all (used c s)
   where
-    keeps : (l : List Attributes) → filter (λ a. not (is_taken_away [] (role a))) l ≡ l
-    keeps [] = refl
-    keeps (a ∷ l) = ap (λ b. cond (not b) (a ∷ filter (λ x. not (is_taken_away [] (role x))) l) (filter (λ x. not (is_taken_away [] (role x))) l)) (none (role a)) ∙ ap (λ t. a ∷ t) (keeps l)
-      where
-        none : (r : Role) → is_taken_away [] r ≡ false
-        none (TimerFires n) = refl
-        none _ = refl
-
     either : (b : Bool) → (not (b || false) || b) ≡ true
     either true = refl
     either false = refl
@@ -279,5 +282,5 @@ all-in-use c s =
     all : (l : List Event) → filter (λ e. in_use_now c e.id s []) l ≡ l
     all [] = refl
     all (e ∷ l) =
-        ap (λ b. cond b (e ∷ filter (λ x. in_use_now c x.id s []) l) (filter (λ x. in_use_now c x.id s []) l)) (ap (λ k. not (is_settled_so_far c e.id s []) || is_settled c e.id k) (keeps (held_attributes s)) ∙ either (is_settled c e.id (held_attributes s)))
+        ap (λ b. cond b (e ∷ filter (λ x. in_use_now c x.id s []) l) (filter (λ x. in_use_now c x.id s []) l)) (ap (λ k. not (is_settled_so_far c e.id s []) || is_settled c e.id k) (all-held s) ∙ either (is_settled c e.id (held_attributes s)))
         ∙ ap (λ t. e ∷ t) (all l)
