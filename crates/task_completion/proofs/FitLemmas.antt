@@ -1,11 +1,11 @@
 -- the facts of commands that are judged without a fault may come
-use Rattle.std.proofs.Common.{◌≡◌, ℕ, suc, ◌+◌, ◌≤◌, Bool, true, false, not, cond, ◌&&◌, ◌||◌, ◌==◌, List, [], ◌∷◌, ◌++◌, length, refl, sym, ap, ◌∙◌, subst, arith, Option, Some, None, append_assoc, append-nil, length-append}
-use Rattle.std.specs.Prelude.{filter, map, find, is_some, unwrap_or, Result, Ok, Err}
-use Rattle.std.specs.List.{AllByRecursion, list_any, list_all}
+use Rattle.std.proofs.Common.{◌≡◌, ℕ, ◌+◌, ◌≤◌, Bool, true, false, not, cond, ◌&&◌, ◌||◌, ◌==◌, List, [], ◌∷◌, ◌++◌, length, refl, sym, ap, ◌∙◌, subst, arith, Option, Some, None, append_assoc, append-nil, length-append}
+use Rattle.std.specs.Prelude.{filter, map, is_some, unwrap_or, Ok, Err}
+use Rattle.std.specs.List.{list_any, list_all}
 use Rattle.wf_event.specs.declared.event.Event.{Event}
 use Rattle.wf_event.specs.declared.attributes.Attributes.{Attributes}
 use Rattle.wf_event.specs.declared.attributes.Attributes.TheVariants.{WorkflowExecutionCompleted, WorkflowExecutionFailed, WorkflowExecutionCanceled, WorkflowTaskCompleted, MarkerRecorded, TimerStarted, TimerCanceled}
-use Rattle.wf_event.specs.Role.{Role, TaskSchedules, TaskStarts, TaskEnds, Closes, TimerFires, TimerCancels, ComesFromOutside, Follows, role, is_outside_role, is_closing_role, Class, ATimer, opens, Settled, settles, closing_status}
+use Rattle.wf_event.specs.Role.{Role, TaskSchedules, TaskStarts, TaskEnds, Closes, TimerFires, TimerCancels, ComesFromOutside, Follows, role, is_closing_role, Class, ATimer, opens, Settled, settles, closing_status}
 use Rattle.wf_event_values.specs.Run.{Run}
 use Rattle.wf_event_values.specs.declared.policies.Cause.{Cause}
 use Rattle.wf_event_values.specs.declared.policies.Cause.TheVariants.{UnhandledCommand, CommandAfterClose, StartTimerDuplicateId, BadStartTimerAttributes}
@@ -17,7 +17,7 @@ use Rattle.service_model.specs.declared.journal.Fact.{Fact}
 use Rattle.service_model.specs.declared.journal.NewEvent.{NewEvent}
 use Rattle.service_model.specs.Journal.{plain}
 use Rattle.service_model.specs.Shown.{schedules_task}
-use Rattle.service_model.specs.Pending.{Task, NoTask, IsStarted, task_of, is_opening, is_settling}
+use Rattle.service_model.specs.Pending.{NoTask, IsStarted, task_of, is_opening, is_settling}
 use Rattle.service_model.specs.RunState.{RunState, signal_request_by, used, is_open, is_open_status, last_task}
 use Rattle.service_model.specs.Signals.{was_signaled}
 use Rattle.service_model.specs.Outcome.{schedule_task}
@@ -291,6 +291,7 @@ unfolding role completed_task
 completed-fits at setup next s commands F g opened task served h =
     let t = last_task s in
     let (rest, all, fit) = goes at setup next s F g commands [] (with_event at None (WorkflowTaskCompleted (record { scheduled = t.scheduled; started = t.started })) s) (now-first at t.scheduled t.started s g opened task) served h in
-    let tail = F ++ cond (goes_on s F) (schedule_task s 1 ∷ []) [] in
-    (end-fits t.scheduled t.started (map plain tail) s opened task,
-    subst (λ l. FitFrom IsBehindEnd at (with_event at None (WorkflowTaskCompleted (record { scheduled = t.scheduled; started = t.started })) s) (map plain (l ++ cond (goes_on s F) (schedule_task s 1 ∷ []) []))) (sym all) fit)
+    let tail = F ++ cond (goes_on s F) (schedule_task s 1 ∷ []) [] in (
+      end-fits t.scheduled t.started (map plain tail) s opened task,
+      subst (λ l. FitFrom IsBehindEnd at (with_event at None (WorkflowTaskCompleted (record { scheduled = t.scheduled; started = t.started })) s) (map plain (l ++ cond (goes_on s F) (schedule_task s 1 ∷ []) []))) (sym all) fit,
+    )

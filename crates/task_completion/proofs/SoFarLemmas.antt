@@ -14,10 +14,10 @@ use Rattle.service_model.specs.RunState.{RunState, used, held_attributes}
 use Rattle.service_model.specs.Completion.{is_taken_away, still_held, events_from, command_events, opened_so_far, is_settled_so_far, in_use_so_far}
 use Rattle.buffered.specs.Buffers.{is_fire, fires}
 use Rattle.buffered.specs.Courses.{cancels_timer}
-use Rattle.mutable_state.specs.Formed.{SettlesTo, IdsTo, IsFromOutside}
+use Rattle.mutable_state.specs.Formed.{IdsTo, IsFromOutside}
 use Rattle.mutable_state.specs.Readers.{IsGrounded}
 use Rattle.mutable_state.specs.Steps.{carried, left_by, opened_by, event_id, itself, has_id}
-use Rattle.mutable_state.proofs.OpenLemmas.{any-push, filter-same-on, filter-twice, filter-map, all-filter, all-weaker, all-append, or-assoc, or-false, or-either, left-is, no-bound, not-found, nat-same, nat-self, use-push, use-cancel, unheld-settled, same-as}
+use Rattle.mutable_state.proofs.OpenLemmas.{any-push, filter-twice, filter-map, all-filter, all-weaker, all-append, or-assoc, or-false, or-either, left-is, not-found, nat-self, use-push, use-cancel, unheld-settled, same-as}
 use Rattle.task_completion.specs.Judging.{IsSoFar}
 
 -- whether what was opened under an id is in use so far

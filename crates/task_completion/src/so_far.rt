@@ -53,7 +53,12 @@ impl<'a> Model for SoFar<'a> {
 
 impl<'a> SoFar<'a> {
     /// Before any command. The first one's event gets this id.
-    pub fn new(alloc: Global, first: u64, timers: Vec<Used<'a>>, held: Vec<Option<u64>>) -> SoFar<'a>
+    pub fn new(
+        alloc: Global,
+        first: u64,
+        timers: Vec<Used<'a>>,
+        held: Vec<Option<u64>>,
+    ) -> SoFar<'a>
         ensures { result ≡ record { facts = []; is_closed = false; first = first; timers = timers.entry.items; held = held.items } }
     {
         SoFar {
@@ -139,8 +144,7 @@ impl<'a> SoFar<'a> {
     {
         let name = marker.name.clone()?;
         let details = marker.details.clone()?;
-        self.facts
-            .push(Attributes::MarkerRecorded(MarkerRecorded { name, details }))?;
+        self.facts.push(Attributes::MarkerRecorded(MarkerRecorded { name, details }))?;
         Ok(Ok(()))
     }
 

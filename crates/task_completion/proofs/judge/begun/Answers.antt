@@ -1,5 +1,4 @@
 use Rattle.std.proofs.Common.{ap, ◌∙◌, ◌+◌}
-use Rattle.std.specs.Prelude.{map}
 use Rattle.task_completion.proofs.JudgeLemmas.{agrees-first}
 use Rattle.task_completion.proofs.judge.begun.Goals as goal
 
