@@ -1,5 +1,7 @@
--- a run's deadlines, where no activity and no timer is open
-use Rattle.std.proofs.Common.{◌≡◌, ℕ, true, false, cond, List, [], ◌∷◌, ◌++◌, refl, sym, ap, ◌∙◌, append-nil, IsSome, arith, length, nat_lt}
+-- a run's deadlines, and the first of them
+use Rattle.std.proofs.Common.{◌≡◌, ℕ, ◌+◌, ◌<◌, Bool, true, false, cond, ◌&&◌, List, [], ◌∷◌, ◌++◌, refl, sym, ap, ◌∙◌, append-nil, append_assoc, take, get_or, IsSome, arith, length, nat_lt}
+use Rattle.std.proofs.lemmas.List.{take_more}
+use Rattle.std.specs.List.{cons_option}
 use Rattle.std.proofs.lemmas.Bool.{lt-ltb}
 use Rattle.std.specs.Prelude.{Option, Some, None, option_map, not, filter, flat_map, slice_get, unwrap_or}
 use Rattle.wf_event.specs.declared.event.Event.{Event}
@@ -11,12 +13,21 @@ use Rattle.wf_event.specs.Role.{AnActivity, ATimer}
 use Rattle.service_model.specs.Deadlines.{Due, dues, due_after, run_timeout_dues, workflow_task_dues, task_timeout, activity_dues, timer_dues, pending_rows}
 use Rattle.service_model.specs.Pending.{is_settled}
 use Rattle.service_model.specs.RunState.{RunState, ActivityRow, Beginning, LastTask, beginning_by, held_attributes, is_open, last_task, pending}
-use Rattle.mutable_state.specs.Dues.{own_dues, task_dues}
+use Rattle.wf_event_values.specs.declared.policies.Status.{Status}
+use Rattle.buffered.specs.Buffers.{Buffer, event_at}
+use Rattle.timeouts.specs.declared.due.Due.{Due as Kept}
+use Rattle.timeouts.specs.Firsts.{first_of}
+use Rattle.timeouts.specs.Slots.{run_due, lesser_of_two}
+use Rattle.timeouts.proofs.FirstLemmas.{first_of-append}
+use Rattle.mutable_state.specs.Dues.{own_dues, task_dues, dues_of, kept_dues, pending_timer_dues}
+use Rattle.mutable_state.specs.declared.open.Open.{Open}
+use Rattle.mutable_state.specs.Opens.{is_of, is_unmarked, unmarked, used_in, AgreesWith}
 use Rattle.mutable_state.specs.declared.task.WorkflowTask.{WorkflowTask}
 use Rattle.mutable_state.specs.declared.task.TaskPhase.TheVariants as kept
 use Rattle.mutable_state.specs.declared.task.TaskPhase.{TaskPhase}
 use Rattle.mutable_state.specs.Tasks.{phase_in, numbers_in}
-use Rattle.mutable_state.specs.View.{beginning_in}
+use Rattle.mutable_state.specs.View.{beginning_in, state_in}
+use Rattle.mutable_state.proofs.KeptLemmas.{used-unmarked}
 
 -- a run begins at the moment of its first event
 begun-by : (at : ℕ) (request : Option (List ℕ)) (a : Attributes) → IsSome (beginning_by at request a) → option_map (λ (b : Beginning). b.at) (beginning_by at request a) ≡ Some at
@@ -50,19 +61,61 @@ own-parts s (Some b) begun a is at carries =
       ap (λ x. unwrap_or (option_map (λ (c : Beginning). c.attributes.task_timeout) x) 0) is ∙ ap (λ (x : StartedAttributes). x.task_timeout) what,
     )
 
--- an open run without activities and timers has no other deadlines than its own
-pub dues-own : (s : RunState) (begun : ℕ) (a : StartedAttributes) (t : WorkflowTask) → is_open s ≡ true → option_map (λ (b : Beginning). b.at) s.beginning ≡ Some begun → option_map (λ (b : Beginning). b.attributes) s.beginning ≡ Some a →
-    phase_in t.phase ≡ s.task → numbers_in t ≡ last_task s → s.activities ≡ [] → s.timers ≡ [] → dues s ≡ own_dues begun a t
+-- an open run's deadlines: its own, those of its pending activities and those of its pending timers
+pub dues-parts : (s : RunState) (begun : ℕ) (a : StartedAttributes) (t : WorkflowTask) → is_open s ≡ true → option_map (λ (b : Beginning). b.at) s.beginning ≡ Some begun → option_map (λ (b : Beginning). b.attributes) s.beginning ≡ Some a →
+    phase_in t.phase ≡ s.task → numbers_in t ≡ last_task s → dues s ≡ own_dues begun a t ++ flat_map activity_dues (pending_rows s) ++ pending_timer_dues s
 unfolding dues
-dues-own s begun a t opened at carries phase numbers activities timers =
+dues-parts s begun a t opened at carries phase numbers =
     let parts = own-parts s s.beginning begun a refl at carries in
-    ap (λ b. cond b (run_timeout_dues s.beginning ++ workflow_task_dues s s.task ++ flat_map activity_dues (pending_rows s) ++ flat_map timer_dues (pending ATimer s)) []) opened
-    ∙ ap (λ l. run_timeout_dues s.beginning ++ workflow_task_dues s s.task ++ flat_map activity_dues (filter (λ (r : ActivityRow). not (is_settled AnActivity r.opened.id (held_attributes s))) l) ++ flat_map timer_dues (pending ATimer s)) activities
-    ∙ ap (λ l. run_timeout_dues s.beginning ++ workflow_task_dues s s.task ++ [] ++ flat_map timer_dues (filter (λ (e : Event). not (is_settled ATimer e.id (held_attributes s))) l)) timers
-    ∙ append-nil (run_timeout_dues s.beginning ++ workflow_task_dues s s.task ++ [])
-    ∙ append-nil (run_timeout_dues s.beginning ++ workflow_task_dues s s.task)
-    ∙ ap (λ (l : List Due). l ++ workflow_task_dues s s.task) parts.0
-    ∙ ap (λ (l : List Due). due_after begun a.run_timeout RunTimeout 1 ++ l) (task-part s a t t.phase refl phase numbers parts.1)
+    let activities : List Due = flat_map activity_dues (pending_rows s) in
+    ap (λ b. cond b (run_timeout_dues s.beginning ++ workflow_task_dues s s.task ++ activities ++ pending_timer_dues s) []) opened
+    ∙ ap (λ (l : List Due). l ++ workflow_task_dues s s.task ++ activities ++ pending_timer_dues s) parts.0
+    ∙ ap (λ (l : List Due). due_after begun a.run_timeout RunTimeout 1 ++ l ++ activities ++ pending_timer_dues s) (task-part s a t t.phase refl phase numbers parts.1)
+
+-- where no activity is open
+pub dues-idle : (s : RunState) (begun : ℕ) (a : StartedAttributes) (t : WorkflowTask) → is_open s ≡ true → option_map (λ (b : Beginning). b.at) s.beginning ≡ Some begun → option_map (λ (b : Beginning). b.attributes) s.beginning ≡ Some a →
+    phase_in t.phase ≡ s.task → numbers_in t ≡ last_task s → s.activities ≡ [] → dues s ≡ own_dues begun a t ++ pending_timer_dues s
+dues-idle s begun a t opened at carries phase numbers activities =
+    dues-parts s begun a t opened at carries phase numbers
+    ∙ ap (λ l. own_dues begun a t ++ flat_map activity_dues (filter (λ (r : ActivityRow). not (is_settled AnActivity r.opened.id (held_attributes s))) l) ++ pending_timer_dues s) activities
+    ∙ ap (λ l. l ++ pending_timer_dues s) (append-nil (own_dues begun a t))
+
+-- a turn of a loop that looks for the first of the deadlines of some things
+pub first-turn : {X : Type 0} (n : ℕ) (f : X → List Due) (xs : List X) (i : ℕ) (d : X) (before here after : Option Kept) → i < length xs →
+    option_map run_due before ≡ first_of n (flat_map f (take i xs)) → option_map run_due here ≡ first_of n (f (get_or xs i d)) → option_map run_due after ≡ lesser_of_two (option_map run_due before) (option_map run_due here) →
+    option_map run_due after ≡ first_of n (flat_map f (take (i + 1) xs))
+first-turn n f xs i d before here after there so_far found is =
+    is ∙ ap (λ o. lesser_of_two o (option_map run_due here)) so_far ∙ ap (lesser_of_two (first_of n (flat_map f (take i xs)))) found
+    ∙ sym (first_of-append n (flat_map f (take i xs)) (f (get_or xs i d)))
+    ∙ ap (first_of n) (sym (ap (flat_map f) (take_more xs i d there) ∙ flat-push f (take i xs) (get_or xs i d)))
+  where
+    flat-push : {X : Type 0} (f : X → List Due) (ys : List X) (y : X) → flat_map f (ys ++ y ∷ []) ≡ flat_map f ys ++ f y
+    flat-push f [] y = append-nil (f y)
+    flat-push f (z ∷ ys) y = ap (λ l. f z ++ l) (flat-push f ys y) ∙ sym (append_assoc (f z) (flat_map f ys) (f y))
+
+-- the deadlines of those things that pass a test
+pub flat-filter : {X : Type 0} (p : X → Bool) (f : X → List Due) (xs : List X) → flat_map (λ x. cond (p x) (f x) []) xs ≡ flat_map f (filter p xs)
+flat-filter p f [] = refl
+flat-filter p f (x ∷ xs) = by_test (p x) (flat-filter p f xs)
+  where
+    by_test : (b : Bool) → flat_map (λ x. cond (p x) (f x) []) xs ≡ flat_map f (filter p xs) → cond b (f x) [] ++ flat_map (λ x. cond (p x) (f x) []) xs ≡ flat_map f (cond b (x ∷ filter p xs) (filter p xs))
+    by_test true again = ap (λ l. f x ++ l) again
+    by_test false again = again
+
+-- what is kept has the deadlines of what is pending
+kept-read : (es : List Event) (os : List Open) → flat_map (kept_dues es) os ≡ flat_map timer_dues (used_in ATimer (unmarked os) es)
+kept-read es [] = refl
+kept-read es (o ∷ os) = by_test (is_unmarked o) (is_of ATimer o) refl (event_at o.opener.event es) refl (kept-read es os)
+  where
+    by_test : (b t : Bool) → is_of ATimer o ≡ t → (r : Option Event) → event_at o.opener.event es ≡ r → flat_map (kept_dues es) os ≡ flat_map timer_dues (used_in ATimer (unmarked os) es) →
+        cond (b && t) (dues_of r) [] ++ flat_map (kept_dues es) os ≡ flat_map timer_dues (used_in ATimer (cond b (o ∷ unmarked os) (unmarked os)) es)
+    by_test true true is None at again = again ∙ ap (λ q. flat_map timer_dues (cons_option q (used_in ATimer (unmarked os) es))) (sym (ap (λ t. cond t (event_at o.opener.event es) None) is ∙ at))
+    by_test true true is (Some e) at again = ap (λ l. timer_dues e ++ l) again ∙ ap (λ q. flat_map timer_dues (cons_option q (used_in ATimer (unmarked os) es))) (sym (ap (λ t. cond t (event_at o.opener.event es) None) is ∙ at))
+    by_test true false is r at again = again ∙ ap (λ q. flat_map timer_dues (cons_option q (used_in ATimer (unmarked os) es))) (sym (ap (λ t. cond t (event_at o.opener.event es) None) is))
+    by_test false t is r at again = again
+
+pub kept-dues : (b : Buffer) (request : Option (List ℕ)) (status : Status) (t : WorkflowTask) (keys : List (List ℕ)) (os : List Open) → AgreesWith b os → flat_map (kept_dues b.events) os ≡ pending_timer_dues (state_in b request status t keys os)
+kept-dues b request status t keys os h = kept-read b.events os ∙ ap (flat_map timer_dues) (used-unmarked ATimer b.held os b.events h.marks)
 
 -- a run that has closed has no deadline
 pub dues-closed : (s : RunState) → is_open s ≡ false → dues s ≡ []
