@@ -22,3 +22,4 @@ pub mod Issued
 pub mod Service
 pub mod Grounds
 pub mod Growth
+pub mod Calls

@@ -1,5 +1,5 @@
 pub mod Commands
 pub mod Operations
 pub mod Ops
-pub mod Requests
+pub mod Calls
 pub mod Tasks

@@ -1,10 +1,10 @@
-//! A line, read as a request.
+//! A line, read as what it asks of a service.
 #![tactic(auto)]
 
+mod calls;
 mod commands;
 mod op;
 mod operations;
-mod requests;
 mod tasks;
 
-pub use requests::read_request;
+pub use calls::read_call;
