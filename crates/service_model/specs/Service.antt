@@ -5,8 +5,7 @@ use Rattle.wf_event_values.specs.declared.policies.ConflictPolicy.{ConflictPolic
 use Rattle.wf_event_values.specs.declared.policies.ConflictPolicy.TheVariants.{TerminateExisting}
 use Rattle.wf_event_values.specs.declared.refusal.Refusal.TheVariants.{InvalidArgument}
 use Rattle.std.specs.List.{list_all, fold}
-use Rattle.wf_command.specs.declared.command.Command.{Command}
-use Rattle.wf_command.specs.declared.command.Command.TheVariants.{StartTimer, CancelTimer, RecordMarker, CompleteWorkflowExecution, FailWorkflowExecution, CancelWorkflowExecution}
+pub use Rattle.wf_command.specs.Served.{is_served}
 use Rattle.service_model.specs.declared.content.Content.{Content}
 use Rattle.service_model.specs.declared.content.Setup.{Setup}
 use Rattle.service_model.specs.declared.content.Dispatch.{Dispatch}
@@ -99,16 +98,6 @@ is_terminate_existing _ = false
 -- a start that would terminate a run isn't served yet, and is refused by name
 abbrev pub at_served_policies : Start → Outcome → Outcome
 at_served_policies q rest = cond (is_terminate_existing q.conflict) (refused (InvalidArgument field.Conflict)) rest
-
--- the commands that are served so far
-abbrev pub is_served : Command → Bool
-is_served (StartTimer t) = true
-is_served (CancelTimer name) = true
-is_served (RecordMarker m) = true
-is_served (CompleteWorkflowExecution result) = true
-is_served (FailWorkflowExecution message) = true
-is_served (CancelWorkflowExecution details) = true
-is_served _ = false
 
 -- completions are served with commands of these types so far, and others are refused
 abbrev pub at_served_commands : CompleteWorkflowTask → Outcome → Outcome

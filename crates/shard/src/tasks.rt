@@ -26,7 +26,7 @@ use service_model::journal::Fact;
 use service_model::request::{CompleteWorkflowTask, FailWorkflowTask, Hint, TakenTask};
 use std::alloc::{AllocError, Global};
 use task_completion::{Completion, plan_completion, plan_failure};
-use wf_command::Command;
+use wf_command::{Command, is_served};
 use wf_event::Attributes;
 use wf_event_values::{Cause, Field, Items, Moment, Refusal, TaskKind, Text};
 
@@ -297,19 +297,4 @@ fn are_served(commands: &[Command]) -> bool
     ensures { result ≡ list_all is_served commands.now }
 {
     commands.iter().all(is_served)
-}
-
-/// Whether a command is one of those that are served so far.
-fn is_served(command: &Command) -> bool
-    ensures { result ≡ is_served command.now }
-{
-    matches!(
-        command,
-        Command::StartTimer(_)
-            | Command::CancelTimer(_)
-            | Command::RecordMarker(_)
-            | Command::CompleteWorkflowExecution(_)
-            | Command::FailWorkflowExecution(_)
-            | Command::CancelWorkflowExecution(_)
-    )
 }
