@@ -112,6 +112,7 @@ outcome_of S m (served.CompleteWorkflowTask q) = at_served_commands q (outcome S
 outcome_of S m (served.FailWorkflowTask q) = outcome S m (ToFailWorkflowTask q)
 outcome_of S m (served.History q) = outcome S m (ToShowHistory q)
 outcome_of S m (served.Describe q) = outcome S m (ToDescribe q)
+outcome_of S m served.TimerTurn = outcome S m ToTurnTimers
 
 -- facts as entries of a step, by their places from n on
 abbrev pub entries : ℕ → ℕ → ℕ → List Fact → Journal
