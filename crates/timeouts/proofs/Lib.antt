@@ -1,4 +1,4 @@
 pub mod OrderLemmas
 pub mod SlotLemmas
 pub mod LeastLemmas
-pub mod HeldLemmas
+pub mod FirstLemmas

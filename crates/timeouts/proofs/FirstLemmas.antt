@@ -1,0 +1,93 @@
+-- the least deadline of a shard is the least of its runs' first ones, so one number for each run is enough
+use Rattle.std.proofs.Common.{◌≡◌, ℕ, ◌+◌, ◌<◌, ◌≤◌, inl, inr, zero, suc, arith, List, [], ◌∷◌, ◌++◌, refl, sym, ap, ◌∙◌, subst, IfSome, IfNone}
+use Rattle.std.specs.Prelude.{Option, Some, None, map, flat_map, option_map, option_to_list, slice_index_or}
+use Rattle.std.specs.List.{enumerate_from}
+use Rattle.service_model.specs.RunState.{RunState}
+use Rattle.service_model.specs.Deadlines.{Due, dues}
+use Rattle.service_model.specs.TimerTurns.{RunDue, all_dues, least, due_now}
+use Rattle.timeouts.specs.declared.due.Due.{Due as Kept}
+use Rattle.timeouts.specs.Firsts.{first_of, first_due, firsts, KeepsFirsts}
+use Rattle.timeouts.specs.Slots.{run_due, lesser_of_two, IsLeastAt, IsOneOf}
+use Rattle.timeouts.proofs.LeastLemmas.{least-append, due-kept, one-left, one-right}
+
+least-one : (o : Option RunDue) → least (option_to_list o) ≡ o
+unfolding least
+least-one None = refl
+least-one (Some d) = refl
+
+dues_from : ℕ → List RunState → List RunDue
+dues_from n states = flat_map (λ (p : ℕ × RunState). map (λ (d : Due). record { run = p.0; at = d }) (dues p.1)) (enumerate_from n states)
+
+from : (n : ℕ) (states : List RunState) → least (dues_from n states) ≡ least (firsts n states)
+unfolding dues_from
+from n [] = refl
+from n (s ∷ states) =
+    least-append (map (λ (d : Due). record { run = n; at = d }) (dues s)) (dues_from (n + 1) states)
+    ∙ ap (lesser_of_two (first_due n s)) (from (n + 1) states)
+    ∙ ap (λ o. lesser_of_two o (least (firsts (n + 1) states))) (sym (least-one (first_due n s)))
+    ∙ sym (least-append (option_to_list (first_due n s)) (firsts (n + 1) states))
+
+-- the least of all deadlines is the least of the first ones
+pub least-firsts : (states : List RunState) → least (all_dues states) ≡ least (firsts 1 states)
+unfolding dues_from
+least-firsts states = from 1 states
+
+of_run : ℕ → Due → RunDue
+of_run n d = record { run = n; at = d }
+
+map-append : (n : ℕ) (xs ys : List Due) → map (of_run n) (xs ++ ys) ≡ map (of_run n) xs ++ map (of_run n) ys
+map-append n [] ys = refl
+map-append n (x ∷ xs) ys = ap (λ t. of_run n x ∷ t) (map-append n xs ys)
+
+-- the first deadline of two lists
+pub first_of-append : (n : ℕ) (xs ys : List Due) → first_of n (xs ++ ys) ≡ lesser_of_two (first_of n xs) (first_of n ys)
+unfolding of_run
+first_of-append n xs ys = ap least (map-append n xs ys) ∙ least-append (map (of_run n) xs) (map (of_run n) ys)
+
+here : (x : RunDue) (o : Option Kept) → IsOneOf x (option_to_list (option_map run_due o)) → (d : Kept) × (o ≡ Some d) × (run_due d ≡ x)
+here x None one = absurd one
+here x (Some d) (inl is) = (d, refl, sym is)
+here x (Some d) (inr rest) = absurd rest
+
+one-of : (d : Kept) (o : Option Kept) → o ≡ Some d → IsOneOf (run_due d) (option_to_list (option_map run_due o))
+one-of d o is = subst (λ (x : Option Kept). IsOneOf (run_due d) (option_to_list (option_map run_due x))) (sym is) (inl refl)
+
+either : (x : RunDue) (xs ys : List RunDue) (P : Type 0) → (IsOneOf x xs → P) → (IsOneOf x ys → P) → IsOneOf x (xs ++ ys) → P
+either x [] ys P left right one = right one
+either x (y ∷ xs) ys P left right (inl is) = left (inl is)
+either x (y ∷ xs) ys P left right (inr rest) = either x xs ys P (λ one. left (inr one)) right rest
+
+later : (n : ℕ) (o : Option Kept) (slots : List (Option Kept)) (s : RunState) (states : List RunState) → KeepsFirsts n (o ∷ slots) (s ∷ states) → KeepsFirsts (n + 1) slots states
+later n o slots s states h = record {
+  count = omega (arith, h.count);
+  first = λ k t there. let count : n + suc k ≡ n + 1 + k = omega arith in h.first (suc k) t there ∙ ap (λ m. first_due m t) count;
+}
+
+first-here : (n : ℕ) (o : Option Kept) (slots : List (Option Kept)) (s : RunState) (states : List RunState) → KeepsFirsts n (o ∷ slots) (s ∷ states) → option_map run_due o ≡ first_due n s
+first-here n o slots s states h = let count : n + 0 ≡ n = omega arith in h.first 0 s refl ∙ ap (λ m. first_due m s) count
+
+keeps-there : (n : ℕ) (slots : List (Option Kept)) (states : List RunState) → KeepsFirsts n slots states → (x : RunDue) → IsOneOf x (firsts n states) → (k : ℕ) × (d : Kept) × (slice_index_or slots k None ≡ Some d) × (run_due d ≡ x)
+keeps-there n slots [] h x one = absurd one
+keeps-there n [] (s ∷ states) h x one = absurd (omega (arith, h.count))
+keeps-there n (o ∷ slots) (s ∷ states) h x one =
+    either x (option_to_list (first_due n s)) (firsts (n + 1) states) _
+    (λ first. let (d, is, same) = here x o (subst (λ (f : Option RunDue). IsOneOf x (option_to_list f)) (sym (first-here n o slots s states h)) first) in (0, d, is, same))
+    (λ more. let (k, d, is, same) = keeps-there (n + 1) slots states (later n o slots s states h) x more in (suc k, d, is, same))
+    one
+
+keeps-only : (n : ℕ) (slots : List (Option Kept)) (states : List RunState) → KeepsFirsts n slots states → (k : ℕ) (d : Kept) → slice_index_or slots k None ≡ Some d → IsOneOf (run_due d) (firsts n states)
+keeps-only n [] states h k d is = absurd (cc)
+keeps-only n (o ∷ slots) [] h k d is = absurd (omega (arith, h.count))
+keeps-only n (o ∷ slots) (s ∷ states) h zero d is =
+    one-left (run_due d) (option_to_list (first_due n s)) (firsts (n + 1) states)
+    (subst (λ (f : Option RunDue). IsOneOf (run_due d) (option_to_list f)) (first-here n o slots s states h) (one-of d o is))
+keeps-only n (o ∷ slots) (s ∷ states) h (suc k) d is =
+    one-right (run_due d) (option_to_list (first_due n s)) (firsts (n + 1) states) (keeps-only (n + 1) slots states (later n o slots s states h) k d is)
+
+-- what is due of the numbered first deadlines is the shard's first deadline, where that is due
+pub due-firsts : (slots : List (Option Kept)) (states : List RunState) (moment : ℕ) (o : Option Kept) → KeepsFirsts 1 slots states →
+    IfSome o (λ d. IsLeastAt (λ k. slice_index_or slots k None) d × (d.due ≤ moment)) → IfNone o ((k : ℕ) (d : Kept) → slice_index_or slots k None ≡ Some d → moment < d.due) →
+    option_map run_due o ≡ due_now moment (least (all_dues states))
+due-firsts slots states moment o h first later =
+    due-kept (λ k. slice_index_or slots k None) (firsts 1 states) moment o (record { there = keeps-there 1 slots states h; only = keeps-only 1 slots states h }) first later
+    ∙ ap (due_now moment) (sym (least-firsts states))

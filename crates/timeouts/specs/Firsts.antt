@@ -1,0 +1,25 @@
+-- the first deadlines of runs
+use Rattle.std.specs.Prelude.{◌≡◌, ℕ, ◌+◌, List, [], ◌∷◌, ◌++◌, length, map, option_map, option_to_list, slice_get, slice_index_or, Option, Some, None}
+use Rattle.service_model.specs.Deadlines.{Due, dues}
+use Rattle.service_model.specs.RunState.{RunState}
+use Rattle.service_model.specs.TimerTurns.{RunDue, least}
+use Rattle.timeouts.specs.declared.due.Due.{Due as Kept}
+use Rattle.timeouts.specs.Slots.{run_due}
+
+-- the first of some deadlines of the run with this ordinal
+abbrev pub first_of : ℕ → List Due → Option RunDue
+first_of n ds = least (map (λ (d : Due). record { run = n; at = d }) ds)
+
+-- the first deadline of the run with this ordinal
+abbrev pub first_due : ℕ → RunState → Option RunDue
+first_due n s = first_of n (dues s)
+
+-- the first deadline of each run that has one, where the ordinals count from n
+abbrev pub firsts : ℕ → List RunState → List RunDue
+firsts n [] = []
+firsts n (s ∷ states) = option_to_list (first_due n s) ++ firsts (n + 1) states
+
+-- of each run, where the ordinals count from n, its first deadline is kept at its place
+pub record KeepsFirsts (n : ℕ) (slots : List (Option Kept)) (states : List RunState) : Type 0 where
+  pub count : length slots ≡ length states
+  pub first : (k : ℕ) (s : RunState) → slice_get states k ≡ Some s → option_map run_due (slice_index_or slots k None) ≡ first_due (n + k) s
