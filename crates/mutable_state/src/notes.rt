@@ -1,10 +1,11 @@
 //! What notes say of an activity.
 
-ghost use Rattle.std.specs.Prelude.{◌≡◌, ◌+◌, ◌<◌, Bool, cond};
+ghost use Rattle.std.specs.Prelude.{◌≡◌, ◌<◌, IfOk};
 ghost use Rattle.service_model.specs.Pending.{is_ended};
 ghost use Rattle.mutable_state.specs.Noted.{no_notes, noted};
 
 use service_model::journal::Note;
+use std::alloc::AllocError;
 use wf_event_values::{Moment, Text};
 
 /// Where an activity stands.
@@ -51,6 +52,15 @@ impl Drop for Notes {
     }
 }
 
+fn copy_details(details: &Option<Text>) -> Result<Option<Text>, AllocError>
+    ensures { IfOk result (λ copy. copy ≡ details.now) }
+{
+    match details {
+        Some(details) => Ok(Some(details.clone()?)),
+        None => Ok(None),
+    }
+}
+
 /// Whether an attempt ended with the note.
 pub fn is_end(note: &Note) -> bool
     ensures { result ≡ is_ended note.now }
@@ -73,6 +83,22 @@ impl Notes {
             details: None,
             cancel_requested: false,
         }
+    }
+
+    /// A copy.
+    pub fn copy(&self) -> Result<Notes, AllocError>
+        ensures { IfOk result (λ notes. notes ≡ self.now) }
+    {
+        Ok(Notes {
+            phase: self.phase,
+            attempt: self.attempt,
+            ready: self.ready,
+            taken: self.taken,
+            sign_of_life: self.sign_of_life,
+            ended: self.ended,
+            details: copy_details(&self.details)?,
+            cancel_requested: self.cancel_requested,
+        })
     }
 
     /// One more note, made at this moment.
