@@ -51,14 +51,16 @@ pub trait Object: Drop {
     fn prepare(&mut self, request: &Self::Request) -> Result<Self::Plan, AllocError>
         requires { (c : Self.Content) × stands self.old c }
         ensures opening { opening self.new ≡ opening self.old }
-        ensures ok { IfOk result (λ plan. (c : Self.Content) → stands self.old c → ready self.new c request.now plan) }
+        ensures ok { IfOk result (λ plan.
+            (c : Self.Content) → stands self.old c → ready self.new c request.now plan) }
         ensures err { OnErr result ((c : Self.Content) → stands self.old c → stands self.new c) };
 
     /// Makes the step. It takes no memory.
     fn commit(&mut self, plan: Self::Plan) -> Self::Reply
         requires { (c : Self.Content) × (q : Self.Request) × ready self.old c q plan }
         ensures opening { opening self.new ≡ opening self.old }
-        ensures stands { (c : Self.Content) (q : Self.Request) → ready self.old c q plan → stands self.new (after c q) }
+        ensures stands { (c : Self.Content) (q : Self.Request)
+            → ready self.old c q plan → stands self.new (after c q) }
         ensures reply { (c : Self.Content) (q : Self.Request) → ready self.old c q plan → result ≡ answer c q }
         ensures keeps { (c : Self.Content) (q : Self.Request) → ready self.old c q plan → keeps c (after c q) };
 

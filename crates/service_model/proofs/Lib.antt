@@ -1,4 +1,5 @@
 pub mod ListLemmas
+mod OrderLemmas
 mod RowWords
 mod TaskRows
 mod TimerRows

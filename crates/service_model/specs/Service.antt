@@ -6,7 +6,7 @@ use Rattle.wf_event_values.specs.declared.policies.ConflictPolicy.TheVariants.{T
 use Rattle.wf_event_values.specs.declared.refusal.Refusal.TheVariants.{InvalidArgument}
 use Rattle.std.specs.List.{list_all, fold}
 use Rattle.wf_command.specs.declared.command.Command.{Command}
-use Rattle.wf_command.specs.declared.command.Command.TheVariants.{RecordMarker, CompleteWorkflowExecution, FailWorkflowExecution, CancelWorkflowExecution}
+use Rattle.wf_command.specs.declared.command.Command.TheVariants.{StartTimer, CancelTimer, RecordMarker, CompleteWorkflowExecution, FailWorkflowExecution, CancelWorkflowExecution}
 use Rattle.service_model.specs.declared.content.Content.{Content}
 use Rattle.service_model.specs.declared.content.Setup.{Setup}
 use Rattle.service_model.specs.declared.content.Dispatch.{Dispatch}
@@ -102,6 +102,8 @@ at_served_policies q rest = cond (is_terminate_existing q.conflict) (refused (In
 
 -- the commands that are served so far
 abbrev pub is_served : Command → Bool
+is_served (StartTimer t) = true
+is_served (CancelTimer name) = true
 is_served (RecordMarker m) = true
 is_served (CompleteWorkflowExecution result) = true
 is_served (FailWorkflowExecution message) = true

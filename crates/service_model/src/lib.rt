@@ -4,6 +4,7 @@
 pub mod answer;
 pub mod content;
 pub mod journal;
+pub mod laws;
 pub mod limits;
 pub mod request;
 pub mod settings;

@@ -3,9 +3,10 @@
 ghost use Rattle.std.specs.Prelude.{◌≡◌, ◌+◌, ◌<◌, ◌≤◌, ◌^◌, length, OnOk, IfOk, Some, None, ◌∷◌, [], false};
 ghost use Rattle.id_policy.specs.Decisions.{says};
 ghost use Rattle.service_model.specs.Service.{at_served_policies, is_terminate_existing};
+ghost use Rattle.service_model.specs.Outcome.{latest_run};
 ghost use Rattle.service_model.specs.Starts.{decision, start, starts_new, started_fact, first_task};
-ghost use Rattle.shard.specs.View.{state, runs_in};
-ghost use Rattle.shard.specs.Fitting.{FitsStep, decided, decided_by, started_by, new_run};
+ghost use Rattle.shard.specs.View.{state, states, runs_in};
+ghost use Rattle.shard.specs.Fitting.{FitsStep, IsFree, decided, decided_by, started_by, new_run};
 
 use crate::index::{knows_queue, shard_of};
 use crate::plan::{Change, NewRun, Plan};
@@ -76,6 +77,7 @@ impl<T: KeepsRun> Shard<T> {
         requires from { 1 ≤ n }
         requires to { n ≤ length self.old.runs }
         requires few { length self.old.runs < 2 ^ 60 }
+        requires latest { latest_run (states self.old.runs) request.now.workflow_id ≡ Some n }
         requires conflict { is_terminate_existing request.now.conflict ≡ false }
         ensures same { state self.new ≡ state self.old }
         ensures plan { IfOk result (λ plan. FitsStep self.new plan moment (decided_by (runs_in self.old) request.now (Some n))) }
@@ -106,6 +108,7 @@ impl<T: KeepsRun> Shard<T> {
 
     /// The run of a start that nothing stands in the way of.
     fn prepare_new_run(&mut self, moment: Moment, request: &Start) -> Result<Plan<T>, AllocError>
+        requires free { IsFree (states self.old.runs) request.now.workflow_id }
         ensures same { state self.new ≡ state self.old }
         ensures plan { IfOk result (λ plan. FitsStep self.new plan moment (starts_new (runs_in self.old) None (started_fact request.now ∷ first_task request.now.task_queue ∷ []))) }
     {

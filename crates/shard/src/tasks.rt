@@ -301,7 +301,9 @@ fn is_served(command: &Command) -> bool
 {
     matches!(
         command,
-        Command::RecordMarker(_)
+        Command::StartTimer(_)
+            | Command::CancelTimer(_)
+            | Command::RecordMarker(_)
             | Command::CompleteWorkflowExecution(_)
             | Command::FailWorkflowExecution(_)
             | Command::CancelWorkflowExecution(_)

@@ -10,25 +10,28 @@ use Rattle.serde_json.specs.declared.value.Value.{Value}
 use Rattle.wf_event_values.specs.declared.field.Field.{Field}
 use Rattle.wf_event_values.specs.declared.refusal.Refusal.{Refusal}
 use Rattle.wf_event_values.specs.declared.refusal.Refusal.TheVariants.{InvalidArgument}
-use Rattle.wire_fields.specs.Kinds.{elements, elements_of}
+use Rattle.wire_fields.specs.Kinds.{elements, elements_of, array_of, list_in}
 use Rattle.wire_fields.specs.Steps.{◌>>=◌, for_each}
 
 pub elements-items_of : (ds : List Data) → elements (items_of ds) ≡ ds
 elements-items_of [] = refl
 elements-items_of (d ∷ ds) = ap (λ t. d ∷ t) (elements-items_of ds)
 
-pub elements-within : (most : ℕ) (field : Field) (d : Data) (vs : List Value) → Some (items_view vs) ≡ as_array d → length vs ≤ most → elements_of most field d ≡ Ok (map view vs)
+pub array-there : (field : Field) (d : Data) (vs : List Value) → Some (items_view vs) ≡ as_array d → array_of field d ≡ Ok (map view vs)
+array-there field d vs is = rw (← is, elements-items_of (map view vs)) refl
+
+pub elements-within : (most : ℕ) (field : Field) (d : Data) (vs : List Value) → array_of field d ≡ Ok (map view vs) → length vs ≤ most → elements_of most field d ≡ Ok (map view vs)
 elements-within most field d vs is within =
     let chosen : Bool → Result (List Data) Refusal = λ b. cond b (Ok (map view vs)) (Err (InvalidArgument field)) in
-    rw (← is, elements-items_of (map view vs)) (ap chosen (test within))
+    ap (λ r. r >>= list_in field most) is ∙ ap chosen (test within)
   where
     test : length vs ≤ most → nat_le (length (map view vs)) most ≡ true
     test h = rw (length-map vs view) (grind (arith, nat_tests))
 
-pub elements-past : (most : ℕ) (field : Field) (d : Data) (vs : List Value) → Some (items_view vs) ≡ as_array d → most < length vs → elements_of most field d ≡ Err (InvalidArgument field)
+pub elements-past : (most : ℕ) (field : Field) (d : Data) (vs : List Value) → array_of field d ≡ Ok (map view vs) → most < length vs → elements_of most field d ≡ Err (InvalidArgument field)
 elements-past most field d vs is past =
     let chosen : Bool → Result (List Data) Refusal = λ b. cond b (Ok (map view vs)) (Err (InvalidArgument field)) in
-    rw (← is, elements-items_of (map view vs)) (ap chosen (test past))
+    ap (λ r. r >>= list_in field most) is ∙ ap chosen (test past)
   where
     test : most < length vs → nat_le (length (map view vs)) most ≡ false
     test h = rw (length-map vs view) (grind (arith, nat_tests))

@@ -1,8 +1,8 @@
 -- what a field's value is, by its kind; a value of another kind, null among them, is an invalid argument
-use Rattle.std.specs.Prelude.{ℕ, nat_le, List, [], ◌∷◌, length, bytes_eq, Option, find, option_and_then, Result, Ok, Err, if◌then◌else◌}
+use Rattle.std.specs.Prelude.{ℕ, Bool, nat_le, List, [], ◌∷◌, length, bytes_eq, Option, find, option_and_then, Result, Ok, Err, if◌then◌else◌}
 use Rattle.std.specs.Option.{ok_or}
 use Rattle.serde_json.specs.Data.{Data, Items, no_items, item}
-use Rattle.serde_json.specs.Find.{as_str, as_number, as_u64, as_array}
+use Rattle.serde_json.specs.Find.{as_bool, as_str, as_number, as_u64, as_array}
 use Rattle.wf_event_values.specs.declared.field.Field.{Field}
 use Rattle.wf_event_values.specs.declared.refusal.Refusal.{Refusal}
 use Rattle.wf_event_values.specs.declared.refusal.Refusal.TheVariants.{InvalidArgument, NotFound, InvalidToken}
@@ -42,6 +42,10 @@ moment_of field d = number_of field d >>= moment_in field
 abbrev pub span_of : Field → Data → Result ℕ Refusal
 span_of field d = number_of field d >>= span_in field
 
+-- true or false
+abbrev pub flag_of : Field → Data → Result Bool Refusal
+flag_of field d = ok_or (as_bool d) (InvalidArgument field)
+
 -- a run id's text; another text names no run
 abbrev pub run_of : Field → Data → Result Run Refusal
 run_of field d = string_of field d >>= (λ text. ok_or (run_named text) NotFound)
@@ -55,13 +59,17 @@ abbrev pub elements : Items → List Data
 elements no_items = []
 elements (item d ds) = d ∷ elements ds
 
+-- the elements of an array
+abbrev pub array_of : Field → Data → Result (List Data) Refusal
+array_of field d = ok_or (as_array d) (InvalidArgument field) >>= (λ items. Ok (elements items))
+
 -- a list of at most so many elements
 abbrev pub list_in : Field → ℕ → List Data → Result (List Data) Refusal
 list_in field most ds = if nat_le (length ds) most then Ok ds else Err (InvalidArgument field)
 
 -- the elements of an array, where it has at most so many
 abbrev pub elements_of : ℕ → Field → Data → Result (List Data) Refusal
-elements_of most field d = ok_or (as_array d) (InvalidArgument field) >>= (λ items. list_in field most (elements items))
+elements_of most field d = array_of field d >>= list_in field most
 
 -- the one of some things whose name this is
 abbrev pub named : {A : Type 0} → (A → List ℕ) → List A → List ℕ → Option A

@@ -5,7 +5,7 @@ ghost use Rattle.std.specs.Option.{ok_or};
 ghost use Rattle.serde_json.specs.View.{view};
 ghost use Rattle.wf_event_values.specs.Gives.{Gives};
 ghost use Rattle.wf_event_values.specs.declared.refusal.Refusal.TheVariants.{InvalidArgument};
-ghost use Rattle.wire_fields.specs.Kinds.{string_of, text_of, id_of, number_of, moment_of, span_of, run_of, token_of, elements_of, reuse_of, reuse_named, conflict_of, conflict_named};
+ghost use Rattle.wire_fields.specs.Kinds.{string_of, text_of, id_of, number_of, moment_of, span_of, flag_of, run_of, token_of, array_of, elements_of, reuse_of, reuse_named, conflict_of, conflict_named};
 
 use serde_json::Value;
 use std::alloc::Global;
@@ -74,6 +74,14 @@ impl FieldValue for Span {
     }
 }
 
+impl FieldValue for bool {
+    ghost value_of = { flag_of };
+
+    fn from_value(_alloc: Global, field: Field, value: &Value) -> Result<bool, Refusal> {
+        value.as_bool().ok_or(Refusal::InvalidArgument(field))
+    }
+}
+
 impl FieldValue for RunId {
     ghost value_of = { run_of };
 
@@ -92,21 +100,27 @@ impl FieldValue for TaskToken {
     }
 }
 
+/// The elements of an array; a value of another kind is an invalid argument.
+pub fn array(field: Field, value: &Value) -> Result<&[Value], Refusal>
+    ensures { MatchResult result (λ elements. array_of field (view value.now) ≡ Ok (map view elements.now))
+        (λ e. array_of field (view value.now) ≡ Err e) }
+{
+    match value.as_array() {
+        Some(array) => Ok(array.as_slice()),
+        None => Err(Refusal::InvalidArgument(field)),
+    }
+}
+
 /// The elements of an array; a longer array than that, or a value of another kind, is an invalid argument.
 pub fn elements(field: Field, most: usize, value: &Value) -> Result<&[Value], Refusal>
     ensures { MatchResult result (λ elements. elements_of most field (view value.now) ≡ Ok (map view elements.now))
         (λ e. elements_of most field (view value.now) ≡ Err e) }
 {
-    match value.as_array() {
-        Some(array) => {
-            let elements = array.as_slice();
-            if elements.len() > most {
-                return Err(Refusal::InvalidArgument(field));
-            }
-            Ok(elements)
-        }
-        None => Err(Refusal::InvalidArgument(field)),
+    let elements = array(field, value)?;
+    if elements.len() > most {
+        return Err(Refusal::InvalidArgument(field));
     }
+    Ok(elements)
 }
 
 fn reuse_named(name: &str) -> Option<ReusePolicy>

@@ -5,4 +5,4 @@ mod fields;
 mod kinds;
 
 pub use fields::{optional, or_default, required};
-pub use kinds::{FieldValue, elements};
+pub use kinds::{FieldValue, array, elements};

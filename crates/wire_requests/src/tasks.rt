@@ -1,7 +1,7 @@
 //! The tasks that tokens name.
 
 ghost use Rattle.std.specs.Prelude.{◌≡◌};
-ghost use Rattle.wire_requests.specs.Tasks.{is_workflow, workflow_task_in};
+ghost use Rattle.wire_requests.specs.Tasks.{is_workflow, task_in, workflow_task_in, activity_task_in};
 
 use service_model::request::TakenTask;
 use service_model::settings::Settings;
@@ -17,11 +17,11 @@ fn is_workflow(kind: TaskKind) -> bool
     }
 }
 
-/// The workflow task that a token names. A token of the other kind, or of a shard that is not there, is `InvalidToken`.
-pub(crate) fn workflow_task_in(settings: &Settings, token: TaskToken) -> Result<TakenTask, Refusal>
-    ensures { result ≡ workflow_task_in settings.now token }
+/// The task that a token names, where it is of the right kind and its shard is there.
+fn task_in(settings: &Settings, is_right: bool, token: TaskToken) -> Result<TakenTask, Refusal>
+    ensures { result ≡ task_in settings.now is_right token }
 {
-    if is_workflow(token.kind) && u64::from(token.shard) < settings.shards {
+    if is_right && u64::from(token.shard) < settings.shards {
         Ok(TakenTask {
             shard: token.shard,
             run: token.run,
@@ -31,4 +31,18 @@ pub(crate) fn workflow_task_in(settings: &Settings, token: TaskToken) -> Result<
     } else {
         Err(Refusal::InvalidToken)
     }
+}
+
+/// The workflow task that a token names. A token of the other kind, or of a shard that is not there, is `InvalidToken`.
+pub(crate) fn workflow_task_in(settings: &Settings, token: TaskToken) -> Result<TakenTask, Refusal>
+    ensures { result ≡ workflow_task_in settings.now token }
+{
+    task_in(settings, is_workflow(token.kind), token)
+}
+
+/// The activity's task that a token names, in the same way.
+pub(crate) fn activity_task_in(settings: &Settings, token: TaskToken) -> Result<TakenTask, Refusal>
+    ensures { result ≡ activity_task_in settings.now token }
+{
+    task_in(settings, !is_workflow(token.kind), token)
 }

@@ -1,0 +1,12 @@
+//! Task queues: of each named queue, the hints of tasks that may wait to be taken.
+#![tactic(auto)]
+
+mod alone;
+mod open;
+mod queue;
+mod queues;
+mod rule;
+mod view;
+
+pub use alone::one_pass;
+pub use queues::{Queues, QueuesPass};

@@ -1,0 +1,34 @@
+//! What the holder of a pass at a queue knows. No value of these types is made.
+use service_model::request::Hint;
+use std::collections::LinkedList;
+
+/// Whose a view is.
+pub enum Holder {
+    Nobody,
+    Pass,
+    /// What makes the passes.
+    Maker,
+}
+
+/// What the holder of a pass at a queue knows. The rule ties it to what the queue holds.
+pub struct View {
+    pub kind: Holder,
+    /// The pass's number.
+    pub number: u64,
+    /// How many passes were made.
+    pub made: u64,
+    /// How many passes there are in all.
+    pub given: u64,
+    /// How many shards there are: each hint names one of them.
+    pub shards: u64,
+    /// How many hints the queue has room for.
+    pub capacity: u64,
+    /// All that was put, as it was seen last, each hint with the number of the pass that pushed it.
+    pub put: LinkedList<(u8, Hint)>,
+    /// All that was taken, each hint with the number of the pass that popped it.
+    pub taken: LinkedList<(u8, Hint)>,
+    /// The pass's own pushes.
+    pub pushed: LinkedList<(u8, Hint)>,
+    /// The pass's own pops.
+    pub popped: LinkedList<(u8, Hint)>,
+}

@@ -1,0 +1,6 @@
+//! Task queues over threads: what no contract says of them, that hints get through and that calls
+//! find memory.
+#![tactic(auto)]
+
+#[cfg(test)]
+mod tests;

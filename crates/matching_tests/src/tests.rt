@@ -1,0 +1,148 @@
+//! Two threads at one queue, and one pass alone.
+
+ghost use Rattle.std.specs.Prelude.{◌≡◌, ℕ, ◌+◌, ◌<◌, Some, length, slice_get};
+ghost use Rattle.std.specs.Thread.{IsSync};
+ghost use Rattle.matching.specs.Named.{IsPassOf, shards_of};
+
+use matching::{Queues, QueuesPass};
+use service_model::request::Hint;
+use std::alloc::AllocGlobal;
+use std::process::Abort;
+use std::sync::Wait;
+use std::test::Fail;
+use std::thread;
+use std::thread::Threads;
+use wf_event_values::{Field, Id, Refusal, TaskKind};
+
+const COUNT: u64 = 2000;
+
+fn hint(event: u64) -> Hint
+    ensures { result.shard ≡ 0 }
+{
+    Hint {
+        kind: TaskKind::Workflow,
+        shard: 0,
+        run: 1,
+        event,
+        attempt: 1,
+    }
+}
+
+fn send_all<R: Wait>(rt: &R, queues: &Queues, mut pass: QueuesPass, name: &Id) -> QueuesPass
+    requires own { IsPassOf pass queues.now }
+    requires shards { 0 < shards_of queues.now }
+    ensures { IsPassOf result queues.now }
+{
+    let mut next = 0;
+    for _ in rt.forever() {
+        if next >= COUNT {
+            break;
+        }
+        match queues.push_hint(rt, &mut pass, name, hint(next)) {
+            Ok(()) => next += 1,
+            Err(_) => thread::yield_now(),
+        }
+    }
+    pass
+}
+
+/// Whether all came, in their order.
+fn poll_all<R: Wait>(rt: &R, queues: &Queues, mut pass: QueuesPass, name: &Id) -> (QueuesPass, bool)
+    requires { IsPassOf pass queues.now }
+    ensures { IsPassOf result.0 queues.now }
+{
+    let mut next = 0;
+    let mut in_order = true;
+    for _ in rt.forever() {
+        if next >= COUNT {
+            break;
+        }
+        match queues.pop_hint(rt, &mut pass, name, TaskKind::Workflow) {
+            Ok(Some(found)) => {
+                in_order &= found.event == next;
+                next += 1;
+            }
+            _ => thread::yield_now(),
+        }
+    }
+    (pass, in_order)
+}
+
+fn exchange<R: Threads + Wait + Sync>(
+    rt: &R,
+    queues: &Queues,
+    one: QueuesPass,
+    two: QueuesPass,
+    name: &Id,
+) -> bool
+    requires own { IsPassOf one queues.now × IsPassOf two queues.now }
+    requires shards { 0 < shards_of queues.now }
+{
+    let (_, (_, in_order)) = thread::join(
+        rt,
+        move || -> QueuesPass
+            requires { IsSync R.row × IsPassOf one queues.now × (0 < shards_of queues.now) }
+            ensures { IsPassOf result queues.entry.now }
+        { send_all(rt, queues, one, name) },
+        move || -> (QueuesPass, bool)
+            requires { IsSync R.row × IsPassOf two queues.now }
+            ensures { IsPassOf result.0 queues.entry.now }
+        { poll_all(rt, queues, two, name) },
+    );
+    in_order
+}
+
+/// Takes the last pass.
+fn take_pass(queues: &Queues, passes: &mut Vec<QueuesPass>) -> QueuesPass
+    requires some { 0 < length passes.old.items }
+    requires own { (k : ℕ) (p : QueuesPass) → slice_get passes.old.items k ≡ Some p → IsPassOf p queues.now }
+    ensures own { IsPassOf result queues.now }
+    ensures less { length passes.old.items ≡ length passes.new.items + 1 }
+    ensures rest { (k : ℕ) (p : QueuesPass) → slice_get passes.new.items k ≡ Some p → IsPassOf p queues.now }
+{
+    let Some(pass) = passes.pop() else {
+        unreachable!()
+    };
+    pass
+}
+
+fn name_of<R: Abort + AllocGlobal>(rt: &R, name: &str) -> Id {
+    match Id::new(rt.alloc(), Field::Queues, name) {
+        Ok(name) => name,
+        Err(_) => panic!(rt; "no name"),
+    }
+}
+
+#[test]
+fn hints_come_in_order(rt: HostRuntime) -> Result<(), Fail> {
+    let mut names = Vec::new(rt.alloc());
+    names.push(name_of(&rt, "main"))?;
+    let name = name_of(&rt, "main");
+    let (queues, mut passes) = Queues::open(rt.alloc(), names, 4, 2, 1)?;
+    let two = take_pass(&queues, &mut passes);
+    let one = take_pass(&queues, &mut passes);
+    assert!(rt; exchange(&rt, &queues, one, two, &name));
+    Ok(())
+}
+
+#[test]
+fn a_full_queue_and_an_empty_one(rt: HostRuntime) -> Result<(), Fail> {
+    let name = name_of(&rt, "main");
+    let mut names = Vec::new(rt.alloc());
+    names.push(name_of(&rt, "main"))?;
+    let (queues, mut passes) = Queues::open(rt.alloc(), names, 2, 1, 1)?;
+    let mut pass = take_pass(&queues, &mut passes);
+    let kind = TaskKind::Workflow;
+    assert!(rt; queues.push_hint(&rt, &mut pass, &name, hint(1)).is_ok());
+    assert!(rt; queues.push_hint(&rt, &mut pass, &name, hint(2)).is_ok());
+    let full = queues.push_hint(&rt, &mut pass, &name, hint(3));
+    assert!(rt; matches!(full, Err(Refusal::QueueFull)));
+    let other = queues.pop_hint(&rt, &mut pass, &name, TaskKind::Activity);
+    assert!(rt; matches!(other, Ok(None)));
+    let first = queues.pop_hint(&rt, &mut pass, &name, kind);
+    assert!(rt; matches!(first, Ok(Some(found)) if found.event == 1));
+    let second = queues.pop_hint(&rt, &mut pass, &name, kind);
+    assert!(rt; matches!(second, Ok(Some(found)) if found.event == 2));
+    assert!(rt; matches!(queues.pop_hint(&rt, &mut pass, &name, kind), Ok(None)));
+    Ok(())
+}

@@ -1,0 +1,50 @@
+//! What is asked of a running activity, each line by the token of its task.
+
+ghost use Rattle.serde_json.specs.View.{view};
+ghost use Rattle.wf_event_values.specs.Gives.{Gives};
+ghost use Rattle.wire_requests.specs.Activities.{activity_text_of, fail_activity_of};
+
+use crate::tasks::activity_task_in;
+use serde_json::Value;
+use service_model::request::{ActivityText, FailActivity};
+use service_model::settings::Settings;
+use std::alloc::Global;
+use wf_event_values::{Field, Refusal, Text};
+use wire_fields::{optional, or_default, required};
+
+/// A token, and a text under this key, which is empty where it is missing.
+#[tactic(auto, unfolding(crate::specs::Activities::activity_text_of))]
+pub(crate) fn activity_text(
+    alloc: Global,
+    settings: &Settings,
+    key: Field,
+    line: &Value,
+) -> Result<ActivityText, Refusal>
+    ensures { Gives result (activity_text_of settings.now key (view line.now)) }
+{
+    let token = required(alloc, line, Field::Token)?;
+    let task = activity_task_in(settings, token)?;
+    let text = or_default(alloc, line, key, Text::empty(alloc))?;
+    Ok(ActivityText { task, text })
+}
+
+#[tactic(auto, unfolding(crate::specs::Activities::fail_activity_of))]
+pub(crate) fn fail_activity(
+    alloc: Global,
+    settings: &Settings,
+    line: &Value,
+) -> Result<FailActivity, Refusal>
+    ensures { Gives result (fail_activity_of settings.now (view line.now)) }
+{
+    let token = required(alloc, line, Field::Token)?;
+    let task = activity_task_in(settings, token)?;
+    let message = or_default(alloc, line, Field::Message, Text::empty(alloc))?;
+    let error_type = optional(alloc, line, Field::ErrorType)?;
+    let non_retryable = or_default(alloc, line, Field::NonRetryable, false)?;
+    Ok(FailActivity {
+        task,
+        message,
+        error_type,
+        non_retryable,
+    })
+}

@@ -1,0 +1,113 @@
+//! A retry policy, as a command has it (Temporal, Retry Policies).
+
+ghost use Rattle.std.specs.Prelude.{◌≡◌, [], map};
+ghost use Rattle.serde_json.specs.View.{view};
+ghost use Rattle.wf_event_values.specs.Gives.{Gives};
+ghost use Rattle.wire_fields.specs.Kinds.{text_of};
+ghost use Rattle.wire_fields.specs.Steps.{for_each};
+ghost use Rattle.wire_requests.specs.RetryPolicies.{texts_of, policy_fields_of, policy_of, default_policy};
+
+use serde_json::Value;
+use std::alloc::Global;
+use std::marker::Model;
+use wf_event::payloads::PolicyFields;
+use wf_event_values::{Field, Items, Refusal, Text};
+use wire_fields::{FieldValue, array, or_default};
+
+/// A list of texts, as a field's value.
+#[derive(Drop)]
+struct Texts {
+    all: Items<Text>,
+}
+
+impl Model for Texts {
+    ghost use Rattle.std.specs.Prelude.{List, ℕ};
+
+    ghost Value = { List (List ℕ) };
+
+    ghost view = { λ t. t.all };
+}
+
+/// All texts, or the fault of the first faulty one.
+fn each_text(alloc: Global, field: Field, values: &[Value]) -> Result<Items<Text>, Refusal>
+    ensures { Gives result (for_each (text_of field) (map view values.now)) }
+{
+    let mut texts = Vec::new(alloc);
+    for value in values {
+        texts.push(Text::from_value(alloc, field, value)?)?;
+    }
+    Ok(Items::from_vec(texts))
+}
+
+impl FieldValue for Texts {
+    ghost value_of = { texts_of };
+
+    fn from_value(alloc: Global, field: Field, value: &Value) -> Result<Texts, Refusal> {
+        let all = each_text(alloc, field, array(field, value)?)?;
+        Ok(Texts { all })
+    }
+}
+
+/// A retry policy, as a field's value.
+#[derive(Drop)]
+pub(crate) struct Policy {
+    pub(crate) fields: PolicyFields,
+}
+
+impl Model for Policy {
+    ghost use Rattle.wf_event.specs.declared.payloads.PolicyFields.{PolicyFields};
+
+    ghost Value = { PolicyFields };
+
+    ghost view = { λ p. p.fields };
+}
+
+impl Policy {
+    /// That of a command that names none.
+    pub(crate) fn by_default(alloc: Global) -> Policy
+        ensures { result ≡ default_policy }
+    {
+        Policy {
+            fields: PolicyFields {
+                attempts: 0,
+                factor: 2,
+                initial: 1000,
+                maximum: 0,
+                non_retryable: Items::from_vec(Vec::new(alloc)),
+            },
+        }
+    }
+}
+
+#[tactic(auto, unfolding(crate::specs::RetryPolicies::policy_fields_of))]
+fn policy_fields(alloc: Global, object: &Value) -> Result<PolicyFields, Refusal>
+    ensures { Gives result (policy_fields_of (view object.now)) }
+{
+    let none = Texts {
+        all: Items::from_vec(Vec::new(alloc)),
+    };
+    let attempts = or_default(alloc, object, Field::Attempts, 0)?;
+    let factor = or_default(alloc, object, Field::Factor, 2)?;
+    let initial = or_default(alloc, object, Field::Initial, 1000)?;
+    let maximum = or_default(alloc, object, Field::Maximum, 0)?;
+    let types = or_default(alloc, object, Field::NonRetryable, none)?;
+    Ok(PolicyFields {
+        attempts,
+        factor,
+        initial,
+        maximum,
+        non_retryable: types.all,
+    })
+}
+
+impl FieldValue for Policy {
+    ghost value_of = { policy_of };
+
+    fn from_value(alloc: Global, field: Field, value: &Value) -> Result<Policy, Refusal> {
+        if !value.is_object() {
+            return Err(Refusal::InvalidArgument(field));
+        }
+        let fields = policy_fields(alloc, value)?;
+        Ok(Policy { fields })
+    }
+}
