@@ -1,21 +1,23 @@
 -- the pending activity that an event scheduled, by what is kept
-use Rattle.std.proofs.Common.{◌≡◌, ℕ, Bool, true, false, cond, ◌&&◌, ◌==◌, List, [], ◌∷◌, refl, sym, ap, ◌∙◌, subst, Option, Some, None, IsSome}
-use Rattle.std.specs.Prelude.{find, option_map, option_and_then}
+use Rattle.std.proofs.Common.{◌≡◌, ℕ, Bool, true, false, not, cond, ◌&&◌, ◌==◌, List, [], ◌∷◌, refl, sym, ap, ◌∙◌, subst, Option, Some, None, IsSome}
+use Rattle.std.specs.Prelude.{find, option_map, option_and_then, unwrap_or}
 use Rattle.std.specs.List.{AllByRecursion, cons_option}
 use Rattle.wf_event.specs.declared.event.Event.{Event}
-use Rattle.wf_event.specs.Role.{Class, AnActivity}
+use Rattle.wf_event.specs.declared.attributes.Attributes.{Attributes}
+use Rattle.wf_event.specs.Role.{Role, Closes, role, is_closing_role, is_outside_role, Class, AnActivity, opens, settles, closing_status}
 use Rattle.wf_event_values.specs.declared.policies.Status.{Status}
-use Rattle.service_model.specs.Pending.{class_number, is_settled}
-use Rattle.service_model.specs.RunState.{ActivityRow}
-use Rattle.service_model.specs.Tasks.{pending_row}
+use Rattle.service_model.specs.Pending.{Task, class_number, is_settled}
+use Rattle.service_model.specs.RunState.{ActivityRow, is_open_status}
+use Rattle.service_model.specs.Tasks.{pending_row, is_started_task}
 use Rattle.buffered.specs.Buffers.{Buffer, event_at}
 use Rattle.mutable_state.specs.declared.open.Open.{Open}
 use Rattle.mutable_state.specs.declared.task.WorkflowTask.{WorkflowTask}
 use Rattle.mutable_state.specs.Activities.{is_activity, pending_at, kept_activity}
 use Rattle.mutable_state.specs.Noted.{kept_row}
-use Rattle.mutable_state.specs.Opens.{class_in, opener_in, is_of, is_one, activity_of, opened_at, row_at, rows_in, AgreesWith}
-use Rattle.mutable_state.specs.Steps.{carried}
+use Rattle.mutable_state.specs.Opens.{class_in, opener_in, is_of, is_one, activity_of, opened_at, row_at, rows_in, open_with, marked, unmarked, added, without, opener_out, class_out, AgreesWith}
+use Rattle.mutable_state.specs.Steps.{carried, comes_last}
 use Rattle.mutable_state.specs.View.{state_in}
+use Rattle.mutable_state.proofs.AddLemmas.{closes_by, closing-is}
 use Rattle.mutable_state.proofs.OpenLemmas.{same-as}
 use Rattle.mutable_state.proofs.KeptLemmas.{find-passes, eq-back, one-is}
 
@@ -73,3 +75,32 @@ pending-activity b request status t keys os id h =
         ap (λ t. cond t None (option_map (kept_row o.notes) (event_at id b.events))) mark
         ∙ ap (λ q. cond (is_settled AnActivity id (carried b.held)) None (option_map (kept_row o.notes) q))
         (ap (λ n. event_at n b.events) (sym s.id_is) ∙ sym (ap (λ t. cond t (event_at o.opener.event b.events) None) of_class))
+
+-- nothing is in use in a run that an event closes
+rows-closing : (t : Task) (a : Attributes) (n : ℕ) (os : List Open) → is_closing_role (role a) ≡ true → open_with t a n os ≡ []
+rows-closing t a n os closes =
+    ap (λ b. cond b (marked (option_map opener_out (settles a)) os) (cond (is_closing_role (role a)) [] rest)) (not-held (role a) closes)
+    ∙ ap (λ b. cond b [] rest) closes
+  where
+    rest : List Open
+    rest = added (option_map class_out (opens a)) n (without (option_map opener_out (settles a)) (cond (comes_last t a) (unmarked os) os))
+
+    and-no : (b : Bool) → (b && false) ≡ false
+    and-no true = refl
+    and-no false = refl
+
+    not-held : (r : Role) → is_closing_role r ≡ true → (is_started_task t && is_outside_role r) ≡ false
+    not-held Closes h = and-no (is_started_task t)
+    not-held _ h = absurd (cc)
+
+pub rows-after : (t : Task) (a : Attributes) (status : Status) (n : ℕ) (os : List Open) → is_open_status status ≡ true → is_open_status (unwrap_or (closing_status a) status) ≡ false → open_with t a n os ≡ []
+unfolding closes_by
+rows-after t a status n os opened closed = rows-closing t a n os (closing-is a ∙ by_status (closing_status a) closed)
+  where
+    by_status : (o : Option Status) → is_open_status (unwrap_or o status) ≡ false → closes_by o ≡ true
+    by_status None h = absurd (cc (opened, h))
+    by_status (Some k) h = ap not h
+
+-- a run that has closed has no activity
+pub none-closed : (b : Buffer) (request : Option (List ℕ)) (status : Status) (t : WorkflowTask) (keys : List (List ℕ)) (os : List Open) → os ≡ [] → (state_in b request status t keys os).activities ≡ []
+none-closed b request status t keys os h = ap (λ l. rows_in l b.events) h

@@ -1,7 +1,7 @@
 -- a pending activity as it is asked for
-use Rattle.std.specs.Prelude.{ℕ, Bool, cond, List, find, Option, None, option_map, option_and_then}
+use Rattle.std.specs.Prelude.{◌≡◌, ℕ, Bool, false, cond, List, [], find, Option, None, option_map, option_and_then}
 use Rattle.wf_event.specs.declared.event.Event.{Event}
-use Rattle.service_model.specs.RunState.{ActivityRow}
+use Rattle.service_model.specs.RunState.{RunState, ActivityRow, is_open}
 use Rattle.mutable_state.specs.declared.activity.Activity.{Activity}
 use Rattle.mutable_state.specs.declared.open.Open.{Open}
 use Rattle.mutable_state.specs.Noted.{kept_row}
@@ -21,3 +21,7 @@ pending_at es id o = cond o.is_settled None (option_map (kept_row o.notes) (even
 -- the row of the activity that this event scheduled, by what is kept
 abbrev pub kept_activity : List Event → List Open → ℕ → Option ActivityRow
 kept_activity es os id = option_and_then (pending_at es id) (find (is_activity id) os)
+
+-- a run that has closed has no activity
+abbrev pub HasNoActivityClosed : RunState → Type 0
+HasNoActivityClosed s = is_open s ≡ false → s.activities ≡ []

@@ -7,7 +7,8 @@ use Rattle.wf_event.specs.declared.attributes.Attributes.TheVariants.{ActivityTa
 use Rattle.wf_event.specs.Role.{Role, TimerCancels, role, is_closing_role, Class, AnActivity, ATimer, AChild, ASignal, ACancel, opens, Settled, settles}
 use Rattle.service_model.specs.declared.journal.NoteFact.{NoteFact}
 use Rattle.service_model.specs.Pending.{Task, class_number, is_settling, is_settled}
-use Rattle.service_model.specs.RunState.{ActivityRow}
+use Rattle.service_model.specs.RunState.{ActivityRow, is_open_status}
+use Rattle.wf_event_values.specs.declared.policies.Status.{Status}
 use Rattle.buffered.specs.Buffers.{Buffer, unheld, flushed}
 pub use Rattle.buffered.specs.Buffers.{event_at}
 use Rattle.mutable_state.specs.declared.open.Class.{Class as KeptClass}
@@ -146,6 +147,10 @@ open_with t a id os =
 abbrev pub Ascending : List Open → Type 0
 Ascending [] = Unit {0}
 Ascending (o ∷ os) = AllByRecursion (λ (x : Open). o.opener.event < x.opener.event) os × Ascending os
+
+-- nothing is in use in a run that has closed
+abbrev pub HasNoRowsClosed : Status → List Open → Type 0
+HasNoRowsClosed status os = is_open_status status ≡ false → os ≡ []
 
 -- what is kept agrees with the history and with what is held back
 pub record AgreesWith (b : Buffer) (os : List Open) : Type 0 where

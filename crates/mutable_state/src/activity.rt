@@ -1,8 +1,8 @@
 //! A pending activity.
 
-ghost use Rattle.std.specs.Prelude.{◌≡◌, find, option_copied, option_map, IfOk};
+ghost use Rattle.std.specs.Prelude.{◌≡◌, find, option_copied, option_map, IfOk, OnOk};
 ghost use Rattle.service_model.specs.Tasks.{pending_row};
-ghost use Rattle.mutable_state.specs.Activities.{row_said, kept_activity, is_activity};
+ghost use Rattle.mutable_state.specs.Activities.{row_said, kept_activity, is_activity, HasNoActivityClosed};
 
 use crate::notes::Notes;
 use crate::open::{Class, Open, Opener};
@@ -29,7 +29,8 @@ impl Drop for Activity {
 impl Run {
     /// The pending activity that this event scheduled.
     pub fn pending_activity(&self, id: u64) -> Result<Option<Activity>, AllocError>
-        ensures { IfOk result (λ found. option_map row_said found ≡ pending_row self.now.state id) }
+        ensures found { IfOk result (λ found. option_map row_said found ≡ pending_row self.now.state id) }
+        ensures closed { OnOk result (HasNoActivityClosed self.now.state) }
     {
         let found = kept_activity(self.in_use.rows(), &self.history, id)?;
         Ok(found)

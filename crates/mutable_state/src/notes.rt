@@ -52,15 +52,6 @@ impl Drop for Notes {
     }
 }
 
-fn copy_details(details: &Option<Text>) -> Result<Option<Text>, AllocError>
-    ensures { IfOk result (λ copy. copy ≡ details.now) }
-{
-    match details {
-        Some(details) => Ok(Some(details.clone()?)),
-        None => Ok(None),
-    }
-}
-
 /// Whether an attempt ended with the note.
 pub fn is_end(note: &Note) -> bool
     ensures { result ≡ is_ended note.now }
@@ -96,9 +87,19 @@ impl Notes {
             taken: self.taken,
             sign_of_life: self.sign_of_life,
             ended: self.ended,
-            details: copy_details(&self.details)?,
+            details: self.copy_details()?,
             cancel_requested: self.cancel_requested,
         })
+    }
+
+    /// A copy of the last heartbeat's details.
+    pub fn copy_details(&self) -> Result<Option<Text>, AllocError>
+        ensures { IfOk result (λ details. details ≡ self.now.details) }
+    {
+        match &self.details {
+            Some(details) => Ok(Some(details.clone()?)),
+            None => Ok(None),
+        }
     }
 
     /// One more note, made at this moment.
