@@ -38,11 +38,7 @@ impl Run {
 }
 
 /// The activity that this event scheduled, where it is kept and no event that settles it is held back.
-fn kept_activity(
-    rows: &[Open],
-    history: &History,
-    id: u64,
-) -> Result<Option<Activity>, AllocError>
+fn kept_activity(rows: &[Open], history: &History, id: u64) -> Result<Option<Activity>, AllocError>
     ensures { IfOk result (λ found. option_map row_said found ≡ kept_activity history.now.lists.events rows.now id) }
 {
     let Some(row) = find_activity(rows, id) else {

@@ -71,11 +71,7 @@ fn first_kept_activity_due(
 
 /// The first deadline of what is kept, where it is a pending activity.
 #[tactic(auto, unfolding(service_model::specs::TimerTurns::least))]
-fn kept_activity_due(
-    row: &Open,
-    history: &History,
-    ordinal: u64,
-) -> Result<Option<Due>, AllocError>
+fn kept_activity_due(row: &Open, history: &History, ordinal: u64) -> Result<Option<Due>, AllocError>
     ensures { IfOk result (λ due. option_map run_due due ≡ first_of ordinal (kept_activity_dues history.now.lists.events row.now)) }
 {
     if !row.is_pending_of(Class::Activity) {
@@ -89,11 +85,7 @@ fn kept_activity_due(
 
 /// The first deadline of the activity that an event scheduled, on which there are these notes.
 #[tactic(auto, unfolding(service_model::specs::TimerTurns::least))]
-pub fn activity_due(
-    event: &Event,
-    notes: &Notes,
-    ordinal: u64,
-) -> Result<Option<Due>, AllocError>
+pub fn activity_due(event: &Event, notes: &Notes, ordinal: u64) -> Result<Option<Due>, AllocError>
     ensures { IfOk result (λ due. option_map run_due due ≡ first_of ordinal (activity_dues (kept_row notes.now event.now))) }
 {
     let Attributes::ActivityTaskScheduled(activity) = &event.attributes else {
