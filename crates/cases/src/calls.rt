@@ -8,6 +8,7 @@ use script::LINE_LIMIT;
 use script_settings::settings_of;
 use service::{Pass, Service};
 use service_model::answer::Reply;
+use service_model::call::Call;
 use service_model::request::{Operation, Request};
 use service_model::settings::Settings;
 use std::alloc::{AllocError, AllocGlobal, Global};
@@ -15,11 +16,11 @@ use std::io;
 use std::sync::Wait;
 use wf_event_values::{Field, Refusal};
 use wire_replies::reply_text;
-use wire_requests::read_request;
+use wire_requests::read_call;
 
 /// Which form of a call is made.
 #[derive(Clone, Copy)]
-pub(crate) enum Call {
+pub(crate) enum CallForm {
     MayWait,
     NeverWaits,
 }
@@ -49,15 +50,10 @@ impl Opened {
 
     /// The reply of a call. With one pass no other one is ever on a shard, so only memory can be
     /// what it lacks.
-    fn reply<R: Wait>(
-        &mut self,
-        rt: &R,
-        call: Call,
-        request: Request,
-    ) -> Result<Reply, AllocError> {
-        let reply = match call {
-            Call::MayWait => self.service.serve(rt, &mut self.pass, request).ok(),
-            Call::NeverWaits => self.service.try_serve(&mut self.pass, request).ok(),
+    fn reply<R: Wait>(&mut self, rt: &R, form: CallForm, call: Call) -> Result<Reply, AllocError> {
+        let reply = match form {
+            CallForm::MayWait => self.service.serve_call(rt, &mut self.pass, call).ok(),
+            CallForm::NeverWaits => self.service.try_serve_call(&mut self.pass, call).ok(),
         };
         reply.ok_or(AllocError)
     }
@@ -66,34 +62,34 @@ impl Opened {
     fn answer<R: AllocGlobal + Wait>(
         &mut self,
         rt: &R,
-        call: Call,
+        form: CallForm,
         step: &Step,
     ) -> Result<Option<Reply>, AllocError> {
         let asked = match step {
             Step::Line(line) => asked(rt.alloc(), &self.settings, line),
-            Step::StartTask { hint, at } => Ok(Request {
+            Step::StartTask { hint, at } => Ok(Call::Request(Request {
                 at: *at,
                 operation: Operation::StartTask(*hint),
-            }),
+            })),
             Step::Skip => return Ok(None),
         };
         match asked {
-            Ok(request) => Ok(Some(self.reply(rt, call, request)?)),
+            Ok(call) => Ok(Some(self.reply(rt, form, call)?)),
             Err(refusal) => Ok(Some(Err(refusal))),
         }
     }
 }
 
 /// What a line asks, or the fault that a script finds in it.
-fn asked(alloc: Global, settings: &Settings, line: &[u8]) -> Result<Request, Refusal> {
+fn asked(alloc: Global, settings: &Settings, line: &[u8]) -> Result<Call, Refusal> {
     if line.len() > LINE_LIMIT {
         return Err(Refusal::InvalidArgument(Field::Line));
     }
     let Ok(text) = str::from_utf8(line) else {
         return Err(Refusal::InvalidArgument(Field::Json));
     };
-    let (_lane, request) = read_request(alloc, settings, text)?;
-    Ok(request)
+    let (_lane, call) = read_call(alloc, settings, text)?;
+    Ok(call)
 }
 
 /// The service that a case's command line opens, or nothing where the case can't be run by calls:
@@ -112,7 +108,7 @@ fn opened_for(alloc: Global, case: &Case) -> Option<Opened> {
 pub(crate) fn by_calls<R: AllocGlobal + Wait>(
     rt: &R,
     case: &Case,
-    call: Call,
+    form: CallForm,
 ) -> io::Result<Option<String>> {
     let alloc = rt.alloc();
     let Some(mut opened) = opened_for(alloc, case) else {
@@ -121,7 +117,7 @@ pub(crate) fn by_calls<R: AllocGlobal + Wait>(
     let mut output = String::new(alloc);
     let mut refused = false;
     for (place, step) in case.steps().iter().enumerate() {
-        let Some(reply) = opened.answer(rt, call, step)? else {
+        let Some(reply) = opened.answer(rt, form, step)? else {
             continue;
         };
         refused |= reply.is_err();

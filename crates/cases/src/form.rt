@@ -1,6 +1,6 @@
 //! The forms in which a case is run.
 
-use crate::calls::{Call, by_calls};
+use crate::calls::{CallForm, by_calls};
 use crate::case::{Case, Step};
 use crate::process::Process;
 use std::alloc::{AllocError, Global};
@@ -47,8 +47,8 @@ impl Form {
         match self {
             Form::Program => by_program(rt, case, true),
             Form::Unended => by_program(rt, case, false),
-            Form::MayWait => by_calls(rt, case, Call::MayWait),
-            Form::NeverWaits => by_calls(rt, case, Call::NeverWaits),
+            Form::MayWait => by_calls(rt, case, CallForm::MayWait),
+            Form::NeverWaits => by_calls(rt, case, CallForm::NeverWaits),
         }
     }
 }

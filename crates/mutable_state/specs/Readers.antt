@@ -1,5 +1,5 @@
 -- what a run answers when it is asked what is in use in it, and what is held back
-use Rattle.std.specs.Prelude.{ℕ, Bool, false, cond, bytes_eq, List, map, length, Option, None, Some, option_map}
+use Rattle.std.specs.Prelude.{◌≡◌, ℕ, Bool, false, cond, bytes_eq, List, map, length, Option, None, Some, option_map}
 use Rattle.std.specs.Option.{option_map_or}
 use Rattle.std.specs.List.{AllByRecursion}
 use Rattle.wf_event.specs.declared.event.Event.{Event}
@@ -56,3 +56,16 @@ pub record IsGrounded (s : RunState) : Type 0 where
   pub ids : (c : Class) → IdsTo (length s.shown) (used c s)
   pub settled : SettlesTo (length s.shown) (held_attributes s)
   pub outside : AllByRecursion IsFromOutside s.held
+
+-- each of these is the event that the history shows under its id
+abbrev pub AreShown : List Event → List Event → Type 0
+AreShown shown es = AllByRecursion (λ (e : Event). event_at e.id shown ≡ Some e) es
+
+-- the id that the worker gave to the timer that an event starts
+abbrev pub timer_started : Attributes → Option (List ℕ)
+timer_started (TimerStarted a) = Some a.timer_id
+timer_started _ = None
+
+abbrev pub started_timer : Option Event → Option (List ℕ)
+started_timer None = None
+started_timer (Some e) = timer_started e.attributes

@@ -1,11 +1,13 @@
 //! When a run's time is over.
 
-ghost use Rattle.std.specs.Prelude.{◌≡◌, option_map, flat_map, IfOk};
-ghost use Rattle.timeouts.specs.Firsts.{first_of, first_due};
+ghost use Rattle.std.specs.Prelude.{◌≡◌, option_copied, option_map, flat_map, IfOk};
+ghost use Rattle.timeouts.specs.Firsts.{first_of, first_due, HasTimer};
 ghost use Rattle.timeouts.specs.Slots.{run_due};
 ghost use Rattle.service_model.specs.Deadlines.{timer_dues, activity_dues, by_phase};
 ghost use Rattle.service_model.specs.Pending.{IsQueued, IsRunning, IsWaiting};
 ghost use Rattle.mutable_state.specs.Noted.{kept_row, phase_said};
+ghost use Rattle.service_model.specs.TimerTurns.{timer_name};
+ghost use Rattle.mutable_state.specs.Readers.{started_timer};
 ghost use Rattle.mutable_state.specs.Dues.{own_dues, task_dues, kept_dues, kept_activity_dues, pending_timer_dues, pending_activity_dues};
 
 use crate::notes::{ActivityPhase, Notes};
@@ -18,7 +20,7 @@ use std::alloc::AllocError;
 use timeouts::{Due, due_after, first_of_two};
 use wf_event::payloads::{ActivityTaskScheduled, WorkflowExecutionStarted};
 use wf_event::{Attributes, Event};
-use wf_event_values::{DeadlineClass, Moment};
+use wf_event_values::{DeadlineClass, Id, Moment};
 
 impl Run {
     /// The first of its deadlines, where this is its ordinal. A retry policy out of its ranges, which
@@ -185,6 +187,29 @@ fn waiting_due(
         class: DeadlineClass::RetryReady,
         event: event.id,
     }))
+}
+
+impl Run {
+    /// The id that the worker gave to the pending timer that this event started.
+    pub fn timer_id(&self, started: u64) -> &Id
+        requires { HasTimer self.now.state started }
+        ensures { result.now ≡ timer_name self.now.state started }
+    {
+        match started_timer(self.history.event(started)) {
+            Some(id) => id,
+            None => unreachable!(),
+        }
+    }
+}
+
+/// The id that the worker gave to the timer that an event starts, if it starts one.
+pub fn started_timer(event: Option<&Event>) -> Option<&Id>
+    ensures { option_copied result ≡ started_timer (option_copied event.entry) }
+{
+    match &event?.attributes {
+        Attributes::TimerStarted(timer) => Some(&timer.timer_id),
+        _ => None,
+    }
 }
 
 /// The first deadline of the timers that are kept and pending.

@@ -7,9 +7,11 @@ use Rattle.wf_event_values.specs.declared.refusal.Refusal.{Refusal}
 use Rattle.gate.specs.declared.object.Refused.{Refused}
 use Rattle.gate.specs.declared.object.Refused.TheVariants.{Busy, NoMemory}
 use Rattle.std.specs.List.{range_with_len}
+use Rattle.service_model.specs.declared.call.Call.{Call}
 use Rattle.service_model.specs.declared.content.Content.{Content}
 use Rattle.service_model.specs.declared.request.Request.{Request}
 use Rattle.service_model.specs.declared.settings.Settings.{Settings}
+use Rattle.service_model.specs.Calls.{request_of}
 use Rattle.service_model.specs.Outcome.{Reply}
 use Rattle.service_model.specs.Service.{answer, after, opening}
 use Rattle.gate.specs.declared.view.View.{View}
@@ -17,9 +19,9 @@ use Rattle.gate.specs.Passes as gate
 use Rattle.gate.specs.Records.{replay, by, past, FromGiven, Begins}
 use Rattle.service.specs.declared.service.Service.{Service}
 use Rattle.service.specs.declared.service.Pass.{Pass}
-use Rattle.service.specs.Contents.{setup_of, refusal_of, slot_of, opening_contents}
-use Rattle.service.specs.Services.{known_by, Answered, IsPassOf, IsServed, Served, settings_of}
-use Rattle.service.proofs.ServedLemmas.{shard-below}
+use Rattle.service.specs.Contents.{setup_of, refusal_of_call, slot_of_call, opening_contents}
+use Rattle.service.specs.Services.{known_by, Answered, IsPassOf, IsServedOn, IsTriedCall, ServedOn, settings_of}
+use Rattle.service.proofs.ServedLemmas.{call-below}
 use Rattle.script.specs.OnePass.{content_seen, contents_seen, IsOnePass}
 use Rattle.script.specs.Serving.{reply_to_asked, contents_after_asked, content_at, reply_unless, contents_unless}
 
@@ -56,10 +58,9 @@ same-or-apart zero (suc n) = inr (λ h. omega (arith, h))
 same-or-apart (suc m) zero = inr (λ h. omega (arith, h))
 same-or-apart (suc m) (suc n) = elim (same-or-apart m n) [ inl h ↦ inl (ap suc h) | inr h ↦ inr (λ e. h (omega (arith, e))) ]
 
--- the shard of the request: all entries are the pass's own
-own-alone : (K : Settings) (x : Service) (p p' : Pass) (q : Request) (r : Reply) → IsOnePass K x p → IsServed x (known_by p) (known_by p') q r → gate.seen (known_by p') (slot_of x.settings q) ≡ gate.mine (known_by p') (slot_of x.settings q)
-own-alone K x p p' q r h done =
-    let s = slot_of x.settings q in
+-- the shard of the step: all entries are the pass's own
+own-alone : (K : Settings) (x : Service) (p p' : Pass) (s : ℕ) (q : Request) (r : Reply) → IsOnePass K x p → IsServedOn x (known_by p) (known_by p') s q r → gate.seen (known_by p') s ≡ gate.mine (known_by p') s
+own-alone K x p p' s q r h done =
     let es = gate.seen (known_by p') s in
     let none = base-none K x p s h in
     let G : List (ℕ × Request) → Type 0 = λ b. FromGiven (gate.passes (known_by p)) (past b es) in
@@ -71,18 +72,17 @@ own-alone K x p p' q r h done =
     ∙ done.step.own
 
 -- after a step the pass has still seen its own steps alone
-alone-after : (K : Settings) (x : Service) (p p' : Pass) (q : Request) (r : Reply) → IsOnePass K x p → IsServed x (known_by p) (known_by p') q r → (s : ℕ) → gate.seen (known_by p') s ≡ gate.mine (known_by p') s
-alone-after K x p p' q r h done s = elim (same-or-apart s (slot_of x.settings q)) [
-  | inl same ↦ let P : ℕ → Type 0 = λ k. gate.seen (known_by p') k ≡ gate.mine (known_by p') k in subst P (sym same) (own-alone K x p p' q r h done)
-  | inr apart ↦ (done.step.others s apart).0 ∙ h.alone s ∙ sym (done.step.others s apart).1
+alone-after : (K : Settings) (x : Service) (p p' : Pass) (s : ℕ) (q : Request) (r : Reply) → IsOnePass K x p → IsServedOn x (known_by p) (known_by p') s q r → (k : ℕ) → gate.seen (known_by p') k ≡ gate.mine (known_by p') k
+alone-after K x p p' s q r h done k = elim (same-or-apart k s) [
+  | inl same ↦ let P : ℕ → Type 0 = λ n. gate.seen (known_by p') n ≡ gate.mine (known_by p') n in subst P (sym same) (own-alone K x p p' s q r h done)
+  | inr apart ↦ (done.step.others k apart).0 ∙ h.alone k ∙ sym (done.step.others k apart).1
 ]
 
 -- the step found all that the pass had seen
-front-is : (K : Settings) (x : Service) (p p' : Pass) (q : Request) (r : Reply) (h : IsOnePass K x p) (done : IsServed x (known_by p) (known_by p') q r) → done.step.front ≡ gate.seen (known_by p) (slot_of x.settings q)
-front-is K x p p' q r h done =
-    let s = slot_of x.settings q in
+front-is : (K : Settings) (x : Service) (p p' : Pass) (s : ℕ) (q : Request) (r : Reply) (h : IsOnePass K x p) (done : IsServedOn x (known_by p) (known_by p') s q r) → done.step.front ≡ gate.seen (known_by p) s
+front-is K x p p' s q r h done =
     same-front (gate.seen (known_by p) s) done.step.front (gate.number (known_by p), q) done.step.extends
-    (sym done.step.last ∙ own-alone K x p p' q r h done ∙ done.step.adds ∙ ap (λ t. t ++ (gate.number (known_by p), q) ∷ []) (sym (h.alone s)))
+    (sym done.step.last ∙ own-alone K x p p' s q r h done ∙ done.step.adds ∙ ap (λ t. t ++ (gate.number (known_by p), q) ∷ []) (sym (h.alone s)))
 
 map-set : {X : Type 0} (f g : ℕ → X) (a n s : ℕ) (y : X) → s < n → g (a + s) ≡ y → ((k : ℕ) → k ≢ a + s → g k ≡ f k) → map g (range_with_len a n) ≡ slice_set (map f (range_with_len a n)) s y
 map-set f g a zero s y there here others = absurd (omega arith)
@@ -97,64 +97,58 @@ map-set f g a (suc n) (suc s) y there here others =
     ap (λ t. t ∷ map g (range_with_len (a + 1) n)) (others a (λ e. omega (arith, e)))
     ∙ ap (λ t. f a ∷ t) (map-set f g (a + 1) n s y (omega arith) (ap g (omega arith) ∙ here) (λ k apart. others k (λ e. apart (omega (arith, e)))))
 
-content-here : (x : Service) (p : Pass) (q : Request) → IsPassOf p x → refusal_of x.settings q.operation ≡ None → content_at x.settings (contents_seen x.settings (known_by p)) (slot_of x.settings q) ≡ content_seen x.settings (known_by p) (slot_of x.settings q)
-content-here x p q own none =
-    let below : slot_of x.settings q < x.settings.shards = shard-below x.settings q.operation own.opened.range.some_shard none in
-    get_or-map-range_with_len (content_seen x.settings (known_by p)) 0 x.settings.shards (slot_of x.settings q) (slot_of x.settings q) (opening (setup_of x.settings (slot_of x.settings q))) below (omega arith)
+content-here : (x : Service) (p : Pass) (s : ℕ) → s < x.settings.shards → content_at x.settings (contents_seen x.settings (known_by p)) s ≡ content_seen x.settings (known_by p) s
+content-here x p s below = get_or-map-range_with_len (content_seen x.settings (known_by p)) 0 x.settings.shards s s (opening (setup_of x.settings s)) below (omega arith)
 
-found-content : (K : Settings) (x : Service) (p p' : Pass) (q : Request) (r : Reply) (h : IsOnePass K x p) (done : IsServed x (known_by p) (known_by p') q r) → replay after done.step.start done.step.front ≡ content_seen x.settings (known_by p) (slot_of x.settings q)
-found-content K x p p' q r h done = ap (λ c. replay after c done.step.front) done.start ∙ ap (replay after (opening (setup_of x.settings (slot_of x.settings q)))) (front-is K x p p' q r h done)
+found-content : (K : Settings) (x : Service) (p p' : Pass) (s : ℕ) (q : Request) (r : Reply) (h : IsOnePass K x p) (done : IsServedOn x (known_by p) (known_by p') s q r) → replay after done.step.start done.step.front ≡ content_seen x.settings (known_by p) s
+found-content K x p p' s q r h done = ap (λ c. replay after c done.step.front) done.start ∙ ap (replay after (opening (setup_of x.settings s))) (front-is K x p p' s q r h done)
 
--- the content of each shard after a step: the request's is one request on
-contents-served : (K : Settings) (x : Service) (p p' : Pass) (q : Request) (r : Reply) → IsOnePass K x p → refusal_of x.settings q.operation ≡ None → IsServed x (known_by p) (known_by p') q r →
-    contents_seen x.settings (known_by p') ≡ slice_set (contents_seen x.settings (known_by p)) (slot_of x.settings q) (after (content_at x.settings (contents_seen x.settings (known_by p)) (slot_of x.settings q)) q)
-contents-served K x p p' q r h none done =
-    let s = slot_of x.settings q in
+-- the content of each shard after a step: that of the step is one request on
+contents-served : (K : Settings) (x : Service) (p p' : Pass) (s : ℕ) (q : Request) (r : Reply) → IsOnePass K x p → s < x.settings.shards → IsServedOn x (known_by p) (known_by p') s q r →
+    contents_seen x.settings (known_by p') ≡ slice_set (contents_seen x.settings (known_by p)) s (after (content_at x.settings (contents_seen x.settings (known_by p)) s) q)
+contents-served K x p p' s q r h below done =
     let start = opening (setup_of x.settings s) in
-    let below : s < x.settings.shards = shard-below x.settings q.operation h.own.opened.range.some_shard none in
     let here : content_seen x.settings (known_by p') s ≡ after (content_at x.settings (contents_seen x.settings (known_by p)) s) q =
     ap (replay after start) done.step.last ∙ replay-push start done.step.front (gate.number (known_by p), q)
-    ∙ ap (λ c. after c q) (ap (replay after start) (front-is K x p p' q r h done) ∙ sym (content-here x p q h.own none)) in
+    ∙ ap (λ c. after c q) (ap (replay after start) (front-is K x p p' s q r h done) ∙ sym (content-here x p s below)) in
     map-set (content_seen x.settings (known_by p)) (content_seen x.settings (known_by p')) 0 x.settings.shards s _ below
     (ap (content_seen x.settings (known_by p')) (omega arith) ∙ here)
     (λ k apart. ap (replay after (opening (setup_of x.settings k))) (done.step.others k (λ e. apart (e ∙ omega arith))).0)
 
--- the reply is the sequential service's
-pub reply-is : (K : Settings) (x : Service) (p p' : Pass) (q : Request) (r : Reply) → IsOnePass K x p → Served x p p' q r → r ≡ reply_to_asked K (contents_seen K (known_by p)) (Ok (0, q))
-reply-is K x p p' q r h done =
-    let T : Settings → Type 0 = λ k. r ≡ reply_to_asked k (contents_seen k (known_by p)) (Ok (0, q)) in
-    subst T h.settings (by (refusal_of x.settings q.operation) refl done)
-  where
-    by : (o : Option Refusal) → refusal_of x.settings q.operation ≡ o → Answered o (IsServed x (known_by p) (known_by p') q r) (known_by p) (known_by p') r
-        → r ≡ reply_unless o (answer (content_at x.settings (contents_seen x.settings (known_by p)) (slot_of x.settings q)) q)
-    by None none done = done.step.reply ∙ ap (λ c. answer c q) (found-content K x p p' q r h done ∙ sym (content-here x p q h.own none))
-    by (Some e) some done = done.0
+-- what a request for a shard is answered, where nothing else refuses it
+reply-on : (K : Settings) (x : Service) (p p' : Pass) (o : Option Refusal) (s : ℕ) (q : Request) (r : Reply) → IsOnePass K x p → (o ≡ None → s < x.settings.shards) → ServedOn x p p' o s q r →
+    r ≡ reply_unless o (answer (content_at x.settings (contents_seen x.settings (known_by p)) s) q)
+reply-on K x p p' None s q r h below done = done.step.reply ∙ ap (λ t. answer t q) (found-content K x p p' s q r h done ∙ sym (content-here x p s (below refl)))
+reply-on K x p p' (Some e) s q r h below done = done.0
+
+contents-on : (K : Settings) (x : Service) (p p' : Pass) (o : Option Refusal) (s : ℕ) (q : Request) (r : Reply) → IsOnePass K x p → (o ≡ None → s < x.settings.shards) → ServedOn x p p' o s q r →
+    contents_seen x.settings (known_by p') ≡ contents_unless o (contents_seen x.settings (known_by p)) (slice_set (contents_seen x.settings (known_by p)) s (after (content_at x.settings (contents_seen x.settings (known_by p)) s) q))
+contents-on K x p p' None s q r h below done = contents-served K x p p' s q r h (below refl) done
+contents-on K x p p' (Some e) s q r h below done = ap (contents_seen x.settings) done.1
+
+-- the reply to a call is the sequential service's
+pub reply-is : (K : Settings) (x : Service) (p p' : Pass) (c : Call) (r : Reply) → IsOnePass K x p → ServedOn x p p' (refusal_of_call x.settings c) (slot_of_call x.settings c) (request_of c) r → r ≡ reply_to_asked K (contents_seen K (known_by p)) (Ok (0, c))
+reply-is K x p p' c r h done =
+    let T : Settings → Type 0 = λ k. r ≡ reply_to_asked k (contents_seen k (known_by p)) (Ok (0, c)) in
+    subst T h.settings (reply-on K x p p' (refusal_of_call x.settings c) (slot_of_call x.settings c) (request_of c) r h (call-below x.settings c h.own.opened.range.some_shard) done)
 
 -- and so are the contents that it leaves
-pub contents-are : (K : Settings) (x : Service) (p p' : Pass) (q : Request) (r : Reply) → IsOnePass K x p → Served x p p' q r → contents_seen K (known_by p') ≡ contents_after_asked K (contents_seen K (known_by p)) (Ok (0, q))
-contents-are K x p p' q r h done =
-    let T : Settings → Type 0 = λ k. contents_seen k (known_by p') ≡ contents_after_asked k (contents_seen k (known_by p)) (Ok (0, q)) in
-    subst T h.settings (by (refusal_of x.settings q.operation) refl done)
-  where
-    by : (o : Option Refusal) → refusal_of x.settings q.operation ≡ o → Answered o (IsServed x (known_by p) (known_by p') q r) (known_by p) (known_by p') r
-        → contents_seen x.settings (known_by p') ≡ contents_unless o (contents_seen x.settings (known_by p))
-        (slice_set (contents_seen x.settings (known_by p)) (slot_of x.settings q) (after (content_at x.settings (contents_seen x.settings (known_by p)) (slot_of x.settings q)) q))
-    by None none done = contents-served K x p p' q r h none done
-    by (Some e) some done = ap (contents_seen x.settings) done.1
+pub contents-are : (K : Settings) (x : Service) (p p' : Pass) (c : Call) (r : Reply) → IsOnePass K x p → ServedOn x p p' (refusal_of_call x.settings c) (slot_of_call x.settings c) (request_of c) r →
+    contents_seen K (known_by p') ≡ contents_after_asked K (contents_seen K (known_by p)) (Ok (0, c))
+contents-are K x p p' c r h done =
+    let T : Settings → Type 0 = λ k. contents_seen k (known_by p') ≡ contents_after_asked k (contents_seen k (known_by p)) (Ok (0, c)) in
+    subst T h.settings (contents-on K x p p' (refusal_of_call x.settings c) (slot_of_call x.settings c) (request_of c) r h (call-below x.settings c h.own.opened.range.some_shard) done)
 
 -- a pass that was refused for memory is as it was
 pub keeps-one : (K : Settings) (x : Service) (p p' : Pass) → IsOnePass K x p → IsPassOf p' x → gate.SeenNothing (known_by p) (known_by p') → IsOnePass K x p'
 keeps-one K x p p' h own nothing = record { own = own; settings = h.settings; one = h.one; first = nothing.same.0 ∙ h.first; alone = λ s. nothing.sees s ∙ h.alone s ∙ sym (nothing.has s) }
 
--- a pass whose request was answered is still the only one
-pub goes-on : (K : Settings) (x : Service) (p p' : Pass) (q : Request) (r : Reply) → IsOnePass K x p → IsPassOf p' x → Served x p p' q r → IsOnePass K x p'
-goes-on K x p p' q r h own done = by (refusal_of x.settings q.operation) done
-  where
-    by : (o : Option Refusal) → Answered o (IsServed x (known_by p) (known_by p') q r) (known_by p) (known_by p') r → IsOnePass K x p'
-    by None done = record { own = own; settings = h.settings; one = h.one; first = done.step.same.0 ∙ h.first; alone = alone-after K x p p' q r h done }
-    by (Some e) done =
-        let Alone : View Request Content → Type 0 = λ v. (s : ℕ) → gate.seen v s ≡ gate.mine v s in
-        record { own = own; settings = h.settings; one = h.one; first = ap gate.number done.1 ∙ h.first; alone = subst Alone (sym done.1) h.alone }
+-- a pass whose call was answered is still the only one
+pub goes-on : (K : Settings) (x : Service) (p p' : Pass) (o : Option Refusal) (s : ℕ) (q : Request) (r : Reply) → IsOnePass K x p → IsPassOf p' x → ServedOn x p p' o s q r → IsOnePass K x p'
+goes-on K x p p' None s q r h own done = record { own = own; settings = h.settings; one = h.one; first = done.step.same.0 ∙ h.first; alone = alone-after K x p p' s q r h done }
+goes-on K x p p' (Some e) s q r h own done =
+    let Alone : View Request Content → Type 0 = λ v. (k : ℕ) → gate.seen v k ≡ gate.mine v k in
+    record { own = own; settings = h.settings; one = h.one; first = ap gate.number done.1 ∙ h.first; alone = subst Alone (sym done.1) h.alone }
 
 -- with one pass no other is found
 pub never-busy : (K : Settings) (x : Service) (p p' : Pass) (s : ℕ) → IsOnePass K x p → gate.TurnedAway (known_by p) (known_by p') s → ⊥
@@ -175,13 +169,13 @@ contents-fresh K x p own fresh = all-fresh 0 K.shards
         ∙ ap (λ t. opening (setup_of K a) ∷ t) (all-fresh (a + 1) n)
 
 -- whatever a call came to, the pass is still the only one
-pub one-pass-after : (K : Settings) (x : Service) (p p' : Pass) (q : Request) (s : ℕ) (result : Result Reply (Refused × Request)) → IsOnePass K x p → IsPassOf p' x → IfOk result (λ r. Served x p p' q r) → IfErr result (λ e. gate.Refuses e.0 (known_by p) (known_by p') s) → IsOnePass K x p'
-one-pass-after K x p p' q s (Ok r) h own done refused = goes-on K x p p' q r h own done
-one-pass-after K x p p' q s (Err e) h own done refused = by e.0 refused
+pub one-pass-after : (K : Settings) (x : Service) (p p' : Pass) (c : Call) (result : Result Reply (Refused × Request)) → IsOnePass K x p → IsTriedCall x p p' c result → IsOnePass K x p'
+one-pass-after K x p p' c (Ok r) h tried = goes-on K x p p' (refusal_of_call x.settings c) (slot_of_call x.settings c) (request_of c) r h tried.own tried.ok
+one-pass-after K x p p' c (Err e) h tried = by_cause e.0 tried.err
   where
-    by : (why : Refused) → gate.Refuses why (known_by p) (known_by p') s → IsOnePass K x p'
-    by Busy away = keeps-one K x p p' h own away.nothing
-    by NoMemory nothing = keeps-one K x p p' h own nothing.0
+    by_cause : (why : Refused) → gate.Refuses why (known_by p) (known_by p') (slot_of_call x.settings c) → IsOnePass K x p'
+    by_cause Busy away = keeps-one K x p p' h tried.own away.nothing
+    by_cause NoMemory nothing = keeps-one K x p p' h tried.own nothing.0
 
 -- the only member of a list
 pub only-one : {A : Type 0} (xs front : List A) (x : A) → xs ≡ front ++ x ∷ [] → length xs ≡ 1 → slice_get xs 0 ≡ Some x

@@ -5,6 +5,8 @@ use Rattle.std.proofs.lemmas.Nat.{mod_below}
 use Rattle.std.specs.Prelude.{map, slice_get, unwrap_or, if◌then◌else◌, nat_lt, ◌&&◌, Result}
 use Rattle.std.specs.List.{range_with_len}
 use Rattle.wf_event_values.specs.declared.refusal.Refusal.{Refusal}
+use Rattle.service_model.specs.declared.call.Call.{Call}
+use Rattle.service_model.specs.declared.call.Call.TheVariants as call
 use Rattle.service_model.specs.declared.content.Content.{Content}
 use Rattle.service_model.specs.declared.request.Operation.{Operation}
 use Rattle.service_model.specs.declared.request.Operation.TheVariants as operation
@@ -18,7 +20,7 @@ use Rattle.gate.specs.declared.view.View.{View}
 use Rattle.gate.specs.Passes as gate
 use Rattle.service.specs.declared.service.Service.{Service}
 use Rattle.service.specs.declared.service.Pass.{Pass}
-use Rattle.service.specs.Contents.{setup_of, opening_contents, is_token, refusal_of, shard_of}
+use Rattle.service.specs.Contents.{setup_of, opening_contents, is_token, refusal_of, refusal_of_call, shard_of, shard_refusal, slot_of_call}
 use Rattle.service.specs.Services.{known_by, Answered, IsPassOf, IsServedAtLast, IsServedOn, shard_of_request}
 
 get-range : {X : Type 0} (f : ℕ → X) (a n k : ℕ) → k < n → slice_get (map f (range_with_len a n)) k ≡ Some (f (a + k))
@@ -54,6 +56,16 @@ shard-below K (operation.CompleteWorkflowTask q) some none = token-below K q.tas
 shard-below K (operation.FailWorkflowTask q) some none = token-below K q.task (unrefused _ _ _ none)
 shard-below K (operation.History q) some none = mod_below (hash_of q.workflow_id) K.shards (omega (arith, some))
 shard-below K (operation.Describe q) some none = mod_below (hash_of q.workflow_id) K.shards (omega (arith, some))
+shard-below K operation.TimerTurn some none = absurd (cc)
+
+-- a shard that nothing refuses is there
+pub named-below : (K : Settings) (shard : ℕ) → shard_refusal K shard ≡ None → shard < K.shards
+named-below K shard none = let there : nat_lt shard K.shards ≡ true = unrefused _ _ _ none in grind (arith, nat_tests)
+
+-- so is the shard of a call
+pub call-below : (K : Settings) (c : Call) → 1 ≤ K.shards → refusal_of_call K c ≡ None → slot_of_call K c < K.shards
+call-below K (call.Request q) some none = shard-below K q.operation some none
+call-below K (call.TimerTurn t) some none = named-below K t.shard none
 
 -- the content that a pass knows a shard to have been opened with
 start-is : (p : Pass) (x : Service) (shard : ℕ) (start : Content) → IsPassOf p x → shard < x.settings.shards → slice_get (gate.starts (known_by p)) shard ≡ Some start → start ≡ opening (setup_of x.settings shard)

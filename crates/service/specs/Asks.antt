@@ -29,3 +29,6 @@ to_show_history at q = record { at = at; operation = operation.History q }
 
 abbrev pub to_describe : ℕ → Read → Request
 to_describe at q = record { at = at; operation = operation.Describe q }
+
+abbrev pub to_turn_timers : ℕ → Request
+to_turn_timers at = record { at = at; operation = operation.TimerTurn }

@@ -1,13 +1,14 @@
--- the shards of a service: what each is opened with, which requests are refused before any is entered, and on which one the others are served
+-- the shards of a service: what each is opened with, which calls are refused before any is entered, and on which one the others are served
 use Rattle.std.specs.Prelude.{ℕ, ◌%◌, ◌&&◌, nat_le, nat_lt, Bool, if◌then◌else◌, List, [], ◌∷◌, codes, length, map, Option, None, Some}
 use Rattle.std.specs.List.{range_with_len}
 use Rattle.wf_event_values.specs.declared.field.Field.TheVariants as field
 use Rattle.wf_event_values.specs.declared.refusal.Refusal.{Refusal}
 use Rattle.wf_event_values.specs.declared.refusal.Refusal.TheVariants.{InvalidArgument, InvalidToken}
+use Rattle.service_model.specs.declared.call.Call.{Call}
+use Rattle.service_model.specs.declared.call.Call.TheVariants as call
 use Rattle.service_model.specs.declared.content.Content.{Content}
 use Rattle.service_model.specs.declared.content.Setup.{Setup}
 use Rattle.service_model.specs.declared.request.CompleteWorkflowTask.{CompleteWorkflowTask}
-use Rattle.service_model.specs.declared.request.Hint.{Hint}
 use Rattle.service_model.specs.declared.request.Operation.{Operation}
 use Rattle.service_model.specs.declared.request.Operation.TheVariants as operation
 use Rattle.service_model.specs.declared.request.Request.{Request}
@@ -29,8 +30,9 @@ opening_contents K = map (λ shard. opening (setup_of K shard)) (range_with_len 
 abbrev pub is_token : Settings → TakenTask → Bool
 is_token K t = nat_lt t.shard K.shards && (nat_le 1 t.run && (nat_le 1 t.event && nat_le 1 t.attempt))
 
-abbrev pub hint_refusal : Settings → Hint → Option Refusal
-hint_refusal K h = if nat_lt h.shard K.shards then None else Some (InvalidArgument field.Shard)
+-- a shard that is named has to be there
+abbrev pub shard_refusal : Settings → ℕ → Option Refusal
+shard_refusal K shard = if nat_lt shard K.shards then None else Some (InvalidArgument field.Shard)
 
 abbrev pub token_refusal : Settings → TakenTask → Option Refusal
 token_refusal K t = if is_token K t then None else Some InvalidToken
@@ -39,21 +41,22 @@ token_refusal K t = if is_token K t then None else Some InvalidToken
 abbrev pub completion_refusal : Settings → CompleteWorkflowTask → Option Refusal
 completion_refusal K q = if is_token K q.task then (if nat_le (length q.commands) most_commands then None else Some (InvalidArgument field.Commands)) else Some InvalidToken
 
--- as what an operation is refused before any shard is entered, where it is
+-- as what an operation is refused before any shard is entered, where it is; a timer turn is served for a call that names its shard
 abbrev pub refusal_of : Settings → Operation → Option Refusal
 refusal_of K (operation.Start q) = None
 refusal_of K (operation.Signal q) = None
-refusal_of K (operation.StartTask h) = hint_refusal K h
+refusal_of K (operation.StartTask h) = shard_refusal K h.shard
 refusal_of K (operation.CompleteWorkflowTask q) = completion_refusal K q
 refusal_of K (operation.FailWorkflowTask q) = token_refusal K q.task
 refusal_of K (operation.History q) = None
 refusal_of K (operation.Describe q) = None
+refusal_of K operation.TimerTurn = Some (InvalidArgument field.Shard)
 
 -- the shard of a workflow ID: its hash modulo the number of shards
 abbrev pub shard_of_id : Settings → List ℕ → ℕ
 shard_of_id K id = hash_of id % K.shards
 
--- the shard of an operation: that of its workflow ID, or the one that its hint or its token names
+-- the shard of an operation: that of its workflow ID, or the one that its hint or its token names; where it names none, the first
 abbrev pub shard_of : Settings → Operation → ℕ
 shard_of K (operation.Start q) = shard_of_id K q.workflow_id
 shard_of K (operation.Signal q) = shard_of_id K q.workflow_id
@@ -62,6 +65,17 @@ shard_of K (operation.CompleteWorkflowTask q) = q.task.shard
 shard_of K (operation.FailWorkflowTask q) = q.task.shard
 shard_of K (operation.History q) = shard_of_id K q.workflow_id
 shard_of K (operation.Describe q) = shard_of_id K q.workflow_id
+shard_of K operation.TimerTurn = 0
 
 abbrev pub slot_of : Settings → Request → ℕ
 slot_of K q = shard_of K q.operation
+
+-- as what a call is refused before any shard is entered, where it is
+abbrev pub refusal_of_call : Settings → Call → Option Refusal
+refusal_of_call K (call.Request q) = refusal_of K q.operation
+refusal_of_call K (call.TimerTurn t) = shard_refusal K t.shard
+
+-- the shard of a call: its request's, or the one that it names
+abbrev pub slot_of_call : Settings → Call → ℕ
+slot_of_call K (call.Request q) = slot_of K q
+slot_of_call K (call.TimerTurn t) = t.shard

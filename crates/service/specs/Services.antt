@@ -1,9 +1,11 @@
 -- what a clause reads of a service and of its passes
 use Rattle.std.specs.Prelude.{◌≡◌, ℕ, ◌<◌, ◌≤◌, [], map, Option, None, Some, Err, Result, IfOk, IfErr}
 use Rattle.wf_event_values.specs.declared.refusal.Refusal.{Refusal}
+use Rattle.service_model.specs.declared.call.Call.{Call}
 use Rattle.service_model.specs.declared.content.Content.{Content}
 use Rattle.service_model.specs.declared.request.Request.{Request}
 use Rattle.service_model.specs.declared.settings.Settings.{Settings}
+use Rattle.service_model.specs.Calls.{request_of}
 use Rattle.service_model.specs.Limits.{most_passes, most_shards, service_numbers}
 use Rattle.service_model.specs.Growth.{KeepsHistories}
 use Rattle.service_model.specs.Outcome.{Reply}
@@ -15,7 +17,7 @@ use Rattle.gate.specs.Gates as of_gate
 use Rattle.shard.specs.Standing as shard
 use Rattle.service.specs.declared.service.Service.{Service}
 use Rattle.service.specs.declared.service.Pass.{Pass}
-use Rattle.service.specs.Contents.{setup_of, opening_contents, refusal_of, slot_of}
+use Rattle.service.specs.Contents.{setup_of, opening_contents, refusal_of, slot_of, refusal_of_call, slot_of_call}
 
 abbrev pub settings_of : Service → Settings
 settings_of x = x.settings
@@ -72,28 +74,50 @@ abbrev pub Answered : Option Refusal → Type 0 → View Request Content → Vie
 Answered None served v w r = served
 Answered (Some e) served v w r = (r ≡ Err e) × (w ≡ v)
 
--- the request was answered: it was served, or refused before any shard was entered
+-- what a request for a shard came to, where this refuses it if anything does: it was served there, or refused before any shard was entered
+abbrev pub ServedOn : Service → Pass → Pass → Option Refusal → ℕ → Request → Reply → Type 0
+ServedOn x p p' refusal shard q r = Answered refusal (IsServedOn x (known_by p) (known_by p') shard q r) (known_by p) (known_by p') r
+
+-- the same, where it may have waited
+abbrev pub ServedOnAtLast : Service → Pass → Pass → Option Refusal → ℕ → Request → Reply → Type 0
+ServedOnAtLast x p p' refusal shard q r = Answered refusal (IsServedAtLast x (known_by p) (known_by p') shard q r) (known_by p) (known_by p') r
+
+-- the request was answered on its own shard
 abbrev pub Served : Service → Pass → Pass → Request → Reply → Type 0
-Served x p p' q r = Answered (refusal_of x.settings q.operation) (IsServed x (known_by p) (known_by p') q r) (known_by p) (known_by p') r
+Served x p p' q r = ServedOn x p p' (refusal_of x.settings q.operation) (shard_of_request x q) q r
 
 -- the same, where it may have waited
 abbrev pub ServedAtLast : Service → Pass → Pass → Request → Reply → Type 0
-ServedAtLast x p p' q r = Answered (refusal_of x.settings q.operation) (IsServedAtLast x (known_by p) (known_by p') (shard_of_request x q) q r) (known_by p) (known_by p') r
+ServedAtLast x p p' q r = ServedOnAtLast x p p' (refusal_of x.settings q.operation) (shard_of_request x q) q r
 
--- What a call that never waits made of a request: it was answered; or it comes back, nothing was seen or done,
+-- What a call that never waits made of a request for a shard: it was answered; or it comes back, nothing was seen or done,
 -- and another pass was found on that very shard, or a growth was refused
-pub record IsTried (x : Service) (p p' : Pass) (q : Request) (result : Result Reply (Refused × Request)) : Type 0 where
+pub record IsTriedOn (x : Service) (p p' : Pass) (refusal : Option Refusal) (shard : ℕ) (q : Request) (result : Result Reply (Refused × Request)) : Type 0 where
   pub own : IsPassOf p' x
   pub named : gate.number (known_by p') ≡ gate.number (known_by p)
-  pub ok : IfOk result (λ r. Served x p p' q r)
+  pub ok : IfOk result (λ r. ServedOn x p p' refusal shard q r)
   pub back : IfErr result (λ e. e.1 ≡ q)
-  pub err : IfErr result (λ e. gate.Refuses e.0 (known_by p) (known_by p') (shard_of_request x q))
+  pub err : IfErr result (λ e. gate.Refuses e.0 (known_by p) (known_by p') shard)
 
--- What a call that may wait made of a request: it was answered; or it comes back, nothing was seen or done,
+-- What a call that may wait made of a request for a shard: it was answered; or it comes back, nothing was seen or done,
 -- and a growth was refused
-pub record IsServedBy {E : Type 0} (x : Service) (p p' : Pass) (q : Request) (result : Result Reply (E × Request)) : Type 0 where
+pub record IsServedOnBy {E : Type 0} (x : Service) (p p' : Pass) (refusal : Option Refusal) (shard : ℕ) (q : Request) (result : Result Reply (E × Request)) : Type 0 where
   pub own : IsPassOf p' x
   pub named : gate.number (known_by p') ≡ gate.number (known_by p)
-  pub ok : IfOk result (λ r. ServedAtLast x p p' q r)
+  pub ok : IfOk result (λ r. ServedOnAtLast x p p' refusal shard q r)
   pub back : IfErr result (λ e. e.1 ≡ q)
-  pub err : IfErr result (λ e. gate.Waited (known_by p) (known_by p') (shard_of_request x q))
+  pub err : IfErr result (λ e. gate.Waited (known_by p) (known_by p') shard)
+
+-- what a call made of a request for the request's own shard
+abbrev pub IsTried : Service → Pass → Pass → Request → Result Reply (Refused × Request) → Type 0
+IsTried x p p' q result = IsTriedOn x p p' (refusal_of x.settings q.operation) (shard_of_request x q) q result
+
+abbrev pub IsServedBy : {E : Type 0} → Service → Pass → Pass → Request → Result Reply (E × Request) → Type 0
+IsServedBy x p p' q result = IsServedOnBy x p p' (refusal_of x.settings q.operation) (shard_of_request x q) q result
+
+-- what came of a call, by the step that it makes
+abbrev pub IsTriedCall : Service → Pass → Pass → Call → Result Reply (Refused × Request) → Type 0
+IsTriedCall x p p' c result = IsTriedOn x p p' (refusal_of_call x.settings c) (slot_of_call x.settings c) (request_of c) result
+
+abbrev pub IsServedCall : {E : Type 0} → Service → Pass → Pass → Call → Result Reply (E × Request) → Type 0
+IsServedCall x p p' c result = IsServedOnBy x p p' (refusal_of_call x.settings c) (slot_of_call x.settings c) (request_of c) result

@@ -17,6 +17,7 @@ mod open;
 mod route;
 mod service;
 mod tasks;
+mod turns;
 
 pub use gate::{Record, Refused};
 pub use held::Held;

@@ -1,11 +1,12 @@
 //! To which shard a request goes, and which requests go to none.
 
 ghost use Rattle.std.specs.Prelude.{◌≡◌, ◌<◌};
-ghost use Rattle.service.specs.Contents.{completion_refusal, hint_refusal, is_token, refusal_of, shard_of_id, token_refusal};
+ghost use Rattle.service.specs.Contents.{completion_refusal, is_token, refusal_of, refusal_of_call, shard_of_id, shard_refusal, slot_of_call, token_refusal};
 
 use crate::service::Service;
+use service_model::call::Call;
 use service_model::limits::MOST_COMMANDS;
-use service_model::request::{CompleteWorkflowTask, Hint, Operation, Request, TakenTask};
+use service_model::request::{CompleteWorkflowTask, Operation, Request, TakenTask};
 use service_model::settings::Settings;
 use shard::hash;
 use wf_event_values::{Field, Id, Refusal};
@@ -13,18 +14,20 @@ use wf_event_values::{Field, Id, Refusal};
 impl Service {
     ghost use Rattle.service.specs.Services.{settings_of, shard_of_request};
 
-    /// As what an operation is refused before any shard is entered, where it is.
+    /// As what an operation is refused before any shard is entered, where it is. A timer turn names no
+    /// shard: it is served for a call that does.
     pub(crate) fn refusal_of(&self, operation: &Operation) -> Option<Refusal>
         ensures { result ≡ refusal_of (settings_of self.now) operation.now }
     {
         match operation {
-            Operation::StartTask(hint) => hint_refusal(&self.settings, hint),
+            Operation::StartTask(hint) => shard_refusal(&self.settings, hint.shard),
             Operation::CompleteWorkflowTask(asked) => completion_refusal(&self.settings, asked),
             Operation::FailWorkflowTask(asked) => token_refusal(&self.settings, &asked.task),
             Operation::Start(_)
             | Operation::Signal(_)
             | Operation::History(_)
             | Operation::Describe(_) => None,
+            Operation::TimerTurn => Some(Refusal::InvalidArgument(Field::Shard)),
         }
     }
 
@@ -42,6 +45,28 @@ impl Service {
             Operation::StartTask(hint) => usize::from(hint.shard),
             Operation::CompleteWorkflowTask(asked) => usize::from(asked.task.shard),
             Operation::FailWorkflowTask(asked) => usize::from(asked.task.shard),
+            Operation::TimerTurn => 0,
+        }
+    }
+
+    /// As what a call is refused before any shard is entered, where it is.
+    pub(crate) fn refusal_of_call(&self, call: &Call) -> Option<Refusal>
+        ensures { result ≡ refusal_of_call (settings_of self.now) call.now }
+    {
+        match call {
+            Call::Request(request) => self.refusal_of(&request.operation),
+            Call::TimerTurn(turn) => shard_refusal(&self.settings, turn.shard),
+        }
+    }
+
+    /// The slot of a call's shard.
+    pub(crate) fn slot_of_call(&self, call: &Call) -> usize
+        requires { 0 < (settings_of self.now).shards }
+        ensures { result ≡ slot_of_call (settings_of self.now) call.now }
+    {
+        match call {
+            Call::Request(request) => self.slot_of(request),
+            Call::TimerTurn(turn) => usize::from(turn.shard),
         }
     }
 }
@@ -55,11 +80,11 @@ fn shard_of_id(settings: &Settings, id: &Id) -> usize
     (u64::from(hash) % settings.shards) as usize
 }
 
-/// A hint names a shard that is there.
-fn hint_refusal(settings: &Settings, hint: &Hint) -> Option<Refusal>
-    ensures { result ≡ hint_refusal settings.now hint.now }
+/// A shard that is named has to be there.
+pub(crate) fn shard_refusal(settings: &Settings, shard: u16) -> Option<Refusal>
+    ensures { result ≡ shard_refusal settings.now shard }
 {
-    if u64::from(hint.shard) < settings.shards {
+    if u64::from(shard) < settings.shards {
         None
     } else {
         Some(Refusal::InvalidArgument(Field::Shard))

@@ -1,6 +1,6 @@
 //! The service and its passes, and the request that every call makes.
 
-ghost use Rattle.std.specs.Prelude.{◌≡◌, ◌<◌, ◌≤◌, length, vec_capacity};
+ghost use Rattle.std.specs.Prelude.{◌≡◌, ◌<◌, ◌≤◌, None, length, vec_capacity};
 
 use crate::close::PassRoom;
 use gate::{Gate, Record, Refused};
@@ -9,6 +9,7 @@ use service_model::request::Request;
 use service_model::settings::Settings;
 use std::alloc::AllocError;
 use std::sync::{Mutex, Wait};
+use wf_event_values::Refusal;
 
 /// A shard, whose runs are kept by tables.
 pub(crate) type Shard = shard::Shard<mutable_state::Run>;
@@ -58,7 +59,7 @@ impl Pass {
 }
 
 impl Service {
-    ghost use Rattle.service.specs.Services.{IsPassOf, IsServedBy, IsTried, settings_of};
+    ghost use Rattle.service.specs.Services.{IsPassOf, IsServedBy, IsServedOnBy, IsTried, IsTriedOn, settings_of};
 
     /// The gate, and the room that closing needs.
     pub(crate) fn into_parts(self) -> (Gate<Shard>, Mutex<PassRoom>, Vec<Record<Request>>)
@@ -82,8 +83,9 @@ impl Service {
     }
 
     /// Serves a request on its shard, that of its workflow ID or the one that it names, if no other
-    /// pass is there. A request whose shard is not there, whose task token names none, or that has
-    /// more than 10,000 commands is answered by that refusal, and enters no shard. It never waits.
+    /// pass is there. A request whose shard is not there, or that names none, whose task token names
+    /// none, or that has more than 10,000 commands is answered by that refusal, and enters no shard.
+    /// It never waits.
     ///
     /// # Errors
     /// With the request, and nothing seen or done: `Busy` where another pass was on that very shard,
@@ -92,11 +94,9 @@ impl Service {
         requires { IsPassOf pass.old self.now }
         ensures { IsTried self.now pass.old pass.new request result }
     {
-        if let Some(refusal) = self.refusal_of(&request.operation) {
-            return Ok(Err(refusal));
-        }
+        let refusal = self.refusal_of(&request.operation);
         let slot = self.slot_of(&request);
-        self.gate.try_step(&mut pass.inner, slot, request)
+        self.try_serve_on(pass, refusal, slot, request)
     }
 
     /// Serves a request as `try_serve` does, trying again while another pass is there. It may wait
@@ -113,10 +113,45 @@ impl Service {
         requires { IsPassOf pass.old self.now }
         ensures { IsServedBy self.now pass.old pass.new request result }
     {
-        if let Some(refusal) = self.refusal_of(&request.operation) {
-            return Ok(Err(refusal));
-        }
+        let refusal = self.refusal_of(&request.operation);
         let slot = self.slot_of(&request);
-        self.gate.step(rt, &mut pass.inner, slot, request)
+        self.serve_on(rt, pass, refusal, slot, request)
+    }
+
+    /// Serves a request on a shard, if no other pass is there and nothing refuses it.
+    pub(crate) fn try_serve_on(
+        &self,
+        pass: &mut Pass,
+        refusal: Option<Refusal>,
+        slot: usize,
+        request: Request,
+    ) -> Result<Reply, (Refused, Request)>
+        requires own { IsPassOf pass.old self.now }
+        requires there { refusal ≡ None → slot < (settings_of self.now).shards }
+        ensures { IsTriedOn self.now pass.old pass.new refusal slot request result }
+    {
+        match refusal {
+            Some(refusal) => Ok(Err(refusal)),
+            None => self.gate.try_step(&mut pass.inner, slot, request),
+        }
+    }
+
+    /// Serves a request on a shard, trying again while another pass is there, unless it is refused.
+    pub(crate) fn serve_on<R: Wait>(
+        &self,
+        rt: &R,
+        pass: &mut Pass,
+        refusal: Option<Refusal>,
+        slot: usize,
+        request: Request,
+    ) -> Result<Reply, (AllocError, Request)>
+        requires own { IsPassOf pass.old self.now }
+        requires there { refusal ≡ None → slot < (settings_of self.now).shards }
+        ensures { IsServedOnBy self.now pass.old pass.new refusal slot request result }
+    {
+        match refusal {
+            Some(refusal) => Ok(Err(refusal)),
+            None => self.gate.step(rt, &mut pass.inner, slot, request),
+        }
     }
 }

@@ -23,3 +23,4 @@ pub mod Issued
 pub mod Service
 pub mod Grounds
 pub mod Growth
+pub mod Calls

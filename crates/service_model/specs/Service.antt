@@ -5,8 +5,7 @@ use Rattle.wf_event_values.specs.declared.policies.ConflictPolicy.{ConflictPolic
 use Rattle.wf_event_values.specs.declared.policies.ConflictPolicy.TheVariants.{TerminateExisting}
 use Rattle.wf_event_values.specs.declared.refusal.Refusal.TheVariants.{InvalidArgument}
 use Rattle.std.specs.List.{list_all, fold}
-use Rattle.wf_command.specs.declared.command.Command.{Command}
-use Rattle.wf_command.specs.declared.command.Command.TheVariants.{StartTimer, CancelTimer, RecordMarker, CompleteWorkflowExecution, FailWorkflowExecution, CancelWorkflowExecution}
+pub use Rattle.wf_command.specs.Served.{is_served}
 use Rattle.service_model.specs.declared.content.Content.{Content}
 use Rattle.service_model.specs.declared.content.Setup.{Setup}
 use Rattle.service_model.specs.declared.content.Dispatch.{Dispatch}
@@ -100,16 +99,6 @@ is_terminate_existing _ = false
 abbrev pub at_served_policies : Start → Outcome → Outcome
 at_served_policies q rest = cond (is_terminate_existing q.conflict) (refused (InvalidArgument field.Conflict)) rest
 
--- the commands that are served so far
-abbrev pub is_served : Command → Bool
-is_served (StartTimer t) = true
-is_served (CancelTimer name) = true
-is_served (RecordMarker m) = true
-is_served (CompleteWorkflowExecution result) = true
-is_served (FailWorkflowExecution message) = true
-is_served (CancelWorkflowExecution details) = true
-is_served _ = false
-
 -- completions are served with commands of these types so far, and others are refused
 abbrev pub at_served_commands : CompleteWorkflowTask → Outcome → Outcome
 at_served_commands q rest = cond (list_all is_served q.commands) rest (refused (InvalidArgument field.Type))
@@ -123,6 +112,7 @@ outcome_of S m (served.CompleteWorkflowTask q) = at_served_commands q (outcome S
 outcome_of S m (served.FailWorkflowTask q) = outcome S m (ToFailWorkflowTask q)
 outcome_of S m (served.History q) = outcome S m (ToShowHistory q)
 outcome_of S m (served.Describe q) = outcome S m (ToDescribe q)
+outcome_of S m served.TimerTurn = outcome S m ToTurnTimers
 
 -- facts as entries of a step, by their places from n on
 abbrev pub entries : ℕ → ℕ → ℕ → List Fact → Journal

@@ -2,9 +2,7 @@
 use crate::content::Dispatch;
 use crate::transfer::Transfer;
 use wf_event::Event;
-use wf_event_values::{
-    Cause, DeadlineClass, Id, Items, Moment, Refusal, RetryState, RunId, Status, Text,
-};
+use wf_event_values::{Cause, DeadlineClass, Id, Items, Refusal, RetryState, RunId, Status, Text};
 
 /// A workflow task that was taken.
 pub struct WorkflowTask {
@@ -58,7 +56,8 @@ impl Drop for ActivityTask {
 #[derive(Clone, Copy)]
 pub struct Retrying {
     pub attempt: u32,
-    pub ready: Moment,
+    /// When it is, in milliseconds. As a sum it may lie above the largest moment.
+    pub ready: u64,
 }
 
 /// A run's history.
@@ -106,7 +105,9 @@ impl Drop for Description {
 #[derive(Clone, Copy)]
 pub struct Fired {
     pub class: DeadlineClass,
-    pub due: Moment,
+    /// From when on it was due, in milliseconds.
+    pub due: u64,
+    /// The id of the event that it belonged to.
     pub event: u64,
     pub run: RunId,
 }

@@ -2,6 +2,7 @@
 #![tactic(auto)]
 
 pub mod answer;
+pub mod call;
 pub mod content;
 pub mod journal;
 pub mod laws;

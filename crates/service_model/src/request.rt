@@ -221,6 +221,9 @@ pub enum Operation {
     FailWorkflowTask(FailWorkflowTask),
     History(Read),
     Describe(Read),
+    /// Lets the shard's first deadline fire, if it is due. It names no shard, so a service makes it
+    /// of a call that does.
+    TimerTurn,
 }
 
 impl Drop for Operation {
@@ -233,6 +236,7 @@ impl Drop for Operation {
             Operation::FailWorkflowTask(_) => {}
             Operation::History(_) => {}
             Operation::Describe(_) => {}
+            Operation::TimerTurn => {}
         }
     }
 }

@@ -15,7 +15,7 @@ use service_model_answer::answer;
 use std::alloc::{AllocError, AllocGlobal, Global};
 use std::process::Abort;
 use std::test::Fail;
-use wf_event_values::{Field, Id, Items, Refusal};
+use wf_event_values::{DeadlineClass, Field, Id, Items, Refusal};
 use wire_replies::reply_text;
 
 /// A shard as the service runs it: its runs are kept by tables.
@@ -25,7 +25,7 @@ type Shard = shard::Shard<mutable_state::Run>;
 const COUNT: u64 = 400;
 
 /// How many kinds of reply there are.
-const KINDS: usize = 17;
+const KINDS: usize = 20;
 
 /// Service 1's shard, with the queue `main`.
 fn setup(alloc: Global, shard: u16, shards: u16) -> Result<Setup, Refusal>
@@ -54,7 +54,7 @@ fn serve(shard: &mut Shard, request: &Request) -> Result<Reply, AllocError>
 
 /// Which kind of reply it is, if it is one that these requests get.
 fn kind(reply: &Reply) -> Option<usize>
-    ensures { IfSome result (λ k. k < 17) }
+    ensures { IfSome result (λ k. k < 20) }
 {
     match reply {
         Ok(Answer::Started(_)) => Some(0),
@@ -74,6 +74,19 @@ fn kind(reply: &Reply) -> Option<usize>
         Ok(Answer::TaskFailed(_)) => Some(14),
         Ok(Answer::Failed) => Some(15),
         Ok(Answer::Described(_)) => Some(16),
+        Ok(Answer::NothingDue) => Some(17),
+        Ok(Answer::Fired(fired)) => fired_kind(fired.class),
+        _ => None,
+    }
+}
+
+/// Which kind of reply it is that a deadline of this class fired.
+fn fired_kind(class: DeadlineClass) -> Option<usize>
+    ensures { IfSome result (λ k. k < 20) }
+{
+    match class {
+        DeadlineClass::RunTimeout => Some(18),
+        DeadlineClass::WorkflowTask => Some(19),
         _ => None,
     }
 }

@@ -1,6 +1,6 @@
 //! Drawn requests: few workflow IDs and request ids, moments that go back, unknown queues, run ids
 //! of this shard and of others, now and then a policy or a command that isn't served, and tasks that
-//! wait, were taken, or were ended long ago.
+//! wait, were taken, or were ended long ago. Durations are such that many deadlines are due.
 
 ghost use Rattle.std.specs.Prelude.{◌≡◌};
 
@@ -36,7 +36,7 @@ pub(crate) fn request(
 }
 
 fn operation(alloc: Global, draws: &mut Draws, known: &Known) -> Result<Operation, Refusal> {
-    match draws.below(16) {
+    match draws.below(18) {
         0..=1 => Ok(Operation::Start(start(alloc, draws)?)),
         2..=5 => Ok(Operation::Signal(signal(alloc, draws)?)),
         6..=8 => Ok(Operation::StartTask(known.hint(draws))),
@@ -46,6 +46,7 @@ fn operation(alloc: Global, draws: &mut Draws, known: &Known) -> Result<Operatio
             message: input(alloc, draws)?,
         })),
         12..=14 => Ok(Operation::History(read(alloc, draws)?)),
+        15..=16 => Ok(Operation::TimerTurn),
         _ => Ok(Operation::Describe(read(alloc, draws)?)),
     }
 }

@@ -66,6 +66,7 @@ fn shown<E: Drop>(reply: Result<Reply, E>) -> &'static str {
         Ok(Ok(Answer::Signaled)) => "signaled",
         Ok(Ok(Answer::History(_))) => "history",
         Ok(Ok(Answer::Described(_))) => "described",
+        Ok(Ok(Answer::NothingDue)) => "none",
         Ok(_) => "another answer",
         Err(_) => "no answer",
     }
@@ -101,6 +102,7 @@ fn assert_calls_that_may_wait<R: Abort + AllocGlobal + Wait>(
         shown(service.describe(rt, pass, read(rt), at)),
         "described"
     );
+    assert_eq!(rt; shown(service.timer_turn(rt, pass, 0, at)), "none");
 }
 
 fn assert_calls_that_never_wait<R: Abort + AllocGlobal>(rt: &R, service: &Service, pass: &mut Pass)
@@ -129,6 +131,7 @@ fn assert_calls_that_never_wait<R: Abort + AllocGlobal>(rt: &R, service: &Servic
         shown(service.try_describe(pass, read(rt), at)),
         "described"
     );
+    assert_eq!(rt; shown(service.try_timer_turn(pass, 0, at)), "none");
 }
 
 #[test]

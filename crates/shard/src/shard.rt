@@ -1,6 +1,6 @@
 //! A shard, and its two halves of a step.
 
-ghost use Rattle.std.specs.Prelude.{◌≡◌, ◌+◌, ◌<◌, ◌≤◌, ◌^◌, ◌++◌, ◌∷◌, [], length, slice_set};
+ghost use Rattle.std.specs.Prelude.{◌≡◌, ◌+◌, ◌<◌, ◌≤◌, ◌^◌, ◌++◌, ◌∷◌, [], None, length, slice_set};
 ghost use Rattle.std.specs.String.{string_bytes};
 ghost use Rattle.service_model.specs.Outcome.{Outcome};
 ghost use Rattle.service_model.specs.RunState.{id_of};
@@ -16,6 +16,7 @@ use service_model::answer::Reply;
 use service_model::content::Setup;
 use std::alloc::{AllocError, Global};
 use std::marker::Model;
+use timeouts::Deadlines;
 use wf_event_values::Moment;
 
 /// A shard of a workflow service, whose runs are kept by `T`.
@@ -25,6 +26,11 @@ pub struct Shard<T: KeepsRun> {
     pub(crate) runs: Vec<Run<T>>,
     /// The place of each workflow ID's latest run.
     pub(crate) index: IndexMap<String, usize>,
+    /// The first deadline of each run, at the run's place.
+    pub(crate) deadlines: Deadlines,
+    /// The place of the run that the last step changed, where its deadline was not looked up since:
+    /// that may take memory, so the next step does it.
+    pub(crate) changed: Option<usize>,
     pub(crate) last: Moment,
 }
 
@@ -35,6 +41,8 @@ impl<T: KeepsRun> Drop for Shard<T> {
             setup: _,
             runs: _,
             index: _,
+            deadlines: _,
+            changed: _,
             last: _,
         } = self;
     }
@@ -43,13 +51,19 @@ impl<T: KeepsRun> Drop for Shard<T> {
 impl<T: KeepsRun> Model for Shard<T> {
     ghost use Rattle.std.specs.Prelude.{◌-◌, ◌<◌, ◌^◌, length, min, vec_capacity, vec_len};
     ghost use Rattle.indexmap.specs.IndexMap.{get_by_text, spare};
-    ghost use Rattle.shard.specs.View.{ShardView, IsIndexed, IsSetup};
+    ghost use Rattle.shard.specs.View.{ShardView, HasFirsts, IsIndexed, IsSetup, states};
 
     ghost Value = { ShardView };
 
-    ghost view = { λ a. record { setup = a.setup; runs = a.runs.items; last = a.last; room = min (vec_capacity a.runs - vec_len a.runs) (spare a.index) } };
+    ghost view = { λ a. record {
+      setup = a.setup;
+      runs = a.runs.items;
+      changed = a.changed;
+      last = a.last;
+      room = min (vec_capacity a.runs - vec_len a.runs) (min (spare a.index) a.deadlines.room);
+    } };
 
-    ghost invariant = { λ a. IsSetup a.setup × IsIndexed (get_by_text a.index) a.runs.items × (length a.runs.items < 2 ^ 60) };
+    ghost invariant = { λ a. IsSetup a.setup × IsIndexed (get_by_text a.index) a.runs.items × (length a.runs.items < 2 ^ 60) × HasFirsts a.deadlines.slots a.changed (states a.runs.items) };
 }
 
 impl<T: KeepsRun> Shard<T> {
@@ -63,6 +77,8 @@ impl<T: KeepsRun> Shard<T> {
             setup,
             runs: Vec::new(alloc),
             index: IndexMap::new(alloc),
+            deadlines: Deadlines::new(alloc),
+            changed: None,
             last: Moment::zero(),
         }
     }
@@ -98,6 +114,7 @@ impl<T: KeepsRun> Shard<T> {
     /// Adds a run.
     fn add(&mut self, created: NewRun<T>)
         requires room { 0 < self.old.room }
+        requires noted { self.old.changed ≡ None }
         requires few { length self.old.runs + 1 < 2 ^ 60 }
         requires named { id_of created.run.state ≡ string_bytes created.key }
         ensures runs { states self.new.runs ≡ states self.old.runs ++ created.run.state ∷ [] }
@@ -105,14 +122,17 @@ impl<T: KeepsRun> Shard<T> {
         ensures last { self.new.last ≡ self.old.last }
     {
         let NewRun { run, key } = created;
-        let ordinal = self.runs.len() + 1;
-        let _ = self.index.insert(key, ordinal).unwrap();
+        let index = self.runs.len();
+        let _ = self.index.insert(key, index + 1).unwrap();
         self.runs.push(run).unwrap();
+        self.deadlines.push_none();
+        self.changed = Some(index);
     }
 
     /// Adds a step's facts to a run.
     fn grow(&mut self, more: MoreOf)
         requires there { more.index < length self.old.runs }
+        requires noted { self.old.changed ≡ None }
         requires room { length more.plan.change.facts ≤ room_at self.old.runs more.index }
         requires fits { FitStep more.plan.change.moment (state_at (states self.old.runs) more.index) more.plan.change.facts }
         ensures runs { states self.new.runs ≡ slice_set (states self.old.runs) more.index (after_step more.plan.change.moment more.plan.change.facts (state_at (states self.old.runs) more.index)) }
@@ -122,5 +142,6 @@ impl<T: KeepsRun> Shard<T> {
         let MoreOf { index, plan } = more;
         let run = &mut self.runs[index];
         run.commit(plan);
+        self.changed = Some(index);
     }
 }

@@ -1,6 +1,6 @@
 //! Signaling a run.
 
-ghost use Rattle.std.specs.Prelude.{◌≡◌, ◌∷◌, [], ◌≤◌, ◌<◌, length, IfOk, Some, true};
+ghost use Rattle.std.specs.Prelude.{◌≡◌, ◌∷◌, [], ◌≤◌, ◌<◌, length, IfOk, OnOk, None, Some, true};
 ghost use Rattle.service_model.specs.Outcome.{outside, run_at, is_no_task};
 ghost use Rattle.service_model.specs.RunState.{is_open};
 ghost use Rattle.service_model.specs.Signals.{signal, signal_at, signal_fact};
@@ -76,9 +76,11 @@ impl<T: KeepsRun> Shard<T> {
         requires { index < length self.old.runs }
         ensures same { state self.new ≡ state self.old }
         ensures there { index < length self.new.runs }
+        ensures noted { OnOk result (self.new.changed ≡ None) }
         ensures made { IfOk result (λ plan. plan.change ≡ more) }
         ensures room { IfOk result (λ plan. length plan.change.facts ≤ room_at self.new.runs index) }
     {
+        self.note_change()?;
         let run = &mut self.runs[index];
         run.prepare(more)
     }
@@ -107,7 +109,7 @@ fn signal_facts<T: KeepsRun>(
 }
 
 /// Whether no workflow task is scheduled or started.
-fn is_none(phase: TaskPhase) -> bool
+pub(crate) fn is_none(phase: TaskPhase) -> bool
     ensures { result ≡ is_no_task (phase_in phase) }
 {
     matches!(phase, TaskPhase::None)

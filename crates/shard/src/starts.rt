@@ -127,12 +127,15 @@ impl<T: KeepsRun> Shard<T> {
     fn reserve_run(&mut self) -> Result<(), AllocError>
         ensures same { state self.new ≡ state self.old }
         ensures room { OnOk result (0 < self.new.room) }
+        ensures noted { OnOk result (self.new.changed ≡ None) }
         ensures few { OnOk result (length self.new.runs + 1 < 2 ^ 60) }
     {
         if self.runs.len() >= MOST_MEMBERS {
             return Err(AllocError);
         }
+        self.note_change()?;
         self.runs.reserve(1)?;
+        self.deadlines.reserve(1)?;
         self.index.reserve(1)
     }
 }

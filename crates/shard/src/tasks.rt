@@ -1,6 +1,6 @@
 //! Taking a workflow task, and its end.
 
-ghost use Rattle.std.specs.Prelude.{◌≡◌, ◌≤◌, ◌<◌, ◌+◌, ◌∷◌, [], length, map, true, is_some, IfOk, IfSome};
+ghost use Rattle.std.specs.Prelude.{◌≡◌, ◌≤◌, ◌<◌, ◌+◌, ◌∷◌, [], None, length, map, true, is_some, IfOk, IfSome, OnOk};
 ghost use Rattle.std.specs.List.{list_all};
 ghost use Rattle.wf_event.specs.declared.attributes.Attributes.TheVariants.{WorkflowTaskStarted};
 ghost use Rattle.wf_event_values.specs.declared.policies.Cause.TheVariants.{WorkflowWorkerUnhandledFailure};
@@ -26,7 +26,7 @@ use service_model::journal::Fact;
 use service_model::request::{CompleteWorkflowTask, FailWorkflowTask, Hint, TakenTask};
 use std::alloc::{AllocError, Global};
 use task_completion::{Completion, plan_completion, plan_failure};
-use wf_command::Command;
+use wf_command::{Command, is_served};
 use wf_event::Attributes;
 use wf_event_values::{Cause, Field, Items, Moment, Refusal, TaskKind, Text};
 
@@ -193,8 +193,10 @@ impl<T: KeepsRun> Shard<T> {
         requires served { list_all is_served commands.now ≡ true }
         ensures same { state self.new ≡ state self.old }
         ensures there { index < length self.new.runs }
+        ensures noted { OnOk result (self.new.changed ≡ None) }
         ensures plan { IfOk result (λ c. IsCompletion (view_at self.new.runs index) moment (judge_all self.old.setup (run_id self.old.setup (length self.old.runs + 1)) (state_at (states self.old.runs) index) [] commands.now) c) }
     {
+        self.note_change()?;
         let next = self.runs.len() as u64 + 1;
         let run = &mut self.runs[index];
         plan_completion(self.alloc, run, &self.setup, next, commands, moment)
@@ -250,8 +252,10 @@ impl<T: KeepsRun> Shard<T> {
         requires started { (state_at (states self.old.runs) index).task ≡ IsStarted }
         ensures same { state self.new ≡ state self.old }
         ensures there { index < length self.new.runs }
+        ensures noted { OnOk result (self.new.changed ≡ None) }
         ensures plan { IfOk result (λ plan. IsPlanned (view_at self.new.runs index) moment (failed_task (state_at (states self.old.runs) index) WorkflowWorkerUnhandledFailure message) plan) }
     {
+        self.note_change()?;
         let run = &mut self.runs[index];
         let cause = Cause::WorkflowWorkerUnhandledFailure;
         plan_failure(self.alloc, run, cause, message, moment)
@@ -282,19 +286,4 @@ fn are_served(commands: &[Command]) -> bool
     ensures { result ≡ list_all is_served commands.now }
 {
     commands.iter().all(is_served)
-}
-
-/// Whether a command is one of those that are served so far.
-fn is_served(command: &Command) -> bool
-    ensures { result ≡ is_served command.now }
-{
-    matches!(
-        command,
-        Command::StartTimer(_)
-            | Command::CancelTimer(_)
-            | Command::RecordMarker(_)
-            | Command::CompleteWorkflowExecution(_)
-            | Command::FailWorkflowExecution(_)
-            | Command::CancelWorkflowExecution(_)
-    )
 }

@@ -6,7 +6,11 @@ use service_model::request::{CompleteWorkflowTask, Hint, Request, Start, TakenTa
 use std::alloc::Global;
 use std::io::{self, ErrorKind};
 use wf_command::Command;
+use wf_command::command::StartTimer;
 use wf_event_values::{ConflictPolicy, Field, Id, Items, ReusePolicy, Span, TaskKind, Text};
+
+/// The moment at which all timers are due, in milliseconds.
+pub(crate) const DUE: u64 = 1000;
 
 /// Another answer than the expected one.
 pub(crate) fn unexpected() -> io::Error {
@@ -60,9 +64,38 @@ pub(crate) fn first_task(run: u64) -> Hint {
     }
 }
 
-/// The completion of that task, which closes the run.
-pub(crate) fn completion(alloc: Global, run: u64) -> io::Result<CompleteWorkflowTask> {
+/// The command that closes a run, and nothing else.
+fn close(alloc: Global) -> io::Result<Vec<Command>> {
     let close = Command::CompleteWorkflowExecution(text(alloc, "done")?);
+    Ok(vec![in alloc; close]?)
+}
+
+/// Commands that start so many timers, all of which are due at that many milliseconds.
+fn start_timers(alloc: Global, timers: u64) -> io::Result<Vec<Command>> {
+    let mut commands = Vec::new(alloc);
+    for number in 0..timers {
+        let name = format!(in alloc; "timer-{number}")?;
+        commands.push(Command::StartTimer(StartTimer {
+            timer_id: id(alloc, name.as_str())?,
+            duration: Span::new(Field::Duration, DUE)
+                .ok()
+                .ok_or(unexpected())?,
+        }))?;
+    }
+    Ok(commands)
+}
+
+/// The completion of that task: it starts so many timers, or closes the run where there are none.
+pub(crate) fn completion(
+    alloc: Global,
+    run: u64,
+    timers: u64,
+) -> io::Result<CompleteWorkflowTask> {
+    let commands = if timers == 0 {
+        close(alloc)?
+    } else {
+        start_timers(alloc, timers)?
+    };
     Ok(CompleteWorkflowTask {
         task: TakenTask {
             shard: 0,
@@ -70,6 +103,6 @@ pub(crate) fn completion(alloc: Global, run: u64) -> io::Result<CompleteWorkflow
             event: 2,
             attempt: 1,
         },
-        commands: Items::from_vec(vec![in alloc; close]?),
+        commands: Items::from_vec(commands),
     })
 }

@@ -1,5 +1,6 @@
-//! `task_bench [WORKFLOWS]`: workflows that are started, whose first task is taken, and that this
-//! task completes, through the calls of a service with one shard.
+//! `task_bench [WORKFLOWS [TIMERS]]`: workflows that are started, whose first task is taken, and that
+//! this task completes, through the calls of a service with one shard. With TIMERS the task starts
+//! so many timers in each workflow instead, and timer turns fire all of them.
 //!
 //! Without WORKFLOWS there are a few, and how many there were is printed. With WORKFLOWS there are so
 //! many, and the nanoseconds that each call took are printed too.
@@ -8,7 +9,7 @@
 mod calls;
 mod phases;
 
-use crate::phases::{complete_all, open, start_all, take_all};
+use crate::phases::{complete_all, fire_all, open, start_all, take_all};
 use std::io::{self, ErrorKind};
 use std::rt::{Clock, Env};
 use std::time::Instant;
@@ -16,20 +17,48 @@ use std::time::Instant;
 /// The workflows where no number is given.
 const FEW: u64 = 100;
 
-/// The number of workflows that the command line asks for, if any.
+/// How many workflows and timers there are, and whether times are printed.
+#[derive(Clone, Copy)]
+struct Asked {
+    workflows: u64,
+    timers: u64,
+    is_timed: bool,
+}
+
+/// A number of the command line.
+///
+/// # Errors
+/// `InvalidInput` for a word that is no number.
+fn number(word: &str) -> io::Result<u64> {
+    match word.parse() {
+        Ok(count) => Ok(count),
+        Err(_) => Err(io::Error::from(ErrorKind::InvalidInput)),
+    }
+}
+
+/// What the command line asks for.
 ///
 /// # Errors
 /// `InvalidInput` for a word that is no number; those of reading the command line.
-fn workflows_asked<R: Env + AllocGlobal>(rt: &R) -> io::Result<Option<u64>> {
+fn asked<R: Env + AllocGlobal>(rt: &R) -> io::Result<Asked> {
     let mut words = std::env::args(rt)?;
     words.next();
-    let Some(word) = words.next() else {
-        return Ok(None);
+    let Some(workflows) = words.next() else {
+        return Ok(Asked {
+            workflows: FEW,
+            timers: 0,
+            is_timed: false,
+        });
     };
-    match word.parse() {
-        Ok(count) => Ok(Some(count)),
-        Err(_) => Err(io::Error::from(ErrorKind::InvalidInput)),
-    }
+    let timers = match words.next() {
+        Some(word) => number(&word)?,
+        None => 0,
+    };
+    Ok(Asked {
+        workflows: number(&workflows)?,
+        timers,
+        is_timed: true,
+    })
 }
 
 /// Prints what was done, and the time of each call since then, where times are asked for.
@@ -41,7 +70,7 @@ fn print_phase<R: Clock + Print>(
     is_timed: bool,
 ) -> io::Result<()> {
     let took = began.elapsed(rt)?;
-    println!(rt; "{count} workflows {done}")?;
+    println!(rt; "{count} {done}")?;
     if is_timed {
         let each = took.as_nanos() / u128::from(count.max(1));
         println!(rt; "    {each} ns each")?;
@@ -50,20 +79,26 @@ fn print_phase<R: Clock + Print>(
 }
 
 fn run<R: Env + Clock + Print + AllocGlobal>(rt: &R) -> io::Result<()> {
-    let asked = workflows_asked(rt)?;
-    let count = asked.unwrap_or(FEW);
-    let is_timed = asked.is_some();
+    let Asked {
+        workflows,
+        timers,
+        is_timed,
+    } = asked(rt)?;
     let alloc = rt.alloc();
     let (service, mut pass) = open(alloc)?;
     let began = Instant::now(rt)?;
-    start_all(alloc, &service, &mut pass, count)?;
-    print_phase(rt, count, "started", began, is_timed)?;
+    start_all(alloc, &service, &mut pass, workflows)?;
+    print_phase(rt, workflows, "workflows started", began, is_timed)?;
     let began = Instant::now(rt)?;
-    take_all(&service, &mut pass, count)?;
-    print_phase(rt, count, "taken", began, is_timed)?;
+    take_all(&service, &mut pass, workflows)?;
+    print_phase(rt, workflows, "tasks taken", began, is_timed)?;
     let began = Instant::now(rt)?;
-    complete_all(alloc, &service, &mut pass, count)?;
-    print_phase(rt, count, "completed", began, is_timed)
+    complete_all(alloc, &service, &mut pass, workflows, timers)?;
+    print_phase(rt, workflows, "tasks completed", began, is_timed)?;
+    let began = Instant::now(rt)?;
+    let firings = workflows.saturating_mul(timers);
+    fire_all(&service, &mut pass, firings)?;
+    print_phase(rt, firings, "timers fired", began, is_timed)
 }
 
 fn main(rt: HostRuntime) -> io::Result<()> {

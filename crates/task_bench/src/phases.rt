@@ -3,13 +3,13 @@
 ghost use Rattle.std.specs.Prelude.{IfOk};
 ghost use Rattle.service.specs.Services.{IsPassOf};
 
-use crate::calls::{answered, completion, first_task, start, unexpected};
+use crate::calls::{DUE, answered, completion, first_task, start, unexpected};
 use service::{Pass, Service};
 use service_model::answer::Answer;
 use service_model::settings::Settings;
 use std::alloc::Global;
 use std::io;
-use wf_event_values::Moment;
+use wf_event_values::{Field, Moment};
 
 /// A service with one shard, and its only pass.
 pub(crate) fn open(alloc: Global) -> io::Result<(Service, Pass)>
@@ -64,20 +64,36 @@ pub(crate) fn take_all(service: &Service, pass: &mut Pass, count: u64) -> io::Re
     Ok(())
 }
 
-/// Completes so many runs by their first tasks.
+/// Completes the first tasks of so many runs, each by so many timers, or by the end of the run.
 pub(crate) fn complete_all(
     alloc: Global,
     service: &Service,
     pass: &mut Pass,
     count: u64,
+    timers: u64,
 ) -> io::Result<()>
     requires { IsPassOf pass.old service.now }
     ensures { IsPassOf pass.new service.now }
 {
     for number in 0..count {
-        let asked = completion(alloc, number.saturating_add(1))?;
+        let asked = completion(alloc, number.saturating_add(1), timers)?;
         match &answered(service.try_complete_workflow_task(pass, asked, Moment::zero()))? {
             Answer::Completed => {}
+            _ => return Err(unexpected()),
+        }
+    }
+    Ok(())
+}
+
+/// Fires so many timers, one a turn.
+pub(crate) fn fire_all(service: &Service, pass: &mut Pass, count: u64) -> io::Result<()>
+    requires { IsPassOf pass.old service.now }
+    ensures { IsPassOf pass.new service.now }
+{
+    let at = Moment::new(Field::At, DUE).ok().ok_or(unexpected())?;
+    for _ in 0..count {
+        match &answered(service.try_timer_turn(pass, 0, at))? {
+            Answer::Fired(_) => {}
             _ => return Err(unexpected()),
         }
     }

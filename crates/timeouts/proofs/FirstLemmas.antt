@@ -1,14 +1,15 @@
 -- the least deadline of a shard is the least of its runs' first ones, so one number for each run is enough
-use Rattle.std.proofs.Common.{◌≡◌, ℕ, ◌+◌, ◌<◌, ◌≤◌, inl, inr, zero, suc, arith, List, [], ◌∷◌, ◌++◌, refl, sym, ap, ◌∙◌, subst, IfSome, IfNone}
-use Rattle.std.specs.Prelude.{Option, Some, None, map, flat_map, option_map, option_to_list, slice_index_or}
+use Rattle.std.proofs.Common.{◌≡◌, ℕ, ◌+◌, ◌-◌, Bool, true, false, length, ◌<◌, ◌≤◌, inl, inr, zero, suc, arith, List, [], ◌∷◌, ◌++◌, refl, sym, ap, ◌∙◌, subst, IfSome, IfNone}
+use Rattle.std.specs.Prelude.{Option, Some, None, map, flat_map, nat_le, option_map, option_to_list, slice_index_or}
 use Rattle.std.specs.List.{enumerate_from}
-use Rattle.service_model.specs.RunState.{RunState}
+use Rattle.service_model.specs.Outcome.{if_some}
+use Rattle.service_model.specs.RunState.{RunState, no_run}
 use Rattle.service_model.specs.Deadlines.{Due, dues}
 use Rattle.service_model.specs.TimerTurns.{RunDue, all_dues, least, due_now}
 use Rattle.timeouts.specs.declared.due.Due.{Due as Kept}
-use Rattle.timeouts.specs.Firsts.{first_of, first_due, firsts, KeepsFirsts}
+use Rattle.timeouts.specs.Firsts.{of_run, first_of, first_due, firsts, IsOfRun, KeepsFirsts}
 use Rattle.timeouts.specs.Slots.{run_due, lesser_of_two, IsLeastAt, IsOneOf}
-use Rattle.timeouts.proofs.LeastLemmas.{least-append, due-kept, one-left, one-right}
+use Rattle.timeouts.proofs.LeastLemmas.{least-append, least-fires, due-kept, one-left, one-right}
 
 least-one : (o : Option RunDue) → least (option_to_list o) ≡ o
 unfolding least
@@ -32,17 +33,17 @@ pub least-firsts : (states : List RunState) → least (all_dues states) ≡ leas
 unfolding dues_from
 least-firsts states = from 1 states
 
-of_run : ℕ → Due → RunDue
-of_run n d = record { run = n; at = d }
+at_run : ℕ → Due → RunDue
+at_run n d = record { run = n; at = d }
 
-map-append : (n : ℕ) (xs ys : List Due) → map (of_run n) (xs ++ ys) ≡ map (of_run n) xs ++ map (of_run n) ys
+map-append : (n : ℕ) (xs ys : List Due) → map (at_run n) (xs ++ ys) ≡ map (at_run n) xs ++ map (at_run n) ys
 map-append n [] ys = refl
-map-append n (x ∷ xs) ys = ap (λ t. of_run n x ∷ t) (map-append n xs ys)
+map-append n (x ∷ xs) ys = ap (λ t. at_run n x ∷ t) (map-append n xs ys)
 
 -- the first deadline of two lists
 pub first_of-append : (n : ℕ) (xs ys : List Due) → first_of n (xs ++ ys) ≡ lesser_of_two (first_of n xs) (first_of n ys)
-unfolding of_run
-first_of-append n xs ys = ap least (map-append n xs ys) ∙ least-append (map (of_run n) xs) (map (of_run n) ys)
+unfolding at_run
+first_of-append n xs ys = ap least (map-append n xs ys) ∙ least-append (map (at_run n) xs) (map (at_run n) ys)
 
 here : (x : RunDue) (o : Option Kept) → IsOneOf x (option_to_list (option_map run_due o)) → (d : Kept) × (o ≡ Some d) × (run_due d ≡ x)
 here x None one = absurd one
@@ -83,6 +84,50 @@ keeps-only n (o ∷ slots) (s ∷ states) h zero d is =
     (subst (λ (f : Option RunDue). IsOneOf (run_due d) (option_to_list f)) (first-here n o slots s states h) (one-of d o is))
 keeps-only n (o ∷ slots) (s ∷ states) h (suc k) d is =
     one-right (run_due d) (option_to_list (first_due n s)) (firsts (n + 1) states) (keeps-only (n + 1) slots states (later n o slots s states h) k d is)
+
+its-run : (n : ℕ) (ds : List Due) (d : RunDue) → IsOneOf d (of_run n ds) → d.run ≡ n
+its-run n [] d one = absurd one
+its-run n (x ∷ ds) d (inl is) = ap (λ (y : RunDue). y.run) is
+its-run n (x ∷ ds) d (inr rest) = its-run n ds d rest
+
+record Found (n : ℕ) (d : RunDue) (states : List RunState) : Type 0 where
+  place : ℕ
+  there : place < length states
+  run : d.run ≡ n + place
+  its : IsOneOf d (of_run (n + place) (dues (slice_index_or states place no_run)))
+
+found : (n : ℕ) (states : List RunState) (d : RunDue) → IsOneOf d (dues_from n states) → Found n d states
+unfolding dues_from
+found n [] d one = absurd one
+found n (s ∷ states) d one =
+    let count : n + 0 ≡ n = omega arith in
+    either d (of_run n (dues s)) (dues_from (n + 1) states) (Found n d (s ∷ states))
+    (λ here. record { place = 0; there = omega arith; run = its-run n (dues s) d here ∙ sym count; its = subst (λ k. IsOneOf d (of_run k (dues s))) (sym count) here })
+    (λ rest.
+    let more = found (n + 1) states d rest in
+    let next : n + 1 + more.place ≡ n + suc more.place = omega arith in
+    record { place = suc more.place; there = omega (arith, more.there); run = more.run ∙ next; its = subst (λ k. IsOneOf d (of_run k (dues (slice_index_or states more.place no_run)))) next more.its })
+    one
+
+not-later : (moment : ℕ) (o : Option RunDue) (d : RunDue) → due_now moment o ≡ Some d → o ≡ Some d
+not-later moment None d is = absurd (cc)
+not-later moment (Some e) d is = by_test (nat_le e.at.due moment) is
+  where
+    by_test : (b : Bool) → if_some b e ≡ Some d → Some e ≡ Some d
+    by_test true same = same
+    by_test false same = absurd (cc)
+
+-- the deadline that fires is that of one of the runs
+pub due-of-run : (states : List RunState) (moment : ℕ) (d : RunDue) → due_now moment (least (all_dues states)) ≡ Some d → IsOfRun d states
+unfolding dues_from
+due-of-run states moment d is =
+    let at = found 1 states d (least-fires (all_dues states) d (not-later moment (least (all_dues states)) d is)).0 in
+    let place : at.place ≡ d.run - 1 = omega (arith, at.run) in
+    record {
+      from = omega (arith, at.run);
+      to = omega (arith, at.run, at.there);
+      its = subst (λ k. IsOneOf d (of_run d.run (dues (slice_index_or states k no_run)))) place (subst (λ k. IsOneOf d (of_run k (dues (slice_index_or states at.place no_run)))) (sym at.run) at.its);
+    }
 
 -- what is due of the numbered first deadlines is the shard's first deadline, where that is due
 pub due-firsts : (slots : List (Option Kept)) (states : List RunState) (moment : ℕ) (o : Option Kept) → KeepsFirsts 1 slots states →

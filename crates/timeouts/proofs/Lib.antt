@@ -2,3 +2,4 @@ pub mod OrderLemmas
 pub mod SlotLemmas
 pub mod LeastLemmas
 pub mod FirstLemmas
+pub mod ClassLemmas

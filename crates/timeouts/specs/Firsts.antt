@@ -1,14 +1,22 @@
 -- the first deadlines of runs
-use Rattle.std.specs.Prelude.{◌≡◌, ℕ, ◌+◌, List, [], ◌∷◌, ◌++◌, length, map, option_map, option_to_list, slice_get, slice_index_or, Option, Some, None}
+use Rattle.std.specs.Prelude.{◌≡◌, ℕ, ◌+◌, ◌-◌, ◌≤◌, List, [], ◌∷◌, ◌++◌, length, map, option_map, option_to_list, slice_get, slice_index_or, Option, Some, None}
+use Rattle.wf_event.specs.declared.event.Event.{Event}
+use Rattle.wf_event.specs.declared.attributes.Attributes.TheVariants.{TimerStarted}
+use Rattle.wf_event.specs.declared.payloads.TimerStarted.{TimerStarted as TimerFields}
+use Rattle.wf_event.specs.Role.{ATimer}
 use Rattle.service_model.specs.Deadlines.{Due, dues}
-use Rattle.service_model.specs.RunState.{RunState}
+use Rattle.service_model.specs.RunState.{RunState, no_run, pending}
 use Rattle.service_model.specs.TimerTurns.{RunDue, least}
 use Rattle.timeouts.specs.declared.due.Due.{Due as Kept}
-use Rattle.timeouts.specs.Slots.{run_due}
+use Rattle.timeouts.specs.Slots.{run_due, IsOneOf}
+
+-- deadlines as those of the run with this ordinal
+abbrev pub of_run : ℕ → List Due → List RunDue
+of_run n ds = map (λ (d : Due). record { run = n; at = d }) ds
 
 -- the first of some deadlines of the run with this ordinal
 abbrev pub first_of : ℕ → List Due → Option RunDue
-first_of n ds = least (map (λ (d : Due). record { run = n; at = d }) ds)
+first_of n ds = least (of_run n ds)
 
 -- the first deadline of the run with this ordinal
 abbrev pub first_due : ℕ → RunState → Option RunDue
@@ -18,6 +26,21 @@ first_due n s = first_of n (dues s)
 abbrev pub firsts : ℕ → List RunState → List RunDue
 firsts n [] = []
 firsts n (s ∷ states) = option_to_list (first_due n s) ++ firsts (n + 1) states
+
+-- the deadline is that of one of the runs, whose ordinals count from 1
+pub record IsOfRun (d : RunDue) (states : List RunState) : Type 0 where
+  pub from : 1 ≤ d.run
+  pub to : d.run ≤ length states
+  pub its : IsOneOf d (of_run d.run (dues (slice_index_or states (d.run - 1) no_run)))
+
+-- a timer is pending that this event started
+pub record HasTimer (s : RunState) (id : ℕ) : Type 0 where
+  pub place : ℕ
+  pub event : Event
+  pub timer : TimerFields
+  pub there : slice_get (pending ATimer s) place ≡ Some event
+  pub named : event.id ≡ id
+  pub starts : event.attributes ≡ TimerStarted timer
 
 -- of each run, where the ordinals count from n, its first deadline is kept at its place
 pub record KeepsFirsts (n : ℕ) (slots : List (Option Kept)) (states : List RunState) : Type 0 where

@@ -3,6 +3,7 @@
 
 ghost use Rattle.std.specs.Prelude.{◌≡◌};
 ghost use Rattle.wf_command.specs.Check.{attributes_fault, good_activity, good_policy};
+ghost use Rattle.wf_command.specs.Served.{is_served};
 
 pub mod command;
 
@@ -10,6 +11,21 @@ pub use command::Command;
 use command::ScheduleActivityTask;
 use wf_event::payloads::PolicyFields;
 use wf_event_values::Cause;
+
+/// Whether the command is of a type that is served so far.
+pub fn is_served(command: &Command) -> bool
+    ensures { result ≡ is_served command.now }
+{
+    matches!(
+        command,
+        Command::StartTimer(_)
+            | Command::CancelTimer(_)
+            | Command::RecordMarker(_)
+            | Command::CompleteWorkflowExecution(_)
+            | Command::FailWorkflowExecution(_)
+            | Command::CancelWorkflowExecution(_)
+    )
+}
 
 /// The fault of a command's own fields, if it has one; no state is looked at.
 pub fn check(command: &Command) -> Result<(), Cause>

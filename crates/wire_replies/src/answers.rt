@@ -43,7 +43,7 @@ fn put_retrying(fields: &mut Fields, retrying: Retrying) -> Result<(), AllocErro
 {
     fields.text("ok", "retrying")?;
     fields.number("attempt", u64::from(retrying.attempt))?;
-    fields.number("ready", retrying.ready.millis())
+    fields.number("ready", retrying.ready)
 }
 
 fn put_heartbeat(fields: &mut Fields, cancel_requested: bool) -> Result<(), AllocError>
@@ -93,7 +93,7 @@ fn put_fired(fields: &mut Fields, fired: Fired) -> Result<(), AllocError>
 {
     put_with_run(fields, "fired", fired.run)?;
     fields.text("class", fired.class.name())?;
-    fields.number("due", fired.due.millis())?;
+    fields.number("due", fired.due)?;
     fields.number("event", fired.event)
 }
 

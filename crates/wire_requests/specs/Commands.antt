@@ -9,15 +9,18 @@ use Rattle.wf_event_values.specs.declared.refusal.Refusal.TheVariants.{InvalidAr
 use Rattle.wf_command.specs.declared.command.Command.{Command}
 use Rattle.wf_command.specs.declared.command.Command.TheVariants as command
 use Rattle.wf_command.specs.declared.command.RecordMarker.{RecordMarker as Marker}
+use Rattle.wf_command.specs.declared.command.StartTimer.{StartTimer as Timer}
 use Rattle.service_model.specs.Limits.{most_commands}
 use Rattle.wire_fields.specs.Steps.{◌>>=◌, for_each}
-use Rattle.wire_fields.specs.Kinds.{string_of, text_of, named, elements_of}
+use Rattle.wire_fields.specs.Kinds.{string_of, text_of, id_of, span_of, named, elements_of}
 use Rattle.wire_fields.specs.Fields.{required, or_default}
 use Rattle.wire_requests.specs.declared.commands.CommandType.{CommandType}
-use Rattle.wire_requests.specs.declared.commands.CommandType.TheVariants.{RecordMarker, CompleteWorkflowExecution, FailWorkflowExecution, CancelWorkflowExecution}
+use Rattle.wire_requests.specs.declared.commands.CommandType.TheVariants.{StartTimer, CancelTimer, RecordMarker, CompleteWorkflowExecution, FailWorkflowExecution, CancelWorkflowExecution}
 
 -- the name of a type of command
 abbrev pub type_name : CommandType → List ℕ
+type_name StartTimer = codes "StartTimer"
+type_name CancelTimer = codes "CancelTimer"
 type_name RecordMarker = codes "RecordMarker"
 type_name CompleteWorkflowExecution = codes "CompleteWorkflowExecution"
 type_name FailWorkflowExecution = codes "FailWorkflowExecution"
@@ -25,10 +28,17 @@ type_name CancelWorkflowExecution = codes "CancelWorkflowExecution"
 
 -- the type that has this name, of those that are served so far
 abbrev pub type_named : List ℕ → Option CommandType
-type_named = named type_name (RecordMarker ∷ CompleteWorkflowExecution ∷ FailWorkflowExecution ∷ CancelWorkflowExecution ∷ [])
+type_named = named type_name (StartTimer ∷ CancelTimer ∷ RecordMarker ∷ CompleteWorkflowExecution ∷ FailWorkflowExecution ∷ CancelWorkflowExecution ∷ [])
 
 abbrev pub type_of : Field → Data → Result CommandType Refusal
 type_of field d = string_of field d >>= (λ text. ok_or (type_named text) (InvalidArgument field))
+
+-- StartTimer
+unfoldable pub timer_of : Data → Result Timer Refusal
+timer_of d = do
+  timer_id ← required id_of field.TimerId d
+  duration ← or_default span_of 0 field.Duration d
+  Ok (record { timer_id = timer_id; duration = duration })
 
 -- RecordMarker
 unfoldable pub marker_of : Data → Result Marker Refusal
@@ -39,6 +49,8 @@ marker_of d = do
 
 -- the fields of each type of command: their faults are looked for in the order in which they stand here
 abbrev pub fields_of : CommandType → Data → Result Command Refusal
+fields_of StartTimer d = timer_of d >>= (λ x. Ok (command.StartTimer x))
+fields_of CancelTimer d = required id_of field.TimerId d >>= (λ x. Ok (command.CancelTimer x))
 fields_of RecordMarker d = marker_of d >>= (λ x. Ok (command.RecordMarker x))
 fields_of CompleteWorkflowExecution d = or_default text_of [] field.Result d >>= (λ x. Ok (command.CompleteWorkflowExecution x))
 fields_of FailWorkflowExecution d = or_default text_of [] field.Message d >>= (λ x. Ok (command.FailWorkflowExecution x))

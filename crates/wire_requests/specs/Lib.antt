@@ -3,6 +3,6 @@ pub mod ActivityCommands
 pub mod Commands
 pub mod Operations
 pub mod Ops
-pub mod Requests
+pub mod Calls
 pub mod RetryPolicies
 pub mod Tasks

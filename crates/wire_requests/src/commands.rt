@@ -6,20 +6,22 @@ ghost use Rattle.wf_event_values.specs.Gives.{Gives};
 ghost use Rattle.wire_fields.specs.Steps.{for_each};
 ghost use Rattle.wire_fields.specs.Kinds.{text_of};
 ghost use Rattle.wire_fields.specs.Fields.{or_default};
-ghost use Rattle.wire_requests.specs.Commands.{type_named, type_of, marker_of, fields_of, command_of, commands_of};
+ghost use Rattle.wire_requests.specs.Commands.{type_named, type_of, timer_of, marker_of, fields_of, command_of, commands_of};
 
 use serde_json::Value;
 use service_model::limits::MOST_COMMANDS;
 use std::alloc::Global;
 use std::marker::Model;
 use wf_command::Command;
-use wf_command::command::RecordMarker;
-use wf_event_values::{Field, Items, Refusal, Text};
+use wf_command::command::{RecordMarker, StartTimer};
+use wf_event_values::{Field, Items, Refusal, Span, Text};
 use wire_fields::{FieldValue, elements, or_default, required};
 
 /// The types of command that are served so far.
 #[derive(Clone, Copy)]
 enum CommandType {
+    StartTimer,
+    CancelTimer,
     RecordMarker,
     CompleteWorkflowExecution,
     FailWorkflowExecution,
@@ -30,6 +32,8 @@ fn type_named(name: &str) -> Option<CommandType>
     ensures { result ≡ type_named name.now }
 {
     match name {
+        "StartTimer" => Some(CommandType::StartTimer),
+        "CancelTimer" => Some(CommandType::CancelTimer),
         "RecordMarker" => Some(CommandType::RecordMarker),
         "CompleteWorkflowExecution" => Some(CommandType::CompleteWorkflowExecution),
         "FailWorkflowExecution" => Some(CommandType::FailWorkflowExecution),
@@ -56,6 +60,16 @@ fn text(alloc: Global, object: &Value, field: Field) -> Result<Text, Refusal>
     or_default(alloc, object, field, Text::empty(alloc))
 }
 
+/// A timer to be started. Without a duration it has none, which its command is judged by.
+#[tactic(auto, unfolding(crate::specs::Commands::timer_of))]
+fn timer(alloc: Global, object: &Value) -> Result<StartTimer, Refusal>
+    ensures { Gives result (timer_of (view object.now)) }
+{
+    let timer_id = required(alloc, object, Field::TimerId)?;
+    let duration = or_default(alloc, object, Field::Duration, Span::none())?;
+    Ok(StartTimer { timer_id, duration })
+}
+
 #[tactic(auto, unfolding(crate::specs::Commands::marker_of))]
 fn marker(alloc: Global, object: &Value) -> Result<RecordMarker, Refusal>
     ensures { Gives result (marker_of (view object.now)) }
@@ -70,6 +84,11 @@ fn fields(alloc: Global, of: CommandType, object: &Value) -> Result<Command, Ref
     ensures { Gives result (fields_of of (view object.now)) }
 {
     match of {
+        CommandType::StartTimer => Ok(Command::StartTimer(timer(alloc, object)?)),
+        CommandType::CancelTimer => {
+            let timer_id = required(alloc, object, Field::TimerId)?;
+            Ok(Command::CancelTimer(timer_id))
+        }
         CommandType::RecordMarker => Ok(Command::RecordMarker(marker(alloc, object)?)),
         CommandType::CompleteWorkflowExecution => {
             let result = text(alloc, object, Field::Result)?;

@@ -1,13 +1,13 @@
-//! A line, read as a request.
+//! A line, read as what it asks of a service.
 #![tactic(auto)]
 
 mod activities;
 mod activity_commands;
+mod calls;
 mod commands;
 mod op;
 mod operations;
-mod requests;
 mod retry_policy;
 mod tasks;
 
-pub use requests::read_request;
+pub use calls::read_call;

@@ -17,6 +17,7 @@ pub(crate) enum Op {
     FailWorkflowTask,
     History,
     Describe,
+    TimerTurn,
 }
 
 fn op_named(name: &str) -> Option<Op>
@@ -29,6 +30,7 @@ fn op_named(name: &str) -> Option<Op>
         "fail_workflow_task" => Some(Op::FailWorkflowTask),
         "history" => Some(Op::History),
         "describe" => Some(Op::Describe),
+        "timer_turn" => Some(Op::TimerTurn),
         _ => None,
     }
 }

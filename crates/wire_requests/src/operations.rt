@@ -3,18 +3,19 @@
 ghost use Rattle.std.specs.Prelude.{◌≡◌, [], Ok, Err};
 ghost use Rattle.serde_json.specs.View.{view};
 ghost use Rattle.wf_event_values.specs.Gives.{Gives};
-ghost use Rattle.wire_requests.specs.Operations.{start_of, signal_of, complete_workflow_task_of, fail_workflow_task_of, read_of, operation_of, allowed_conflict};
+ghost use Rattle.wire_requests.specs.Operations.{start_of, signal_of, complete_workflow_task_of, fail_workflow_task_of, read_of, shard_in, asks, call_of, allowed_conflict};
 
 use crate::commands::Commands;
 use crate::op::Op;
 use crate::tasks::workflow_task_in;
 use serde_json::Value;
+use service_model::call::{Call, TimerTurn};
 use service_model::request::{
-    CompleteWorkflowTask, FailWorkflowTask, Operation, Read, Signal, Start,
+    CompleteWorkflowTask, FailWorkflowTask, Operation, Read, Request, Signal, Start,
 };
 use service_model::settings::Settings;
 use std::alloc::Global;
-use wf_event_values::{ConflictPolicy, Field, Refusal, ReusePolicy, Span, Text};
+use wf_event_values::{ConflictPolicy, Field, Moment, Refusal, ReusePolicy, Span, Text};
 use wire_fields::{optional, or_default, required};
 
 /// A conflict policy that is served: each but the one that terminates a run.
@@ -112,27 +113,50 @@ fn read(alloc: Global, line: &Value) -> Result<Read, Refusal>
     Ok(Read { workflow_id, run })
 }
 
-/// What an operation's line asks for.
-pub(crate) fn operation(
+/// The shard that a number names: one that is there.
+fn shard_in(settings: &Settings, number: u64) -> Result<u16, Refusal>
+    ensures { result ≡ shard_in settings.now number }
+{
+    match u16::try_from(number) {
+        Ok(shard) if number < settings.shards => Ok(shard),
+        _ => Err(Refusal::InvalidArgument(Field::Shard)),
+    }
+}
+
+/// The request of an operation at a moment.
+fn asks(at: Moment, operation: Operation) -> Call
+    ensures { Ok result ≡ asks at operation }
+{
+    Call::Request(Request { at, operation })
+}
+
+/// What an operation's line asks for, at the line's moment.
+pub(crate) fn call_of(
     alloc: Global,
     settings: &Settings,
     op: Op,
+    at: Moment,
     line: &Value,
-) -> Result<Operation, Refusal>
-    ensures { Gives result (operation_of settings.now op (view line.now)) }
+) -> Result<Call, Refusal>
+    ensures { Gives result (call_of settings.now op at (view line.now)) }
 {
     match op {
-        Op::Start => Ok(Operation::Start(start(alloc, line)?)),
-        Op::Signal => Ok(Operation::Signal(signal(alloc, line)?)),
+        Op::Start => Ok(asks(at, Operation::Start(start(alloc, line)?))),
+        Op::Signal => Ok(asks(at, Operation::Signal(signal(alloc, line)?))),
         Op::CompleteWorkflowTask => {
             let completion = complete_workflow_task(alloc, settings, line)?;
-            Ok(Operation::CompleteWorkflowTask(completion))
+            Ok(asks(at, Operation::CompleteWorkflowTask(completion)))
         }
         Op::FailWorkflowTask => {
             let failure = fail_workflow_task(alloc, settings, line)?;
-            Ok(Operation::FailWorkflowTask(failure))
+            Ok(asks(at, Operation::FailWorkflowTask(failure)))
         }
-        Op::History => Ok(Operation::History(read(alloc, line)?)),
-        Op::Describe => Ok(Operation::Describe(read(alloc, line)?)),
+        Op::History => Ok(asks(at, Operation::History(read(alloc, line)?))),
+        Op::Describe => Ok(asks(at, Operation::Describe(read(alloc, line)?))),
+        Op::TimerTurn => {
+            let number = required(alloc, line, Field::Shard)?;
+            let shard = shard_in(settings, number)?;
+            Ok(Call::TimerTurn(TimerTurn { shard, at }))
+        }
     }
 }

@@ -12,7 +12,7 @@ use std::alloc::{AllocGlobal, Global};
 use std::io;
 use wf_event_values::{DeadlineClass, Items, Refusal, RetryState, Status, TaskKind, Text};
 use wire_replies::history_text;
-use wire_requests::read_request;
+use wire_requests::read_call;
 
 fn print_answers_to_clients<R: Print + AllocGlobal>(rt: &R) -> io::Result<()> {
     print_answer(rt, 3, Answer::SignaledRun(run(1)))?;
@@ -59,7 +59,7 @@ fn print_answers_to_workers<R: Print + AllocGlobal>(rt: &R) -> io::Result<()> {
     print_answer(rt, 4, Answer::ActivityCompleted)?;
     let retrying = Retrying {
         attempt: 2,
-        ready: moment(1100)?,
+        ready: 1100,
     };
     print_answer(rt, 8, Answer::Retrying(retrying))?;
     print_answer(
@@ -85,7 +85,7 @@ fn print_answers_to_timer_turns<R: Print + AllocGlobal>(rt: &R) -> io::Result<()
     ] {
         let fired = Fired {
             class,
-            due: moment(1100)?,
+            due: 1100,
             event: 5,
             run: run(1),
         };
@@ -145,8 +145,8 @@ fn print_lanes<R: Print + AllocGlobal>(rt: &R) -> io::Result<()> {
         "{\"lane\":2,\"op\":\"history\",\"workflow_id\":\"a\"}",
         "{\"lane\":3,\"op\":\"history\",\"workflow_id\":\"a\"}",
     ] {
-        match read_request(rt.alloc(), &three, line) {
-            Ok((lane, _request)) => println!(rt; "lane {lane}")?,
+        match read_call(rt.alloc(), &three, line) {
+            Ok((lane, _call)) => println!(rt; "lane {lane}")?,
             Err(refusal) => print_refusal(rt, 1, refusal)?,
         }
     }

@@ -6,31 +6,31 @@ use Rattle.wf_event_values.specs.declared.refusal.Refusal.{Refusal}
 use Rattle.wf_event_values.specs.declared.refusal.Refusal.TheVariants.{InvalidArgument}
 use Rattle.wf_event_values.specs.declared.field.Field.TheVariants as field
 use Rattle.service_model.specs.declared.settings.Settings.{Settings}
-use Rattle.service_model.specs.declared.request.Request.{Request}
+use Rattle.service_model.specs.declared.call.Call.{Call}
 use Rattle.wire_fields.specs.Steps.{◌>>=◌}
 use Rattle.wire_fields.specs.Kinds.{number_of, moment_of}
 use Rattle.wire_fields.specs.Fields.{required, or_default}
 use Rattle.wire_requests.specs.Ops.{op_of}
-use Rattle.wire_requests.specs.Operations.{operation_of}
+use Rattle.wire_requests.specs.Operations.{call_of}
 
 -- the lane that a number names: there is one for each pass, and at most 256
 abbrev pub lane_in : Settings → ℕ → Result ℕ Refusal
 lane_in s n = if nat_lt n 256 && nat_lt n s.passes then Ok n else Err (InvalidArgument field.Lane)
 
--- the lane and the request of an object
-unfoldable pub request_of_object : Settings → Data → Result (ℕ × Request) Refusal
-request_of_object settings line = do
+-- the lane of an object, and what it asks for
+unfoldable pub call_of_object : Settings → Data → Result (ℕ × Call) Refusal
+call_of_object settings line = do
   lane ← or_default number_of 0 field.Lane line >>= lane_in settings
   op ← required op_of field.Op line
   at ← or_default moment_of 0 field.At line
-  operation ← operation_of settings op line
-  Ok (lane, record { at = at; operation = operation })
+  call ← call_of settings op at line
+  Ok (lane, call)
 
--- the lane and the request of a JSON value: a line is an object
-abbrev pub request_of : Settings → Option Data → Result (ℕ × Request) Refusal
-request_of settings (Some (object members)) = request_of_object settings (object members)
-request_of settings _ = Err (InvalidArgument field.Json)
+-- the same of a JSON value: a line is an object
+abbrev pub call_of_value : Settings → Option Data → Result (ℕ × Call) Refusal
+call_of_value settings (Some (object members)) = call_of_object settings (object members)
+call_of_value settings _ = Err (InvalidArgument field.Json)
 
--- the lane and the request of a line
-abbrev pub request_of_line : Settings → List ℕ → Result (ℕ × Request) Refusal
-request_of_line settings line = request_of settings (read line)
+-- the lane of a line, and what it asks for
+abbrev pub call_of_line : Settings → List ℕ → Result (ℕ × Call) Refusal
+call_of_line settings line = call_of_value settings (read line)

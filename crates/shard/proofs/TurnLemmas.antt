@@ -1,0 +1,81 @@
+-- what a deadline that fires adds to its run may come
+use Rattle.std.proofs.Common.{◌≡◌, ◌≢◌, ℕ, zero, suc, Bool, true, false, ◌==◌, ◌||◌, cond, List, [], ◌∷◌, refl, sym, ap, ◌∙◌, arith, Some, None}
+use Rattle.std.proofs.lemmas.Bool.Decides.{nat_tests}
+use Rattle.std.specs.Prelude.{Result, Ok, Err, OnOk, slice_get, unwrap_or}
+use Rattle.std.specs.List.{list_any}
+use Rattle.wf_event.specs.declared.event.Event.{Event}
+use Rattle.wf_event.specs.declared.attributes.Attributes.TheVariants.{WorkflowExecutionTimedOut, TimerFired}
+use Rattle.wf_event.specs.Role.{ATimer, role, opens, settles, closing_status}
+use Rattle.wf_event_values.specs.declared.policies.DeadlineClass.{DeadlineClass}
+use Rattle.wf_event_values.specs.declared.policies.DeadlineClass.TheVariants.{RunTimeout, WorkflowTask, UserTimer}
+use Rattle.service_model.specs.declared.journal.Fact.{Fact}
+use Rattle.service_model.specs.Deadlines.{dues}
+use Rattle.service_model.specs.Journal.{plain}
+use Rattle.service_model.specs.Outcome.{is_no_task, schedule_task}
+use Rattle.service_model.specs.Pending.{Task, NoTask, IsScheduled, IsStarted}
+use Rattle.service_model.specs.RunState.{RunState, is_open, pending}
+use Rattle.service_model.specs.TimerTurns.{RunDue, fire, timer_name}
+use Rattle.mutable_state.specs.Steps.{IsFirst, FitsEvent, FitStep, has_id}
+use Rattle.timeouts.specs.Firsts.{of_run, HasTimer}
+use Rattle.timeouts.specs.Slots.{IsOneOf}
+use Rattle.timeouts.proofs.ClassLemmas.{due-open, due-task, due-timer, is_own_class}
+
+-- the run's own timeout, also while a workflow task is started
+pub over-fits : (at : ℕ) (s : RunState) (d : RunDue) → IsOneOf d (of_run d.run (dues s)) → FitStep at s (plain WorkflowExecutionTimedOut ∷ [])
+unfolding role opens settles
+over-fits at s d is = (record { open_run = due-open s d.run d is; fits_role = (tt, refl); begins_none = refl; may_settle = tt; may_ask = refl; cancels_none = refl; first_signal = refl }, tt)
+
+-- the timeout of a started workflow task, and its next attempt
+pub task-fits : (at : ℕ) (s : RunState) (d : RunDue) → d.at.class ≡ WorkflowTask → IsOneOf d (of_run d.run (dues s)) → FitStep at s (fire s at d.at.event WorkflowTask)
+unfolding role opens settles fire closing_status
+task-fits at s d class is =
+    let opened = due-open s d.run d is in (
+      record { open_run = opened; fits_role = (due-task s d.run d class is, tt); begins_none = refl; may_settle = tt; may_ask = refl; cancels_none = refl; first_signal = refl },
+      (record { open_run = opened; fits_role = (refl, refl); begins_none = refl; may_settle = tt; may_ask = refl; cancels_none = refl; first_signal = refl }, tt),
+    )
+
+has-at : (es : List Event) (k : ℕ) (e : Event) → slice_get es k ≡ Some e → has_id e.id es ≡ true
+has-at [] k e there = absurd (cc)
+has-at (x ∷ es) zero e there = ap (λ (y : Event). has_id y.id (x ∷ es)) (sym (ap (λ o. unwrap_or o x) there)) ∙ ap (λ b. b || has_id x.id es) (itself x.id)
+  where
+    itself : (n : ℕ) → (n == n) ≡ true
+    itself n = grind (arith, nat_tests)
+has-at (x ∷ es) (suc k) e there = by_test (x.id == e.id) (has-at es k e there)
+  where
+    by_test : (b : Bool) → has_id e.id es ≡ true → (b || has_id e.id es) ≡ true
+    by_test true rest = refl
+    by_test false rest = rest
+
+-- the firing of a pending timer, and a workflow task where there is none
+pub timer-fits : (at : ℕ) (s : RunState) (d : RunDue) → d.at.class ≡ UserTimer → IsOneOf d (of_run d.run (dues s)) → FitStep at s (fire s at d.at.event UserTimer)
+unfolding role opens settles fire closing_status
+timer-fits at s d class is = by_task s.task refl
+  where
+    opened : is_open s ≡ true
+    opened = due-open s d.run d is
+
+    has : HasTimer s d.at.event
+    has = due-timer s d.run d class is
+
+    pending_one : has_id d.at.event (pending ATimer s) ≡ true
+    pending_one = ap (λ n. has_id n (pending ATimer s)) (sym has.named) ∙ has-at (pending ATimer s) has.place has.event has.there
+
+    now : (more : List Fact) → FitsEvent IsFirst s None (TimerFired (record { timer_id = timer_name s d.at.event; started = d.at.event })) more
+    now more = record { open_run = opened; fits_role = tt; begins_none = refl; may_settle = pending_one; may_ask = refl; cancels_none = refl; first_signal = refl }
+
+    by_task : (t : Task) → s.task ≡ t → FitStep at s (plain (TimerFired (record { timer_id = timer_name s d.at.event; started = d.at.event })) ∷ cond (is_no_task t) (plain (schedule_task s 1) ∷ []) [])
+    by_task NoTask same = (now (plain (schedule_task s 1) ∷ []), (record { open_run = opened; fits_role = (same, refl); begins_none = refl; may_settle = tt; may_ask = refl; cancels_none = refl; first_signal = refl }, tt))
+    by_task IsScheduled same = (now [], tt)
+    by_task IsStarted same = (now [], tt)
+
+-- there are no other classes, where no activity is open
+pub own-is : (c : DeadlineClass) → is_own_class c ≡ true → c ≢ RunTimeout → c ≢ WorkflowTask → c ≢ UserTimer → ⊥
+unfolding is_own_class
+own-is RunTimeout h over task timer = over refl
+own-is WorkflowTask h over task timer = task refl
+own-is UserTimer h over task timer = timer refl
+own-is _ h over task timer = absurd (cc)
+
+pub on-any : {T E : Type 0} (r : Result T E) (P : Type 0) → P → OnOk r P
+on-any (Ok x) P h = h
+on-any (Err e) P h = tt

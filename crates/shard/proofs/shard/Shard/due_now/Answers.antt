@@ -1,0 +1,13 @@
+use Rattle.std.proofs.Common.{◌≡◌, ◌∙◌, sym, ap, subst}
+use Rattle.service_model.specs.TimerTurns.{all_dues, due_now, least}
+use Rattle.timeouts.proofs.FirstLemmas.{due-firsts}
+use Rattle.shard.specs.View.{states}
+use Rattle.shard.proofs.DeadlineLemmas.{firsts-kept}
+use Rattle.shard.proofs.shard.Shard.due_now.Goals as goal
+
+pub returns-clause-due : goal.returns-clause-due
+returns-clause-due g c =
+    let none = ap (λ v. v.changed) c.self.view_is ∙ c.in_ok-note_change.ensures.noted in
+    let kept = firsts-kept c.self.inside.deadlines.slots c.self.inside.changed (states c.self.inside.runs.items) none c.self.invariant.3 in
+    due-firsts c.self.inside.deadlines.slots (states c.self.inside.runs.items) c.args.moment c.due.result kept c.due.ensures.least c.due.ensures.none
+    ∙ ap (λ runs. due_now c.args.moment (least (all_dues (states runs)))) (ap (λ v. v.runs) c.self.view_is ∙ c.in_ok-note_change.ensures.runs)

@@ -1,0 +1,148 @@
+-- of which classes a run's deadlines are
+use Rattle.std.proofs.Common.{◌≡◌, ℕ, zero, suc, ◌+◌, ◌-◌, inl, inr, Bool, true, false, cond, List, [], ◌∷◌, ◌++◌, refl, sym, ap, ◌∙◌, subst}
+use Rattle.std.specs.Prelude.{Option, Some, None, not, map, filter, flat_map, ◌==◌, unwrap_or, slice_get}
+use Rattle.std.specs.List.{AllByRecursion}
+use Rattle.wf_event.specs.declared.event.Event.{Event}
+use Rattle.wf_event.specs.declared.attributes.Attributes.{Attributes}
+use Rattle.wf_event.specs.declared.attributes.Attributes.TheVariants.{TimerStarted}
+use Rattle.wf_event.specs.declared.payloads.TimerStarted.{TimerStarted as TimerFields}
+use Rattle.wf_event.specs.declared.payloads.ActivityTaskScheduled.{ActivityTaskScheduled as ScheduledAttributes}
+use Rattle.wf_event.specs.Role.{AnActivity, ATimer}
+use Rattle.wf_event_values.specs.declared.policies.DeadlineClass.{DeadlineClass}
+use Rattle.wf_event_values.specs.declared.policies.DeadlineClass.TheVariants.{RunTimeout, WorkflowTask, ScheduleToClose, ScheduleToStart, Heartbeat, StartToClose, RetryReady, UserTimer}
+use Rattle.service_model.specs.Deadlines.{Due, dues, due_after, run_timeout_dues, workflow_task_dues, task_timeout, activity_dues, row_dues, by_phase, timer_dues, pending_rows, scheduled_fields}
+use Rattle.service_model.specs.Pending.{Phase, IsQueued, IsRunning, IsWaiting, Task, NoTask, IsScheduled, IsStarted, is_settled}
+use Rattle.service_model.specs.RunState.{RunState, ActivityRow, Beginning, held_attributes, is_open, last_task, pending}
+use Rattle.service_model.specs.TimerTurns.{RunDue}
+use Rattle.timeouts.specs.Firsts.{of_run, HasTimer}
+use Rattle.timeouts.specs.Slots.{IsOneOf}
+
+module _ (P : Due → Type 0) where
+  Are : List Due → Type 0
+  Are ds = AllByRecursion P ds
+
+  -- so is each deadline of a class
+  OfClass : DeadlineClass → Type 0
+  OfClass class = (due event : ℕ) → P (record { due = due; class = class; event = event })
+
+  both : (xs ys : List Due) → Are xs → Are ys → Are (xs ++ ys)
+  unfolding Are
+  both [] ys a b = b
+  both (x ∷ xs) ys a b = (a.0, both xs ys a.1 b)
+
+  after : (moment duration : ℕ) (class : DeadlineClass) (event : ℕ) → P (record { due = moment + duration; class = class; event = event }) → Are (due_after moment duration class event)
+  unfolding Are
+  after moment duration class event h = by_test (duration == 0)
+    where
+      by_test : (b : Bool) → AllByRecursion P (cond b [] (record { due = moment + duration; class = class; event = event } ∷ []))
+      by_test true = tt
+      by_test false = (h, tt)
+
+  flat : {A : Type 0} (f : A → List Due) (xs : List A) → ((k : ℕ) (x : A) → slice_get xs k ≡ Some x → Are (f x)) → Are (flat_map f xs)
+  unfolding Are
+  flat f [] h = tt
+  flat f (x ∷ xs) h = both (f x) (flat_map f xs) (h 0 x refl) (flat f xs (λ k y there. h (suc k) y there))
+
+  one : (n : ℕ) (ds : List Due) (d : RunDue) → Are ds → IsOneOf d (of_run n ds) → P d.at
+  unfolding Are
+  one n [] d h is = absurd is
+  one n (x ∷ ds) d h (inl is) = subst (λ (y : RunDue). P y.at) (sym is) h.0
+  one n (x ∷ ds) d h (inr rest) = one n ds d h.1 rest
+
+  phases : OfClass ScheduleToStart → OfClass Heartbeat → OfClass StartToClose → OfClass RetryReady → (r : ActivityRow) (a : ScheduledAttributes) (p : Phase) → Are (by_phase r a p)
+  unfolding Are OfClass
+  phases queued beat running ready r a IsQueued = after (unwrap_or r.ready r.opened.at) a.schedule_to_start ScheduleToStart r.opened.id (queued _ _)
+  phases queued beat running ready r a IsRunning =
+      both (due_after (unwrap_or r.sign_of_life r.opened.at) a.heartbeat Heartbeat r.opened.id) (due_after (unwrap_or r.taken r.opened.at) a.start_to_close StartToClose r.opened.id)
+      (after (unwrap_or r.sign_of_life r.opened.at) a.heartbeat Heartbeat r.opened.id (beat _ _)) (after (unwrap_or r.taken r.opened.at) a.start_to_close StartToClose r.opened.id (running _ _))
+  phases queued beat running ready r a IsWaiting = (ready _ _, tt)
+
+  activities : OfClass ScheduleToClose → OfClass ScheduleToStart → OfClass Heartbeat → OfClass StartToClose → OfClass RetryReady → (r : ActivityRow) → Are (activity_dues r)
+  unfolding Are OfClass
+  activities close queued beat running ready r = by_fields (scheduled_fields r.opened.attributes)
+    where
+      by_fields : (o : Option ScheduledAttributes) → AllByRecursion P (row_dues r o)
+      by_fields None = tt
+      by_fields (Some a) = both (due_after r.opened.at a.schedule_to_close ScheduleToClose r.opened.id) (by_phase r a r.phase) (after r.opened.at a.schedule_to_close ScheduleToClose r.opened.id (close _ _)) (phases queued beat running ready r a r.phase)
+
+  timers : (e : Event) → ((a : TimerFields) (due : ℕ) → e.attributes ≡ TimerStarted a → P (record { due = due; class = UserTimer; event = e.id })) → Are (timer_dues e)
+  unfolding Are
+  timers e user = by_kind e.attributes refl
+    where
+      by_kind : (a : Attributes) → e.attributes ≡ a → AllByRecursion P (timer_dues (record { id = e.id; at = e.at; attributes = a }))
+      by_kind (TimerStarted a) is = after e.at a.duration UserTimer e.id (user a _ is)
+      by_kind _ is = tt
+
+  own : OfClass RunTimeout → (o : Option Beginning) → Are (run_timeout_dues o)
+  unfolding Are OfClass
+  own over None = tt
+  own over (Some b) = after b.at b.attributes.run_timeout RunTimeout 1 (over _ _)
+
+  task : (s : RunState) (t : Task) → (t ≡ IsStarted → OfClass WorkflowTask) → Are (workflow_task_dues s t)
+  unfolding Are OfClass
+  task s IsStarted over = after (last_task s).at (task_timeout s) WorkflowTask (last_task s).scheduled (over refl _ _)
+  task s NoTask over = tt
+  task s IsScheduled over = tt
+
+  all-dues : (s : RunState) → OfClass RunTimeout → (s.task ≡ IsStarted → OfClass WorkflowTask) → Are (flat_map activity_dues (pending_rows s)) → Are (flat_map timer_dues (pending ATimer s)) → Are (dues s)
+  unfolding Are dues
+  all-dues s over task_over rows timer_rows = by_test (is_open s)
+    where
+      by_test : (b : Bool) → AllByRecursion P (cond b (run_timeout_dues s.beginning ++ workflow_task_dues s s.task ++ flat_map activity_dues (pending_rows s) ++ flat_map timer_dues (pending ATimer s)) [])
+      by_test false = tt
+      by_test true =
+          both (run_timeout_dues s.beginning ++ workflow_task_dues s s.task ++ flat_map activity_dues (pending_rows s)) (flat_map timer_dues (pending ATimer s))
+          (both (run_timeout_dues s.beginning ++ workflow_task_dues s s.task) (flat_map activity_dues (pending_rows s)) (both (run_timeout_dues s.beginning) (workflow_task_dues s s.task) (own over s.beginning) (task s s.task task_over)) rows)
+          timer_rows
+
+-- a run with a deadline is open
+pub due-open : (s : RunState) (n : ℕ) (d : RunDue) → IsOneOf d (of_run n (dues s)) → is_open s ≡ true
+unfolding dues
+due-open s n d is = by_test (is_open s) is
+  where
+    by_test : (b : Bool) → IsOneOf d (of_run n (cond b (run_timeout_dues s.beginning ++ workflow_task_dues s s.task ++ flat_map activity_dues (pending_rows s) ++ flat_map timer_dues (pending ATimer s)) [])) → b ≡ true
+    by_test true h = refl
+    by_test false h = absurd h
+
+is_task_class : DeadlineClass → Bool
+is_task_class WorkflowTask = true
+is_task_class _ = false
+
+-- a worker has the workflow task that has a deadline
+pub due-task : (s : RunState) (n : ℕ) (d : RunDue) → d.at.class ≡ WorkflowTask → IsOneOf d (of_run n (dues s)) → s.task ≡ IsStarted
+unfolding is_task_class Are OfClass
+due-task s n d class is =
+    let P : Due → Type 0 = λ x. is_task_class x.class ≡ true → s.task ≡ IsStarted in
+    let none : (c : DeadlineClass) → is_task_class c ≡ false → (due event : ℕ) → is_task_class c ≡ true → s.task ≡ IsStarted = λ c h _ _ e. absurd (let clash : true ≡ false = sym e ∙ h in cc) in
+    one P n (dues s) d (all-dues P s (none RunTimeout refl) (λ started _ _ _. started)
+    (flat P activity_dues (pending_rows s) (λ _ r _. activities P (none ScheduleToClose refl) (none ScheduleToStart refl) (none Heartbeat refl) (none StartToClose refl) (none RetryReady refl) r))
+    (flat P timer_dues (pending ATimer s) (λ _ e _. timers P e (λ _ due _. none UserTimer refl due e.id)))) is (ap is_task_class class)
+
+is_timer_class : DeadlineClass → Bool
+is_timer_class UserTimer = true
+is_timer_class _ = false
+
+-- the timer is pending that has a deadline
+pub due-timer : (s : RunState) (n : ℕ) (d : RunDue) → d.at.class ≡ UserTimer → IsOneOf d (of_run n (dues s)) → HasTimer s d.at.event
+unfolding is_timer_class Are OfClass
+due-timer s n d class is =
+    let P : Due → Type 0 = λ x. is_timer_class x.class ≡ true → HasTimer s x.event in
+    let none : (c : DeadlineClass) → is_timer_class c ≡ false → (due event : ℕ) → is_timer_class c ≡ true → HasTimer s event = λ c h _ _ e. absurd (let clash : true ≡ false = sym e ∙ h in cc) in
+    one P n (dues s) d (all-dues P s (none RunTimeout refl) (λ _. none WorkflowTask refl)
+    (flat P activity_dues (pending_rows s) (λ _ r _. activities P (none ScheduleToClose refl) (none ScheduleToStart refl) (none Heartbeat refl) (none StartToClose refl) (none RetryReady refl) r))
+    (flat P timer_dues (pending ATimer s) (λ k e there. timers P e (λ a _ starts _. record { place = k; event = e; timer = a; there = there; named = refl; starts = starts })))) is (ap is_timer_class class)
+
+-- the classes of a run without activities
+unfoldable pub is_own_class : DeadlineClass → Bool
+is_own_class RunTimeout = true
+is_own_class WorkflowTask = true
+is_own_class UserTimer = true
+is_own_class _ = false
+
+pub due-own : (s : RunState) (n : ℕ) (d : RunDue) → s.activities ≡ [] → IsOneOf d (of_run n (dues s)) → is_own_class d.at.class ≡ true
+unfolding is_own_class Are OfClass
+due-own s n d no_activities is =
+    let P : Due → Type 0 = λ x. is_own_class x.class ≡ true in
+    one P n (dues s) d (all-dues P s (λ _ _. refl) (λ _ _ _. refl)
+    (subst (λ l. AllByRecursion P (flat_map activity_dues (filter (λ (r : ActivityRow). not (is_settled AnActivity r.opened.id (held_attributes s))) l))) (sym no_activities) tt)
+    (flat P timer_dues (pending ATimer s) (λ _ e _. timers P e (λ _ _ _. refl)))) is
