@@ -1,5 +1,5 @@
 -- what a deadline that fires adds to its run may come
-use Rattle.std.proofs.Common.{◌≡◌, ◌≢◌, ℕ, zero, suc, Bool, true, false, ◌==◌, ◌||◌, cond, List, [], ◌∷◌, refl, sym, ap, ◌∙◌, arith, Some, None}
+use Rattle.std.proofs.Common.{◌≡◌, ℕ, zero, suc, Bool, true, false, ◌==◌, ◌||◌, cond, List, [], ◌∷◌, refl, sym, ap, ◌∙◌, arith, Some, None}
 use Rattle.std.proofs.lemmas.Bool.Decides.{nat_tests}
 use Rattle.std.specs.Prelude.{Result, Ok, Err, OnOk, slice_get, unwrap_or}
 use Rattle.std.specs.List.{list_any}
@@ -18,7 +18,7 @@ use Rattle.service_model.specs.TimerTurns.{RunDue, fire, timer_name}
 use Rattle.mutable_state.specs.Steps.{IsFirst, FitsEvent, FitStep, has_id}
 use Rattle.timeouts.specs.Firsts.{of_run, HasTimer}
 use Rattle.timeouts.specs.Slots.{IsOneOf}
-use Rattle.timeouts.proofs.ClassLemmas.{due-open, due-task, due-timer, is_own_class}
+use Rattle.timeouts.proofs.ClassLemmas.{due-open, due-task, due-timer}
 
 -- the run's own timeout, also while a workflow task is started
 pub over-fits : (at : ℕ) (s : RunState) (d : RunDue) → IsOneOf d (of_run d.run (dues s)) → FitStep at s (plain WorkflowExecutionTimedOut ∷ [])
@@ -67,14 +67,6 @@ timer-fits at s d class is = by_task s.task refl
     by_task NoTask same = (now (plain (schedule_task s 1) ∷ []), (record { open_run = opened; fits_role = (same, refl); begins_none = refl; may_settle = tt; may_ask = refl; cancels_none = refl; first_signal = refl }, tt))
     by_task IsScheduled same = (now [], tt)
     by_task IsStarted same = (now [], tt)
-
--- there are no other classes, where no activity is open
-pub own-is : (c : DeadlineClass) → is_own_class c ≡ true → c ≢ RunTimeout → c ≢ WorkflowTask → c ≢ UserTimer → ⊥
-unfolding is_own_class
-own-is RunTimeout h over task timer = over refl
-own-is WorkflowTask h over task timer = task refl
-own-is UserTimer h over task timer = timer refl
-own-is _ h over task timer = absurd (cc)
 
 pub on-any : {T E : Type 0} (r : Result T E) (P : Type 0) → P → OnOk r P
 on-any (Ok x) P h = h
