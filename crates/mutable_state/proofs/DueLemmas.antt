@@ -19,15 +19,16 @@ use Rattle.timeouts.specs.declared.due.Due.{Due as Kept}
 use Rattle.timeouts.specs.Firsts.{first_of}
 use Rattle.timeouts.specs.Slots.{run_due, lesser_of_two}
 use Rattle.timeouts.proofs.FirstLemmas.{first_of-append}
-use Rattle.mutable_state.specs.Dues.{own_dues, task_dues, dues_of, kept_dues, pending_timer_dues}
+use Rattle.mutable_state.specs.Dues.{own_dues, task_dues, dues_of, kept_dues, pending_timer_dues, activity_dues_of, kept_activity_dues, pending_activity_dues}
 use Rattle.mutable_state.specs.declared.open.Open.{Open}
-use Rattle.mutable_state.specs.Opens.{is_of, is_unmarked, unmarked, used_in, AgreesWith}
+use Rattle.mutable_state.specs.Opens.{is_of, is_unmarked, unmarked, used_in, rows_in, AgreesWith}
+use Rattle.mutable_state.specs.Noted.{kept_row}
 use Rattle.mutable_state.specs.declared.task.WorkflowTask.{WorkflowTask}
 use Rattle.mutable_state.specs.declared.task.TaskPhase.TheVariants as kept
 use Rattle.mutable_state.specs.declared.task.TaskPhase.{TaskPhase}
 use Rattle.mutable_state.specs.Tasks.{phase_in, numbers_in}
 use Rattle.mutable_state.specs.View.{beginning_in, state_in}
-use Rattle.mutable_state.proofs.KeptLemmas.{used-unmarked}
+use Rattle.mutable_state.proofs.KeptLemmas.{used-unmarked, rows-unmarked}
 
 -- a run begins at the moment of its first event
 begun-by : (at : ℕ) (request : Option (List ℕ)) (a : Attributes) → IsSome (beginning_by at request a) → option_map (λ (b : Beginning). b.at) (beginning_by at request a) ≡ Some at
@@ -72,13 +73,14 @@ dues-parts s begun a t opened at carries phase numbers =
     ∙ ap (λ (l : List Due). l ++ workflow_task_dues s s.task ++ activities ++ pending_timer_dues s) parts.0
     ∙ ap (λ (l : List Due). due_after begun a.run_timeout RunTimeout 1 ++ l ++ activities ++ pending_timer_dues s) (task-part s a t t.phase refl phase numbers parts.1)
 
--- where no activity is open
-pub dues-idle : (s : RunState) (begun : ℕ) (a : StartedAttributes) (t : WorkflowTask) → is_open s ≡ true → option_map (λ (b : Beginning). b.at) s.beginning ≡ Some begun → option_map (λ (b : Beginning). b.attributes) s.beginning ≡ Some a →
-    phase_in t.phase ≡ s.task → numbers_in t ≡ last_task s → s.activities ≡ [] → dues s ≡ own_dues begun a t ++ pending_timer_dues s
-dues-idle s begun a t opened at carries phase numbers activities =
-    dues-parts s begun a t opened at carries phase numbers
-    ∙ ap (λ l. own_dues begun a t ++ flat_map activity_dues (filter (λ (r : ActivityRow). not (is_settled AnActivity r.opened.id (held_attributes s))) l) ++ pending_timer_dues s) activities
-    ∙ ap (λ l. l ++ pending_timer_dues s) (append-nil (own_dues begun a t))
+-- and the first of them
+pub dues-firsts : (s : RunState) (n begun : ℕ) (a : StartedAttributes) (t : WorkflowTask) → is_open s ≡ true → option_map (λ (b : Beginning). b.at) s.beginning ≡ Some begun → option_map (λ (b : Beginning). b.attributes) s.beginning ≡ Some a →
+    phase_in t.phase ≡ s.task → numbers_in t ≡ last_task s →
+    first_of n (dues s) ≡ lesser_of_two (first_of n (own_dues begun a t)) (lesser_of_two (first_of n (pending_activity_dues s)) (first_of n (pending_timer_dues s)))
+dues-firsts s n begun a t opened at carries phase numbers =
+    ap (first_of n) (dues-parts s begun a t opened at carries phase numbers ∙ append_assoc (own_dues begun a t) (pending_activity_dues s) (pending_timer_dues s))
+    ∙ first_of-append n (own_dues begun a t) (pending_activity_dues s ++ pending_timer_dues s)
+    ∙ ap (lesser_of_two (first_of n (own_dues begun a t))) (first_of-append n (pending_activity_dues s) (pending_timer_dues s))
 
 -- a turn of a loop that looks for the first of the deadlines of some things
 pub first-turn : {X : Type 0} (n : ℕ) (f : X → List Due) (xs : List X) (i : ℕ) (d : X) (before here after : Option Kept) → i < length xs →
@@ -113,6 +115,23 @@ kept-read es (o ∷ os) = by_test (is_unmarked o) (is_of ATimer o) refl (event_a
     by_test true true is (Some e) at again = ap (λ l. timer_dues e ++ l) again ∙ ap (λ q. flat_map timer_dues (cons_option q (used_in ATimer (unmarked os) es))) (sym (ap (λ t. cond t (event_at o.opener.event es) None) is ∙ at))
     by_test true false is r at again = again ∙ ap (λ q. flat_map timer_dues (cons_option q (used_in ATimer (unmarked os) es))) (sym (ap (λ t. cond t (event_at o.opener.event es) None) is))
     by_test false t is r at again = again
+
+rows-read : (es : List Event) (os : List Open) → flat_map (kept_activity_dues es) os ≡ flat_map activity_dues (rows_in (unmarked os) es)
+rows-read es [] = refl
+rows-read es (o ∷ os) = by_test (is_unmarked o) (is_of AnActivity o) refl (event_at o.opener.event es) refl (rows-read es os)
+  where
+    row : Option Event → List ActivityRow
+    row q = cons_option (option_map (kept_row o.notes) q) (rows_in (unmarked os) es)
+
+    by_test : (b t : Bool) → is_of AnActivity o ≡ t → (r : Option Event) → event_at o.opener.event es ≡ r → flat_map (kept_activity_dues es) os ≡ flat_map activity_dues (rows_in (unmarked os) es) →
+        cond (b && t) (activity_dues_of o.notes r) [] ++ flat_map (kept_activity_dues es) os ≡ flat_map activity_dues (rows_in (cond b (o ∷ unmarked os) (unmarked os)) es)
+    by_test true true is None at again = again ∙ ap (λ q. flat_map activity_dues (row q)) (sym (ap (λ t. cond t (event_at o.opener.event es) None) is ∙ at))
+    by_test true true is (Some e) at again = ap (λ l. activity_dues (kept_row o.notes e) ++ l) again ∙ ap (λ q. flat_map activity_dues (row q)) (sym (ap (λ t. cond t (event_at o.opener.event es) None) is ∙ at))
+    by_test true false is r at again = again ∙ ap (λ q. flat_map activity_dues (row q)) (sym (ap (λ t. cond t (event_at o.opener.event es) None) is))
+    by_test false t is r at again = again
+
+pub kept-activity-dues : (b : Buffer) (request : Option (List ℕ)) (status : Status) (t : WorkflowTask) (keys : List (List ℕ)) (os : List Open) → AgreesWith b os → flat_map (kept_activity_dues b.events) os ≡ pending_activity_dues (state_in b request status t keys os)
+kept-activity-dues b request status t keys os h = rows-read b.events os ∙ ap (flat_map activity_dues) (rows-unmarked b.held os b.events h.marks)
 
 pub kept-dues : (b : Buffer) (request : Option (List ℕ)) (status : Status) (t : WorkflowTask) (keys : List (List ℕ)) (os : List Open) → AgreesWith b os → flat_map (kept_dues b.events) os ≡ pending_timer_dues (state_in b request status t keys os)
 kept-dues b request status t keys os h = kept-read b.events os ∙ ap (flat_map timer_dues) (used-unmarked ATimer b.held os b.events h.marks)

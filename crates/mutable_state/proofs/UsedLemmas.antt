@@ -5,18 +5,17 @@ use Rattle.std.proofs.lemmas.Bool.Decides.{nat_tests}
 use Rattle.std.proofs.lemmas.List.{map-append}
 use Rattle.wf_event.specs.declared.event.Event.{Event}
 use Rattle.wf_event.specs.declared.attributes.Attributes.{Attributes}
-use Rattle.wf_event.specs.declared.attributes.Attributes.TheVariants.{ActivityTaskScheduled}
-use Rattle.wf_event.specs.Role.{Role, Closes, TimerCancels, role, is_outside_role, is_closing_role, Class, AnActivity, opens, Settled, settles}
+use Rattle.wf_event.specs.Role.{Role, Closes, TimerCancels, role, is_outside_role, is_closing_role, Class, opens, Settled, settles}
 use Rattle.service_model.specs.declared.journal.NewEvent.{NewEvent}
 use Rattle.service_model.specs.Journal.{Made}
 use Rattle.service_model.specs.Shown.{new_event, schedules_task}
 use Rattle.service_model.specs.Pending.{Task, is_opening, is_settling, is_settled, attributes_of}
 use Rattle.service_model.specs.RunState.{RunState, used, pending}
 use Rattle.service_model.specs.Tasks.{is_started_task}
-use Rattle.buffered.specs.Buffers.{Buffer, with_ids, pushed, held_back, flushed, unheld}
+use Rattle.buffered.specs.Buffers.{Buffer, with_id, with_ids, pushed, held_back, flushed, unheld}
 use Rattle.buffered.specs.Courses.{cancels_timer}
 use Rattle.mutable_state.specs.Formed.{is_kept_beside, Settles}
-use Rattle.mutable_state.specs.Steps.{buffer_of, carried, is_held_back, comes_last, unheld_by, with_new, unsettled, left_by, opened_by, used_with, event_id, itself, has_id, may_settle, MaySettle, asks_activity}
+use Rattle.mutable_state.specs.Steps.{buffer_of, carried, is_held_back, comes_last, unheld_by, with_new, unsettled, left_by, opened_by, used_with, event_id, itself, has_id, may_settle, MaySettle}
 use Rattle.mutable_state.proofs.OpenLemmas.{filter-map, all-filter, found, in_use_by, Same, same-as, Aims, Keeps, keeps-hold, keeps-flush, keeps-push, keeps-cancel}
 
 -- lists that f maps to one another stay so
@@ -46,29 +45,28 @@ used-map {X = X} {Y = Y} f c id make t held e xs = by_place (is_held_back t e.at
         ∙ ap (λ l. l ++ map f (cond op (make e ∷ []) [])) (left-map o (cond last (unsettled c (λ x. id (f x)) held xs) xs) ∙ ap (left_by c id o) (either last))
         ∙ ap (λ l. left_by c id o (cond last (unsettled c id held (map f xs)) (map f xs)) ++ l) (one op)
 
--- no activity is in use where none was and none is asked for
-opens-no-activity : (a : Attributes) → asks_activity a ≡ false → is_opening AnActivity (opens a) ≡ false
-unfolding opens
-opens-no-activity (ActivityTaskScheduled a) h = absurd (cc)
-opens-no-activity _ h = refl
-
-pub still-idle : {X : Type 0} (id : X → ℕ) (make : Event → X) (t : Task) (held : List NewEvent) (e : Event) → asks_activity e.attributes ≡ false → used_with AnActivity id make t held e [] ≡ []
-still-idle {X = X} id make t held e asks =
-    ap (λ b. cond (is_held_back t e.attributes) [] (cond (is_closing_role (role e.attributes)) [] (left_by AnActivity id (settles e.attributes) (cond (comes_last t e.attributes) [] []) ++ cond b (make e ∷ []) []))) (opens-no-activity e.attributes asks)
-    ∙ by_place (is_held_back t e.attributes) (is_closing_role (role e.attributes)) (comes_last t e.attributes) (settles e.attributes)
+-- what an event opens may be made in another way that gives the same, where it is written
+pub used-make : {X : Type 0} (c : Class) (id : X → ℕ) (make other : Event → X) (t : Task) (held : List NewEvent) (e : Event) (xs : List X) →
+    (is_held_back t e.attributes ≡ false → make e ≡ other e) → used_with c id make t held e xs ≡ used_with c id other t held e xs
+used-make {X = X} c id make other t held e xs same = by_place (is_held_back t e.attributes) same
   where
-    left : (o : Option Settled) → left_by AnActivity id o [] ≡ []
-    left None = refl
-    left (Some k) = refl
+    rest : X → List X
+    rest x = cond (is_closing_role (role e.attributes)) [] (left_by c id (settles e.attributes) (cond (comes_last t e.attributes) (unsettled c id held xs) xs) ++ cond (is_opening c (opens e.attributes)) (x ∷ []) [])
 
-    none : (b : Bool) → ◌≡◌ {A = List X} (cond b [] []) []
-    none true = refl
-    none false = refl
+    by_place : (b : Bool) → (b ≡ false → make e ≡ other e) → cond b xs (rest (make e)) ≡ cond b xs (rest (other e))
+    by_place true h = refl
+    by_place false h = ap rest (h refl)
 
-    by_place : (held_so closes last : Bool) (o : Option Settled) → ◌≡◌ {A = List X} (cond held_so [] (cond closes [] (left_by AnActivity id o (cond last [] []) ++ []))) []
-    by_place true closes last o = refl
-    by_place false true last o = refl
-    by_place false false last o = ap (λ l. left_by AnActivity id o l ++ []) (none last) ∙ ap (λ l. l ++ []) (left o)
+-- a history with one more event is longer, where the event is written
+new-longer : (held_so last : Bool) (r : Role) (e : NewEvent) (b : Buffer) →
+    length b.events + cond held_so 0 1 ≤ length (cond held_so (held_back b e) (cond last (pushed (flushed b) e) (pushed (unheld_by r b) e))).events
+new-longer true last r e b = omega arith
+new-longer false true r e b = let f = length-append b.events (with_ids (length b.events + 1) b.held) in let p = length-append (flushed b).events (with_id (length (flushed b).events + 1) e ∷ []) in omega (arith, f, p)
+new-longer false false (TimerCancels s) e b = let p = length-append b.events (with_id (length b.events + 1) e ∷ []) in omega (arith, p)
+new-longer false false r e b = let p = length-append b.events (with_id (length b.events + 1) e ∷ []) in omega (arith, p)
+
+pub grows-new : (t : Task) (e : NewEvent) (b : Buffer) → length b.events + cond (is_held_back t e.attributes) 0 1 ≤ length (with_new t e b).events
+grows-new t e b = new-longer (is_held_back t e.attributes) (comes_last t e.attributes) (role e.attributes) e b
 
 -- what an event settles, where it may
 record Target (es : List Made) (b : Buffer) (r : Role) (k : Settled) : Type 0 where

@@ -1,14 +1,16 @@
--- the deadlines that a run has of itself, and those of its pending timers
+-- the deadlines that a run has of itself, and those of its pending timers and activities
 use Rattle.std.specs.Prelude.{ℕ, cond, List, [], ◌++◌, flat_map, Option, None, Some}
 use Rattle.wf_event.specs.declared.event.Event.{Event}
 use Rattle.wf_event.specs.declared.payloads.WorkflowExecutionStarted.{WorkflowExecutionStarted as StartedAttributes}
 use Rattle.wf_event_values.specs.declared.policies.DeadlineClass.TheVariants.{RunTimeout, WorkflowTask as TaskTimeout}
-use Rattle.wf_event.specs.Role.{ATimer}
-use Rattle.service_model.specs.Deadlines.{Due, due_after, timer_dues}
+use Rattle.wf_event.specs.Role.{AnActivity, ATimer}
+use Rattle.service_model.specs.Deadlines.{Due, due_after, timer_dues, activity_dues, pending_rows}
 use Rattle.service_model.specs.RunState.{RunState, pending}
 use Rattle.service_model.specs.Tasks.{is_started_task}
 use Rattle.mutable_state.specs.declared.task.WorkflowTask.{WorkflowTask}
 use Rattle.mutable_state.specs.declared.open.Open.{Open}
+use Rattle.mutable_state.specs.declared.notes.Notes.{Notes}
+use Rattle.mutable_state.specs.Noted.{kept_row}
 use Rattle.mutable_state.specs.Opens.{event_at, is_pending_of}
 use Rattle.mutable_state.specs.Tasks.{phase_in}
 
@@ -31,3 +33,15 @@ dues_of (Some e) = timer_dues e
 -- that of a thing that is kept, where it is a pending timer
 abbrev pub kept_dues : List Event → Open → List Due
 kept_dues es o = cond (is_pending_of ATimer o) (dues_of (event_at o.opener.event es)) []
+
+-- those of a run's pending activities
+abbrev pub pending_activity_dues : RunState → List Due
+pending_activity_dues s = flat_map activity_dues (pending_rows s)
+
+abbrev pub activity_dues_of : Notes → Option Event → List Due
+activity_dues_of n None = []
+activity_dues_of n (Some e) = activity_dues (kept_row n e)
+
+-- those of a thing that is kept, where it is a pending activity
+abbrev pub kept_activity_dues : List Event → Open → List Due
+kept_activity_dues es o = cond (is_pending_of AnActivity o) (activity_dues_of o.notes (event_at o.opener.event es)) []

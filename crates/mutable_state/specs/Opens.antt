@@ -1,16 +1,21 @@
 -- what is kept of what is in use in a run: each thing by its class and the id of the event that opened it
-use Rattle.std.specs.Prelude.{◌≡◌, ℕ, Bool, true, false, cond, not, ◌&&◌, ◌||◌, ◌==◌, List, [], ◌∷◌, ◌++◌, filter, filter_map, map, length, Option, None, Some, option_map, IsSome}
+use Rattle.std.specs.Prelude.{◌≡◌, ◌<◌, ◌≤◌, ℕ, Bool, true, false, cond, not, ◌&&◌, ◌||◌, ◌==◌, List, [], ◌∷◌, ◌++◌, filter, filter_map, map, length, Option, None, Some, option_map, IsSome}
 use Rattle.std.specs.List.{AllByRecursion}
 use Rattle.wf_event.specs.declared.event.Event.{Event}
 use Rattle.wf_event.specs.declared.attributes.Attributes.{Attributes}
+use Rattle.wf_event.specs.declared.attributes.Attributes.TheVariants.{ActivityTaskCancelRequested}
 use Rattle.wf_event.specs.Role.{Role, TimerCancels, role, is_closing_role, Class, AnActivity, ATimer, AChild, ASignal, ACancel, opens, Settled, settles}
+use Rattle.service_model.specs.declared.journal.NoteFact.{NoteFact}
 use Rattle.service_model.specs.Pending.{Task, class_number, is_settling, is_settled}
+use Rattle.service_model.specs.RunState.{ActivityRow, is_open_status}
+use Rattle.wf_event_values.specs.declared.policies.Status.{Status}
 use Rattle.buffered.specs.Buffers.{Buffer, unheld, flushed}
 pub use Rattle.buffered.specs.Buffers.{event_at}
 use Rattle.mutable_state.specs.declared.open.Class.{Class as KeptClass}
 use Rattle.mutable_state.specs.declared.open.Class.TheVariants as kept
 use Rattle.mutable_state.specs.declared.open.Opener.{Opener}
 use Rattle.mutable_state.specs.declared.open.Open.{Open}
+use Rattle.mutable_state.specs.Noted.{no_notes, asked, noted, kept_row}
 use Rattle.mutable_state.specs.Formed.{IdsTo, SettlesTo}
 use Rattle.mutable_state.specs.Steps.{carried, is_held_back, comes_last}
 
@@ -34,10 +39,15 @@ opener_in o = record { class = class_in o.class; opener = o.event }
 abbrev pub opener_out : Settled → Opener
 opener_out k = record { class = class_out k.class; event = k.opener }
 
--- what is in use, and for how much more there is room
+-- what is in use, for how much more there is room, and how many more attempts may end
 pub record OpenRows : Type 0 where
   pub rows : List Open
   pub room : ℕ
+  pub attempts : ℕ
+
+-- what is opened, with no note on it
+abbrev pub new_open : KeptClass → ℕ → Open
+new_open c id = record { opener = record { class = c; event = id }; is_settled = false; notes = no_notes }
 
 -- whether it is this one
 abbrev pub is_one : Opener → Open → Bool
@@ -66,7 +76,32 @@ unmarked os = filter is_unmarked os
 -- and one more
 abbrev pub added : Option KeptClass → ℕ → List Open → List Open
 added None id os = os
-added (Some c) id os = os ++ record { opener = record { class = c; event = id }; is_settled = false } ∷ []
+added (Some c) id os = os ++ new_open c id ∷ []
+
+abbrev pub activity_of : ℕ → Opener
+activity_of id = record { class = kept.Activity; event = id }
+
+-- no activity is at a later attempt
+abbrev pub AreWithin : ℕ → List Open → Type 0
+AreWithin n os = AllByRecursion (λ (o : Open). o.notes.attempt ≤ n) os
+
+-- this activity is asked to cancel
+abbrev pub ask : ℕ → Open → Open
+ask id o = record o { notes = asked (is_one (activity_of id) o) o.notes }
+
+abbrev pub asked_in : Option ℕ → List Open → List Open
+asked_in None os = os
+asked_in (Some id) os = map (ask id) os
+
+-- which activity an event asks to cancel
+abbrev pub asks_of : Attributes → Option ℕ
+asks_of (ActivityTaskCancelRequested scheduled) = Some scheduled
+asks_of _ = None
+
+-- the first that is the activity, with one more note
+abbrev pub noted_in : ℕ → NoteFact → List Open → List Open
+noted_in at n [] = []
+noted_in at n (o ∷ os) = cond (is_one (activity_of n.activity) o) (record o { notes = noted at n.note o.notes } ∷ os) (o ∷ noted_in at n os)
 
 -- which timer's firing is taken away
 abbrev pub cancels_of : Role → Option ℕ
@@ -90,24 +125,37 @@ opened_at c es o = cond (is_of c o) (event_at o.opener.event es) None
 abbrev pub used_in : Class → List Open → List Event → List Event
 used_in c os es = filter_map (opened_at c es) os
 
+-- the row of an activity that is kept
+abbrev pub row_at : List Event → Open → Option ActivityRow
+row_at es o = option_map (kept_row o.notes) (opened_at AnActivity es o)
+
+abbrev pub rows_in : List Open → List Event → List ActivityRow
+rows_in os es = filter_map (row_at es) os
+
 -- whether it is pending, and of the class
 abbrev pub is_pending_of : Class → Open → Bool
 is_pending_of c o = is_unmarked o && is_of c o
 
--- what is kept with one more event, which has this id where it is written
+-- what is kept with one more event, which asks no activity to cancel, and has this id where it is written
 abbrev pub open_with : Task → Attributes → ℕ → List Open → List Open
 open_with t a id os =
     cond (is_held_back t a) (marked (option_map opener_out (settles a)) os)
     (cond (is_closing_role (role a)) []
     (added (option_map class_out (opens a)) id (without (option_map opener_out (settles a)) (cond (comes_last t a) (unmarked os) os))))
 
--- no activity is in use
-abbrev pub HasNoActivity : Buffer → List Open → Type 0
-HasNoActivity b os = used_in AnActivity os b.events ≡ []
+-- what is kept stands in the order of the events that opened it
+abbrev pub Ascending : List Open → Type 0
+Ascending [] = Unit {0}
+Ascending (o ∷ os) = AllByRecursion (λ (x : Open). o.opener.event < x.opener.event) os × Ascending os
+
+-- nothing is in use in a run that has closed
+abbrev pub HasNoRowsClosed : Status → List Open → Type 0
+HasNoRowsClosed status os = is_open_status status ≡ false → os ≡ []
 
 -- what is kept agrees with the history and with what is held back
 pub record AgreesWith (b : Buffer) (os : List Open) : Type 0 where
   pub ids : IdsTo (length b.events) b.events
   pub grounded : SettlesTo (length b.events) (carried b.held)
   pub there : AllByRecursion (λ (o : Open). IsSome (event_at o.opener.event b.events)) os
+  pub ascending : Ascending os
   pub marks : AllByRecursion (λ (o : Open). o.is_settled ≡ is_settled (class_in o.opener.class) o.opener.event (carried b.held)) os

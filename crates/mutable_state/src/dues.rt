@@ -1,34 +1,49 @@
 //! When a run's time is over.
 
-ghost use Rattle.std.specs.Prelude.{◌≡◌, [], option_copied, option_map, flat_map};
+ghost use Rattle.std.specs.Prelude.{◌≡◌, option_copied, option_map, flat_map, IfOk};
 ghost use Rattle.timeouts.specs.Firsts.{first_of, first_due, HasTimer};
 ghost use Rattle.timeouts.specs.Slots.{run_due};
-ghost use Rattle.service_model.specs.Deadlines.{timer_dues};
+ghost use Rattle.service_model.specs.Deadlines.{timer_dues, activity_dues, by_phase};
+ghost use Rattle.service_model.specs.Pending.{IsQueued, IsRunning, IsWaiting};
+ghost use Rattle.mutable_state.specs.Noted.{kept_row, phase_said};
 ghost use Rattle.service_model.specs.TimerTurns.{timer_name};
 ghost use Rattle.mutable_state.specs.Readers.{started_timer};
-ghost use Rattle.mutable_state.specs.Dues.{own_dues, task_dues, kept_dues, pending_timer_dues};
+ghost use Rattle.mutable_state.specs.Dues.{own_dues, task_dues, kept_dues, kept_activity_dues, pending_timer_dues, pending_activity_dues};
 
+use crate::notes::{ActivityPhase, Notes};
 use crate::open::{Class, Open};
 use crate::run::Run;
 use crate::task::WorkflowTask;
 use buffered::History;
+use retry::wait_after;
+use std::alloc::AllocError;
 use timeouts::{Due, due_after, first_of_two};
-use wf_event::payloads::WorkflowExecutionStarted;
+use wf_event::payloads::{ActivityTaskScheduled, WorkflowExecutionStarted};
 use wf_event::{Attributes, Event};
 use wf_event_values::{DeadlineClass, Id, Moment};
 
 impl Run {
-    /// The first of its deadlines, where this is its ordinal. No activity is open, so far.
-    pub fn first_due(&self, ordinal: u64) -> Option<Due>
-        ensures due { option_map run_due result ≡ first_due ordinal self.now.state }
-        ensures activities { self.now.state.activities ≡ [] }
+    /// The first of its deadlines, where this is its ordinal. A retry policy out of its ranges, which
+    /// no command gives an activity, is answered as want of memory.
+    pub fn first_due(&self, ordinal: u64) -> Result<Option<Due>, AllocError>
+        ensures { IfOk result (λ due. option_map run_due due ≡ first_due ordinal self.now.state) }
     {
         let begun = self.history.events().first().unwrap().at;
         if !self.is_open() {
-            return None;
+            return Ok(None);
         }
         let own = first_own_due(begun, self.started(), self.task, ordinal);
-        first_of_two(own, self.first_timer_due(ordinal))
+        let activities = self.first_activity_due(ordinal)?;
+        let others = first_of_two(activities, self.first_timer_due(ordinal));
+        Ok(first_of_two(own, others))
+    }
+
+    /// The first deadline of its pending activities.
+    fn first_activity_due(&self, ordinal: u64) -> Result<Option<Due>, AllocError>
+        ensures { IfOk result (λ due. option_map run_due due ≡ first_of ordinal (pending_activity_dues self.now.state)) }
+    {
+        let first = first_kept_activity_due(self.in_use.rows(), &self.history, ordinal)?;
+        Ok(first)
     }
 
     /// The first deadline of its pending timers.
@@ -37,6 +52,141 @@ impl Run {
     {
         first_kept_due(self.in_use.rows(), &self.history, ordinal)
     }
+}
+
+/// The first deadline of the activities that are kept and pending.
+#[tactic(auto, unfolding(service_model::specs::TimerTurns::least))]
+fn first_kept_activity_due(
+    rows: &[Open],
+    history: &History,
+    ordinal: u64,
+) -> Result<Option<Due>, AllocError>
+    ensures { IfOk result (λ due. option_map run_due due ≡ first_of ordinal (flat_map (kept_activity_dues history.now.lists.events) rows.now)) }
+{
+    let mut first = None;
+    for row in rows {
+        let due = kept_activity_due(row, history, ordinal)?;
+        first = first_of_two(first, due);
+    }
+    Ok(first)
+}
+
+/// The first deadline of what is kept, where it is a pending activity.
+#[tactic(auto, unfolding(service_model::specs::TimerTurns::least))]
+fn kept_activity_due(row: &Open, history: &History, ordinal: u64) -> Result<Option<Due>, AllocError>
+    ensures { IfOk result (λ due. option_map run_due due ≡ first_of ordinal (kept_activity_dues history.now.lists.events row.now)) }
+{
+    if !row.is_pending_of(Class::Activity) {
+        return Ok(None);
+    }
+    match history.event(row.opener.event) {
+        Some(event) => activity_due(event, &row.notes, ordinal),
+        None => Ok(None),
+    }
+}
+
+/// The first deadline of the activity that an event scheduled, on which there are these notes.
+#[tactic(auto, unfolding(service_model::specs::TimerTurns::least))]
+pub fn activity_due(event: &Event, notes: &Notes, ordinal: u64) -> Result<Option<Due>, AllocError>
+    ensures { IfOk result (λ due. option_map run_due due ≡ first_of ordinal (activity_dues (kept_row notes.now event.now))) }
+{
+    let Attributes::ActivityTaskScheduled(activity) = &event.attributes else {
+        return Ok(None);
+    };
+    let close = due_after(
+        event.at,
+        activity.schedule_to_close,
+        ordinal,
+        DeadlineClass::ScheduleToClose,
+        event.id,
+    );
+    let phase = phase_due(event, activity, notes, ordinal)?;
+    Ok(first_of_two(close, phase))
+}
+
+/// The first deadline of an activity in its phase.
+#[tactic(auto, unfolding(service_model::specs::TimerTurns::least))]
+fn phase_due(
+    event: &Event,
+    activity: &ActivityTaskScheduled,
+    notes: &Notes,
+    ordinal: u64,
+) -> Result<Option<Due>, AllocError>
+    ensures { IfOk result (λ due. option_map run_due due ≡ first_of ordinal (by_phase (kept_row notes.now event.now) activity.now (phase_said notes.now.phase))) }
+{
+    match notes.phase {
+        ActivityPhase::Queued => Ok(queued_due(event, activity, notes, ordinal)),
+        ActivityPhase::Running => Ok(running_due(event, activity, notes, ordinal)),
+        ActivityPhase::Waiting => waiting_due(event, activity, notes, ordinal),
+    }
+}
+
+/// When an attempt has waited too long to be taken.
+fn queued_due(
+    event: &Event,
+    activity: &ActivityTaskScheduled,
+    notes: &Notes,
+    ordinal: u64,
+) -> Option<Due>
+    ensures { option_map run_due result ≡ first_of ordinal (by_phase (kept_row notes.now event.now) activity.now IsQueued) }
+{
+    let since = notes.ready.unwrap_or(event.at);
+    due_after(
+        since,
+        activity.schedule_to_start,
+        ordinal,
+        DeadlineClass::ScheduleToStart,
+        event.id,
+    )
+}
+
+/// When a running attempt has sent no heartbeat for too long, or has run too long.
+fn running_due(
+    event: &Event,
+    activity: &ActivityTaskScheduled,
+    notes: &Notes,
+    ordinal: u64,
+) -> Option<Due>
+    ensures { option_map run_due result ≡ first_of ordinal (by_phase (kept_row notes.now event.now) activity.now IsRunning) }
+{
+    let beat = due_after(
+        notes.sign_of_life.unwrap_or(event.at),
+        activity.heartbeat,
+        ordinal,
+        DeadlineClass::Heartbeat,
+        event.id,
+    );
+    let end = due_after(
+        notes.taken.unwrap_or(event.at),
+        activity.start_to_close,
+        ordinal,
+        DeadlineClass::StartToClose,
+        event.id,
+    );
+    first_of_two(beat, end)
+}
+
+/// When the next attempt is queued.
+#[tactic(auto, unfolding(service_model::specs::TimerTurns::least, service_model::specs::Retry::wait))]
+fn waiting_due(
+    event: &Event,
+    activity: &ActivityTaskScheduled,
+    notes: &Notes,
+    ordinal: u64,
+) -> Result<Option<Due>, AllocError>
+    ensures { IfOk result (λ due. option_map run_due due ≡ first_of ordinal (by_phase (kept_row notes.now event.now) activity.now IsWaiting)) }
+{
+    let ended = notes.attempt.saturating_sub(1).max(1);
+    let Some(wait) = wait_after(&activity.retry, ended) else {
+        return Err(AllocError);
+    };
+    let since = notes.ended.unwrap_or(event.at);
+    Ok(Some(Due {
+        due: since.millis() + wait,
+        run: ordinal,
+        class: DeadlineClass::RetryReady,
+        event: event.id,
+    }))
 }
 
 impl Run {

@@ -4,5 +4,5 @@
 mod policy;
 mod verdict;
 
-pub use policy::RetryPolicy;
+pub use policy::{RetryPolicy, wait_after};
 pub use verdict::{Ended, Verdict};

@@ -1,6 +1,6 @@
 //! Retry policies and their waits.
 
-ghost use Rattle.std.specs.Prelude.{◌≡◌, ◌≤◌, if◌then◌else◌, ◌==◌, ◌&&◌, ◌||◌, not, nat_le, option_copied};
+ghost use Rattle.std.specs.Prelude.{◌≡◌, ◌≤◌, if◌then◌else◌, ◌==◌, ◌&&◌, ◌||◌, not, nat_le, option_copied, IfSome, IsTrue};
 ghost use Rattle.wf_command.specs.Check.{good_policy};
 ghost use Rattle.service_model.specs.Retry.{maximum_of, wait, is_listed};
 ghost use Rattle.wf_event_values.specs.Limits.{IsSpan};
@@ -48,11 +48,7 @@ impl RetryPolicy {
         if !is_good_policy(&fields) {
             return Err(Cause::BadScheduleActivityAttributes);
         }
-        let maximum = if fields.maximum == 0 {
-            (100 * fields.initial).min(LONGEST)
-        } else {
-            fields.maximum
-        };
+        let maximum = maximum_of(&fields);
         Ok(RetryPolicy { fields, maximum })
     }
 
@@ -64,13 +60,7 @@ impl RetryPolicy {
         ensures value { result ≡ wait self.now attempt }
         ensures limit { IsSpan result }
     {
-        let factor = self.fields.factor;
-        let maximum = self.maximum;
-        let mut wait = self.fields.initial;
-        for _turn in 0..(attempt - 1).min(MOST_TURNS) {
-            wait = (wait * factor).min(maximum);
-        }
-        wait
+        wait(&self.fields, self.maximum, attempt)
     }
 
     /// Whether the policy lists a failure's type as not to be retried.
@@ -90,4 +80,44 @@ impl RetryPolicy {
         let limit = self.fields.attempts;
         (limit != 0 && limit <= u64::from(attempt)) || attempt == u32::MAX
     }
+}
+
+/// How many milliseconds the attempt behind the one of this number waits by a policy of these fields, where they are in their ranges.
+pub fn wait_after(fields: &PolicyFields, attempt: u32) -> Option<u64>
+    requires { 1 ≤ attempt }
+    ensures value { IfSome result (λ w. w ≡ wait fields.now attempt) }
+    ensures limit { IfSome result (λ w. IsSpan w) }
+{
+    if !is_good_policy(fields) {
+        return None;
+    }
+    Some(wait(fields, maximum_of(fields), attempt))
+}
+
+/// The longest wait.
+fn maximum_of(fields: &PolicyFields) -> u64
+    requires { IsTrue (good_policy fields.now) }
+    ensures { result ≡ maximum_of fields.now }
+{
+    if fields.maximum == 0 {
+        (100 * fields.initial).min(LONGEST)
+    } else {
+        fields.maximum
+    }
+}
+
+/// How many milliseconds the attempt behind the one of this number waits.
+fn wait(fields: &PolicyFields, maximum: u64, attempt: u32) -> u64
+    requires good { IsTrue (good_policy fields.now) }
+    requires maximum { maximum ≡ maximum_of fields.now }
+    requires attempt { 1 ≤ attempt }
+    ensures value { result ≡ wait fields.now attempt }
+    ensures limit { IsSpan result }
+{
+    let factor = fields.factor;
+    let mut wait = fields.initial;
+    for _turn in 0..(attempt - 1).min(MOST_TURNS) {
+        wait = (wait * factor).min(maximum);
+    }
+    wait
 }

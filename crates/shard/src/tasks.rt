@@ -31,7 +31,7 @@ use wf_event::Attributes;
 use wf_event_values::{Cause, Field, Items, Moment, Refusal, TaskKind, Text};
 
 impl<T: KeepsRun> Shard<T> {
-    /// A task is taken, where it waits. No activity is scheduled so far.
+    /// A task is taken, where it waits.
     #[tactic(auto, unfolding(service_model::specs::Tasks::start_task))]
     pub(crate) fn prepare_start_task(
         &mut self,
@@ -82,17 +82,6 @@ impl<T: KeepsRun> Shard<T> {
             change: Change::Added(MoreOf { index: n - 1, plan }),
             reply: Ok(Answer::WorkflowTask(task)),
         })
-    }
-
-    /// An activity's task, of which there is none: the hint is stale.
-    fn take_activity(&self, moment: Moment, hint: Hint) -> Result<Plan<T>, AllocError>
-        ensures { IfOk result (λ plan. FitsStep self.now plan moment (take_by_kind (runs_in self.now) hint TaskKind.Activity)) }
-    {
-        if hint.shard != self.setup.shard || hint.run < 1 || hint.run > self.runs.len() as u64 {
-            return Ok(answered(moment, Answer::Stale));
-        }
-        let _ = self.runs[hint.run as usize - 1].pending(self.alloc)?;
-        Ok(answered(moment, Answer::Stale))
     }
 
     /// The ordinal of the run whose workflow task waits to be taken as the hint says.

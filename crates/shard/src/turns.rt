@@ -75,11 +75,8 @@ fn fired_facts<T: KeepsRun>(
         DeadlineClass::RunTimeout => run_timed_out(alloc),
         DeadlineClass::WorkflowTask => task_timed_out(alloc, run),
         DeadlineClass::UserTimer => timer_fired(alloc, run, due.event),
-        _ => {
-            // No activity is open, so far.
-            let _ = run.first_due(alloc, due.run)?;
-            unreachable!()
-        }
+        // Those of activities wait for the command that schedules one.
+        _ => Err(AllocError),
     }
 }
 

@@ -4,14 +4,9 @@ use Rattle.wf_event_values.specs.declared.policies.DeadlineClass.{DeadlineClass}
 use Rattle.service_model.specs.TimerTurns.{fire}
 use Rattle.mutable_state.specs.Steps.{FitStep}
 use Rattle.timeouts.specs.Slots.{run_due}
-use Rattle.timeouts.proofs.ClassLemmas.{due-own, due-timer}
-use Rattle.shard.proofs.TurnLemmas.{over-fits, task-fits, timer-fits, own-is, on-any}
+use Rattle.timeouts.proofs.ClassLemmas.{due-timer}
+use Rattle.shard.proofs.TurnLemmas.{over-fits, task-fits, timer-fits, on-any}
 use Rattle.shard.proofs.turns.fired_facts.Goals as goal
-
-pub unreachable-requires : goal.unreachable-requires
-unreachable-requires g c =
-    let known = c.in_ok-first_due-in_default.ensures in
-    own-is c.args.due.class (due-own c.args.run.now.state c.args.due.run (run_due c.args.due) known.activities c.requires) c.in_default.not-RunTimeout c.in_default.not-WorkflowTask c.in_default.not-UserTimer
 
 pub returns-in-RunTimeout-clause-facts : goal.returns-in-RunTimeout-clause-facts
 unfolding fire

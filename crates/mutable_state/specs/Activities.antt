@@ -1,0 +1,27 @@
+-- a pending activity as it is asked for
+use Rattle.std.specs.Prelude.{◌≡◌, ℕ, Bool, false, cond, List, [], find, Option, None, option_map, option_and_then}
+use Rattle.wf_event.specs.declared.event.Event.{Event}
+use Rattle.service_model.specs.RunState.{RunState, ActivityRow, is_open}
+use Rattle.mutable_state.specs.declared.activity.Activity.{Activity}
+use Rattle.mutable_state.specs.declared.open.Open.{Open}
+use Rattle.mutable_state.specs.Noted.{kept_row}
+use Rattle.mutable_state.specs.Opens.{event_at, activity_of, is_one}
+
+-- its row
+abbrev pub row_said : Activity → ActivityRow
+row_said a = kept_row a.notes a.scheduled
+
+abbrev pub is_activity : ℕ → Open → Bool
+is_activity id o = is_one (activity_of id) o
+
+-- that of a thing that is kept, where no event that settles it is held back
+abbrev pub pending_at : List Event → ℕ → Open → Option ActivityRow
+pending_at es id o = cond o.is_settled None (option_map (kept_row o.notes) (event_at id es))
+
+-- the row of the activity that this event scheduled, by what is kept
+abbrev pub kept_activity : List Event → List Open → ℕ → Option ActivityRow
+kept_activity es os id = option_and_then (pending_at es id) (find (is_activity id) os)
+
+-- a run that has closed has no activity
+abbrev pub HasNoActivityClosed : RunState → Type 0
+HasNoActivityClosed s = is_open s ≡ false → s.activities ≡ []

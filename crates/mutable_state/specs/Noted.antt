@@ -1,0 +1,45 @@
+-- what is kept of the notes on an activity, and of its requests to cancel
+use Rattle.std.specs.Prelude.{ℕ, ◌+◌, Bool, false, ◌||◌, List, [], Option, None, Some}
+use Rattle.wf_event.specs.declared.event.Event.{Event}
+use Rattle.service_model.specs.declared.journal.Note.{Note}
+use Rattle.service_model.specs.declared.journal.Note.TheVariants.{Taken, Ended, Ready, Beat}
+use Rattle.service_model.specs.Pending.{Phase, IsQueued, IsRunning, IsWaiting}
+use Rattle.service_model.specs.RunState.{ActivityRow}
+use Rattle.mutable_state.specs.declared.notes.ActivityPhase.{ActivityPhase}
+use Rattle.mutable_state.specs.declared.notes.ActivityPhase.TheVariants as kept
+use Rattle.mutable_state.specs.declared.notes.Notes.{Notes}
+
+-- where the activity stands
+abbrev pub phase_said : ActivityPhase → Phase
+phase_said kept.Queued = IsQueued
+phase_said kept.Running = IsRunning
+phase_said kept.Waiting = IsWaiting
+
+-- before the first note
+abbrev pub no_notes : Notes
+no_notes = record { phase = kept.Queued; attempt = 1; ready = None; taken = None; sign_of_life = None; ended = None; details = None; cancel_requested = false }
+
+-- and one more note, at this moment
+abbrev pub noted : ℕ → Note → Notes → Notes
+noted at Taken n = record n { phase = kept.Running; taken = Some at; sign_of_life = Some at }
+noted at Ended n = record n { phase = kept.Waiting; attempt = n.attempt + 1; ended = Some at }
+noted at Ready n = record n { phase = kept.Queued; ready = Some at }
+noted at (Beat details) n = record n { sign_of_life = Some at; details = Some details }
+
+-- and a request to cancel, where there is one
+abbrev pub asked : Bool → Notes → Notes
+asked here n = record n { cancel_requested = n.cancel_requested || here }
+
+-- the activity's row, by the event that scheduled it
+abbrev pub kept_row : Notes → Event → ActivityRow
+kept_row n e = record {
+  opened = e;
+  phase = phase_said n.phase;
+  attempt = n.attempt;
+  ready = n.ready;
+  taken = n.taken;
+  sign_of_life = n.sign_of_life;
+  ended = n.ended;
+  details = n.details;
+  cancel_requested = n.cancel_requested;
+}

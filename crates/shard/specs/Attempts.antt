@@ -1,0 +1,33 @@
+-- the attempt of an activity that a hint names
+use Rattle.std.specs.Prelude.{ℕ, Bool, cond, ◌&&◌, ◌==◌, List, Option, None, Some}
+use Rattle.wf_event.specs.declared.payloads.ActivityTaskScheduled.{ActivityTaskScheduled as ScheduledAttributes}
+use Rattle.wf_event_values.specs.Run.{Run}
+use Rattle.service_model.specs.declared.answer.ActivityTask.{ActivityTask}
+use Rattle.service_model.specs.declared.request.Hint.{Hint}
+use Rattle.service_model.specs.Deadlines.{scheduled_fields}
+use Rattle.service_model.specs.Outcome.{Runs, has_run, run_at, run_id}
+use Rattle.service_model.specs.RunState.{ActivityRow, id_of}
+use Rattle.service_model.specs.Tasks.{is_queued}
+
+abbrev pub waits_at : ℕ → ActivityRow → Bool
+waits_at attempt r = is_queued r.phase && (r.attempt == attempt)
+
+-- its task, where it waits
+abbrev pub task_by : Hint → Run → List ℕ → ActivityRow → Option ScheduledAttributes → Option ActivityTask
+task_by h run id r None = None
+task_by h run id r (Some a) =
+    cond (waits_at h.attempt r)
+    (Some (record { activity_id = a.activity_id; activity_type = a.activity_type; attempt = h.attempt; details = r.details; input = a.input; run = run; scheduled = h.event; workflow_id = id }))
+    None
+
+abbrev pub task_of : Hint → Run → List ℕ → ActivityRow → Option ActivityTask
+task_of h run id r = task_by h run id r (scheduled_fields r.opened.attributes)
+
+-- the same, where the activity is pending
+abbrev pub task_for : Runs → Hint → Option ActivityRow → Option ActivityTask
+task_for R h None = None
+task_for R h (Some r) = task_of h (run_id R.setup h.run) (id_of (run_at R h.run)) r
+
+-- whether the shard has the run that a hint names
+abbrev pub has_run_of : Runs → Hint → Bool
+has_run_of R h = (h.shard == R.setup.shard) && has_run R h.run

@@ -1,0 +1,148 @@
+//! Taking the attempt of an activity.
+
+ghost use Rattle.std.specs.Prelude.{◌≡◌, ◌≤◌, ◌∷◌, [], length, true, is_some, IfOk, IfSome};
+ghost use Rattle.wf_event.specs.Role.{AnActivity};
+ghost use Rattle.wf_event_values.specs.declared.policies.TaskKind.TheVariants.{Activity as of_an_activity};
+ghost use Rattle.service_model.specs.declared.answer.Answer.TheVariants.{ActivityTask as an_activity_task};
+ghost use Rattle.service_model.specs.declared.journal.Note.TheVariants.{Taken};
+ghost use Rattle.service_model.specs.Outcome.{adds, noted, run_at};
+ghost use Rattle.service_model.specs.RunState.{is_open, used};
+ghost use Rattle.service_model.specs.Tasks.{take_by_kind, pending_row};
+ghost use Rattle.mutable_state.specs.Activities.{row_said};
+ghost use Rattle.mutable_state.specs.Steps.{has_id};
+ghost use Rattle.shard.specs.Attempts.{has_run_of, task_of, task_for, waits_at};
+ghost use Rattle.shard.specs.Fitting.{FitsStep};
+ghost use Rattle.shard.specs.View.{state, runs_in};
+
+use crate::plan::{Change, MoreOf, Plan};
+use crate::prepare::answered;
+use crate::shard::Shard;
+use mutable_state::{Activity, ActivityPhase, Change as MoreFacts};
+use mutable_state_keeper::KeepsRun;
+use service_model::answer::{ActivityTask, Answer};
+use service_model::journal::{Fact, Note, NoteFact};
+use service_model::request::Hint;
+use std::alloc::{AllocError, Global};
+use wf_event::Attributes;
+use wf_event_values::{Id, Items, Moment, RunId};
+
+impl<T: KeepsRun> Shard<T> {
+    /// The attempt of an activity is taken, where it waits.
+    pub(crate) fn take_activity(
+        &mut self,
+        moment: Moment,
+        hint: Hint,
+    ) -> Result<Plan<T>, AllocError>
+        ensures same { state self.new ≡ state self.old }
+        ensures plan { IfOk result (λ plan. FitsStep self.new plan moment (take_by_kind (runs_in self.old) hint of_an_activity)) }
+    {
+        let Some(n) = self.run_of(hint) else {
+            return Ok(answered(moment, Answer::Stale));
+        };
+        let Some(task) = self.attempt_for(n, hint)? else {
+            return Ok(answered(moment, Answer::Stale));
+        };
+        let plan = self.take_attempt(moment, n, hint, task)?;
+        Ok(plan)
+    }
+
+    /// The ordinal that the hint names, where the shard has that run.
+    fn run_of(&self, hint: Hint) -> Option<usize>
+        ensures some { has_run_of (runs_in self.now) hint ≡ is_some result }
+        ensures found { IfSome result (λ n. (n ≡ hint.run) × (1 ≤ n) × (n ≤ length self.now.runs)) }
+    {
+        let n = hint.run as usize;
+        if hint.shard != self.setup.shard || n < 1 || n > self.runs.len() {
+            return None;
+        }
+        Some(n)
+    }
+
+    /// The attempt that the hint names in the run with that ordinal, where it waits to be taken.
+    fn attempt_for(&self, n: usize, hint: Hint) -> Result<Option<ActivityTask>, AllocError>
+        requires from { 1 ≤ n }
+        requires to { n ≤ length self.now.runs }
+        requires run { n ≡ hint.run }
+        ensures task { IfOk result (λ task. task ≡ task_for (runs_in self.now) hint (pending_row (run_at (runs_in self.now) hint.run) hint.event)) }
+        ensures there { IfOk result (λ task. IfSome task (λ t. has_id hint.event (used AnActivity (run_at (runs_in self.now) n)) ≡ true)) }
+        ensures open { IfOk result (λ task. IfSome task (λ t. is_open (run_at (runs_in self.now) n) ≡ true)) }
+    {
+        let Some(activity) = self.runs[n - 1].pending_activity(self.alloc, hint.event)? else {
+            return Ok(None);
+        };
+        let workflow_id = self.runs[n - 1].workflow_id().clone()?;
+        let task = attempt_task(&activity, hint, self.run_id(n), workflow_id)?;
+        Ok(task)
+    }
+
+    /// The taking of the attempt of an activity in use.
+    fn take_attempt(
+        &mut self,
+        moment: Moment,
+        n: usize,
+        hint: Hint,
+        task: ActivityTask,
+    ) -> Result<Plan<T>, AllocError>
+        requires from { 1 ≤ n }
+        requires to { n ≤ length self.old.runs }
+        requires run { n ≡ hint.run }
+        requires there { has_id hint.event (used AnActivity (run_at (runs_in self.old) n)) ≡ true }
+        requires open { is_open (run_at (runs_in self.old) n) ≡ true }
+        ensures same { state self.new ≡ state self.old }
+        ensures plan { IfOk result (λ plan. FitsStep self.new plan moment (adds hint.run (noted hint.event Taken ∷ []) (an_activity_task task))) }
+    {
+        let facts = taken_facts(self.alloc, hint.event)?;
+        let plan = self.prepare_in(n - 1, MoreFacts { moment, facts })?;
+        Ok(Plan {
+            moment,
+            change: Change::Added(MoreOf { index: n - 1, plan }),
+            reply: Ok(Answer::ActivityTask(task)),
+        })
+    }
+}
+
+/// The task of an activity's attempt, where that waits as the hint says.
+fn attempt_task(
+    activity: &Activity,
+    hint: Hint,
+    run: RunId,
+    workflow_id: Id,
+) -> Result<Option<ActivityTask>, AllocError>
+    ensures { IfOk result (λ task. task ≡ task_of hint run workflow_id (row_said activity.now)) }
+{
+    let Attributes::ActivityTaskScheduled(scheduled) = &activity.scheduled.attributes else {
+        return Ok(None);
+    };
+    if !waits(activity, hint.attempt) {
+        return Ok(None);
+    }
+    Ok(Some(ActivityTask {
+        activity_id: scheduled.activity_id.clone()?,
+        activity_type: scheduled.activity_type.clone()?,
+        attempt: hint.attempt,
+        details: activity.notes.copy_details()?,
+        input: scheduled.input.clone()?,
+        run,
+        scheduled: hint.event,
+        workflow_id,
+    }))
+}
+
+/// Whether the activity waits to be taken at this attempt.
+fn waits(activity: &Activity, attempt: u32) -> bool
+    ensures { result ≡ waits_at attempt (row_said activity.now) }
+{
+    matches!(activity.notes.phase, ActivityPhase::Queued) && activity.notes.attempt == attempt
+}
+
+/// The note of an attempt that is taken.
+fn taken_facts(alloc: Global, activity: u64) -> Result<Items<Fact>, AllocError>
+    ensures { IfOk result (λ facts. facts ≡ noted activity Taken ∷ []) }
+{
+    let mut facts = Vec::new(alloc);
+    facts.push(Fact::Note(NoteFact {
+        activity,
+        note: Note::Taken,
+    }))?;
+    Ok(Items::from_vec(facts))
+}
