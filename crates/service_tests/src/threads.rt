@@ -45,7 +45,8 @@ fn workflow_of(request: &Request) -> &str {
         Operation::History(asked) | Operation::Describe(asked) => asked.workflow_id.as_str(),
         Operation::StartTask(_)
         | Operation::CompleteWorkflowTask(_)
-        | Operation::FailWorkflowTask(_) => "",
+        | Operation::FailWorkflowTask(_)
+        | Operation::TimerTurn => "",
     }
 }
 
