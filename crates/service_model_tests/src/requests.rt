@@ -2,7 +2,7 @@
 //! of this shard and of others, now and then a policy or a command that isn't served, and tasks that
 //! wait, were taken, or were ended long ago. Durations are such that many deadlines are due.
 
-ghost use Rattle.std.specs.Prelude.{◌≡◌};
+ghost use Rattle.std.specs.Prelude.{◌≡◌, ◌<◌};
 
 use crate::draws::Draws;
 use crate::known::Known;
@@ -11,7 +11,7 @@ use service_model::request::{
 };
 use std::alloc::Global;
 use wf_command::Command;
-use wf_command::command::RecordMarker;
+use wf_command::command::{RecordMarker, StartTimer};
 use wf_event_values::{
     ConflictPolicy, Field, Id, Items, Moment, Refusal, ReusePolicy, RunId, Span, Text,
 };
@@ -36,17 +36,17 @@ pub(crate) fn request(
 }
 
 fn operation(alloc: Global, draws: &mut Draws, known: &Known) -> Result<Operation, Refusal> {
-    match draws.below(18) {
+    match draws.below(22) {
         0..=1 => Ok(Operation::Start(start(alloc, draws)?)),
-        2..=5 => Ok(Operation::Signal(signal(alloc, draws)?)),
-        6..=8 => Ok(Operation::StartTask(known.hint(draws))),
-        9..=10 => Ok(Operation::CompleteWorkflowTask(completion(alloc, draws, known)?)),
-        11 => Ok(Operation::FailWorkflowTask(FailWorkflowTask {
+        2..=4 => Ok(Operation::Signal(signal(alloc, draws)?)),
+        5..=8 => Ok(Operation::StartTask(known.hint(draws))),
+        9..=11 => Ok(Operation::CompleteWorkflowTask(completion(alloc, draws, known)?)),
+        12 => Ok(Operation::FailWorkflowTask(FailWorkflowTask {
             task: known.token(draws),
             message: input(alloc, draws)?,
         })),
-        12..=14 => Ok(Operation::History(read(alloc, draws)?)),
-        15..=16 => Ok(Operation::TimerTurn),
+        13..=15 => Ok(Operation::History(read(alloc, draws)?)),
+        16..=20 => Ok(Operation::TimerTurn),
         _ => Ok(Operation::Describe(read(alloc, draws)?)),
     }
 }
@@ -67,13 +67,18 @@ fn completion(
     })
 }
 
-/// A marker half of the time, seldom a command that isn't served, and else one that closes.
+/// A marker or a timer most of the time, seldom a command that isn't served, and else one that closes.
 fn command(alloc: Global, draws: &mut Draws) -> Result<Command, Refusal> {
     match draws.below(16) {
-        0..=9 => Ok(Command::RecordMarker(RecordMarker {
+        0..=3 => Ok(Command::RecordMarker(RecordMarker {
             name: Text::new(alloc, Field::Name, "mark")?,
             details: input(alloc, draws)?,
         })),
+        4..=8 => Ok(Command::StartTimer(StartTimer {
+            timer_id: timer_id(alloc, draws)?,
+            duration: Span::new(Field::Duration, draws.below(100))?,
+        })),
+        9 => Ok(Command::CancelTimer(timer_id(alloc, draws)?)),
         10..=11 => Ok(Command::CompleteWorkflowExecution(input(alloc, draws)?)),
         12..=13 => Ok(Command::FailWorkflowExecution(input(alloc, draws)?)),
         14 => Ok(Command::CancelWorkflowExecution(input(alloc, draws)?)),
@@ -98,8 +103,8 @@ fn start(alloc: Global, draws: &mut Draws) -> Result<Start, Refusal> {
             1 => ConflictPolicy::UseExisting,
             _ => ConflictPolicy::Fail,
         },
-        run_timeout: span(draws)?,
-        task_timeout: span(draws)?,
+        run_timeout: span(draws, 1000)?,
+        task_timeout: span(draws, 200)?,
     })
 }
 
@@ -133,6 +138,11 @@ fn request_id(alloc: Global, draws: &mut Draws) -> Result<Option<Id>, Refusal> {
     Ok(Some(Id::new(alloc, Field::RequestId, text.as_str())?))
 }
 
+fn timer_id(alloc: Global, draws: &mut Draws) -> Result<Id, Refusal> {
+    let text = format!(in alloc; "timer-{}", draws.below(4))?;
+    Id::new(alloc, Field::TimerId, text.as_str())
+}
+
 fn queue(alloc: Global, draws: &mut Draws) -> Result<Id, Refusal> {
     let name = if draws.one_in(8) { "nobody" } else { "main" };
     Id::new(alloc, Field::TaskQueue, name)
@@ -143,11 +153,14 @@ fn input(alloc: Global, draws: &mut Draws) -> Result<Text, Refusal> {
     Text::new(alloc, Field::Input, text.as_str())
 }
 
-fn span(draws: &mut Draws) -> Result<Span, Refusal> {
+/// A duration below the limit, none half of the time.
+fn span(draws: &mut Draws, limit: u64) -> Result<Span, Refusal>
+    requires { 0 < limit }
+{
     if draws.one_in(2) {
         return Ok(Span::none());
     }
-    Span::new(Field::Duration, draws.below(5000))
+    Span::new(Field::Duration, draws.below(limit))
 }
 
 /// A third of the requests name a run.
