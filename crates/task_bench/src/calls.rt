@@ -77,20 +77,14 @@ fn start_timers(alloc: Global, timers: u64) -> io::Result<Vec<Command>> {
         let name = format!(in alloc; "timer-{number}")?;
         commands.push(Command::StartTimer(StartTimer {
             timer_id: id(alloc, name.as_str())?,
-            duration: Span::new(Field::Duration, DUE)
-                .ok()
-                .ok_or(unexpected())?,
+            duration: Span::new(Field::Duration, DUE).ok().ok_or(unexpected())?,
         }))?;
     }
     Ok(commands)
 }
 
 /// The completion of that task: it starts so many timers, or closes the run where there are none.
-pub(crate) fn completion(
-    alloc: Global,
-    run: u64,
-    timers: u64,
-) -> io::Result<CompleteWorkflowTask> {
+pub(crate) fn completion(alloc: Global, run: u64, timers: u64) -> io::Result<CompleteWorkflowTask> {
     let commands = if timers == 0 {
         close(alloc)?
     } else {

@@ -40,7 +40,7 @@ fn number(word: &str) -> io::Result<u64> {
 ///
 /// # Errors
 /// `InvalidInput` for a word that is no number; those of reading the command line.
-fn asked<R: Env + AllocGlobal>(rt: &R) -> io::Result<Asked> {
+fn read_words<R: Env + AllocGlobal>(rt: &R) -> io::Result<Asked> {
     let mut words = std::env::args(rt)?;
     words.next();
     let Some(workflows) = words.next() else {
@@ -83,7 +83,7 @@ fn run<R: Env + Clock + Print + AllocGlobal>(rt: &R) -> io::Result<()> {
         workflows,
         timers,
         is_timed,
-    } = asked(rt)?;
+    } = read_words(rt)?;
     let alloc = rt.alloc();
     let (service, mut pass) = open(alloc)?;
     let began = Instant::now(rt)?;
