@@ -1,0 +1,58 @@
+//! What the deadlines of activities do to their runs.
+
+ghost use Rattle.std.specs.Prelude.{◌≡◌, cond, ◌∷◌, [], IfOk};
+ghost use Rattle.service_model.specs.Activities.{attempt_started};
+ghost use Rattle.service_model.specs.Completion.{is_running_phase};
+ghost use Rattle.service_model.specs.Tasks.{pending_row};
+ghost use Rattle.service_model.specs.TimerTurns.{activity_over, timed_out};
+ghost use Rattle.mutable_state.specs.Activities.{row_said};
+
+use crate::attempts::{attempt_started, is_taken};
+use crate::more::from_outside;
+use mutable_state::{Activity, plain};
+use mutable_state_keeper::{KeepsRun, Run};
+use service_model::journal::Fact;
+use std::alloc::{AllocError, Global};
+use wf_event::Attributes;
+use wf_event::payloads::ActivityTaskTimedOut;
+use wf_event_values::{Items, RetryState, TimeoutKind};
+
+/// An activity's time is over, whatever it is doing: it is not tried again.
+pub(crate) fn activity_over<T: KeepsRun>(
+    alloc: Global,
+    run: &Run<T>,
+    id: u64,
+    kind: TimeoutKind,
+) -> Result<Items<Fact>, AllocError>
+    ensures { IfOk result (λ facts. facts ≡ activity_over run.now.state id kind (pending_row run.now.state id)) }
+{
+    let Some(activity) = run.pending_activity(alloc, id)? else {
+        return Ok(Items::from_vec(Vec::new(alloc)));
+    };
+    let mut facts = started_first(alloc, &activity)?;
+    facts.push(plain(timed_out(id, kind, RetryState::Timeout)))?;
+    let all = from_outside(alloc, run, facts)?;
+    Ok(all)
+}
+
+/// The start of the attempt that a worker has, if one does.
+fn started_first(alloc: Global, activity: &Activity) -> Result<Vec<Fact>, AllocError>
+    ensures { IfOk result (λ facts. facts.items ≡ cond (is_running_phase (row_said activity.now).phase) (attempt_started (row_said activity.now) ∷ []) []) }
+{
+    let mut facts = Vec::new(alloc);
+    if is_taken(activity) {
+        facts.push(attempt_started(activity))?;
+    }
+    Ok(facts)
+}
+
+/// The end of an activity by a timeout.
+fn timed_out(scheduled: u64, timeout: TimeoutKind, retry: RetryState) -> Attributes
+    ensures { result ≡ timed_out scheduled timeout retry }
+{
+    Attributes::ActivityTaskTimedOut(ActivityTaskTimedOut {
+        scheduled,
+        timeout,
+        retry,
+    })
+}
