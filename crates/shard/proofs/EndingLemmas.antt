@@ -1,5 +1,5 @@
 -- the end of an activity
-use Rattle.std.proofs.Common.{◌≡◌, ℕ, Bool, true, false, cond, not, ◌&&◌, ◌||◌, ◌==◌, ◌≤◌, List, [], ◌∷◌, ◌++◌, append-nil, length, refl, sym, ap, ◌∙◌, subst, arith, nat_le, Option, Some, None}
+use Rattle.std.proofs.Common.{◌≡◌, ℕ, ◌+◌, ◌<◌, Bool, true, false, cond, not, ◌&&◌, ◌||◌, ◌==◌, ◌≤◌, List, [], ◌∷◌, ◌++◌, append-nil, length, refl, sym, ap, ◌∙◌, subst, arith, nat_le, Option, Some, None}
 use Rattle.std.proofs.lemmas.Bool.Decides.{nat_tests}
 use Rattle.std.specs.Prelude.{filter, find, map, unwrap_or, option_map, IfSome}
 use Rattle.wf_event.specs.declared.event.Event.{Event}
@@ -7,7 +7,9 @@ use Rattle.wf_event.specs.declared.attributes.Attributes.{Attributes}
 use Rattle.wf_event.specs.declared.attributes.Attributes.TheVariants.{WorkflowTaskScheduled, ActivityTaskStarted, ActivityTaskCompleted, ActivityTaskFailed, ActivityTaskTimedOut, ActivityTaskCanceled}
 use Rattle.wf_event.specs.declared.payloads.ActivityTaskStarted.{ActivityTaskStarted as StartedFields}
 use Rattle.wf_event.specs.declared.payloads.WorkflowTaskScheduled.{WorkflowTaskScheduled as ScheduledTask}
+use Rattle.wf_event.specs.declared.payloads.PolicyFields.{PolicyFields}
 use Rattle.wf_event.specs.Role.{AnActivity, role, opens, settles, closing_status}
+use Rattle.wf_event_values.specs.declared.policies.RetryState.TheVariants.{CancelRequested, NonRetryableFailure, MaximumAttemptsReached, Timeout}
 use Rattle.service_model.specs.declared.journal.Fact.{Fact}
 use Rattle.service_model.specs.declared.journal.NewEvent.{NewEvent}
 use Rattle.service_model.specs.declared.journal.Note.{Note}
@@ -16,14 +18,18 @@ use Rattle.service_model.specs.Activities.{attempt_started, keep_running, runnin
 use Rattle.service_model.specs.Journal.{plain}
 use Rattle.service_model.specs.Outcome.{has_run, if_some, run_at, is_no_task, noted, outside}
 use Rattle.service_model.specs.Pending.{Task, NoTask, IsScheduled, IsStarted, is_settled, is_settling}
+use Rattle.service_model.specs.Retry.{Ending, Verdict, GivesUp, RetriesAt, is_non_retryable, is_within, verdict, wait}
 use Rattle.service_model.specs.RunState.{RunState, ActivityRow, used, pending, is_open, held_attributes, queue_of}
 use Rattle.service_model.specs.Tasks.{pending_row}
 use Rattle.mutable_state.specs.declared.activity.Activity.{Activity}
 use Rattle.mutable_state.specs.Activities.{row_said}
 use Rattle.mutable_state.specs.Steps.{IsFirst, IsLater, Place, FitsEvent, FitFrom, FitStep, has_id, with_event, with_new, buffer_of, used_with, row_id, new_row}
-use Rattle.shard.specs.Attempts.{ended_activity, HasAttempt, has_run_of, runs_at}
+use Rattle.shard.specs.Attempts.{ended_activity, HasAttempt, HasNext, has_run_of, runs_at}
 use Rattle.shard.specs.View.{ShardView, states, runs_in}
 use Rattle.shard.proofs.IndexLemmas.{length-states}
+
+below : (k : ℕ) → k ≤ 4294967295 → (k == 4294967295) ≡ false → k < 4294967295
+below k few h = grind (arith, nat_tests, few)
 
 pub is-itself : (n : ℕ) → (n == n) ≡ true
 is-itself n = grind (arith, nat_tests)
@@ -160,15 +166,6 @@ has-used id held (e ∷ es) h = by_test (not (is_settled AnActivity e.id held)) 
 pub note-fits : (at id : ℕ) (s : RunState) (n : Note) → is_open s ≡ true → has_id id (pending AnActivity s) ≡ true → FitStep at s (noted id n ∷ [])
 note-fits at id s n opened there = (record { open_run = opened; in_use = has-used id (held_attributes s) (used AnActivity s) there }, tt)
 
--- the running attempt that a token names is that of a pending activity
-kept-row : (t : TakenTask) (o : Option ActivityRow) (r : ActivityRow) → keep_running t o ≡ Some r → o ≡ Some r
-kept-row t None r h = absurd (cc)
-kept-row t (Some x) r h = by_test (runs_at t.attempt x) h
-  where
-    by_test : (b : Bool) → if_some b x ≡ Some r → ◌≡◌ {A = Option ActivityRow} (Some x) (Some r)
-    by_test true g = g
-    by_test false g = absurd (cc)
-
 and-left : (a b : Bool) → (a && b) ≡ true → a ≡ true
 and-left true b h = refl
 and-left false b h = absurd (cc)
@@ -176,6 +173,17 @@ and-left false b h = absurd (cc)
 and-right : (a b : Bool) → (a && b) ≡ true → b ≡ true
 and-right true b h = h
 and-right false b h = absurd (cc)
+
+-- the running attempt that a token names is that of a pending activity
+kept-row : (t : TakenTask) (o : Option ActivityRow) (r : ActivityRow) → keep_running t o ≡ Some r → (o ≡ Some r) × (r.attempt ≡ t.attempt)
+kept-row t None r h = absurd (cc)
+kept-row t (Some x) r h = by_test (runs_at t.attempt x) refl h
+  where
+    by_test : (b : Bool) → runs_at t.attempt x ≡ b → if_some b x ≡ Some r → (◌≡◌ {A = Option ActivityRow} (Some x) (Some r)) × (r.attempt ≡ t.attempt)
+    by_test true is g =
+        let same : x ≡ r = ap (λ o. unwrap_or o x) g in
+        (g, ap (λ (y : ActivityRow). y.attempt) (sym same) ∙ are-same x.attempt t.attempt (and-right (is_running_phase x.phase) (x.attempt == t.attempt) is))
+    by_test false is g = absurd (cc)
 
 at-least : (m n : ℕ) → nat_le m n ≡ true → m ≤ n
 at-least m n h = grind (arith, nat_tests)
@@ -187,16 +195,37 @@ has-attempt v t r found opened = by_test (has_run_of (runs_in v) t.shard t.run) 
     by_test false is g = absurd (cc)
     by_test true is g =
         let has : has_run (runs_in v) t.run ≡ true = and-right (t.shard == v.setup.shard) (has_run (runs_in v) t.run) is in
+        let row = kept-row t (pending_row (run_at (runs_in v) t.run) t.event) r g in
         let low : nat_le 1 t.run ≡ true = and-left (nat_le 1 t.run) (nat_le t.run (length (states v.runs))) has in
         let high : nat_le t.run (length (states v.runs)) ≡ true = and-right (nat_le 1 t.run) (nat_le t.run (length (states v.runs))) has in
         record {
           found = found;
+          attempt = row.1;
           from = at-least 1 t.run low;
           to = subst (λ k. t.run ≤ k) (length-states v.runs) (at-least t.run (length (states v.runs)) high);
           open_run = opened;
-          pending_one = (pending-named t.event (run_at (runs_in v) t.run) r (kept-row t (pending_row (run_at (runs_in v) t.run) t.event) r g)).1;
+          pending_one = (pending-named t.event (run_at (runs_in v) t.run) r row.0).1;
         }
 
 pub attempt-found : (v : ShardView) (t : TakenTask) (found : Option Activity) → option_map row_said found ≡ running_attempt (runs_in v) t → IfSome found (λ a. is_open (run_at (runs_in v) t.run) ≡ true) → IfSome found (λ a. HasAttempt v t (row_said a))
 attempt-found v t None is opened = tt
 attempt-found v t (Some a) is opened = has-attempt v t (row_said a) (sym is) opened
+
+-- the attempt after one that is tried again has a number
+pub has-next : (p : PolicyFields) (ending : Ending) (cancel : Bool) (k moment : ℕ) (deadline : Option ℕ) → k ≤ 4294967295 → HasNext k (verdict p ending cancel k moment deadline)
+unfolding verdict
+has-next p ending cancel k moment deadline few = by_cancel cancel (by_end (is_non_retryable p ending) (by_last (not (p.attempts == 0) && nat_le p.attempts k) (k == 4294967295) refl (is_within (moment + wait p k) deadline)))
+  where
+    by_last : (some last : Bool) → (k == 4294967295) ≡ last → (b : Bool) → HasNext k (cond (some || last) (GivesUp MaximumAttemptsReached) (cond b (RetriesAt (moment + wait p k)) (GivesUp Timeout)))
+    by_last true last is b = tt
+    by_last false true is b = tt
+    by_last false false is true = below k few is
+    by_last false false is false = tt
+
+    by_end : (b : Bool) {v : Verdict} → HasNext k v → HasNext k (cond b (GivesUp NonRetryableFailure) v)
+    by_end true h = tt
+    by_end false h = h
+
+    by_cancel : (b : Bool) {v : Verdict} → HasNext k v → HasNext k (cond b (GivesUp CancelRequested) v)
+    by_cancel true h = tt
+    by_cancel false h = h

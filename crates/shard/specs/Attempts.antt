@@ -1,5 +1,5 @@
 -- the attempt of an activity that a hint or a token names
-use Rattle.std.specs.Prelude.{◌≡◌, ℕ, ◌≤◌, Bool, true, cond, ◌&&◌, ◌==◌, List, Option, None, Some, length}
+use Rattle.std.specs.Prelude.{◌≡◌, ℕ, ◌<◌, ◌≤◌, Bool, true, cond, ◌&&◌, ◌==◌, List, Option, None, Some, length}
 use Rattle.wf_event.specs.declared.attributes.Attributes.{Attributes}
 use Rattle.wf_event.specs.declared.attributes.Attributes.TheVariants.{ActivityTaskCompleted, ActivityTaskFailed, ActivityTaskTimedOut, ActivityTaskCanceled}
 use Rattle.wf_event.specs.declared.payloads.ActivityTaskScheduled.{ActivityTaskScheduled as ScheduledAttributes}
@@ -12,6 +12,7 @@ use Rattle.service_model.specs.Activities.{running_attempt}
 use Rattle.service_model.specs.Completion.{is_running_phase}
 use Rattle.service_model.specs.Deadlines.{scheduled_fields}
 use Rattle.service_model.specs.Outcome.{Runs, has_run, run_at, run_id}
+use Rattle.service_model.specs.Retry.{Verdict, GivesUp, RetriesAt}
 use Rattle.service_model.specs.RunState.{ActivityRow, id_of, is_open, pending}
 use Rattle.service_model.specs.Tasks.{is_queued}
 use Rattle.mutable_state.specs.Steps.{has_id}
@@ -47,6 +48,7 @@ runs_at attempt r = is_running_phase r.phase && (r.attempt == attempt)
 -- the activity is the one whose running attempt a token names, in an open run of the shard
 pub record HasAttempt (v : ShardView) (t : TakenTask) (r : ActivityRow) : Type 0 where
   pub found : running_attempt (runs_in v) t ≡ Some r
+  pub attempt : r.attempt ≡ t.attempt
   pub from : 1 ≤ t.run
   pub to : t.run ≤ length v.runs
   pub open_run : is_open (run_at (runs_in v) t.run) ≡ true
@@ -59,3 +61,8 @@ ended_activity (ActivityTaskFailed a) = Some a.scheduled
 ended_activity (ActivityTaskTimedOut a) = Some a.scheduled
 ended_activity (ActivityTaskCanceled a) = Some a.scheduled
 ended_activity _ = None
+
+-- no attempt follows the one of the last number
+abbrev pub HasNext : ℕ → Verdict → Type 0
+HasNext attempt (GivesUp state) = Unit {0}
+HasNext attempt (RetriesAt ready) = attempt < 4294967295

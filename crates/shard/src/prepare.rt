@@ -29,7 +29,7 @@ impl<T: KeepsRun> Shard<T> {
             Operation::CompleteWorkflowTask(end) => self.prepare_completion(moment, end),
             Operation::FailWorkflowTask(end) => self.prepare_failure(moment, end),
             Operation::CompleteActivity(end) => self.prepare_complete_activity(moment, end),
-            Operation::FailActivity(_) => Err(AllocError),
+            Operation::FailActivity(end) => self.prepare_fail_activity(moment, end),
             Operation::CancelActivity(end) => self.prepare_cancel_activity(moment, end),
             Operation::Heartbeat(beat) => self.prepare_heartbeat(moment, beat),
             Operation::TimerTurn => self.prepare_timer_turn(moment),

@@ -11,7 +11,7 @@ ghost use Rattle.timeouts.specs.Slots.{run_due, IsOneOf};
 ghost use Rattle.shard.specs.View.{state, states, runs_in};
 ghost use Rattle.shard.specs.Fitting.{FitsStep};
 
-use crate::activity_turns::activity_over;
+use crate::activity_turns::{activity_over, attempt_over};
 use crate::heartbeats::note_facts;
 use crate::plan::Plan;
 use crate::prepare::answered;
@@ -78,8 +78,12 @@ fn fired_facts<T: KeepsRun>(
         DeadlineClass::ScheduleToStart => {
             activity_over(alloc, run, due.event, TimeoutKind::ScheduleToStart)
         }
-        DeadlineClass::Heartbeat => Err(AllocError),
-        DeadlineClass::StartToClose => Err(AllocError),
+        DeadlineClass::Heartbeat => {
+            attempt_over(alloc, run, moment, due.event, TimeoutKind::Heartbeat)
+        }
+        DeadlineClass::StartToClose => {
+            attempt_over(alloc, run, moment, due.event, TimeoutKind::StartToClose)
+        }
         DeadlineClass::RetryReady => note_facts(alloc, due.event, Note::Ready),
         DeadlineClass::UserTimer => timer_fired(alloc, run, due.event),
     }
