@@ -7,18 +7,22 @@ use Rattle.wf_event.specs.declared.attributes.Attributes.{Attributes}
 use Rattle.wf_event.specs.declared.attributes.Attributes.TheVariants.{WorkflowTaskScheduled, ActivityTaskStarted, ActivityTaskCompleted, ActivityTaskFailed, ActivityTaskTimedOut, ActivityTaskCanceled}
 use Rattle.wf_event.specs.declared.payloads.ActivityTaskStarted.{ActivityTaskStarted as StartedFields}
 use Rattle.wf_event.specs.declared.payloads.WorkflowTaskScheduled.{WorkflowTaskScheduled as ScheduledTask}
+use Rattle.wf_event.specs.declared.payloads.ActivityTaskScheduled.{ActivityTaskScheduled as ScheduledAttributes}
 use Rattle.wf_event.specs.declared.payloads.PolicyFields.{PolicyFields}
 use Rattle.wf_event.specs.Role.{AnActivity, role, opens, settles, closing_status}
 use Rattle.wf_event_values.specs.declared.policies.RetryState.TheVariants.{CancelRequested, NonRetryableFailure, MaximumAttemptsReached, Timeout}
 use Rattle.service_model.specs.declared.journal.Fact.{Fact}
 use Rattle.service_model.specs.declared.journal.NewEvent.{NewEvent}
 use Rattle.service_model.specs.declared.journal.Note.{Note}
+use Rattle.service_model.specs.declared.request.FailActivity.{FailActivity}
 use Rattle.service_model.specs.declared.request.TakenTask.{TakenTask}
-use Rattle.service_model.specs.Activities.{attempt_started, keep_running, running_attempt}
+use Rattle.service_model.specs.Activities.{attempt_started, by_verdict, fail_activity, fail_at, fail_fields, keep_running, running_attempt, verdict_at}
+use Rattle.service_model.specs.Completion.{is_running_phase}
+use Rattle.service_model.specs.Deadlines.{scheduled_fields}
 use Rattle.service_model.specs.Journal.{plain}
-use Rattle.service_model.specs.Outcome.{has_run, if_some, run_at, is_no_task, noted, outside}
+use Rattle.service_model.specs.Outcome.{Runs, has_run, if_some, run_at, is_no_task, noted, outside}
 use Rattle.service_model.specs.Pending.{Task, NoTask, IsScheduled, IsStarted, is_settled, is_settling}
-use Rattle.service_model.specs.Retry.{Ending, Verdict, GivesUp, RetriesAt, is_non_retryable, is_within, verdict, wait}
+use Rattle.service_model.specs.Retry.{Ending, FailedAttempt, Verdict, GivesUp, RetriesAt, is_non_retryable, is_within, verdict, wait}
 use Rattle.service_model.specs.RunState.{RunState, ActivityRow, used, pending, is_open, held_attributes, queue_of}
 use Rattle.service_model.specs.Tasks.{pending_row}
 use Rattle.mutable_state.specs.declared.activity.Activity.{Activity}
@@ -214,7 +218,7 @@ attempt-found v t (Some a) is opened = has-attempt v t (row_said a) (sym is) ope
 -- the attempt after one that is tried again has a number
 pub has-next : (p : PolicyFields) (ending : Ending) (cancel : Bool) (k moment : ℕ) (deadline : Option ℕ) → k ≤ 4294967295 → HasNext k (verdict p ending cancel k moment deadline)
 unfolding verdict
-has-next p ending cancel k moment deadline few = by_cancel cancel (by_end (is_non_retryable p ending) (by_last (not (p.attempts == 0) && nat_le p.attempts k) (k == 4294967295) refl (is_within (moment + wait p k) deadline)))
+has-next p ending cancel k moment deadline few = by_cancel cancel
   where
     by_last : (some last : Bool) → (k == 4294967295) ≡ last → (b : Bool) → HasNext k (cond (some || last) (GivesUp MaximumAttemptsReached) (cond b (RetriesAt (moment + wait p k)) (GivesUp Timeout)))
     by_last true last is b = tt
@@ -222,10 +226,22 @@ has-next p ending cancel k moment deadline few = by_cancel cancel (by_end (is_no
     by_last false false is true = below k few is
     by_last false false is false = tt
 
-    by_end : (b : Bool) {v : Verdict} → HasNext k v → HasNext k (cond b (GivesUp NonRetryableFailure) v)
-    by_end true h = tt
-    by_end false h = h
+    judged : Verdict
+    judged = cond ((not (p.attempts == 0) && nat_le p.attempts k) || (k == 4294967295)) (GivesUp MaximumAttemptsReached) (cond (is_within (moment + wait p k) deadline) (RetriesAt (moment + wait p k)) (GivesUp Timeout))
 
-    by_cancel : (b : Bool) {v : Verdict} → HasNext k v → HasNext k (cond b (GivesUp CancelRequested) v)
-    by_cancel true h = tt
-    by_cancel false h = h
+    by_end : (b : Bool) → HasNext k (cond b (GivesUp NonRetryableFailure) judged)
+    by_end true = tt
+    by_end false = by_last (not (p.attempts == 0) && nat_le p.attempts k) (k == 4294967295) refl (is_within (moment + wait p k) deadline)
+
+    by_cancel : (b : Bool) → HasNext k (cond b (GivesUp CancelRequested) (cond (is_non_retryable p ending) (GivesUp NonRetryableFailure) judged))
+    by_cancel true = tt
+    by_cancel false = by_end (is_non_retryable p ending)
+
+-- a failure goes on as its verdict says
+pub failed-by : (R : Runs) (moment : ℕ) (q : FailActivity) (r : ActivityRow) (v : Verdict) → running_attempt R q.task ≡ Some r → Some v ≡ option_map (λ (a : ScheduledAttributes). verdict_at r a (FailedAttempt q.error_type q.non_retryable) moment) (scheduled_fields r.opened.attributes) → fail_activity R moment q ≡ by_verdict R q r v
+unfolding fail_activity
+failed-by R moment q r v found judged = ap (λ o. fail_at R moment q o) found ∙ by_fields (scheduled_fields r.opened.attributes) judged
+  where
+    by_fields : (o : Option ScheduledAttributes) → Some v ≡ option_map (λ (a : ScheduledAttributes). verdict_at r a (FailedAttempt q.error_type q.non_retryable) moment) o → fail_fields R moment q r o ≡ by_verdict R q r v
+    by_fields None h = absurd (cc)
+    by_fields (Some a) h = ap (λ o. by_verdict R q r (unwrap_or o v)) (sym h)

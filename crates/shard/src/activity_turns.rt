@@ -93,9 +93,7 @@ fn attempt_over_by<T: KeepsRun>(
 {
     let id = activity.scheduled.id;
     match verdict {
-        Verdict::GiveUp(state) => {
-            ended_facts(alloc, run, activity, timed_out(id, kind, state))
-        }
+        Verdict::GiveUp(state) => { ended_facts(alloc, run, activity, timed_out(id, kind, state)) }
         Verdict::Retry { ready: _ } => note_facts(alloc, id, Note::Ended),
     }
 }

@@ -4,6 +4,7 @@ ghost use Rattle.std.specs.Prelude.{◌≡◌, ◌==◌, ◌+◌, cond, None, So
 ghost use Rattle.wf_event.specs.declared.attributes.Attributes.TheVariants.{ActivityTaskFailed as a_failure};
 ghost use Rattle.service_model.specs.Activities.{by_verdict, fail_activity, verdict_at};
 ghost use Rattle.service_model.specs.Deadlines.{scheduled_fields};
+ghost use Rattle.service_model.specs.Retry.{verdict};
 ghost use Rattle.mutable_state.specs.Activities.{row_said};
 ghost use Rattle.retry.specs.Verdicts.{ending_of, says};
 ghost use Rattle.shard.specs.Attempts.{HasAttempt, HasNext};
@@ -20,8 +21,8 @@ use service_model::answer::{Answer, Retrying};
 use service_model::journal::Note;
 use service_model::request::FailActivity;
 use std::alloc::AllocError;
-use wf_event::Attributes;
 use wf_event::payloads::ActivityTaskFailed;
+use wf_event::{Attributes, RetryPolicy};
 use wf_event_values::{Moment, Refusal, RetryState, Span, Text};
 
 impl<T: KeepsRun> Shard<T> {
@@ -85,15 +86,29 @@ pub(crate) fn verdict_of(activity: &Activity, ended: Ended, moment: Moment) -> O
     let Attributes::ActivityTaskScheduled(scheduled) = &activity.scheduled.attributes else {
         return None;
     };
-    let verdict = verdict_on(
+    Some(judged(
         &scheduled.retry,
         ended,
         activity.notes.cancel_requested,
         activity.notes.attempt,
         moment,
         close_deadline(activity.scheduled.at, scheduled.schedule_to_close),
-    );
-    Some(verdict)
+    ))
+}
+
+/// The verdict by a policy. No attempt follows the one of the last number.
+fn judged(
+    policy: &RetryPolicy,
+    ended: Ended,
+    cancel_requested: bool,
+    attempt: u32,
+    at: Moment,
+    deadline: Option<u64>,
+) -> Verdict
+    ensures verdict { says result ≡ verdict policy.now (ending_of ended.entry) cancel_requested attempt at deadline }
+    ensures next { HasNext attempt (says result) }
+{
+    verdict_on(policy, ended, cancel_requested, attempt, at, deadline)
 }
 
 /// The moment after which an activity is not tried again, in milliseconds.
@@ -113,13 +128,13 @@ fn failure(request: &FailActivity, retry: RetryState) -> Result<Attributes, Allo
     Ok(Attributes::ActivityTaskFailed(ActivityTaskFailed {
         scheduled: request.task.event,
         message: request.message.clone()?,
-        error_type: copied(&request.error_type)?,
+        error_type: copied_type(&request.error_type)?,
         retry,
     }))
 }
 
 /// A copy of a failure's type.
-fn copied(error_type: &Option<Text>) -> Result<Option<Text>, AllocError>
+fn copied_type(error_type: &Option<Text>) -> Result<Option<Text>, AllocError>
     ensures { IfOk result (λ copy. copy ≡ error_type.now) }
 {
     match error_type {

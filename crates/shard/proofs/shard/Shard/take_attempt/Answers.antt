@@ -1,4 +1,4 @@
-use Rattle.std.proofs.Common.{sym, ap, subst, ℕ, List, [], ◌∷◌}
+use Rattle.std.proofs.Common.{sym, subst, ℕ, List, [], ◌∷◌}
 use Rattle.service_model.specs.declared.answer.Answer.TheVariants.{ActivityTask}
 use Rattle.service_model.specs.declared.journal.Fact.{Fact}
 use Rattle.service_model.specs.declared.journal.Note.TheVariants.{Taken}
