@@ -124,7 +124,9 @@ impl<'a> SoFar<'a> {
     {
         match command {
             Command::ScheduleActivityTask(activity) => self.schedule_activity(activity),
-            Command::RequestCancelActivityTask(scheduled) => self.cancel_activity(*scheduled),
+            Command::RequestCancelActivityTask(scheduled) => self.request_cancel_activity(
+                *scheduled,
+            ),
             Command::StartTimer(timer) => self.start_timer(timer),
             Command::CancelTimer(timer_id) => self.cancel_timer(timer_id),
             Command::RecordMarker(marker) => self.record(marker),
@@ -174,7 +176,7 @@ impl<'a> SoFar<'a> {
     }
 
     /// A pending activity of which no attempt is running is canceled at once.
-    fn cancel_activity(&mut self, scheduled: u64) -> Result<Result<(), Cause>, AllocError>
+    fn request_cancel_activity(&mut self, scheduled: u64) -> Result<Result<(), Cause>, AllocError>
         ensures { IfOk result (λ judged. left judged self.new ≡ activity_asked scheduled self.old) }
     {
         if !has_row(self.activities.as_slice(), scheduled) || self.is_asked(scheduled) {
