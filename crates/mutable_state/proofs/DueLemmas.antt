@@ -3,7 +3,7 @@ use Rattle.std.proofs.Common.{◌≡◌, ℕ, ◌+◌, ◌<◌, Bool, true, fals
 use Rattle.std.proofs.lemmas.List.{take_more}
 use Rattle.std.specs.List.{cons_option}
 use Rattle.std.proofs.lemmas.Bool.{lt-ltb}
-use Rattle.std.specs.Prelude.{Option, Some, None, option_map, not, filter, flat_map, slice_get, unwrap_or}
+use Rattle.std.specs.Prelude.{Option, Some, None, option_map, filter, flat_map, slice_get, unwrap_or}
 use Rattle.wf_event.specs.declared.event.Event.{Event}
 use Rattle.wf_event.specs.declared.attributes.Attributes.{Attributes}
 use Rattle.wf_event.specs.declared.attributes.Attributes.TheVariants.{WorkflowExecutionStarted}
@@ -11,8 +11,7 @@ use Rattle.wf_event.specs.declared.payloads.WorkflowExecutionStarted.{WorkflowEx
 use Rattle.wf_event_values.specs.declared.policies.DeadlineClass.TheVariants.{RunTimeout, WorkflowTask as TaskTimeout}
 use Rattle.wf_event.specs.Role.{AnActivity, ATimer}
 use Rattle.service_model.specs.Deadlines.{Due, dues, due_after, run_timeout_dues, workflow_task_dues, task_timeout, activity_dues, timer_dues, pending_rows}
-use Rattle.service_model.specs.Pending.{is_settled}
-use Rattle.service_model.specs.RunState.{RunState, ActivityRow, Beginning, LastTask, beginning_by, held_attributes, is_open, last_task, pending}
+use Rattle.service_model.specs.RunState.{RunState, ActivityRow, Beginning, LastTask, beginning_by, is_open, last_task, pending}
 use Rattle.wf_event_values.specs.declared.policies.Status.{Status}
 use Rattle.buffered.specs.Buffers.{Buffer, event_at}
 use Rattle.timeouts.specs.declared.due.Due.{Due as Kept}

@@ -1,5 +1,5 @@
 -- what is kept of the notes on an activity, and of its requests to cancel
-use Rattle.std.specs.Prelude.{ℕ, ◌+◌, Bool, false, ◌||◌, List, [], Option, None, Some}
+use Rattle.std.specs.Prelude.{ℕ, ◌+◌, Bool, false, ◌||◌, None, Some}
 use Rattle.wf_event.specs.declared.event.Event.{Event}
 use Rattle.service_model.specs.declared.journal.Note.{Note}
 use Rattle.service_model.specs.declared.journal.Note.TheVariants.{Taken, Ended, Ready, Beat}

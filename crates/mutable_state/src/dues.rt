@@ -1,6 +1,6 @@
 //! When a run's time is over.
 
-ghost use Rattle.std.specs.Prelude.{◌≡◌, option_copied, option_map, flat_map, IfOk};
+ghost use Rattle.std.specs.Prelude.{◌≡◌, option_copied, option_map, flat_map};
 ghost use Rattle.timeouts.specs.Firsts.{first_of, first_due, HasTimer};
 ghost use Rattle.timeouts.specs.Slots.{run_due};
 ghost use Rattle.service_model.specs.Deadlines.{timer_dues, activity_dues, by_phase};
@@ -16,34 +16,31 @@ use crate::run::Run;
 use crate::task::WorkflowTask;
 use buffered::History;
 use retry::wait_after;
-use std::alloc::AllocError;
 use timeouts::{Due, due_after, first_of_two};
 use wf_event::payloads::{ActivityTaskScheduled, WorkflowExecutionStarted};
 use wf_event::{Attributes, Event};
 use wf_event_values::{DeadlineClass, Id, Moment};
 
 impl Run {
-    /// The first of its deadlines, where this is its ordinal. A retry policy out of its ranges, which
-    /// no command gives an activity, is answered as want of memory.
-    pub fn first_due(&self, ordinal: u64) -> Result<Option<Due>, AllocError>
-        ensures { IfOk result (λ due. option_map run_due due ≡ first_due ordinal self.now.state) }
+    /// The first of its deadlines, where this is its ordinal.
+    pub fn first_due(&self, ordinal: u64) -> Option<Due>
+        ensures { option_map run_due result ≡ first_due ordinal self.now.state }
     {
         let begun = self.history.events().first().unwrap().at;
         if !self.is_open() {
-            return Ok(None);
+            return None;
         }
         let own = first_own_due(begun, self.started(), self.task, ordinal);
-        let activities = self.first_activity_due(ordinal)?;
+        let activities = self.first_activity_due(ordinal);
         let others = first_of_two(activities, self.first_timer_due(ordinal));
-        Ok(first_of_two(own, others))
+        first_of_two(own, others)
     }
 
     /// The first deadline of its pending activities.
-    fn first_activity_due(&self, ordinal: u64) -> Result<Option<Due>, AllocError>
-        ensures { IfOk result (λ due. option_map run_due due ≡ first_of ordinal (pending_activity_dues self.now.state)) }
+    fn first_activity_due(&self, ordinal: u64) -> Option<Due>
+        ensures { option_map run_due result ≡ first_of ordinal (pending_activity_dues self.now.state) }
     {
-        let first = first_kept_activity_due(self.in_use.rows(), &self.history, ordinal)?;
-        Ok(first)
+        first_kept_activity_due(self.in_use.rows(), &self.history, ordinal)
     }
 
     /// The first deadline of its pending timers.
@@ -56,42 +53,37 @@ impl Run {
 
 /// The first deadline of the activities that are kept and pending.
 #[tactic(auto, unfolding(service_model::specs::TimerTurns::least))]
-fn first_kept_activity_due(
-    rows: &[Open],
-    history: &History,
-    ordinal: u64,
-) -> Result<Option<Due>, AllocError>
-    ensures { IfOk result (λ due. option_map run_due due ≡ first_of ordinal (flat_map (kept_activity_dues history.now.lists.events) rows.now)) }
+fn first_kept_activity_due(rows: &[Open], history: &History, ordinal: u64) -> Option<Due>
+    ensures { option_map run_due result ≡ first_of ordinal (flat_map (kept_activity_dues history.now.lists.events) rows.now) }
 {
     let mut first = None;
     for row in rows {
-        let due = kept_activity_due(row, history, ordinal)?;
-        first = first_of_two(first, due);
+        first = first_of_two(first, kept_activity_due(row, history, ordinal));
     }
-    Ok(first)
+    first
 }
 
 /// The first deadline of what is kept, where it is a pending activity.
 #[tactic(auto, unfolding(service_model::specs::TimerTurns::least))]
-fn kept_activity_due(row: &Open, history: &History, ordinal: u64) -> Result<Option<Due>, AllocError>
-    ensures { IfOk result (λ due. option_map run_due due ≡ first_of ordinal (kept_activity_dues history.now.lists.events row.now)) }
+fn kept_activity_due(row: &Open, history: &History, ordinal: u64) -> Option<Due>
+    ensures { option_map run_due result ≡ first_of ordinal (kept_activity_dues history.now.lists.events row.now) }
 {
     if !row.is_pending_of(Class::Activity) {
-        return Ok(None);
+        return None;
     }
     match history.event(row.opener.event) {
         Some(event) => activity_due(event, &row.notes, ordinal),
-        None => Ok(None),
+        None => None,
     }
 }
 
 /// The first deadline of the activity that an event scheduled, on which there are these notes.
 #[tactic(auto, unfolding(service_model::specs::TimerTurns::least))]
-pub fn activity_due(event: &Event, notes: &Notes, ordinal: u64) -> Result<Option<Due>, AllocError>
-    ensures { IfOk result (λ due. option_map run_due due ≡ first_of ordinal (activity_dues (kept_row notes.now event.now))) }
+pub fn activity_due(event: &Event, notes: &Notes, ordinal: u64) -> Option<Due>
+    ensures { option_map run_due result ≡ first_of ordinal (activity_dues (kept_row notes.now event.now)) }
 {
     let Attributes::ActivityTaskScheduled(activity) = &event.attributes else {
-        return Ok(None);
+        return None;
     };
     let close = due_after(
         event.at,
@@ -100,8 +92,7 @@ pub fn activity_due(event: &Event, notes: &Notes, ordinal: u64) -> Result<Option
         DeadlineClass::ScheduleToClose,
         event.id,
     );
-    let phase = phase_due(event, activity, notes, ordinal)?;
-    Ok(first_of_two(close, phase))
+    first_of_two(close, phase_due(event, activity, notes, ordinal))
 }
 
 /// The first deadline of an activity in its phase.
@@ -111,12 +102,12 @@ fn phase_due(
     activity: &ActivityTaskScheduled,
     notes: &Notes,
     ordinal: u64,
-) -> Result<Option<Due>, AllocError>
-    ensures { IfOk result (λ due. option_map run_due due ≡ first_of ordinal (by_phase (kept_row notes.now event.now) activity.now (phase_said notes.now.phase))) }
+) -> Option<Due>
+    ensures { option_map run_due result ≡ first_of ordinal (by_phase (kept_row notes.now event.now) activity.now (phase_said notes.now.phase)) }
 {
     match notes.phase {
-        ActivityPhase::Queued => Ok(queued_due(event, activity, notes, ordinal)),
-        ActivityPhase::Running => Ok(running_due(event, activity, notes, ordinal)),
+        ActivityPhase::Queued => queued_due(event, activity, notes, ordinal),
+        ActivityPhase::Running => running_due(event, activity, notes, ordinal),
         ActivityPhase::Waiting => waiting_due(event, activity, notes, ordinal),
     }
 }
@@ -173,20 +164,17 @@ fn waiting_due(
     activity: &ActivityTaskScheduled,
     notes: &Notes,
     ordinal: u64,
-) -> Result<Option<Due>, AllocError>
-    ensures { IfOk result (λ due. option_map run_due due ≡ first_of ordinal (by_phase (kept_row notes.now event.now) activity.now IsWaiting)) }
+) -> Option<Due>
+    ensures { option_map run_due result ≡ first_of ordinal (by_phase (kept_row notes.now event.now) activity.now IsWaiting) }
 {
-    let ended = notes.attempt.saturating_sub(1).max(1);
-    let Some(wait) = wait_after(&activity.retry, ended) else {
-        return Err(AllocError);
-    };
+    let wait = wait_after(&activity.retry, notes.attempt.saturating_sub(1));
     let since = notes.ended.unwrap_or(event.at);
-    Ok(Some(Due {
+    Some(Due {
         due: since.millis() + wait,
         run: ordinal,
         class: DeadlineClass::RetryReady,
         event: event.id,
-    }))
+    })
 }
 
 impl Run {

@@ -1,8 +1,8 @@
 //! Whether an activity is tried again, and how long it waits before that (Temporal, Retry Policies).
 #![tactic(auto)]
 
-mod policy;
 mod verdict;
+mod waits;
 
-pub use policy::{RetryPolicy, wait_after};
-pub use verdict::{Ended, Verdict};
+pub use verdict::{Ended, Verdict, verdict_on};
+pub use waits::wait_after;

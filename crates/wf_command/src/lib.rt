@@ -2,14 +2,14 @@
 #![tactic(auto)]
 
 ghost use Rattle.std.specs.Prelude.{◌≡◌};
-ghost use Rattle.wf_command.specs.Check.{attributes_fault, good_activity, good_policy};
+ghost use Rattle.wf_command.specs.Check.{attributes_fault, good_activity};
 ghost use Rattle.wf_command.specs.Served.{is_served};
 
 pub mod command;
 
 pub use command::Command;
 use command::ScheduleActivityTask;
-use wf_event::payloads::PolicyFields;
+use wf_event::is_good_policy;
 use wf_event_values::Cause;
 
 /// Whether the command is of a type that is served so far.
@@ -58,18 +58,4 @@ pub fn is_good_activity(activity: &ScheduleActivityTask) -> bool
 {
     let limited = activity.start_to_close.millis() != 0 || activity.schedule_to_close.millis() != 0;
     limited && is_good_policy(&activity.retry)
-}
-
-/// Whether a retry policy's numbers are in their ranges.
-pub fn is_good_policy(policy: &PolicyFields) -> bool
-    ensures { result ≡ good_policy policy.now }
-{
-    policy.attempts <= 4_294_967_295
-        && 1 <= policy.factor
-        && policy.factor <= 1000
-        && 1 <= policy.initial
-        && policy.initial <= 1_000_000_000_000
-        && (policy.maximum == 0
-            || (policy.initial <= policy.maximum && policy.maximum <= 1_000_000_000_000))
-        && policy.non_retryable.as_slice().len() <= 100
 }

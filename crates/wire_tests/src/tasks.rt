@@ -3,7 +3,7 @@
 use crate::printed::{id, moment, print_event, span, text};
 use std::alloc::{AllocGlobal, Global};
 use std::io;
-use wf_event::Attributes;
+use wf_event::{Attributes, RetryPolicy};
 use wf_event::payloads::{
     ActivityTaskCanceled, ActivityTaskCompleted, ActivityTaskFailed, ActivityTaskScheduled,
     ActivityTaskStarted, ActivityTaskTimedOut, PolicyFields, TaskEnd, TimerEnd, TimerStarted,
@@ -11,12 +11,15 @@ use wf_event::payloads::{
 use wf_event_values::{Items, RetryState, Text, TimeoutKind};
 
 fn scheduled(alloc: Global, non_retryable: Vec<Text>) -> io::Result<Attributes> {
-    let retry = PolicyFields {
+    let fields = PolicyFields {
         attempts: 3,
         factor: 2,
         initial: 1000,
         maximum: 100_000,
         non_retryable: Items::from_vec(non_retryable),
+    };
+    let Ok(retry) = RetryPolicy::new(fields) else {
+        return Err(io::Error::other("a policy out of range"));
     };
     Ok(Attributes::ActivityTaskScheduled(ActivityTaskScheduled {
         activity_id: id(alloc, "x")?,

@@ -1,6 +1,6 @@
 use Rattle.std.proofs.Common.{◌≡◌, ◌≤◌, ◌*◌, ◌-◌, ◌∙◌, min, refl, arith}
-use Rattle.retry.proofs.Waits.{in_range, product_small, next, settled}
-use Rattle.retry.proofs.policy.wait.Goals as goal
+use Rattle.retry.proofs.WaitLemmas.{in_range, product_small, next, settled}
+use Rattle.retry.proofs.waits.wait.Goals as goal
 
 pub overflow_mul-wait : goal.overflow_mul-wait
 overflow_mul-wait c =

@@ -5,7 +5,7 @@ use Rattle.std.proofs.lemmas.Grind.{pow_more, common_steps}
 use Rattle.std.proofs.lemmas.Bool.{cases_lt}
 use Rattle.std.proofs.lemmas.Bool.Decides.{nat_tests}
 use Rattle.wf_event.specs.declared.payloads.PolicyFields.{PolicyFields}
-use Rattle.wf_command.specs.Check.{good_policy}
+use Rattle.wf_event.specs.RetryPolicies.{good_policy}
 use Rattle.service_model.specs.Retry.{maximum_of, wait}
 
 -- the ranges of a policy's numbers
