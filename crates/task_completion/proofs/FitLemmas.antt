@@ -4,7 +4,7 @@ use Rattle.std.specs.Prelude.{filter, map, is_some, unwrap_or, Result, Ok, Err}
 use Rattle.std.specs.List.{list_any, list_all}
 use Rattle.wf_event.specs.declared.event.Event.{Event}
 use Rattle.wf_event.specs.declared.attributes.Attributes.{Attributes}
-use Rattle.wf_event.specs.declared.attributes.Attributes.TheVariants.{WorkflowExecutionCompleted, WorkflowExecutionFailed, WorkflowExecutionCanceled, WorkflowTaskCompleted, MarkerRecorded, ActivityTaskScheduled, ActivityTaskCancelRequested, ActivityTaskCanceled, TimerStarted, TimerCanceled}
+use Rattle.wf_event.specs.declared.attributes.Attributes.TheVariants.{WorkflowExecutionCompleted, WorkflowExecutionFailed, WorkflowExecutionCanceled, WorkflowTaskCompleted, MarkerRecorded, ActivityTaskCancelRequested, ActivityTaskCanceled, TimerStarted, TimerCanceled}
 use Rattle.wf_event.specs.Role.{Role, TaskSchedules, TaskStarts, TaskEnds, Closes, TimerFires, TimerCancels, ComesFromOutside, Follows, role, is_closing_role, Class, AnActivity, ATimer, opens, Settled, settles, closing_status}
 use Rattle.wf_event_values.specs.Run.{Run}
 use Rattle.wf_event_values.specs.declared.policies.Cause.{Cause}
@@ -25,7 +25,7 @@ use Rattle.service_model.specs.Outcome.{knows_queue, schedule_task}
 use Rattle.service_model.specs.Service.{is_served}
 use Rattle.service_model.specs.Tasks.{is_started_task}
 use Rattle.service_model.specs.Completion.{Judged, judge, judge_all, judge_fields_good, go_on, goes_on, after_check, fault_if, gives, cancel_timer, in_use_so_far, in_use_named, has_name, is_full, is_settled_so_far, was_asked_to_cancel, is_attempt_running, cancels_at_once, cancel_facts, is_some_held, is_cancel_of_activity, completed_task}
-use Rattle.buffered.specs.Buffers.{pushed, flushed, unheld, fires}
+use Rattle.buffered.specs.Buffers.{pushed, flushed, fires}
 use Rattle.mutable_state.specs.Steps.{buffer_of, carried, unheld_by, with_new, with_event, unsettled, used_with, left_by, opened_by, event_id, itself, has_id, MaySettle, may_ask, is_start, is_cancel_request, Place, IsFirst, IsBehindEnd, place_after, FitsRole, FitsEvent, FitFrom, FitStep}
 use Rattle.mutable_state.specs.Readers.{IsGrounded}
 use Rattle.mutable_state.proofs.JournalLemmas.{used-more}

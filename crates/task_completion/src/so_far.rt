@@ -1,15 +1,16 @@
 //! What is kept while commands are judged.
 
-ghost use Rattle.std.specs.Prelude.{◌≡◌, ◌+◌, [], false, length, IfOk, OnOk};
+ghost use Rattle.std.specs.Prelude.{◌≡◌, ◌+◌, [], false, length, IfOk, IsTrue, OnOk};
 ghost use Rattle.std.specs.List.{list_any};
-ghost use Rattle.service_model.specs.Completion.{has_members, with_maximum};
-ghost use Rattle.service_model.specs.Outcome.{knows_queue};
+ghost use Rattle.wf_event.specs.RetryPolicies.{good_policy};
+ghost use Rattle.service_model.specs.Completion.{has_members};
 ghost use Rattle.service_model.specs.Pending.{is_cancel_request_of};
-ghost use Rattle.task_completion.specs.Judging.{event_named, scheduled_by, is_asked, activity_scheduled, activity_asked, cancel_asked, timer_started, timer_canceled, recorded, closed, by_kind, judged_now, left};
+ghost use Rattle.task_completion.specs.Judging.{event_named, HasGoodPolicy, is_asked, activity_scheduled, activity_asked, cancel_asked, timer_started, timer_canceled, recorded, closed, by_kind, judged_now, left};
 
 use crate::rows::{
     count_pending, event_named, has_pending_row, has_row, is_firing_of, is_running, was_asked,
 };
+use crate::scheduled::scheduled;
 use mutable_state::{NotedActivity, Used};
 use service_model::content::Setup;
 use std::alloc::{AllocError, Global};
@@ -17,17 +18,11 @@ use std::marker::Model;
 use wf_command::command::{RecordMarker, ScheduleActivityTask, StartTimer};
 use wf_command::{Command, check};
 use wf_event::Attributes;
-use wf_event::payloads::{
-    ActivityTaskCanceled, ActivityTaskScheduled, MarkerRecorded, PolicyFields, TimerEnd,
-    TimerStarted,
-};
+use wf_event::payloads::{ActivityTaskCanceled, MarkerRecorded, TimerEnd, TimerStarted};
 use wf_event_values::{Cause, Id, Text};
 
 /// The most activities that may be pending in a run.
 const MOST_PENDING: usize = 2000;
-
-/// The longest wait between two attempts of an activity, in milliseconds.
-const LONGEST_WAIT: u64 = 1_000_000_000_000;
 
 /// The facts of the commands so far, and what is in use and held back behind them.
 pub struct SoFar<'a> {
@@ -40,7 +35,7 @@ pub struct SoFar<'a> {
     first: u64,
     timers: Vec<Used<'a>>,
     activities: Vec<Used<'a>>,
-    /// What the notes on the activities say.
+    /// What was noted of activities before the commands.
     notes: Vec<NotedActivity>,
     /// Of each event that is still held back the timer that it fires.
     held: Vec<Option<u64>>,
@@ -120,6 +115,7 @@ impl<'a> SoFar<'a> {
 
     /// Judges a command whose own fields have no fault. Those of other types are not served so far.
     fn judge_checked(&mut self, command: &'a Command) -> Result<Result<(), Cause>, AllocError>
+        requires { HasGoodPolicy command.now }
         ensures { IfOk result (λ judged. left judged self.new ≡ by_kind self.old command.now) }
     {
         match command {
@@ -157,6 +153,7 @@ impl<'a> SoFar<'a> {
         &mut self,
         activity: &'a ScheduleActivityTask,
     ) -> Result<Result<(), Cause>, AllocError>
+        requires { IsTrue (good_policy activity.now.retry) }
         ensures { IfOk result (λ judged. left judged self.new ≡ activity_scheduled activity.now self.old) }
     {
         if !self.setup.knows_queue(&activity.task_queue) {
@@ -298,33 +295,6 @@ impl<'a> SoFar<'a> {
         } = self;
         facts
     }
-}
-
-/// What the event of a scheduled activity carries. A maximum of 0 stands for the default, worked out.
-fn scheduled(activity: &ScheduleActivityTask) -> Result<Attributes, AllocError>
-    ensures { IfOk result (λ attributes. attributes ≡ scheduled_by activity.now) }
-{
-    Ok(Attributes::ActivityTaskScheduled(ActivityTaskScheduled {
-        activity_id: activity.activity_id.clone()?,
-        activity_type: activity.activity_type.clone()?,
-        task_queue: activity.task_queue.clone()?,
-        input: activity.input.clone()?,
-        schedule_to_start: activity.schedule_to_start,
-        start_to_close: activity.start_to_close,
-        schedule_to_close: activity.schedule_to_close,
-        heartbeat: activity.heartbeat,
-        retry: with_maximum(&activity.retry)?,
-    }))
-}
-
-fn with_maximum(policy: &PolicyFields) -> Result<PolicyFields, AllocError>
-    ensures { IfOk result (λ fields. fields ≡ with_maximum policy.now) }
-{
-    let mut fields = policy.clone()?;
-    if fields.maximum == 0 {
-        fields.maximum = fields.initial.saturating_mul(100).min(LONGEST_WAIT);
-    }
-    Ok(fields)
 }
 
 /// Whether one of the facts asks the activity to cancel.
