@@ -10,7 +10,7 @@ use wf_event_values::{Field, Moment, TaskKind};
 pub(crate) enum Step {
     /// A line of the script.
     Line(Vec<u8>),
-    /// A workflow task is taken, which no line asks for.
+    /// A workflow task or an activity's attempt is taken, which no line asks for.
     StartTask { hint: Hint, at: Moment },
     /// A line's number is left out.
     Skip,
@@ -88,6 +88,25 @@ impl<'a> Case<'a> {
         Ok(true)
     }
 
+    /// The same, with the number of the copy, from 1 on, in place of each `#` of the text.
+    fn lengthen_numbered(
+        &mut self,
+        alloc: Global,
+        count: &str,
+        text: &str,
+    ) -> Result<bool, AllocError> {
+        let Ok(count) = count.parse::<u32>() else {
+            return Ok(false);
+        };
+        let Some(Step::Line(line)) = self.steps.last_mut() else {
+            return Ok(false);
+        };
+        for number in 0..count {
+            push_numbered(alloc, line, text, number + 1)?;
+        }
+        Ok(true)
+    }
+
     /// Adds what no line of a script says. False where it is nothing that is known.
     fn add_pseudo_line(&mut self, alloc: Global, text: &str) -> Result<bool, AllocError> {
         let words: Vec<&str> = text.split(' ').collect(alloc)?;
@@ -115,6 +134,10 @@ impl<'a> Case<'a> {
                 let (count, text) = rest.split_once(' ').unwrap_or((rest, ""));
                 return self.lengthen(count, text.as_bytes());
             }
+            "*" => {
+                let (count, text) = rest.split_once(' ').unwrap_or((rest, ""));
+                return self.lengthen_numbered(alloc, count, text);
+            }
             "%" => {
                 let (count, text) = rest.split_once(' ').unwrap_or((rest, ""));
                 return match bytes_of(alloc, text)? {
@@ -131,6 +154,23 @@ impl<'a> Case<'a> {
     }
 }
 
+/// Puts a text behind a line, with the number in place of each `#`.
+fn push_numbered(
+    alloc: Global,
+    line: &mut Vec<u8>,
+    text: &str,
+    number: u32,
+) -> Result<(), AllocError> {
+    let number = format!(in alloc; "{number}")?;
+    for (place, part) in text.split('#').enumerate() {
+        if place > 0 {
+            line.extend_from_slice(number.as_bytes())?;
+        }
+        line.extend_from_slice(part.as_bytes())?;
+    }
+    Ok(())
+}
+
 /// The bytes that are written as hexadecimal numbers.
 fn bytes_of(alloc: Global, text: &str) -> Result<Option<Vec<u8>>, AllocError> {
     let mut bytes = Vec::new(alloc);
@@ -143,10 +183,11 @@ fn bytes_of(alloc: Global, text: &str) -> Result<Option<Vec<u8>>, AllocError> {
     Ok(Some(bytes))
 }
 
-/// `start_task shard S run R event E attempt A at T`: the workflow task is taken.
+/// `start_task shard S run R event E attempt A at T`: the workflow task is taken; with the word
+/// `start_activity_task`: an activity's attempt.
 fn start_task(words: &[&str]) -> Option<Step> {
     let [
-        "start_task",
+        name,
         "shard",
         shard,
         "run",
@@ -161,8 +202,13 @@ fn start_task(words: &[&str]) -> Option<Step> {
     else {
         return None;
     };
+    let kind = match *name {
+        "start_task" => TaskKind::Workflow,
+        "start_activity_task" => TaskKind::Activity,
+        _ => return None,
+    };
     let hint = Hint {
-        kind: TaskKind::Workflow,
+        kind,
         shard: shard.parse().ok()?,
         run: run.parse().ok()?,
         event: event.parse().ok()?,

@@ -1,6 +1,6 @@
--- the pending activity that an event scheduled, by what is kept
+-- what is kept of activities, as it is asked for
 use Rattle.std.proofs.Common.{◌≡◌, ℕ, Bool, true, false, not, cond, ◌&&◌, ◌==◌, List, [], ◌∷◌, refl, sym, ap, ◌∙◌, subst, Option, Some, None, IsSome}
-use Rattle.std.specs.Prelude.{find, option_map, option_and_then, unwrap_or}
+use Rattle.std.specs.Prelude.{filter_map, find, map, option_map, option_and_then, unwrap_or}
 use Rattle.std.specs.List.{AllByRecursion, cons_option}
 use Rattle.wf_event.specs.declared.event.Event.{Event}
 use Rattle.wf_event.specs.declared.attributes.Attributes.{Attributes}
@@ -12,7 +12,7 @@ use Rattle.service_model.specs.Tasks.{pending_row, is_started_task}
 use Rattle.buffered.specs.Buffers.{Buffer, event_at}
 use Rattle.mutable_state.specs.declared.open.Open.{Open}
 use Rattle.mutable_state.specs.declared.task.WorkflowTask.{WorkflowTask}
-use Rattle.mutable_state.specs.Activities.{is_activity, pending_at, kept_activity}
+use Rattle.mutable_state.specs.Activities.{is_activity, pending_at, kept_activity, noted_activity, noted_activities, activity_at}
 use Rattle.mutable_state.specs.Noted.{kept_row}
 use Rattle.mutable_state.specs.Opens.{class_in, opener_in, is_of, activity_of, opened_at, row_at, rows_in, open_with, marked, unmarked, added, without, opener_out, class_out, AgreesWith}
 use Rattle.mutable_state.specs.Steps.{carried, comes_last}
@@ -104,3 +104,15 @@ rows-after t a status n os opened closed = rows-closing t a n os (closing-is a �
 -- a run that has closed has no activity
 pub none-closed : (b : Buffer) (request : Option (List ℕ)) (status : Status) (t : WorkflowTask) (keys : List (List ℕ)) (os : List Open) → os ≡ [] → (state_in b request status t keys os).activities ≡ []
 none-closed b request status t keys os h = ap (λ l. rows_in l b.events) h
+
+-- what is noted of the activities in use
+noted-rows : (es : List Event) (os : List Open) → filter_map (activity_at es) os ≡ map noted_activity (rows_in os es)
+noted-rows es [] = refl
+noted-rows es (o ∷ os) = by_row (row_at es o) (noted-rows es os)
+  where
+    by_row : (r : Option ActivityRow) → filter_map (activity_at es) os ≡ map noted_activity (rows_in os es) → cons_option (option_map noted_activity r) (filter_map (activity_at es) os) ≡ map noted_activity (cons_option r (rows_in os es))
+    by_row None again = again
+    by_row (Some r) again = ap (λ l. noted_activity r ∷ l) again
+
+pub noted-are : (b : Buffer) (request : Option (List ℕ)) (status : Status) (t : WorkflowTask) (keys : List (List ℕ)) (os : List Open) → filter_map (activity_at b.events) os ≡ noted_activities (state_in b request status t keys os)
+noted-are b request status t keys os = noted-rows b.events os

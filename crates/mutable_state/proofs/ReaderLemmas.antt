@@ -61,8 +61,8 @@ is-grounded b request status t keys os agrees outside = record {
 }
 
 -- one more thing that is kept
-pub rows-one : (f : Open → Option UsedRow) (os : List Open) (i : ℕ) (d : Open) (u : UsedRow) → i < length os → f (get_or os i d) ≡ Some u → filter_map f (take (i + 1) os) ≡ filter_map f (take i os) ++ u ∷ []
+pub rows-one : {Y : Type 0} (f : Open → Option Y) (os : List Open) (i : ℕ) (d : Open) (u : Y) → i < length os → f (get_or os i d) ≡ Some u → filter_map f (take (i + 1) os) ≡ filter_map f (take i os) ++ u ∷ []
 rows-one f os i d u there is = ap (filter_map f) (take_more os i d there) ∙ filter_map-append f (take i os) (get_or os i d ∷ []) ∙ ap (λ o. filter_map f (take i os) ++ cons_option o []) is
 
-pub rows-none : (f : Open → Option UsedRow) (os : List Open) (i : ℕ) (d : Open) → i < length os → f (get_or os i d) ≡ None → filter_map f (take (i + 1) os) ≡ filter_map f (take i os)
+pub rows-none : {Y : Type 0} (f : Open → Option Y) (os : List Open) (i : ℕ) (d : Open) → i < length os → f (get_or os i d) ≡ None → filter_map f (take (i + 1) os) ≡ filter_map f (take i os)
 rows-none f os i d there is = ap (filter_map f) (take_more os i d there) ∙ filter_map-append f (take i os) (get_or os i d ∷ []) ∙ ap (λ o. filter_map f (take i os) ++ cons_option o []) is ∙ append-nil (filter_map f (take i os))

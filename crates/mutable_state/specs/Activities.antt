@@ -1,11 +1,13 @@
--- a pending activity as it is asked for
-use Rattle.std.specs.Prelude.{◌≡◌, ℕ, Bool, false, cond, List, [], find, Option, None, option_map, option_and_then}
+-- the activities of a run as they are asked for
+use Rattle.std.specs.Prelude.{◌≡◌, ℕ, Bool, false, cond, List, [], find, map, Option, None, option_map, option_and_then}
 use Rattle.wf_event.specs.declared.event.Event.{Event}
+use Rattle.service_model.specs.Completion.{is_running_phase}
 use Rattle.service_model.specs.RunState.{RunState, ActivityRow, is_open}
 use Rattle.mutable_state.specs.declared.activity.Activity.{Activity}
+use Rattle.mutable_state.specs.declared.activity.NotedActivity.{NotedActivity}
 use Rattle.mutable_state.specs.declared.open.Open.{Open}
 use Rattle.mutable_state.specs.Noted.{kept_row}
-use Rattle.mutable_state.specs.Opens.{event_at, activity_of, is_one}
+use Rattle.mutable_state.specs.Opens.{event_at, activity_of, is_one, row_at}
 
 -- its row
 abbrev pub row_said : Activity → ActivityRow
@@ -21,6 +23,18 @@ pending_at es id o = cond o.is_settled None (option_map (kept_row o.notes) (even
 -- the row of the activity that this event scheduled, by what is kept
 abbrev pub kept_activity : List Event → List Open → ℕ → Option ActivityRow
 kept_activity es os id = option_and_then (pending_at es id) (find (is_activity id) os)
+
+-- what its row says of an activity in use where commands are judged
+abbrev pub noted_activity : ActivityRow → NotedActivity
+noted_activity r = record { scheduled = r.opened.id; is_running = is_running_phase r.phase; is_asked = r.cancel_requested }
+
+-- all activities in use, in the order in which they were scheduled
+abbrev pub noted_activities : RunState → List NotedActivity
+noted_activities s = map noted_activity s.activities
+
+-- the same of a thing that is kept, where it is an activity
+abbrev pub activity_at : List Event → Open → Option NotedActivity
+activity_at es o = option_map noted_activity (row_at es o)
 
 -- a run that has closed has no activity
 abbrev pub HasNoActivityClosed : RunState → Type 0

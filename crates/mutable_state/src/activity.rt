@@ -1,14 +1,15 @@
-//! A pending activity.
+//! The activities of a run, as they are asked for.
 
-ghost use Rattle.std.specs.Prelude.{◌≡◌, find, option_copied, option_map, IfOk, OnOk};
+ghost use Rattle.std.specs.Prelude.{◌≡◌, filter_map, find, option_copied, option_map, IfOk, OnOk};
 ghost use Rattle.service_model.specs.Tasks.{pending_row};
-ghost use Rattle.mutable_state.specs.Activities.{row_said, kept_activity, is_activity, HasNoActivityClosed};
+ghost use Rattle.mutable_state.specs.Activities.{row_said, kept_activity, is_activity, noted_activity, noted_activities, activity_at, HasNoActivityClosed};
+ghost use Rattle.mutable_state.specs.Noted.{kept_row};
 
 use crate::notes::Notes;
 use crate::open::{Class, Open, Opener};
 use crate::run::Run;
 use buffered::History;
-use std::alloc::AllocError;
+use std::alloc::{AllocError, Global};
 use wf_event::Event;
 
 /// An activity: the event that scheduled it, and what the notes on it say.
@@ -26,6 +27,29 @@ impl Drop for Activity {
     }
 }
 
+/// An activity in use, by the event that scheduled it, and what matters of it to commands.
+#[derive(Clone, Copy)]
+pub struct NotedActivity {
+    pub scheduled: u64,
+    /// Whether an attempt is running.
+    pub is_running: bool,
+    /// Whether it was asked to cancel.
+    pub is_asked: bool,
+}
+
+impl NotedActivity {
+    /// The activity that this event scheduled, where this is noted of it.
+    pub fn of(event: &Event, notes: &Notes) -> NotedActivity
+        ensures { result ≡ noted_activity (kept_row notes.now event.now) }
+    {
+        NotedActivity {
+            scheduled: event.id,
+            is_running: notes.is_running(),
+            is_asked: notes.cancel_requested,
+        }
+    }
+}
+
 impl Run {
     /// The pending activity that this event scheduled.
     pub fn pending_activity(&self, id: u64) -> Result<Option<Activity>, AllocError>
@@ -35,6 +59,41 @@ impl Run {
         let found = kept_activity(self.in_use.rows(), &self.history, id)?;
         Ok(found)
     }
+
+    /// What is noted of the activities in use, in the order in which they were scheduled.
+    pub fn noted_activities(&self, alloc: Global) -> Result<Vec<NotedActivity>, AllocError>
+        ensures { IfOk result (λ noted. noted.items ≡ noted_activities self.now.state) }
+    {
+        noted_among(alloc, self.in_use.rows(), &self.history)
+    }
+}
+
+/// What is noted of those things in use that are activities.
+fn noted_among(
+    alloc: Global,
+    rows: &[Open],
+    history: &History,
+) -> Result<Vec<NotedActivity>, AllocError>
+    ensures { IfOk result (λ noted. noted.items ≡ filter_map (activity_at history.now.lists.events) rows.now) }
+{
+    let mut noted = Vec::new(alloc);
+    for row in rows {
+        if let Some(one) = activity_at(row, history) {
+            noted.push(one)?;
+        }
+    }
+    Ok(noted)
+}
+
+/// What is noted of a thing in use, where it is an activity.
+fn activity_at(row: &Open, history: &History) -> Option<NotedActivity>
+    ensures { result ≡ activity_at history.now.lists.events row.now }
+{
+    if !row.is_of(Class::Activity) {
+        return None;
+    }
+    let event = history.event(row.opener.event)?;
+    Some(NotedActivity::of(event, &row.notes))
 }
 
 /// The activity that this event scheduled, where it is kept and no event that settles it is held back.

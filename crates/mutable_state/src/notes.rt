@@ -1,8 +1,9 @@
 //! What notes say of an activity.
 
 ghost use Rattle.std.specs.Prelude.{◌≡◌, ◌<◌, IfOk};
+ghost use Rattle.service_model.specs.Completion.{is_running_phase};
 ghost use Rattle.service_model.specs.Pending.{is_ended};
-ghost use Rattle.mutable_state.specs.Noted.{no_notes, noted};
+ghost use Rattle.mutable_state.specs.Noted.{no_notes, noted, phase_said};
 
 use service_model::journal::Note;
 use std::alloc::AllocError;
@@ -74,6 +75,13 @@ impl Notes {
             details: None,
             cancel_requested: false,
         }
+    }
+
+    /// Whether a worker has an attempt.
+    pub fn is_running(&self) -> bool
+        ensures { result ≡ is_running_phase (phase_said self.now.phase) }
+    {
+        matches!(self.phase, ActivityPhase::Running)
     }
 
     /// A copy.

@@ -23,6 +23,18 @@ impl Drop for Setup {
     }
 }
 
+impl Setup {
+    ghost use Rattle.std.specs.Prelude.{◌≡◌};
+    ghost use Rattle.service_model.specs.Outcome.{knows_queue};
+
+    /// Whether the service was opened with a queue of that name.
+    pub fn knows_queue(&self, queue: &Id) -> bool
+        ensures { result ≡ knows_queue self.now queue.now }
+    {
+        self.queues.as_slice().iter().any(|known| known == queue)
+    }
+}
+
 /// All transfers ever issued to one shard, and how many it acknowledged.
 pub struct Outgoing {
     pub issued: Items<TransferContent>,

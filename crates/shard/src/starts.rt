@@ -8,7 +8,7 @@ ghost use Rattle.service_model.specs.Starts.{decision, start, starts_new, starte
 ghost use Rattle.shard.specs.View.{state, states, runs_in};
 ghost use Rattle.shard.specs.Fitting.{FitsStep, IsFree, decided, decided_by, started_by, new_run};
 
-use crate::index::{knows_queue, shard_of};
+use crate::index::shard_of;
 use crate::plan::{Change, NewRun, Plan};
 use crate::prepare::{answered, refused};
 use crate::shard::Shard;
@@ -49,7 +49,7 @@ impl<T: KeepsRun> Shard<T> {
         if shard_of(&self.setup, &request.workflow_id) != self.setup.shard {
             return Ok(refused(moment, Refusal::InvalidArgument(Field::WorkflowId)));
         }
-        if !knows_queue(&self.setup, &request.task_queue) {
+        if !self.setup.knows_queue(&request.task_queue) {
             return Ok(refused(moment, Refusal::UnknownTaskQueue));
         }
         self.prepare_decided(moment, request)

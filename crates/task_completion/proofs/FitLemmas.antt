@@ -1,36 +1,37 @@
 -- the facts of commands that are judged without a fault may come
 use Rattle.std.proofs.Common.{◌≡◌, ℕ, ◌+◌, ◌≤◌, Bool, true, false, not, cond, ◌&&◌, ◌||◌, ◌==◌, List, [], ◌∷◌, ◌++◌, length, refl, sym, ap, ◌∙◌, subst, arith, Option, Some, None, append_assoc, append-nil, length-append}
-use Rattle.std.specs.Prelude.{filter, map, is_some, unwrap_or, Ok, Err}
+use Rattle.std.specs.Prelude.{filter, map, is_some, unwrap_or, Result, Ok, Err}
 use Rattle.std.specs.List.{list_any, list_all}
 use Rattle.wf_event.specs.declared.event.Event.{Event}
 use Rattle.wf_event.specs.declared.attributes.Attributes.{Attributes}
-use Rattle.wf_event.specs.declared.attributes.Attributes.TheVariants.{WorkflowExecutionCompleted, WorkflowExecutionFailed, WorkflowExecutionCanceled, WorkflowTaskCompleted, MarkerRecorded, TimerStarted, TimerCanceled}
-use Rattle.wf_event.specs.Role.{Role, TaskSchedules, TaskStarts, TaskEnds, Closes, TimerFires, TimerCancels, ComesFromOutside, Follows, role, is_closing_role, Class, ATimer, opens, Settled, settles, closing_status}
+use Rattle.wf_event.specs.declared.attributes.Attributes.TheVariants.{WorkflowExecutionCompleted, WorkflowExecutionFailed, WorkflowExecutionCanceled, WorkflowTaskCompleted, MarkerRecorded, ActivityTaskCancelRequested, ActivityTaskCanceled, TimerStarted, TimerCanceled}
+use Rattle.wf_event.specs.Role.{Role, TaskSchedules, TaskStarts, TaskEnds, Closes, TimerFires, TimerCancels, ComesFromOutside, Follows, role, is_closing_role, Class, AnActivity, ATimer, opens, Settled, settles, closing_status}
 use Rattle.wf_event_values.specs.Run.{Run}
 use Rattle.wf_event_values.specs.declared.policies.Cause.{Cause}
-use Rattle.wf_event_values.specs.declared.policies.Cause.TheVariants.{UnhandledCommand, CommandAfterClose, StartTimerDuplicateId, BadStartTimerAttributes}
+use Rattle.wf_event_values.specs.declared.policies.Cause.TheVariants.{UnhandledCommand, CommandAfterClose, BadScheduleActivityAttributes, ScheduleActivityDuplicateId, PendingActivitiesLimitExceeded, BadRequestCancelActivityAttributes, StartTimerDuplicateId}
 use Rattle.wf_command.specs.declared.command.Command.{Command}
-use Rattle.wf_command.specs.declared.command.Command.TheVariants.{StartTimer, CancelTimer, RecordMarker, CompleteWorkflowExecution, FailWorkflowExecution, CancelWorkflowExecution}
+use Rattle.wf_command.specs.declared.command.Command.TheVariants.{ScheduleActivityTask, RequestCancelActivityTask, StartTimer, CancelTimer, RecordMarker, CompleteWorkflowExecution, FailWorkflowExecution, CancelWorkflowExecution}
+use Rattle.wf_command.specs.declared.command.ScheduleActivityTask.{ScheduleActivityTask as ScheduleActivity}
 use Rattle.wf_command.specs.Check.{attributes_fault}
 use Rattle.service_model.specs.declared.content.Setup.{Setup}
 use Rattle.service_model.specs.declared.journal.Fact.{Fact}
 use Rattle.service_model.specs.declared.journal.NewEvent.{NewEvent}
 use Rattle.service_model.specs.Journal.{plain}
 use Rattle.service_model.specs.Shown.{schedules_task}
-use Rattle.service_model.specs.Pending.{NoTask, IsStarted, task_of, is_opening, is_settling}
-use Rattle.service_model.specs.RunState.{RunState, signal_request_by, used, is_open, is_open_status, last_task}
+use Rattle.service_model.specs.Pending.{NoTask, IsStarted, task_of, is_opening, is_settling, is_settled}
+use Rattle.service_model.specs.RunState.{RunState, signal_request_by, used, pending, held_attributes, is_open, is_open_status, last_task}
 use Rattle.service_model.specs.Signals.{was_signaled}
-use Rattle.service_model.specs.Outcome.{schedule_task}
+use Rattle.service_model.specs.Outcome.{knows_queue, schedule_task}
 use Rattle.service_model.specs.Service.{is_served}
 use Rattle.service_model.specs.Tasks.{is_started_task}
-use Rattle.service_model.specs.Completion.{Judged, judge, judge_all, judge_fields_good, go_on, goes_on, after_check, fault_if, gives, cancel_timer, in_use_so_far, in_use_named, has_name, is_some_held, is_cancel_of_activity, completed_task}
-use Rattle.buffered.specs.Buffers.{pushed, flushed}
-use Rattle.mutable_state.specs.Steps.{buffer_of, unheld_by, with_new, with_event, unsettled, used_with, left_by, opened_by, event_id, itself, has_id, MaySettle, may_ask, is_start, is_cancel_request, Place, IsFirst, IsBehindEnd, place_after, FitsRole, FitsEvent, FitFrom, FitStep}
+use Rattle.service_model.specs.Completion.{Judged, judge, judge_all, judge_fields_good, go_on, goes_on, after_check, fault_if, gives, cancel_timer, in_use_so_far, in_use_named, has_name, is_full, is_settled_so_far, was_asked_to_cancel, is_attempt_running, cancels_at_once, cancel_facts, is_some_held, is_cancel_of_activity, completed_task}
+use Rattle.buffered.specs.Buffers.{pushed, flushed, fires}
+use Rattle.mutable_state.specs.Steps.{buffer_of, carried, unheld_by, with_new, with_event, unsettled, used_with, left_by, opened_by, event_id, itself, has_id, MaySettle, may_ask, is_start, is_cancel_request, Place, IsFirst, IsBehindEnd, place_after, FitsRole, FitsEvent, FitFrom, FitStep}
 use Rattle.mutable_state.specs.Readers.{IsGrounded}
 use Rattle.mutable_state.proofs.JournalLemmas.{used-more}
-use Rattle.mutable_state.proofs.OpenLemmas.{any-push, filter-map, left-is}
-use Rattle.task_completion.specs.Judging.{IsSoFar}
-use Rattle.task_completion.proofs.SoFarLemmas.{next_event, Comes, uses-more, so-far-more, so-far-none, comes-quiet, comes-cancel, found-in, used-ids, length-push, all-in-use}
+use Rattle.mutable_state.proofs.OpenLemmas.{any-push, filter-map, left-is, nat-same, same-as}
+use Rattle.task_completion.specs.Judging.{IsSoFar, scheduled_by}
+use Rattle.task_completion.proofs.SoFarLemmas.{next_event, Comes, uses-more, so-far-more, so-far-none, settled-more, left-settled, comes-pending, comes-quiet, comes-cancel, id-low, found-in, used-ids, length-push, all-in-use}
 
 -- a run in the course of a completion, behind the task's end and the facts so far
 record Now (s : RunState) (F : List Attributes) (t : RunState) : Type 0 where
@@ -40,6 +41,7 @@ record Now (s : RunState) (F : List Attributes) (t : RunState) : Type 0 where
   none : t.task ≡ NoTask
   shown : length t.shown ≡ length s.shown + 1 + length F
   used_ids : (c : Class) → map event_id (used c t) ≡ map event_id (in_use_so_far c s F)
+  held_less : (c : Class) (id : ℕ) → is_settled c id (held_attributes t) ≡ true → is_settled c id (held_attributes s) ≡ true
 
 ids-any : (id : ℕ) (es : List Event) → has_id id es ≡ list_any (λ n. n == id) (map event_id es)
 ids-any id [] = refl
@@ -69,7 +71,6 @@ record IsPlain (a : Attributes) : Type 0 where
   turns : task_of (role a) ≡ None
   status : closing_status a ≡ None
   starts : is_start a ≡ false
-  asks : (t : RunState) → may_ask a t ≡ true
   cancels : is_cancel_request a ≡ false
   signals : signal_request_by None a ≡ None
   fits : (p : Place) (t : RunState) (more : List Fact) → is_started_task t.task ≡ false → FitsRole p (role a) t more
@@ -94,6 +95,21 @@ shown-next at a t none is =
     by_role new (TimerCancels k) = length-append t.shown _
     by_role new _ = length-append t.shown _
 
+-- no more is held back
+unheld-less : (c : Class) (id started : ℕ) (l : List NewEvent) → is_settled c id (carried (filter (λ (e : NewEvent). not (fires started e.attributes)) l)) ≡ true → is_settled c id (carried l) ≡ true
+unheld-less c id started l h = left-settled c id (λ a. not (fires started a)) (carried l) (ap (is_settled c id) (filter-map (λ a. not (fires started a)) (λ (e : NewEvent). e.attributes) l) ∙ h)
+
+held-next : (at : ℕ) (a : Attributes) (t : RunState) (c : Class) (id : ℕ) → t.task ≡ NoTask → IsPlain a → is_settled c id (held_attributes (with_event at None a t)) ≡ true → is_settled c id (held_attributes t) ≡ true
+held-next at a t c id none is h =
+    let new : NewEvent = record { at = at; attributes = a } in
+    by_role new (role a)
+    (sym (ap (λ k. is_settled c id (carried (with_new k new (buffer_of t)).held)) none
+    ∙ ap (λ b. is_settled c id (carried (cond (b || false) (pushed (flushed (buffer_of t)) new) (pushed (unheld_by (role a) (buffer_of t)) new)).held)) is.schedules) ∙ h)
+  where
+    by_role : (new : NewEvent) (r : Role) → is_settled c id (carried (pushed (unheld_by r (buffer_of t)) new).held) ≡ true → is_settled c id (carried t.held) ≡ true
+    by_role new (TimerCancels k) h = unheld-less c id k t.held h
+    by_role new _ h = h
+
 now-more : (at : ℕ) (s : RunState) (F : List Attributes) (a : Attributes) (t : RunState) → IsGrounded s → Now s F t → IsPlain a → Comes s F a → Now s (F ++ a ∷ []) (with_event at None a t)
 now-more at s F a t g now is comes =
     let t' = with_event at None a t in
@@ -113,15 +129,16 @@ now-more at s F a t g now is comes =
           ∙ ap (λ l. map event_id (left_by c event_id (settles a) (in_use_so_far c s F)) ++ l) (opened-ids c e (next_event s F a) (let old = now.shown in omega (arith, shown, old)) refl)
           ∙ sym (map-append (left_by c event_id (settles a) (in_use_so_far c s F)) (opened_by c itself (next_event s F a)))
           ∙ ap (map event_id) (sym (uses-more c s F a g now.so_far comes));
+      held_less = λ c id h. now.held_less c id (held-next at a t c id now.none is h);
     }
 
-fits-plain : (s : RunState) (F : List Attributes) (a : Attributes) (t : RunState) (more : List Fact) → Now s F t → IsPlain a → MaySettle (role a) (settles a) t → FitsEvent IsBehindEnd t None a more
-fits-plain s F a t more now is may = record {
+fits-plain : (s : RunState) (F : List Attributes) (a : Attributes) (t : RunState) (more : List Fact) → Now s F t → IsPlain a → MaySettle (role a) (settles a) t → may_ask a t ≡ true → FitsEvent IsBehindEnd t None a more
+fits-plain s F a t more now is may asks = record {
   open_run = now.open_run;
   fits_role = is.fits IsBehindEnd t more (ap is_started_task now.none);
   begins_none = is.starts;
   may_settle = may;
-  may_ask = is.asks t;
+  may_ask = asks;
   cancels_none = is.cancels;
   first_signal = ap (was_signaled t.signal_requests) is.signals;
 }
@@ -130,15 +147,27 @@ fits-plain s F a t more now is may = record {
 
 plain-marker : (name details : List ℕ) → IsPlain (MarkerRecorded (record { name = name; details = details }))
 unfolding role closing_status
-plain-marker name details = record { stays = refl; schedules = refl; turns = refl; status = refl; starts = refl; asks = λ t. refl; cancels = refl; signals = refl; fits = λ p t more h. h }
+plain-marker name details = record { stays = refl; schedules = refl; turns = refl; status = refl; starts = refl; cancels = refl; signals = refl; fits = λ p t more h. h }
 
 plain-timer : (name : List ℕ) (duration : ℕ) → IsPlain (TimerStarted (record { timer_id = name; duration = duration }))
 unfolding role closing_status
-plain-timer name duration = record { stays = refl; schedules = refl; turns = refl; status = refl; starts = refl; asks = λ t. refl; cancels = refl; signals = refl; fits = λ p t more h. h }
+plain-timer name duration = record { stays = refl; schedules = refl; turns = refl; status = refl; starts = refl; cancels = refl; signals = refl; fits = λ p t more h. h }
 
 plain-cancel : (name : List ℕ) (started : ℕ) → IsPlain (TimerCanceled (record { timer_id = name; started = started }))
 unfolding role closing_status
-plain-cancel name started = record { stays = refl; schedules = refl; turns = refl; status = refl; starts = refl; asks = λ t. refl; cancels = refl; signals = refl; fits = λ p t more h. h }
+plain-cancel name started = record { stays = refl; schedules = refl; turns = refl; status = refl; starts = refl; cancels = refl; signals = refl; fits = λ p t more h. h }
+
+plain-scheduled : (c : ScheduleActivity) → IsPlain (scheduled_by c)
+unfolding role closing_status
+plain-scheduled c = record { stays = refl; schedules = refl; turns = refl; status = refl; starts = refl; cancels = refl; signals = refl; fits = λ p t more h. h }
+
+plain-asked : (id : ℕ) → IsPlain (ActivityTaskCancelRequested id)
+unfolding role closing_status
+plain-asked id = record { stays = refl; schedules = refl; turns = refl; status = refl; starts = refl; cancels = refl; signals = refl; fits = λ p t more h. h }
+
+plain-ended : (id : ℕ) (details : List ℕ) → IsPlain (ActivityTaskCanceled (record { scheduled = id; details = details }))
+unfolding role closing_status
+plain-ended id details = record { stays = refl; schedules = refl; turns = refl; status = refl; starts = refl; cancels = refl; signals = refl; fits = λ p t more h. tt }
 
 -- whether an event closes the run as a command does
 abbrev closes_by_command : Attributes → Bool
@@ -179,11 +208,11 @@ stays-behind (TimerCancels k) = refl
 abbrev Goes : ℕ → RunState → List Attributes → List Attributes → RunState → Type 0
 Goes at s G F t = (rest : List Attributes) × (G ≡ F ++ rest) × FitFrom IsBehindEnd at t (map plain (rest ++ cond (goes_on s G) (schedule_task s 1 ∷ []) []))
 
-goes-plain : (at : ℕ) (s : RunState) (G F : List Attributes) (a : Attributes) (t : RunState) → Now s F t → IsPlain a → MaySettle (role a) (settles a) t → Goes at s G (F ++ a ∷ []) (with_event at None a t) → Goes at s G F t
-goes-plain at s G F a t now is may again =
+goes-plain : (at : ℕ) (s : RunState) (G F : List Attributes) (a : Attributes) (t : RunState) → Now s F t → IsPlain a → MaySettle (role a) (settles a) t → may_ask a t ≡ true → Goes at s G (F ++ a ∷ []) (with_event at None a t) → Goes at s G F t
+goes-plain at s G F a t now is may asks again =
     let (rest, all, fit) = again in
     let tail = rest ++ cond (goes_on s G) (schedule_task s 1 ∷ []) [] in
-    (a ∷ rest, all ∙ append_assoc F (a ∷ []) rest, (fits-plain s F a t (map plain tail) now is may, subst (λ p. FitFrom p at (with_event at None a t) (map plain tail)) (sym (stays-behind (role a))) fit))
+    (a ∷ rest, all ∙ append_assoc F (a ∷ []) rest, (fits-plain s F a t (map plain tail) now is may asks, subst (λ p. FitFrom p at (with_event at None a t) (map plain tail)) (sym (stays-behind (role a))) fit))
 
 -- nothing comes behind the end of the run
 closed-stops : (setup : Setup) (next : Run) (s : RunState) (H G : List Attributes) (cs : List Command) → list_any (λ a. is_closing_role (role a)) H ≡ true → judge_all setup next s H cs ≡ Ok G → H ≡ G
@@ -205,9 +234,9 @@ no-fault : (b : Bool) (cause : Cause) (rest : Judged) (more : List Attributes �
 no-fault true cause rest more G h = absurd (cc)
 no-fault false cause rest more G h = (refl, h)
 
-no-check : (b : Bool) (rest : Judged) (more : List Attributes → Judged) (G : List Attributes) → go_on (after_check (cond b (Err BadStartTimerAttributes) (Ok tt)) rest) more ≡ Ok G → go_on rest more ≡ Ok G
-no-check true rest more G h = absurd (cc)
-no-check false rest more G h = h
+no-check : (r : Result (Unit {0}) Cause) (rest : Judged) (more : List Attributes → Judged) (G : List Attributes) → go_on (after_check r rest) more ≡ Ok G → go_on rest more ≡ Ok G
+no-check (Ok u) rest more G h = h
+no-check (Err cause) rest more G h = absurd (cc)
 
 may-cancel : (s : RunState) (F : List Attributes) (name : List ℕ) (e : Event) (t : RunState) → Now s F t → in_use_named ATimer name s F ≡ Some e → (e.id ≤ length s.shown + 1 + length F) × (has_id e.id (used ATimer t) ≡ true)
 may-cancel s F name e t now h =
@@ -223,7 +252,90 @@ goes-cancel at setup next s G F t cs name g now again (Some e) found h =
     let may = may-cancel s F name e t now found in
     let a = TimerCanceled (record { timer_id = name; started = e.id }) in
     let is = plain-cancel name e.id in
-    goes-plain at s G F a t now is may.1 (again (F ++ a ∷ []) (with_event at None a t) (now-more at s F a t g now is (comes-cancel s F name e.id g may.0)) h)
+    goes-plain at s G F a t now is may.1 refl (again (F ++ a ∷ []) (with_event at None a t) (now-more at s F a t g now is (comes-cancel s F name e.id g may.0)) h)
+
+-- an activity is asked to cancel
+
+has-left : (q : ℕ → Bool) (id : ℕ) (es : List Event) → q id ≡ true → has_id id es ≡ true → has_id id (filter (λ (e : Event). q e.id) es) ≡ true
+has-left q id [] is h = absurd (cc)
+has-left q id (e ∷ es) is h = by_test (e.id == id) refl h (has-left q id es is)
+  where
+    by_test : (b : Bool) → (e.id == id) ≡ b → (b || has_id id es) ≡ true → (has_id id es ≡ true → has_id id (filter (λ (x : Event). q x.id) es) ≡ true) → has_id id (filter (λ (x : Event). q x.id) (e ∷ es)) ≡ true
+    by_test true same g again =
+        ap (λ b. has_id id (cond b (e ∷ filter (λ (x : Event). q x.id) es) (filter (λ (x : Event). q x.id) es))) (ap q (nat-same e.id id same) ∙ is)
+        ∙ ap (λ b. b || has_id id (filter (λ (x : Event). q x.id) es)) same
+    by_test false same g again = kept (q e.id) (again g)
+      where
+        or-true : (b : Bool) → (b || true) ≡ true
+        or-true true = refl
+        or-true false = refl
+
+        kept : (b : Bool) → has_id id (filter (λ (x : Event). q x.id) es) ≡ true → has_id id (cond b (e ∷ filter (λ (x : Event). q x.id) es) (filter (λ (x : Event). q x.id) es)) ≡ true
+        kept true k = ap (λ b. (e.id == id) || b) k ∙ or-true (e.id == id)
+        kept false k = k
+
+not-true : (b : Bool) → (b ≡ true → ⊥) → b ≡ false
+not-true true h = absurd (h refl)
+not-true false h = refl
+
+-- what is in use so far, and what nothing settles
+in-use-there : (s : RunState) (F : List Attributes) (t : RunState) (c : Class) (id : ℕ) → Now s F t → list_any (λ (e : Event). e.id == id) (in_use_so_far c s F) ≡ true → has_id id (used c t) ≡ true
+in-use-there s F t c id now h = same-ids id (used c t) (in_use_so_far c s F) (now.used_ids c) ∙ h
+
+pending-there : (s : RunState) (F : List Attributes) (t : RunState) (c : Class) (id : ℕ) → Now s F t → has_id id (used c t) ≡ true → is_settled c id (held_attributes s) ≡ false → has_id id (pending c t) ≡ true
+pending-there s F t c id now there free =
+    let low : is_settled c id (held_attributes t) ≡ false = not-true (is_settled c id (held_attributes t)) (λ k. let e = sym (now.held_less c id k) ∙ free in absurd (cc)) in
+    has-left (λ n. not (is_settled c n (held_attributes t))) id (used c t) (ap not low) there
+
+-- it is canceled at once, where no attempt is running
+goes-asked : (at : ℕ) (setup : Setup) (next : Run) (s : RunState) (G F : List Attributes) (t : RunState) (cs : List Command) (id : ℕ) → IsGrounded s → Now s F t →
+    ((F' : List Attributes) (t' : RunState) → Now s F' t' → judge_all setup next s F' cs ≡ Ok G → Goes at s G F' t') →
+    list_any (λ (e : Event). e.id == id) (in_use_so_far AnActivity s F) ≡ true → (b : Bool) → (b ≡ true → is_settled_so_far AnActivity id s F ≡ false) → judge_all setup next s (F ++ cancel_facts id b) cs ≡ Ok G → Goes at s G F t
+unfolding role settles opens
+goes-asked at setup next s G F t cs id g now again there false free h =
+    let a = ActivityTaskCancelRequested id in
+    let is = plain-asked id in
+    goes-plain at s G F a t now is tt (in-use-there s F t AnActivity id now there) (again (F ++ a ∷ []) (with_event at None a t) (now-more at s F a t g now is (comes-quiet s F a refl refl)) h)
+goes-asked at setup next s G F t cs id g now again there true free h =
+    let a = ActivityTaskCancelRequested id in
+    let b = ActivityTaskCanceled (record { scheduled = id; details = [] }) in
+    let is = plain-asked id in
+    let ends = plain-ended id [] in
+    let t' = with_event at None a t in
+    let F' = F ++ a ∷ [] in
+    let now' = now-more at s F a t g now is (comes-quiet s F a refl refl) in
+    let still : is_settled_so_far AnActivity id s F' ≡ false = settled-more AnActivity id s F a ∙ or-false (is_settled_so_far AnActivity id s F) ∙ free refl in
+    let used_there : has_id id (used AnActivity t') ≡ true = ap (has_id id) (used-next at a t AnActivity now.none is ∙ append-nil (used AnActivity t)) ∙ in-use-there s F t AnActivity id now there in
+    let low = id-low AnActivity id s F now.so_far there in
+    let push = length-push F a in
+    let comes = comes-pending s F' b refl (λ c n k. let same = same-as c n (record { class = AnActivity; opener = id }) k in
+    (ap (λ d. is_settled_so_far d n s F') same.class_is ∙ ap (λ m. is_settled_so_far AnActivity m s F') same.id_is ∙ still, subst (λ m. m ≤ length s.shown + 1 + length F') (sym same.id_is) (omega (arith, low, push)))) in
+    goes-plain at s G F a t now is tt (in-use-there s F t AnActivity id now there)
+    (goes-plain at s G F' b t' now' ends (pending-there s F' t' AnActivity id now' used_there (left-free (is_settled AnActivity id (held_attributes s)) (is_settled AnActivity id F') still)) refl
+    (again (F' ++ b ∷ []) (with_event at None b t') (now-more at s F' b t' g now' ends comes) (ap (λ l. judge_all setup next s l cs) (append_assoc F (a ∷ []) (b ∷ [])) ∙ h)))
+  where
+    or-false : (b : Bool) → (b || false) ≡ b
+    or-false true = refl
+    or-false false = refl
+
+    left-free : (x y : Bool) → (x || y) ≡ false → x ≡ false
+    left-free true y k = absurd (cc)
+    left-free false y k = refl
+
+goes-request : (at : ℕ) (setup : Setup) (next : Run) (s : RunState) (G F : List Attributes) (t : RunState) (cs : List Command) (id : ℕ) → IsGrounded s → Now s F t →
+    ((F' : List Attributes) (t' : RunState) → Now s F' t' → judge_all setup next s F' cs ≡ Ok G → Goes at s G F' t') →
+    (not (list_any (λ (e : Event). e.id == id) (in_use_so_far AnActivity s F)) || was_asked_to_cancel id s F) ≡ false → judge_all setup next s (F ++ cancel_facts id (cancels_at_once id s F)) cs ≡ Ok G → Goes at s G F t
+goes-request at setup next s G F t cs id g now again free h =
+    goes-asked at setup next s G F t cs id g now again (there (list_any (λ (e : Event). e.id == id) (in_use_so_far AnActivity s F)) (was_asked_to_cancel id s F) free) (cancels_at_once id s F)
+    (λ k. unsettled_one (is_settled_so_far AnActivity id s F) (not (is_attempt_running s id)) k) h
+  where
+    there : (x y : Bool) → (not x || y) ≡ false → x ≡ true
+    there true y k = refl
+    there false y k = absurd (cc)
+
+    unsettled_one : (x y : Bool) → (not x && y) ≡ true → x ≡ false
+    unsettled_one true y k = absurd (cc)
+    unsettled_one false y k = refl
 
 -- one command, and the rest
 goes-one : (at : ℕ) (setup : Setup) (next : Run) (s : RunState) (G F : List Attributes) (t : RunState) (cs : List Command) → IsGrounded s → Now s F t →
@@ -233,14 +345,28 @@ unfolding judge_fields_good role settles
 goes-one at setup next s G F t cs g now again (RecordMarker m) served h =
     let a = MarkerRecorded (record { name = m.name; details = m.details }) in
     let is = plain-marker m.name m.details in
-    goes-plain at s G F a t now is tt (again (F ++ a ∷ []) (with_event at None a t) (now-more at s F a t g now is (comes-quiet s F a refl refl)) h)
+    goes-plain at s G F a t now is tt refl (again (F ++ a ∷ []) (with_event at None a t) (now-more at s F a t g now is (comes-quiet s F a refl refl)) h)
+goes-one at setup next s G F t cs g now again (ScheduleActivityTask c) served h =
+    let a = scheduled_by c in
+    let is = plain-scheduled c in
+    let more : List Attributes → Judged = λ facts. judge_all setup next s (F ++ facts) cs in
+    let few : Judged = fault_if (is_full AnActivity s F) PendingActivitiesLimitExceeded (gives a) in
+    let free : Judged = fault_if (is_some (in_use_named AnActivity c.activity_id s F)) ScheduleActivityDuplicateId few in
+    let good = no-check (attributes_fault (ScheduleActivityTask c)) (fault_if (not (knows_queue setup c.task_queue)) BadScheduleActivityAttributes free) more G h in
+    let known = no-fault (not (knows_queue setup c.task_queue)) BadScheduleActivityAttributes free more G good in
+    let unused = no-fault (is_some (in_use_named AnActivity c.activity_id s F)) ScheduleActivityDuplicateId few more G known.1 in
+    let room = no-fault (is_full AnActivity s F) PendingActivitiesLimitExceeded (gives a) more G unused.1 in
+    goes-plain at s G F a t now is tt refl (again (F ++ a ∷ []) (with_event at None a t) (now-more at s F a t g now is (comes-quiet s F a refl refl)) room.1)
+goes-one at setup next s G F t cs g now again (RequestCancelActivityTask id) served h =
+    let free = no-fault (not (list_any (λ (e : Event). e.id == id) (in_use_so_far AnActivity s F)) || was_asked_to_cancel id s F) BadRequestCancelActivityAttributes (Ok (cancel_facts id (cancels_at_once id s F))) (λ facts. judge_all setup next s (F ++ facts) cs) G h in
+    goes-request at setup next s G F t cs id g now again free.0 free.1
 goes-one at setup next s G F t cs g now again (StartTimer c) served h =
     let a = TimerStarted (record { timer_id = c.timer_id; duration = c.duration }) in
     let is = plain-timer c.timer_id c.duration in
     let more : List Attributes → Judged = λ facts. judge_all setup next s (F ++ facts) cs in
-    let good = no-check (c.duration == 0) (fault_if (is_some (in_use_named ATimer c.timer_id s F)) StartTimerDuplicateId (gives a)) more G h in
+    let good = no-check (attributes_fault (StartTimer c)) (fault_if (is_some (in_use_named ATimer c.timer_id s F)) StartTimerDuplicateId (gives a)) more G h in
     let free = no-fault (is_some (in_use_named ATimer c.timer_id s F)) StartTimerDuplicateId (gives a) more G good in
-    goes-plain at s G F a t now is tt (again (F ++ a ∷ []) (with_event at None a t) (now-more at s F a t g now is (comes-quiet s F a refl refl)) free.1)
+    goes-plain at s G F a t now is tt refl (again (F ++ a ∷ []) (with_event at None a t) (now-more at s F a t g now is (comes-quiet s F a refl refl)) free.1)
 goes-one at setup next s G F t cs g now again (CancelTimer name) served h = goes-cancel at setup next s G F t cs name g now again (in_use_named ATimer name s F) refl h
 goes-one at setup next s G F t cs g now again (CompleteWorkflowExecution r) served h =
     goes-close at setup next s G F (WorkflowExecutionCompleted r) t cs now refl (no-fault (is_some_held s F) UnhandledCommand (gives (WorkflowExecutionCompleted r)) (λ facts. judge_all setup next s (F ++ facts) cs) G h).1
@@ -281,6 +407,7 @@ now-first at scheduled started s g opened task =
       open_run = opened;
       none = refl;
       shown = ap (λ k. length (with_new k (record { at = at; attributes = a }) (buffer_of s)).events) task ∙ length-append s.shown _ ∙ (let e : length s.shown + 1 ≡ length s.shown + 1 + 0 = omega arith in e);
+      held_less = λ c id h. sym (ap (λ k. is_settled c id (carried (with_new k (record { at = at; attributes = a }) (buffer_of s)).held)) task) ∙ h;
       used_ids = λ c. ap (map event_id) (used-more at None a s c ∙ ap (λ k. used_with c event_id itself k s.held (record { id = length (with_event at None a s).shown; at = at; attributes = a }) (used c s)) task ∙ append-nil (used c s) ∙ sym (all-in-use c s));
     }
 

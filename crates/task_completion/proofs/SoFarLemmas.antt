@@ -17,7 +17,7 @@ use Rattle.buffered.specs.Courses.{cancels_timer}
 use Rattle.mutable_state.specs.Formed.{IdsTo, IsFromOutside}
 use Rattle.mutable_state.specs.Readers.{IsGrounded}
 use Rattle.mutable_state.specs.Steps.{carried, left_by, opened_by, event_id, itself, has_id}
-use Rattle.mutable_state.proofs.OpenLemmas.{any-push, filter-twice, filter-map, all-filter, all-weaker, all-append, or-assoc, or-false, or-either, left-is, not-found, nat-self, use-push, use-cancel, unheld-settled, same-as}
+use Rattle.mutable_state.proofs.OpenLemmas.{any-push, filter-twice, filter-map, all-filter, all-weaker, all-append, found, or-assoc, or-false, or-either, left-is, nat-same, not-found, nat-self, use-push, use-cancel, unheld-settled, same-as}
 use Rattle.task_completion.specs.Judging.{IsSoFar}
 
 -- whether what was opened under an id is in use so far
@@ -139,7 +139,7 @@ pub still-same : (s : RunState) (F : List Attributes) (a : Attributes) → cance
 still-same s F a h = filter-agree (λ x. not (is_taken_away (F ++ a ∷ []) (role x))) (λ x. not (is_taken_away F (role x))) (λ x. ap not (taken-same F a (role x) h)) (held_attributes s)
 
 -- what is left of what is held back settles no more than all of it
-left-settled : (c : Class) (id : ℕ) (q : Attributes → Bool) (l : List Attributes) → is_settled c id (filter q l) ≡ true → is_settled c id l ≡ true
+pub left-settled : (c : Class) (id : ℕ) (q : Attributes → Bool) (l : List Attributes) → is_settled c id (filter q l) ≡ true → is_settled c id l ≡ true
 left-settled c id q [] h = h
 left-settled c id q (x ∷ l) h = by_test (q x) (is_settling c id (settles x)) refl h (left-settled c id q l)
   where
@@ -257,6 +257,11 @@ used-ids c s F h =
     let n : ℕ = length s.shown + 1 + length F in
     let q : Event → Bool = λ e. in_use_now c e.id s F in
     all-weaker (λ (e : Event). (e.id ≤ n) × (q e ≡ true)) (λ (e : Event). e.id ≤ n) (λ e k. k.0) (filter q (opened_so_far c s F)) (all-filter (λ (e : Event). e.id ≤ n) q (opened_so_far c s F) (h.ids c))
+
+pub id-low : (c : Class) (id : ℕ) (s : RunState) (F : List Attributes) → IsSoFar s F → list_any (λ e. e.id == id) (in_use_so_far c s F) ≡ true → id ≤ length s.shown + 1 + length F
+id-low c id s F h there =
+    let f = found (λ (e : Event). e.id ≤ length s.shown + 1 + length F) (λ (e : Event). e.id == id) (in_use_so_far c s F) (used-ids c s F h) there in
+    subst (λ n. n ≤ length s.shown + 1 + length F) (nat-same f.at.id id f.passes) f.holds
 
 nothing-taken : (l : List Attributes) → filter (λ a. not (is_taken_away [] (role a))) l ≡ l
 nothing-taken [] = refl

@@ -1,26 +1,42 @@
 //! What is kept while commands are judged.
 
-ghost use Rattle.std.specs.Prelude.{◌≡◌, [], false, IfOk};
+ghost use Rattle.std.specs.Prelude.{◌≡◌, ◌+◌, [], false, length, IfOk, IsTrue, OnOk};
+ghost use Rattle.std.specs.List.{list_any};
+ghost use Rattle.wf_event.specs.RetryPolicies.{good_policy};
 ghost use Rattle.service_model.specs.Completion.{has_members};
-ghost use Rattle.task_completion.specs.Judging.{event_named, is_firing_of, timer_started, timer_canceled, recorded, closed, by_kind, judged_now, left};
+ghost use Rattle.service_model.specs.Pending.{is_cancel_request_of};
+ghost use Rattle.task_completion.specs.Judging.{event_named, HasGoodPolicy, is_asked, activity_scheduled, activity_asked, cancel_asked, timer_started, timer_canceled, recorded, closed, by_kind, judged_now, left};
 
-use mutable_state::Used;
+use crate::rows::{
+    count_pending, event_named, has_pending_row, has_row, is_firing_of, is_running, was_asked,
+};
+use crate::scheduled::scheduled;
+use mutable_state::{NotedActivity, Used};
+use service_model::content::Setup;
 use std::alloc::{AllocError, Global};
 use std::marker::Model;
-use wf_command::command::{RecordMarker, StartTimer};
+use wf_command::command::{RecordMarker, ScheduleActivityTask, StartTimer};
 use wf_command::{Command, check};
 use wf_event::Attributes;
-use wf_event::payloads::{MarkerRecorded, TimerEnd, TimerStarted};
-use wf_event_values::{Cause, Id};
+use wf_event::payloads::{ActivityTaskCanceled, MarkerRecorded, TimerEnd, TimerStarted};
+use wf_event_values::{Cause, Id, Text};
+
+/// The most activities that may be pending in a run.
+const MOST_PENDING: usize = 2000;
 
 /// The facts of the commands so far, and what is in use and held back behind them.
 pub struct SoFar<'a> {
+    alloc: Global,
+    setup: &'a Setup,
     facts: Vec<Attributes>,
     /// Whether one of them closes the run.
     is_closed: bool,
     /// The id of the first one's event.
     first: u64,
     timers: Vec<Used<'a>>,
+    activities: Vec<Used<'a>>,
+    /// What was noted of activities before the commands.
+    notes: Vec<NotedActivity>,
     /// Of each event that is still held back the timer that it fires.
     held: Vec<Option<u64>>,
 }
@@ -28,10 +44,14 @@ pub struct SoFar<'a> {
 impl<'a> Drop for SoFar<'a> {
     fn drop(self) {
         let SoFar {
+            alloc: _,
+            setup: _,
             facts: _,
             is_closed: _,
             first: _,
             timers: _,
+            activities: _,
+            notes: _,
             held: _,
         } = self;
     }
@@ -43,10 +63,13 @@ impl<'a> Model for SoFar<'a> {
     ghost Value = { Kept };
 
     ghost view = { λ k. record {
+      setup = k.setup.now;
       facts = k.facts.items;
       is_closed = k.is_closed;
       first = k.first;
       timers = k.timers.items;
+      activities = k.activities.items;
+      notes = k.notes.items;
       held = k.held.items;
     } };
 }
@@ -55,17 +78,24 @@ impl<'a> SoFar<'a> {
     /// Before any command. The first one's event gets this id.
     pub fn new(
         alloc: Global,
+        setup: &'a Setup,
         first: u64,
         timers: Vec<Used<'a>>,
+        activities: Vec<Used<'a>>,
+        notes: Vec<NotedActivity>,
         held: Vec<Option<u64>>,
     ) -> SoFar<'a>
-        ensures { result ≡ record { facts = []; is_closed = false; first = first; timers = timers.entry.items; held = held.items } }
+        ensures { result ≡ record { setup = setup.now; facts = []; is_closed = false; first = first; timers = timers.entry.items; activities = activities.entry.items; notes = notes.items; held = held.items } }
     {
         SoFar {
+            alloc,
+            setup,
             facts: Vec::new(alloc),
             is_closed: false,
             first,
             timers,
+            activities,
+            notes,
             held,
         }
     }
@@ -85,9 +115,14 @@ impl<'a> SoFar<'a> {
 
     /// Judges a command whose own fields have no fault. Those of other types are not served so far.
     fn judge_checked(&mut self, command: &'a Command) -> Result<Result<(), Cause>, AllocError>
+        requires { HasGoodPolicy command.now }
         ensures { IfOk result (λ judged. left judged self.new ≡ by_kind self.old command.now) }
     {
         match command {
+            Command::ScheduleActivityTask(activity) => self.schedule_activity(activity),
+            Command::RequestCancelActivityTask(scheduled) => self.request_cancel_activity(
+                *scheduled,
+            ),
             Command::StartTimer(timer) => self.start_timer(timer),
             Command::CancelTimer(timer_id) => self.cancel_timer(timer_id),
             Command::RecordMarker(marker) => self.record(marker),
@@ -104,6 +139,78 @@ impl<'a> SoFar<'a> {
         }
     }
 
+    /// The id that the next fact's event gets.
+    fn next_event(&self) -> Result<u64, AllocError>
+        ensures { IfOk result (λ event. event ≡ self.now.first + length self.now.facts) }
+    {
+        self.first
+            .checked_add(self.facts.len() as u64)
+            .ok_or(AllocError)
+    }
+
+    /// The id of an activity is free once what ends it is written.
+    fn schedule_activity(
+        &mut self,
+        activity: &'a ScheduleActivityTask,
+    ) -> Result<Result<(), Cause>, AllocError>
+        requires { IsTrue (good_policy activity.now.retry) }
+        ensures { IfOk result (λ judged. left judged self.new ≡ activity_scheduled activity.now self.old) }
+    {
+        if !self.setup.knows_queue(&activity.task_queue) {
+            return Ok(Err(Cause::BadScheduleActivityAttributes));
+        }
+        if event_named(self.activities.as_slice(), &activity.activity_id).is_some() {
+            return Ok(Err(Cause::ScheduleActivityDuplicateId));
+        }
+        if MOST_PENDING <= count_pending(self.activities.as_slice()) {
+            return Ok(Err(Cause::PendingActivitiesLimitExceeded));
+        }
+        let event = self.next_event()?;
+        self.facts.push(scheduled(activity)?)?;
+        self.activities
+            .push(Used::new(event, Some(&activity.activity_id), false))?;
+        Ok(Ok(()))
+    }
+
+    /// A pending activity of which no attempt is running is canceled at once.
+    fn request_cancel_activity(&mut self, scheduled: u64) -> Result<Result<(), Cause>, AllocError>
+        ensures { IfOk result (λ judged. left judged self.new ≡ activity_asked scheduled self.old) }
+    {
+        if !has_row(self.activities.as_slice(), scheduled) || self.is_asked(scheduled) {
+            return Ok(Err(Cause::BadRequestCancelActivityAttributes));
+        }
+        let is_pending = has_pending_row(self.activities.as_slice(), scheduled);
+        let is_running = is_running(self.notes.as_slice(), scheduled);
+        self.ask_to_cancel(scheduled, is_pending && !is_running)?;
+        Ok(Ok(()))
+    }
+
+    /// Whether an activity was asked to cancel, before or by the commands so far.
+    fn is_asked(&self, scheduled: u64) -> bool
+        ensures { result ≡ is_asked scheduled self.now }
+    {
+        was_asked(self.notes.as_slice(), scheduled)
+            || is_some_request(self.facts.as_slice(), scheduled)
+    }
+
+    /// Asks an activity to cancel, and cancels it where that is done at once.
+    fn ask_to_cancel(&mut self, scheduled: u64, at_once: bool) -> Result<(), AllocError>
+        ensures { OnOk result (self.new ≡ cancel_asked scheduled at_once self.old) }
+    {
+        self.facts
+            .push(Attributes::ActivityTaskCancelRequested(scheduled))?;
+        if !at_once {
+            return Ok(());
+        }
+        let details = Text::empty(self.alloc);
+        self.facts.push(Attributes::ActivityTaskCanceled(ActivityTaskCanceled {
+            scheduled,
+            details,
+        }))?;
+        self.activities.retain(|row| row.event() != scheduled);
+        Ok(())
+    }
+
     /// The id of a timer is free once it fired or was canceled.
     fn start_timer(&mut self, timer: &'a StartTimer) -> Result<Result<(), Cause>, AllocError>
         ensures { IfOk result (λ judged. left judged self.new ≡ timer_started timer.now self.old) }
@@ -111,9 +218,7 @@ impl<'a> SoFar<'a> {
         if event_named(self.timers.as_slice(), &timer.timer_id).is_some() {
             return Ok(Err(Cause::StartTimerDuplicateId));
         }
-        let Some(event) = self.first.checked_add(self.facts.len() as u64) else {
-            return Err(AllocError);
-        };
+        let event = self.next_event()?;
         let timer_id = timer.timer_id.clone()?;
         self.facts.push(Attributes::TimerStarted(TimerStarted {
             timer_id,
@@ -178,30 +283,34 @@ impl<'a> SoFar<'a> {
         ensures { result.items ≡ self.entry.facts }
     {
         let SoFar {
+            alloc: _,
+            setup: _,
             facts,
             is_closed: _,
             first: _,
             timers: _,
+            activities: _,
+            notes: _,
             held: _,
         } = self;
         facts
     }
 }
 
-/// The first of the timers under a worker's id, by the event that started it.
-fn event_named(timers: &[Used], timer_id: &Id) -> Option<u64>
-    ensures { result ≡ event_named timer_id.now timers.now }
+/// Whether one of the facts asks the activity to cancel.
+fn is_some_request(facts: &[Attributes], scheduled: u64) -> bool
+    ensures { result ≡ list_any (is_cancel_request_of scheduled) facts.now }
 {
-    let timer = timers.iter().find(|timer| timer.is_named(timer_id))?;
-    Some(timer.event())
+    facts
+        .iter()
+        .any(|attributes| is_request_of(attributes, scheduled))
 }
 
-/// Whether an event that fires this fires the timer that was started by that event.
-fn is_firing_of(fired: &Option<u64>, started: u64) -> bool
-    ensures { result ≡ is_firing_of started fired.now }
+fn is_request_of(attributes: &Attributes, scheduled: u64) -> bool
+    ensures { result ≡ is_cancel_request_of scheduled attributes.now }
 {
-    match fired {
-        Some(fired) => started == *fired,
-        None => false,
+    match attributes {
+        Attributes::ActivityTaskCancelRequested(asked) => *asked == scheduled,
+        _ => false,
     }
 }

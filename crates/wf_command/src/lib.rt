@@ -18,7 +18,9 @@ pub fn is_served(command: &Command) -> bool
 {
     matches!(
         command,
-        Command::StartTimer(_)
+        Command::ScheduleActivityTask(_)
+            | Command::RequestCancelActivityTask(_)
+            | Command::StartTimer(_)
             | Command::CancelTimer(_)
             | Command::RecordMarker(_)
             | Command::CompleteWorkflowExecution(_)

@@ -12,13 +12,16 @@ use Rattle.wf_command.specs.declared.command.RecordMarker.{RecordMarker as Marke
 use Rattle.wf_command.specs.declared.command.StartTimer.{StartTimer as Timer}
 use Rattle.service_model.specs.Limits.{most_commands}
 use Rattle.wire_fields.specs.Steps.{◌>>=◌, for_each}
-use Rattle.wire_fields.specs.Kinds.{string_of, text_of, id_of, span_of, named, elements_of}
+use Rattle.wire_fields.specs.Kinds.{string_of, text_of, id_of, number_of, span_of, named, elements_of}
 use Rattle.wire_fields.specs.Fields.{required, or_default}
+use Rattle.wire_requests.specs.ActivityCommands.{activity_of}
 use Rattle.wire_requests.specs.declared.commands.CommandType.{CommandType}
-use Rattle.wire_requests.specs.declared.commands.CommandType.TheVariants.{StartTimer, CancelTimer, RecordMarker, CompleteWorkflowExecution, FailWorkflowExecution, CancelWorkflowExecution}
+use Rattle.wire_requests.specs.declared.commands.CommandType.TheVariants.{ScheduleActivityTask, RequestCancelActivityTask, StartTimer, CancelTimer, RecordMarker, CompleteWorkflowExecution, FailWorkflowExecution, CancelWorkflowExecution}
 
 -- the name of a type of command
 abbrev pub type_name : CommandType → List ℕ
+type_name ScheduleActivityTask = codes "ScheduleActivityTask"
+type_name RequestCancelActivityTask = codes "RequestCancelActivityTask"
 type_name StartTimer = codes "StartTimer"
 type_name CancelTimer = codes "CancelTimer"
 type_name RecordMarker = codes "RecordMarker"
@@ -28,7 +31,7 @@ type_name CancelWorkflowExecution = codes "CancelWorkflowExecution"
 
 -- the type that has this name, of those that are served so far
 abbrev pub type_named : List ℕ → Option CommandType
-type_named = named type_name (StartTimer ∷ CancelTimer ∷ RecordMarker ∷ CompleteWorkflowExecution ∷ FailWorkflowExecution ∷ CancelWorkflowExecution ∷ [])
+type_named = named type_name (ScheduleActivityTask ∷ RequestCancelActivityTask ∷ StartTimer ∷ CancelTimer ∷ RecordMarker ∷ CompleteWorkflowExecution ∷ FailWorkflowExecution ∷ CancelWorkflowExecution ∷ [])
 
 abbrev pub type_of : Field → Data → Result CommandType Refusal
 type_of field d = string_of field d >>= (λ text. ok_or (type_named text) (InvalidArgument field))
@@ -49,6 +52,8 @@ marker_of d = do
 
 -- the fields of each type of command: their faults are looked for in the order in which they stand here
 abbrev pub fields_of : CommandType → Data → Result Command Refusal
+fields_of ScheduleActivityTask d = activity_of d >>= (λ x. Ok (command.ScheduleActivityTask x))
+fields_of RequestCancelActivityTask d = required number_of field.Scheduled d >>= (λ x. Ok (command.RequestCancelActivityTask x))
 fields_of StartTimer d = timer_of d >>= (λ x. Ok (command.StartTimer x))
 fields_of CancelTimer d = required id_of field.TimerId d >>= (λ x. Ok (command.CancelTimer x))
 fields_of RecordMarker d = marker_of d >>= (λ x. Ok (command.RecordMarker x))

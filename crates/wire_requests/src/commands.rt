@@ -8,6 +8,7 @@ ghost use Rattle.wire_fields.specs.Kinds.{text_of};
 ghost use Rattle.wire_fields.specs.Fields.{or_default};
 ghost use Rattle.wire_requests.specs.Commands.{type_named, type_of, timer_of, marker_of, fields_of, command_of, commands_of};
 
+use crate::activity_commands::activity;
 use serde_json::Value;
 use service_model::limits::MOST_COMMANDS;
 use std::alloc::Global;
@@ -20,6 +21,8 @@ use wire_fields::{FieldValue, elements, or_default, required};
 /// The types of command that are served so far.
 #[derive(Clone, Copy)]
 enum CommandType {
+    ScheduleActivityTask,
+    RequestCancelActivityTask,
     StartTimer,
     CancelTimer,
     RecordMarker,
@@ -32,6 +35,8 @@ fn type_named(name: &str) -> Option<CommandType>
     ensures { result ≡ type_named name.now }
 {
     match name {
+        "ScheduleActivityTask" => Some(CommandType::ScheduleActivityTask),
+        "RequestCancelActivityTask" => Some(CommandType::RequestCancelActivityTask),
         "StartTimer" => Some(CommandType::StartTimer),
         "CancelTimer" => Some(CommandType::CancelTimer),
         "RecordMarker" => Some(CommandType::RecordMarker),
@@ -84,6 +89,13 @@ fn fields(alloc: Global, of: CommandType, object: &Value) -> Result<Command, Ref
     ensures { Gives result (fields_of of (view object.now)) }
 {
     match of {
+        CommandType::ScheduleActivityTask => {
+            Ok(Command::ScheduleActivityTask(activity(alloc, object)?))
+        }
+        CommandType::RequestCancelActivityTask => {
+            let scheduled = required(alloc, object, Field::Scheduled)?;
+            Ok(Command::RequestCancelActivityTask(scheduled))
+        }
         CommandType::StartTimer => Ok(Command::StartTimer(timer(alloc, object)?)),
         CommandType::CancelTimer => {
             let timer_id = required(alloc, object, Field::TimerId)?;

@@ -1,0 +1,14 @@
+use Rattle.std.proofs.Common.{◌≡◌, ap, subst, ◌∙◌}
+use Rattle.std.specs.Prelude.{filter_map, IfOk}
+use Rattle.mutable_state.specs.Activities.{activity_at, noted_activities}
+use Rattle.mutable_state.specs.View.{texts}
+use Rattle.mutable_state.proofs.ActivityLemmas.{noted-are}
+use Rattle.mutable_state.proofs.run.Run.noted_activities.Goals as goal
+
+pub returns : goal.returns
+returns c =
+    let a = c.self.inside in
+    let is : filter_map (activity_at a.history.lists.events) c.rows.result.now ≡ noted_activities c.args.self.now.state =
+    ap (λ os. filter_map (activity_at a.history.lists.events) os) c.rows.ensures
+    ∙ noted-are a.history.lists a.request_id a.status a.task (texts a.signal_requests.keys) a.in_use.rows ∙ ap (λ v. noted_activities v.state) c.self.view_is in
+    subst (λ l. IfOk c.noted_among.result (λ noted. noted.items ≡ l)) is c.noted_among.ensures

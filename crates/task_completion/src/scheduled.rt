@@ -1,0 +1,54 @@
+//! What the event of a scheduled activity carries.
+
+ghost use Rattle.std.specs.Prelude.{◌≡◌, IfOk, IsTrue};
+ghost use Rattle.wf_event.specs.RetryPolicies.{good_policy};
+ghost use Rattle.service_model.specs.Completion.{with_maximum};
+ghost use Rattle.task_completion.specs.Judging.{scheduled_by};
+
+use std::alloc::AllocError;
+use wf_command::command::ScheduleActivityTask;
+use wf_event::payloads::{ActivityTaskScheduled, PolicyFields};
+use wf_event::{Attributes, RetryPolicy};
+
+/// The longest wait between two attempts of an activity, in milliseconds.
+const LONGEST_WAIT: u64 = 1_000_000_000_000;
+
+/// The event of an activity whose policy is in range.
+pub fn scheduled(activity: &ScheduleActivityTask) -> Result<Attributes, AllocError>
+    requires { IsTrue (good_policy activity.now.retry) }
+    ensures { IfOk result (λ attributes. attributes ≡ scheduled_by activity.now) }
+{
+    Ok(Attributes::ActivityTaskScheduled(ActivityTaskScheduled {
+        activity_id: activity.activity_id.clone()?,
+        activity_type: activity.activity_type.clone()?,
+        task_queue: activity.task_queue.clone()?,
+        input: activity.input.clone()?,
+        schedule_to_start: activity.schedule_to_start,
+        start_to_close: activity.start_to_close,
+        schedule_to_close: activity.schedule_to_close,
+        heartbeat: activity.heartbeat,
+        retry: retry(&activity.retry)?,
+    }))
+}
+
+/// The policy that the event has.
+fn retry(policy: &PolicyFields) -> Result<RetryPolicy, AllocError>
+    requires { IsTrue (good_policy policy.now) }
+    ensures { IfOk result (λ retry. retry ≡ with_maximum policy.now) }
+{
+    match RetryPolicy::new(with_maximum(policy)?) {
+        Ok(retry) => Ok(retry),
+        Err(_) => unreachable!(),
+    }
+}
+
+/// The policy with its maximum, where a maximum of 0 stands for the default.
+fn with_maximum(policy: &PolicyFields) -> Result<PolicyFields, AllocError>
+    ensures { IfOk result (λ fields. fields ≡ with_maximum policy.now) }
+{
+    let mut fields = policy.clone()?;
+    if fields.maximum == 0 {
+        fields.maximum = fields.initial.saturating_mul(100).min(LONGEST_WAIT);
+    }
+    Ok(fields)
+}
