@@ -7,11 +7,13 @@ ghost use Rattle.std.specs.Prelude.{◌≡◌, ◌<◌};
 use crate::draws::Draws;
 use crate::known::Known;
 use service_model::request::{
-    CompleteWorkflowTask, FailWorkflowTask, Operation, Read, Request, Signal, Start,
+    ActivityText, CompleteWorkflowTask, FailActivity, FailWorkflowTask, Operation, Read, Request,
+    Signal, Start,
 };
 use std::alloc::Global;
 use wf_command::Command;
-use wf_command::command::{RecordMarker, StartTimer};
+use wf_command::command::{RecordMarker, RequestCancelExternal, ScheduleActivityTask, StartTimer};
+use wf_event::payloads::PolicyFields;
 use wf_event_values::{
     ConflictPolicy, Field, Id, Items, Moment, Refusal, ReusePolicy, RunId, Span, Text,
 };
@@ -36,19 +38,45 @@ pub(crate) fn request(
 }
 
 fn operation(alloc: Global, draws: &mut Draws, known: &Known) -> Result<Operation, Refusal> {
-    match draws.below(22) {
+    match draws.below(32) {
         0..=1 => Ok(Operation::Start(start(alloc, draws)?)),
-        2..=4 => Ok(Operation::Signal(signal(alloc, draws)?)),
-        5..=8 => Ok(Operation::StartTask(known.hint(draws))),
-        9..=11 => Ok(Operation::CompleteWorkflowTask(completion(alloc, draws, known)?)),
-        12 => Ok(Operation::FailWorkflowTask(FailWorkflowTask {
+        2..=3 => Ok(Operation::Signal(signal(alloc, draws)?)),
+        4..=9 => Ok(Operation::StartTask(known.hint(draws))),
+        10..=13 => Ok(Operation::CompleteWorkflowTask(completion(alloc, draws, known)?)),
+        14 => Ok(Operation::FailWorkflowTask(FailWorkflowTask {
             task: known.token(draws),
             message: input(alloc, draws)?,
         })),
-        13..=15 => Ok(Operation::History(read(alloc, draws)?)),
-        16..=20 => Ok(Operation::TimerTurn),
+        15..=17 => Ok(Operation::History(read(alloc, draws)?)),
+        18..=23 => Ok(Operation::TimerTurn),
+        24..=30 => report(alloc, draws, known),
         _ => Ok(Operation::Describe(read(alloc, draws)?)),
     }
+}
+
+/// What a worker says of an attempt.
+fn report(alloc: Global, draws: &mut Draws, known: &Known) -> Result<Operation, Refusal> {
+    let task = known.attempt(draws);
+    let text = input(alloc, draws)?;
+    match draws.below(8) {
+        0 => Ok(Operation::CompleteActivity(ActivityText { task, text })),
+        1..=3 => Ok(Operation::FailActivity(FailActivity {
+            task,
+            message: text,
+            error_type: error_type(alloc, draws)?,
+            non_retryable: draws.one_in(16),
+        })),
+        4..=5 => Ok(Operation::CancelActivity(ActivityText { task, text })),
+        _ => Ok(Operation::Heartbeat(ActivityText { task, text })),
+    }
+}
+
+fn error_type(alloc: Global, draws: &mut Draws) -> Result<Option<Text>, Refusal> {
+    if draws.one_in(2) {
+        return Ok(None);
+    }
+    let name = if draws.one_in(4) { "fatal" } else { "busy" };
+    Ok(Some(Text::new(alloc, Field::ErrorType, name)?))
 }
 
 /// A completion by up to three commands.
@@ -59,7 +87,7 @@ fn completion(
 ) -> Result<CompleteWorkflowTask, Refusal> {
     let mut commands = Vec::new(alloc);
     for _ in 0..draws.below(4) {
-        commands.push(command(alloc, draws)?)?;
+        commands.push(command(alloc, draws, known)?)?;
     }
     Ok(CompleteWorkflowTask {
         task: known.token(draws),
@@ -67,23 +95,52 @@ fn completion(
     })
 }
 
-/// A marker or a timer most of the time, seldom a command that isn't served, and else one that closes.
-fn command(alloc: Global, draws: &mut Draws) -> Result<Command, Refusal> {
-    match draws.below(16) {
-        0..=3 => Ok(Command::RecordMarker(RecordMarker {
+/// A marker, a timer or an activity most of the time, seldom a command that isn't served, and else one
+/// that closes.
+fn command(alloc: Global, draws: &mut Draws, known: &Known) -> Result<Command, Refusal> {
+    match draws.below(22) {
+        0..=2 => Ok(Command::RecordMarker(RecordMarker {
             name: Text::new(alloc, Field::Name, "mark")?,
             details: input(alloc, draws)?,
         })),
-        4..=8 => Ok(Command::StartTimer(StartTimer {
+        3..=6 => Ok(Command::StartTimer(StartTimer {
             timer_id: timer_id(alloc, draws)?,
             duration: Span::new(Field::Duration, draws.below(100))?,
         })),
-        9 => Ok(Command::CancelTimer(timer_id(alloc, draws)?)),
-        10..=11 => Ok(Command::CompleteWorkflowExecution(input(alloc, draws)?)),
-        12..=13 => Ok(Command::FailWorkflowExecution(input(alloc, draws)?)),
-        14 => Ok(Command::CancelWorkflowExecution(input(alloc, draws)?)),
-        _ => Ok(Command::RequestCancelActivityTask(draws.below(9))),
+        7 => Ok(Command::CancelTimer(timer_id(alloc, draws)?)),
+        8..=12 => Ok(Command::ScheduleActivityTask(activity(alloc, draws)?)),
+        13..=15 => Ok(Command::RequestCancelActivityTask(known.scheduled(draws))),
+        16..=17 => Ok(Command::CompleteWorkflowExecution(input(alloc, draws)?)),
+        18..=19 => Ok(Command::FailWorkflowExecution(input(alloc, draws)?)),
+        20 => Ok(Command::CancelWorkflowExecution(input(alloc, draws)?)),
+        _ => Ok(Command::RequestCancelExternalWorkflowExecution(RequestCancelExternal {
+            workflow_id: workflow_id(alloc, draws)?,
+            run: run(draws),
+        })),
     }
+}
+
+/// An activity, seldom one with no limit to close.
+fn activity(alloc: Global, draws: &mut Draws) -> Result<ScheduleActivityTask, Refusal> {
+    let mut non_retryable = Vec::new(alloc);
+    non_retryable.push(Text::new(alloc, Field::NonRetryable, "fatal")?)?;
+    Ok(ScheduleActivityTask {
+        activity_id: activity_id(alloc, draws)?,
+        activity_type: Text::new(alloc, Field::ActivityType, "charge")?,
+        task_queue: queue(alloc, draws)?,
+        input: input(alloc, draws)?,
+        schedule_to_start: span(draws, 400)?,
+        start_to_close: Span::new(Field::StartToClose, draws.below(400))?,
+        schedule_to_close: span(draws, 1000)?,
+        heartbeat: span(draws, 200)?,
+        retry: PolicyFields {
+            attempts: draws.below(4),
+            factor: 1 + draws.below(3),
+            initial: 1 + draws.below(50),
+            maximum: 0,
+            non_retryable: Items::from_vec(non_retryable),
+        },
+    })
 }
 
 fn start(alloc: Global, draws: &mut Draws) -> Result<Start, Refusal> {
@@ -141,6 +198,11 @@ fn request_id(alloc: Global, draws: &mut Draws) -> Result<Option<Id>, Refusal> {
 fn timer_id(alloc: Global, draws: &mut Draws) -> Result<Id, Refusal> {
     let text = format!(in alloc; "timer-{}", draws.below(4))?;
     Id::new(alloc, Field::TimerId, text.as_str())
+}
+
+fn activity_id(alloc: Global, draws: &mut Draws) -> Result<Id, Refusal> {
+    let text = format!(in alloc; "activity-{}", draws.below(4))?;
+    Id::new(alloc, Field::ActivityId, text.as_str())
 }
 
 fn queue(alloc: Global, draws: &mut Draws) -> Result<Id, Refusal> {
