@@ -22,10 +22,10 @@ use wire_replies::reply_text;
 type Shard = shard::Shard<mutable_state::Run>;
 
 /// How many requests each test draws.
-const COUNT: u64 = 400;
+const COUNT: u64 = 500;
 
 /// How many kinds of reply there are.
-const KINDS: usize = 21;
+const KINDS: usize = 22;
 
 /// Service 1's shard, with the queue `main`.
 fn setup(alloc: Global, shard: u16, shards: u16) -> Result<Setup, Refusal>
@@ -54,7 +54,7 @@ fn serve(shard: &mut Shard, request: &Request) -> Result<Reply, AllocError>
 
 /// Which kind of reply it is, if it is one that these requests get.
 fn kind(reply: &Reply) -> Option<usize>
-    ensures { IfSome result (λ k. k < 21) }
+    ensures { IfSome result (λ k. k < 22) }
 {
     match reply {
         Ok(Answer::Started(_)) => Some(0),
@@ -76,13 +76,14 @@ fn kind(reply: &Reply) -> Option<usize>
         Ok(Answer::Described(_)) => Some(16),
         Ok(Answer::NothingDue) => Some(17),
         Ok(Answer::Fired(fired)) => fired_kind(fired.class),
+        Ok(Answer::ActivityTask(_)) => Some(21),
         _ => None,
     }
 }
 
 /// Which kind of reply it is that a deadline of this class fired.
 fn fired_kind(class: DeadlineClass) -> Option<usize>
-    ensures { IfSome result (λ k. k < 21) }
+    ensures { IfSome result (λ k. k < 22) }
 {
     match class {
         DeadlineClass::RunTimeout => Some(18),
@@ -128,7 +129,7 @@ fn compare<R: Abort + AllocGlobal>(
 /// All kinds of reply but one for another shard's workflow IDs.
 #[test]
 fn one_shard(rt: HostRuntime) -> Result<(), Fail> {
-    let seen = compare(&rt, 0, 1, 1).map_err(|refusal| refusal.name())?;
+    let seen = compare(&rt, 0, 1, 4).map_err(|refusal| refusal.name())?;
     for (kind, count) in seen.iter().enumerate() {
         assert_eq!(rt; *count == 0, kind == 8, "{kind}");
     }

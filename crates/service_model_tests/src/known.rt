@@ -22,13 +22,16 @@ impl Known {
         }
     }
 
-    /// Learns from a reply: a run's first task, the last task that a history shows, and a token.
+    /// Learns from a reply: a run's first task, the last tasks that a history shows, and a token.
     pub(crate) fn learn(&mut self, shard: u16, reply: &Reply) -> Result<(), AllocError> {
         match reply {
             Ok(Answer::Started(run)) => {
                 self.hints.push(hint(shard, run.ordinal(), 2, 1))?;
             }
             Ok(Answer::History(history)) => {
+                if let Some(hint) = last_activity(shard, history) {
+                    self.hints.push(hint)?;
+                }
                 if let Some(hint) = last_hint(shard, history) {
                     self.hints.push(hint)?;
                 }
@@ -62,6 +65,11 @@ impl Known {
             drawn.shard ^= 1;
         }
         drawn
+    }
+
+    /// The event of one of the last hints, now and then of another task.
+    pub(crate) fn scheduled(&self, draws: &mut Draws) -> u64 {
+        self.hint(draws).event.saturating_add(draws.below(2))
     }
 
     /// One of the last tokens, most of which were used, now and then one that names another task.
@@ -104,6 +112,19 @@ fn last_hint(shard: u16, history: &History) -> Option<Hint> {
     for event in history.events.as_slice() {
         if let Attributes::WorkflowTaskScheduled(task) = &event.attributes {
             found = Some(hint(shard, history.run.ordinal(), event.id, task.attempt));
+        }
+    }
+    found
+}
+
+/// The first attempt of the last activity that a history shows.
+fn last_activity(shard: u16, history: &History) -> Option<Hint> {
+    let mut found = None;
+    for event in history.events.as_slice() {
+        if let Attributes::ActivityTaskScheduled(_) = &event.attributes {
+            let mut activity = hint(shard, history.run.ordinal(), event.id, 1);
+            activity.kind = TaskKind::Activity;
+            found = Some(activity);
         }
     }
     found

@@ -1,6 +1,7 @@
 //! Drawn requests: few workflow IDs and request ids, moments that go back, unknown queues, run ids
 //! of this shard and of others, now and then a policy or a command that isn't served, and tasks that
-//! wait, were taken, or were ended long ago. Durations are such that many deadlines are due.
+//! wait, were taken, or were ended long ago. Durations are such that many deadlines are due, but none
+//! of an activity.
 
 ghost use Rattle.std.specs.Prelude.{◌≡◌, ◌<◌};
 
@@ -11,7 +12,8 @@ use service_model::request::{
 };
 use std::alloc::Global;
 use wf_command::Command;
-use wf_command::command::{RecordMarker, StartTimer};
+use wf_command::command::{RecordMarker, RequestCancelExternal, ScheduleActivityTask, StartTimer};
+use wf_event::payloads::PolicyFields;
 use wf_event_values::{
     ConflictPolicy, Field, Id, Items, Moment, Refusal, ReusePolicy, RunId, Span, Text,
 };
@@ -59,7 +61,7 @@ fn completion(
 ) -> Result<CompleteWorkflowTask, Refusal> {
     let mut commands = Vec::new(alloc);
     for _ in 0..draws.below(4) {
-        commands.push(command(alloc, draws)?)?;
+        commands.push(command(alloc, draws, known)?)?;
     }
     Ok(CompleteWorkflowTask {
         task: known.token(draws),
@@ -67,23 +69,51 @@ fn completion(
     })
 }
 
-/// A marker or a timer most of the time, seldom a command that isn't served, and else one that closes.
-fn command(alloc: Global, draws: &mut Draws) -> Result<Command, Refusal> {
-    match draws.below(16) {
-        0..=3 => Ok(Command::RecordMarker(RecordMarker {
+/// A marker, a timer or an activity most of the time, seldom a command that isn't served, and else one
+/// that closes.
+fn command(alloc: Global, draws: &mut Draws, known: &Known) -> Result<Command, Refusal> {
+    match draws.below(22) {
+        0..=2 => Ok(Command::RecordMarker(RecordMarker {
             name: Text::new(alloc, Field::Name, "mark")?,
             details: input(alloc, draws)?,
         })),
-        4..=8 => Ok(Command::StartTimer(StartTimer {
+        3..=6 => Ok(Command::StartTimer(StartTimer {
             timer_id: timer_id(alloc, draws)?,
             duration: Span::new(Field::Duration, draws.below(100))?,
         })),
-        9 => Ok(Command::CancelTimer(timer_id(alloc, draws)?)),
-        10..=11 => Ok(Command::CompleteWorkflowExecution(input(alloc, draws)?)),
-        12..=13 => Ok(Command::FailWorkflowExecution(input(alloc, draws)?)),
-        14 => Ok(Command::CancelWorkflowExecution(input(alloc, draws)?)),
-        _ => Ok(Command::RequestCancelActivityTask(draws.below(9))),
+        7 => Ok(Command::CancelTimer(timer_id(alloc, draws)?)),
+        8..=12 => Ok(Command::ScheduleActivityTask(activity(alloc, draws)?)),
+        13..=15 => Ok(Command::RequestCancelActivityTask(known.scheduled(draws))),
+        16..=17 => Ok(Command::CompleteWorkflowExecution(input(alloc, draws)?)),
+        18..=19 => Ok(Command::FailWorkflowExecution(input(alloc, draws)?)),
+        20 => Ok(Command::CancelWorkflowExecution(input(alloc, draws)?)),
+        _ => Ok(Command::RequestCancelExternalWorkflowExecution(RequestCancelExternal {
+            workflow_id: workflow_id(alloc, draws)?,
+            run: run(draws),
+        })),
     }
+}
+
+/// An activity whose attempts take longer than all steps together, seldom one with no limit to close.
+fn activity(alloc: Global, draws: &mut Draws) -> Result<ScheduleActivityTask, Refusal> {
+    let limit = if draws.one_in(16) { 0 } else { 1_000_000 };
+    Ok(ScheduleActivityTask {
+        activity_id: activity_id(alloc, draws)?,
+        activity_type: Text::new(alloc, Field::ActivityType, "charge")?,
+        task_queue: queue(alloc, draws)?,
+        input: input(alloc, draws)?,
+        schedule_to_start: Span::none(),
+        start_to_close: Span::new(Field::StartToClose, limit)?,
+        schedule_to_close: Span::none(),
+        heartbeat: Span::none(),
+        retry: PolicyFields {
+            attempts: draws.below(3),
+            factor: 2,
+            initial: 1 + draws.below(1000),
+            maximum: 0,
+            non_retryable: Items::from_vec(Vec::new(alloc)),
+        },
+    })
 }
 
 fn start(alloc: Global, draws: &mut Draws) -> Result<Start, Refusal> {
@@ -141,6 +171,11 @@ fn request_id(alloc: Global, draws: &mut Draws) -> Result<Option<Id>, Refusal> {
 fn timer_id(alloc: Global, draws: &mut Draws) -> Result<Id, Refusal> {
     let text = format!(in alloc; "timer-{}", draws.below(4))?;
     Id::new(alloc, Field::TimerId, text.as_str())
+}
+
+fn activity_id(alloc: Global, draws: &mut Draws) -> Result<Id, Refusal> {
+    let text = format!(in alloc; "activity-{}", draws.below(4))?;
+    Id::new(alloc, Field::ActivityId, text.as_str())
 }
 
 fn queue(alloc: Global, draws: &mut Draws) -> Result<Id, Refusal> {
