@@ -41,7 +41,7 @@ token_refusal K t = if is_token K t then None else Some InvalidToken
 abbrev pub completion_refusal : Settings → CompleteWorkflowTask → Option Refusal
 completion_refusal K q = if is_token K q.task then (if nat_le (length q.commands) most_commands then None else Some (InvalidArgument field.Commands)) else Some InvalidToken
 
--- as what an operation is refused before any shard is entered, where it is; a timer turn is served for a call that names its shard
+-- as what an operation is refused before any shard is entered, where it is; those that name none are served for a call that names their shard
 abbrev pub refusal_of : Settings → Operation → Option Refusal
 refusal_of K (operation.Start q) = None
 refusal_of K (operation.Signal q) = None
@@ -51,6 +51,8 @@ refusal_of K (operation.FailWorkflowTask q) = token_refusal K q.task
 refusal_of K (operation.History q) = None
 refusal_of K (operation.Describe q) = None
 refusal_of K operation.TimerTurn = Some (InvalidArgument field.Shard)
+refusal_of K operation.NextDispatch = Some (InvalidArgument field.Shard)
+refusal_of K (operation.Dispatched number) = Some (InvalidArgument field.Shard)
 
 -- the shard of a workflow ID: its hash modulo the number of shards
 abbrev pub shard_of_id : Settings → List ℕ → ℕ
@@ -66,6 +68,8 @@ shard_of K (operation.FailWorkflowTask q) = q.task.shard
 shard_of K (operation.History q) = shard_of_id K q.workflow_id
 shard_of K (operation.Describe q) = shard_of_id K q.workflow_id
 shard_of K operation.TimerTurn = 0
+shard_of K operation.NextDispatch = 0
+shard_of K (operation.Dispatched number) = 0
 
 abbrev pub slot_of : Settings → Request → ℕ
 slot_of K q = shard_of K q.operation

@@ -14,8 +14,8 @@ use wf_event_values::{Field, Id, Refusal};
 impl Service {
     ghost use Rattle.service.specs.Services.{settings_of, shard_of_request};
 
-    /// As what an operation is refused before any shard is entered, where it is. A timer turn names no
-    /// shard: it is served for a call that does.
+    /// As what an operation is refused before any shard is entered, where it is. A timer turn and the
+    /// parts of a dispatch turn name no shard: they are served for a call that does.
     pub(crate) fn refusal_of(&self, operation: &Operation) -> Option<Refusal>
         ensures { result ≡ refusal_of (settings_of self.now) operation.now }
     {
@@ -27,7 +27,9 @@ impl Service {
             | Operation::Signal(_)
             | Operation::History(_)
             | Operation::Describe(_) => None,
-            Operation::TimerTurn => Some(Refusal::InvalidArgument(Field::Shard)),
+            Operation::TimerTurn | Operation::NextDispatch | Operation::Dispatched(_) => {
+                Some(Refusal::InvalidArgument(Field::Shard))
+            }
         }
     }
 
@@ -45,7 +47,7 @@ impl Service {
             Operation::StartTask(hint) => usize::from(hint.shard),
             Operation::CompleteWorkflowTask(asked) => usize::from(asked.task.shard),
             Operation::FailWorkflowTask(asked) => usize::from(asked.task.shard),
-            Operation::TimerTurn => 0,
+            Operation::TimerTurn | Operation::NextDispatch | Operation::Dispatched(_) => 0,
         }
     }
 

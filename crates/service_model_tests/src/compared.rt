@@ -8,7 +8,7 @@ use crate::draws::Draws;
 use crate::known::Known;
 use crate::requests::request;
 use gate::Object;
-use service_model::answer::{Answer, Reply};
+use service_model::answer::{Acknowledged, Answer, Reply};
 use service_model::content::Setup;
 use service_model::request::Request;
 use service_model_answer::answer;
@@ -25,7 +25,7 @@ type Shard = shard::Shard<mutable_state::Run>;
 const COUNT: u64 = 400;
 
 /// How many kinds of reply there are.
-const KINDS: usize = 21;
+const KINDS: usize = 26;
 
 /// Service 1's shard, with the queue `main`.
 fn setup(alloc: Global, shard: u16, shards: u16) -> Result<Setup, Refusal>
@@ -54,7 +54,7 @@ fn serve(shard: &mut Shard, request: &Request) -> Result<Reply, AllocError>
 
 /// Which kind of reply it is, if it is one that these requests get.
 fn kind(reply: &Reply) -> Option<usize>
-    ensures { IfSome result (λ k. k < 21) }
+    ensures { IfSome result (λ k. k < 26) }
 {
     match reply {
         Ok(Answer::Started(_)) => Some(0),
@@ -76,13 +76,18 @@ fn kind(reply: &Reply) -> Option<usize>
         Ok(Answer::Described(_)) => Some(16),
         Ok(Answer::NothingDue) => Some(17),
         Ok(Answer::Fired(fired)) => fired_kind(fired.class),
+        Ok(Answer::Dispatch(_)) => Some(21),
+        Ok(Answer::NoDispatch) => Some(22),
+        Ok(Answer::Counted(Acknowledged::Already)) => Some(23),
+        Ok(Answer::Counted(Acknowledged::Acknowledged)) => Some(24),
+        Ok(Answer::Counted(Acknowledged::OutOfOrder)) => Some(25),
         _ => None,
     }
 }
 
 /// Which kind of reply it is that a deadline of this class fired.
 fn fired_kind(class: DeadlineClass) -> Option<usize>
-    ensures { IfSome result (λ k. k < 21) }
+    ensures { IfSome result (λ k. k < 26) }
 {
     match class {
         DeadlineClass::RunTimeout => Some(18),

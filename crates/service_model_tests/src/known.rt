@@ -7,11 +7,12 @@ use std::alloc::{AllocError, Global};
 use wf_event::Attributes;
 use wf_event_values::TaskKind;
 
-/// The hints and tokens that replies gave, old ones too.
+/// The hints and tokens that replies gave, old ones too, and the number of the last dispatch.
 #[derive(Drop)]
 pub(crate) struct Known {
     hints: Vec<Hint>,
     tokens: Vec<TakenTask>,
+    dispatch: u64,
 }
 
 impl Known {
@@ -19,10 +20,12 @@ impl Known {
         Known {
             hints: Vec::new(alloc),
             tokens: Vec::new(alloc),
+            dispatch: 0,
         }
     }
 
-    /// Learns from a reply: a run's first task, the last task that a history shows, and a token.
+    /// Learns from a reply: a run's first task, the last task that a history shows, a dispatch, and a
+    /// token.
     pub(crate) fn learn(&mut self, shard: u16, reply: &Reply) -> Result<(), AllocError> {
         match reply {
             Ok(Answer::Started(run)) => {
@@ -41,9 +44,22 @@ impl Known {
                     attempt: task.attempt,
                 })?;
             }
+            Ok(Answer::Dispatch(next)) => {
+                self.dispatch = next.number;
+                self.hints.push(next.dispatch.hint)?;
+            }
             _ => {}
         }
         Ok(())
+    }
+
+    /// The number of the last dispatch, now and then the one before it or the one behind it.
+    pub(crate) fn dispatch(&self, draws: &mut Draws) -> u64 {
+        match draws.below(6) {
+            0 => self.dispatch.saturating_sub(1),
+            1 => self.dispatch.saturating_add(1),
+            _ => self.dispatch,
+        }
     }
 
     /// One of the last hints, now and then one that names another task.

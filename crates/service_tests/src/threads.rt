@@ -46,7 +46,9 @@ fn workflow_of(request: &Request) -> &str {
         Operation::StartTask(_)
         | Operation::CompleteWorkflowTask(_)
         | Operation::FailWorkflowTask(_)
-        | Operation::TimerTurn => "",
+        | Operation::TimerTurn
+        | Operation::NextDispatch
+        | Operation::Dispatched(_) => "",
     }
 }
 

@@ -1,5 +1,4 @@
-use Rattle.std.proofs.Common.{◌≡◌, sym, ap, subst, IfOk}
-use Rattle.std.specs.Prelude.{OnOk}
+use Rattle.std.proofs.Common.{◌≡◌, sym, subst, IfOk}
 use Rattle.wf_event_values.specs.declared.policies.DeadlineClass.{DeadlineClass}
 use Rattle.service_model.specs.TimerTurns.{fire}
 use Rattle.mutable_state.specs.Steps.{FitStep}

@@ -28,4 +28,4 @@ returns-clause-plan g c =
     let T : Run → Reply = λ r. Ok (Fired (record { class = d.class; due = d.due; event = d.event; run = r })) in
     let reply : T c.run_id.result ≡ T (run_id R.setup d.run) = ap T (c.run_id.ensures ∙ ap (λ x. run_id x.setup d.run) c.in_ok-plan.ensures.same) in
     let o : Outcome = adds d.run facts (Fired (record { class = d.class; due = d.due; event = d.event; run = run_id R.setup d.run })) in
-    more-fits {T = g.row.T.Denot} c.prepare_in.new.self c.args.self.now m d.run c.in_ok-plan.plan facts (T c.run_id.result) o c.in_ok-plan.ensures.same c.requires.from c.in_ok-plan.ensures.there c.in_ok-plan.ensures.noted change c.in_ok-plan.ensures.room fits refl refl reply
+    more-fits {T = g.row.T.Denot} c.prepare_in.new.self c.args.self.now m d.run c.in_ok-plan.plan facts (T c.run_id.result) o c.in_ok-plan.ensures.same c.requires.from c.in_ok-plan.ensures.there c.in_ok-plan.ensures.noted change c.in_ok-plan.ensures.room fits refl refl reply refl
