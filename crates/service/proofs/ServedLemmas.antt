@@ -21,7 +21,7 @@ use Rattle.gate.specs.Passes as gate
 use Rattle.service.specs.declared.service.Service.{Service}
 use Rattle.service.specs.declared.service.Pass.{Pass}
 use Rattle.service.specs.Contents.{setup_of, opening_contents, is_token, refusal_of, refusal_of_call, shard_of, shard_refusal, slot_of_call}
-use Rattle.service.specs.Services.{known_by, Answered, IsPassOf, IsServedAtLast, IsServedOn, shard_of_request}
+use Rattle.service.specs.Services.{known_by, Answered, IsPassOf, IsServedAtLast, IsServedOn}
 
 get-range : {X : Type 0} (f : ℕ → X) (a n k : ℕ) → k < n → slice_get (map f (range_with_len a n)) k ≡ Some (f (a + k))
 get-range f a zero k h = absurd (omega arith)

@@ -1,5 +1,5 @@
 -- the shards of a service: what each is opened with, which calls are refused before any is entered, and on which one the others are served
-use Rattle.std.specs.Prelude.{ℕ, ◌%◌, ◌&&◌, nat_le, nat_lt, Bool, if◌then◌else◌, List, [], ◌∷◌, codes, length, map, Option, None, Some}
+use Rattle.std.specs.Prelude.{ℕ, ◌%◌, ◌&&◌, nat_le, nat_lt, Bool, if◌then◌else◌, List, length, map, Option, None, Some}
 use Rattle.std.specs.List.{range_with_len}
 use Rattle.wf_event_values.specs.declared.field.Field.TheVariants as field
 use Rattle.wf_event_values.specs.declared.refusal.Refusal.{Refusal}
@@ -18,9 +18,9 @@ use Rattle.service_model.specs.Limits.{most_commands}
 use Rattle.service_model.specs.Outcome.{hash_of}
 use Rattle.service_model.specs.Service.{opening}
 
--- a shard's setup; the only task queue so far is `main`
+-- a shard's setup
 abbrev pub setup_of : Settings → ℕ → Setup
-setup_of K shard = record { service = K.service; shard = shard; shards = K.shards; queues = codes "main" ∷ [] }
+setup_of K shard = record { service = K.service; shard = shard; shards = K.shards; queues = K.queues }
 
 -- the contents of all shards at opening
 abbrev pub opening_contents : Settings → List Content
