@@ -22,7 +22,7 @@ use wire_replies::reply_text;
 type Shard = shard::Shard<mutable_state::Run>;
 
 /// How many requests each test draws.
-const COUNT: u64 = 400;
+const COUNT: u64 = 480;
 
 /// How many kinds of reply there are.
 const KINDS: usize = 26;

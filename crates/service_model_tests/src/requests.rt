@@ -36,7 +36,7 @@ pub(crate) fn request(
 }
 
 fn operation(alloc: Global, draws: &mut Draws, known: &Known) -> Result<Operation, Refusal> {
-    match draws.below(28) {
+    match draws.below(26) {
         0..=1 => Ok(Operation::Start(start(alloc, draws)?)),
         2..=4 => Ok(Operation::Signal(signal(alloc, draws)?)),
         5..=8 => Ok(Operation::StartTask(known.hint(draws))),
@@ -47,8 +47,8 @@ fn operation(alloc: Global, draws: &mut Draws, known: &Known) -> Result<Operatio
         })),
         13..=15 => Ok(Operation::History(read(alloc, draws)?)),
         16..=20 => Ok(Operation::TimerTurn),
-        21..=23 => Ok(Operation::NextDispatch),
-        24..=26 => Ok(Operation::Dispatched(known.dispatch(draws))),
+        21..=22 => Ok(Operation::NextDispatch),
+        23..=24 => Ok(Operation::Dispatched(known.dispatch(draws))),
         _ => Ok(Operation::Describe(read(alloc, draws)?)),
     }
 }

@@ -2,8 +2,8 @@
 
 ghost use Rattle.std.specs.Prelude.{◌≡◌};
 
-use service_model::request::{Signal, Start};
 use service_model::limits::DEFAULT_CAPACITY;
+use service_model::request::{Signal, Start};
 use service_model::settings::{Settings, main_queue};
 use std::alloc::AllocGlobal;
 use std::process::Abort;

@@ -119,8 +119,10 @@ fn what_is_refused_enters_no_shard(rt: HostRuntime) {
         attempt: 1,
     });
     assert_refused(&rt, &service, &mut first, hint, "shard");
-    // A timer turn's own request names no shard.
+    // The requests of turns name no shard.
     assert_refused(&rt, &service, &mut first, Operation::TimerTurn, "shard");
+    assert_refused(&rt, &service, &mut first, Operation::NextDispatch, "shard");
+    assert_refused(&rt, &service, &mut first, Operation::Dispatched(1), "shard");
     let records = close_two(&rt, service, first, second);
     assert_eq!(rt; records.len(), 2);
     assert!(rt; records[0].is_empty() && records[1].is_empty());
