@@ -133,7 +133,7 @@ fn compare<R: Abort + AllocGlobal>(
 /// All kinds of reply but one for another shard's workflow IDs.
 #[test]
 fn one_shard(rt: HostRuntime) -> Result<(), Fail> {
-    let seen = compare(&rt, 0, 1, 1).map_err(|refusal| refusal.name())?;
+    let seen = compare(&rt, 0, 1, 2).map_err(|refusal| refusal.name())?;
     for (kind, count) in seen.iter().enumerate() {
         assert_eq!(rt; *count == 0, kind == 8, "{kind}");
     }
@@ -144,7 +144,7 @@ fn one_shard(rt: HostRuntime) -> Result<(), Fail> {
 /// of reply.
 #[test]
 fn second_of_two(rt: HostRuntime) -> Result<(), Fail> {
-    let seen = compare(&rt, 1, 2, 2).map_err(|refusal| refusal.name())?;
+    let seen = compare(&rt, 1, 2, 4).map_err(|refusal| refusal.name())?;
     assert!(rt; seen[8] > 0);
     let missing = seen.iter().filter(|count| **count == 0).count();
     assert!(rt; missing <= 1, "{missing}");
