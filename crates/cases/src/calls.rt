@@ -42,7 +42,7 @@ impl Opened {
             return Err(Refusal::Busy);
         };
         Ok(Opened {
-            settings: *settings,
+            settings: settings.copy(alloc)?,
             service,
             pass,
         })

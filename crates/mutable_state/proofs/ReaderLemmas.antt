@@ -60,9 +60,9 @@ is-grounded b request status t keys os agrees outside = record {
   outside = outside;
 }
 
--- one more thing that is kept
-pub rows-one : {Y : Type 0} (f : Open → Option Y) (os : List Open) (i : ℕ) (d : Open) (u : Y) → i < length os → f (get_or os i d) ≡ Some u → filter_map f (take (i + 1) os) ≡ filter_map f (take i os) ++ u ∷ []
+-- one more of those that a loop looks at
+pub rows-one : {A B : Type 0} (f : A → Option B) (os : List A) (i : ℕ) (d : A) (u : B) → i < length os → f (get_or os i d) ≡ Some u → filter_map f (take (i + 1) os) ≡ filter_map f (take i os) ++ u ∷ []
 rows-one f os i d u there is = ap (filter_map f) (take_more os i d there) ∙ filter_map-append f (take i os) (get_or os i d ∷ []) ∙ ap (λ o. filter_map f (take i os) ++ cons_option o []) is
 
-pub rows-none : {Y : Type 0} (f : Open → Option Y) (os : List Open) (i : ℕ) (d : Open) → i < length os → f (get_or os i d) ≡ None → filter_map f (take (i + 1) os) ≡ filter_map f (take i os)
+pub rows-none : {A B : Type 0} (f : A → Option B) (os : List A) (i : ℕ) (d : A) → i < length os → f (get_or os i d) ≡ None → filter_map f (take (i + 1) os) ≡ filter_map f (take i os)
 rows-none f os i d there is = ap (filter_map f) (take_more os i d there) ∙ filter_map-append f (take i os) (get_or os i d ∷ []) ∙ ap (λ o. filter_map f (take i os) ++ cons_option o []) is ∙ append-nil (filter_map f (take i os))

@@ -1,5 +1,5 @@
 -- What the words of a command line set.
-use Rattle.std.specs.Prelude.{◌≡◌, List, [], codes, Option}
+use Rattle.std.specs.Prelude.{◌≡◌, List, [], ◌∷◌, codes, Option}
 use Rattle.clap.specs.Words.{HasKind, Row, Text, first_of}
 use Rattle.script_settings.specs.CommandLine.{HasNoNumber, IsSetTo, faults_in, matches_in}
 use Rattle.script_settings.specs.declared.fault.Fault.{Fault}
@@ -12,6 +12,8 @@ pub record Sets (words : List Text) (s : Settings) (file : Option Text) : Type 0
   pub shards : IsSetTo 1 (codes "shards") (matches_in words) s.shards
   pub passes : s.passes ≡ 1
   pub service : IsSetTo 1 (codes "service") (matches_in words) s.service
+  pub queues : s.queues ≡ codes "main" ∷ []
+  pub capacity : s.capacity ≡ 1024
   pub file_is : file ≡ first_of (codes "FILE") (matches_in words)
 
 -- the option's text writes no number

@@ -7,7 +7,8 @@ ghost use Rattle.script_settings.specs.Settings.{Sets, IsFaultIn, IsFaultOf};
 
 use crate::fault::Fault;
 use clap::{Arg, ArgMatches, Command, Error};
-use service_model::settings::Settings;
+use service_model::limits::DEFAULT_CAPACITY;
+use service_model::settings::{Settings, main_queue};
 use std::alloc::{AllocError, Global};
 
 const ABOUT: &str = "Serves a workflow service's calls: a JSON line in, a reply line out.";
@@ -71,10 +72,18 @@ pub fn settings_of<'a>(
         Ok(matches) => matches,
         Err(error) => return Err(Fault::Words(error)),
     };
+    let shards = number(&matches, "shards", 1)?;
+    let service = number(&matches, "service", 1)?;
+    let queues = match main_queue(alloc) {
+        Ok(queues) => queues,
+        Err(error) => return Err(Fault::Words(Error::from(error))),
+    };
     let settings = Settings {
-        shards: number(&matches, "shards", 1)?,
+        shards,
         passes: 1,
-        service: number(&matches, "service", 1)?,
+        service,
+        queues,
+        capacity: DEFAULT_CAPACITY,
     };
     Ok((settings, matches.get_str("FILE")))
 }

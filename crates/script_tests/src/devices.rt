@@ -1,16 +1,30 @@
 //! A reader and a writer that fail at each byte, and a writer whose flushes fail.
 
+ghost use Rattle.std.specs.Prelude.{◌≡◌};
+
 use script::{ScriptFault, run_one};
-use service_model::settings::Settings;
+use service_model::limits::DEFAULT_CAPACITY;
+use service_model::settings::{Settings, main_queue};
+use std::alloc::AllocGlobal;
 use std::io::{self, Error, ErrorKind, Read, Write};
+use std::process::Abort;
 use wire_counted::Counted;
 
-/// One shard, one pass, service 1: what the program takes where no option is given.
-pub(crate) const DEFAULTS: Settings = Settings {
-    shards: 1,
-    passes: 1,
-    service: 1,
-};
+/// One shard, one pass, service 1, the queue `main`: what the program takes where no option is given.
+pub(crate) fn defaults<R: Abort + AllocGlobal>(rt: &R) -> Settings
+    ensures { result.passes ≡ 1 }
+{
+    match main_queue(rt.alloc()) {
+        Ok(queues) => Settings {
+            shards: 1,
+            passes: 1,
+            service: 1,
+            queues,
+            capacity: DEFAULT_CAPACITY,
+        },
+        Err(_) => panic!(rt; "no memory"),
+    }
+}
 
 /// A script whose last line has no line feed.
 const SCRIPT: &[u8] =
@@ -84,7 +98,7 @@ fn a_reader_that_fails_at_each_byte(rt: HostRuntime) {
             left,
         });
         let mut writer = Counted::new(Vec::new(alloc));
-        let result = run_one(&rt, alloc, &DEFAULTS, &mut reader, &mut writer);
+        let result = run_one(&rt, alloc, &defaults(&rt), &mut reader, &mut writer);
         assert!(rt; matches!(result, Err(ScriptFault::Read(_))), "{left}");
         assert_eq!(rt; reader.failures, 1);
         assert_eq!(rt; writer.failures, 0);
@@ -103,7 +117,7 @@ fn a_writer_that_fails_at_each_byte(rt: HostRuntime) {
             room,
             flushes: u64::MAX,
         });
-        let result = run_one(&rt, alloc, &DEFAULTS, &mut reader, &mut writer);
+        let result = run_one(&rt, alloc, &defaults(&rt), &mut reader, &mut writer);
         assert!(rt; matches!(result, Err(ScriptFault::Write(_))), "{room}");
         assert_eq!(rt; reader.failures, 0);
         assert_eq!(rt; writer.failures, 1);
@@ -123,7 +137,7 @@ fn a_writer_whose_flush_fails(rt: HostRuntime) {
             room: usize::MAX,
             flushes,
         });
-        let result = run_one(&rt, alloc, &DEFAULTS, &mut reader, &mut writer);
+        let result = run_one(&rt, alloc, &defaults(&rt), &mut reader, &mut writer);
         let is_lost = matches!(result, Err(ScriptFault::Write(_)));
         assert_eq!(rt; is_lost, flushes < 3, "{flushes}");
         assert_eq!(rt; writer.failures, u64::from(is_lost), "{flushes}");

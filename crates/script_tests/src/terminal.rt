@@ -1,6 +1,6 @@
 //! A user who waits for replies.
 
-use crate::devices::DEFAULTS;
+use crate::devices::defaults;
 use script::{ScriptFault, run_one};
 use std::cell::Cell;
 use std::io::{self, Read, Write};
@@ -75,7 +75,7 @@ x
     let mut writer = Counted::new(Screen {
         terminal: &terminal,
     });
-    let outcome = run_one(&rt, rt.alloc(), &DEFAULTS, &mut reader, &mut writer)?;
+    let outcome = run_one(&rt, rt.alloc(), &defaults(&rt), &mut reader, &mut writer)?;
     assert!(rt; outcome.refused);
     assert_eq!(rt; terminal.shown.get(), 3);
     assert!(rt; !terminal.waited_in_vain.get());

@@ -1,3 +1,4 @@
 pub mod CloseLemmas
 pub mod OpenLemmas
 pub mod ServedLemmas
+mod TurnLemmas

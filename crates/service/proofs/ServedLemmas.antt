@@ -61,6 +61,8 @@ shard-below K (operation.Heartbeat q) some none = token-below K q.task (unrefuse
 shard-below K (operation.History q) some none = mod_below (hash_of q.workflow_id) K.shards (omega (arith, some))
 shard-below K (operation.Describe q) some none = mod_below (hash_of q.workflow_id) K.shards (omega (arith, some))
 shard-below K operation.TimerTurn some none = absurd (cc)
+shard-below K operation.NextDispatch some none = absurd (cc)
+shard-below K (operation.Dispatched number) some none = absurd (cc)
 
 -- a shard that nothing refuses is there
 pub named-below : (K : Settings) (shard : ℕ) → shard_refusal K shard ≡ None → shard < K.shards

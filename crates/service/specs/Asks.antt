@@ -46,3 +46,9 @@ to_describe at q = record { at = at; operation = operation.Describe q }
 
 abbrev pub to_turn_timers : ℕ → Request
 to_turn_timers at = record { at = at; operation = operation.TimerTurn }
+
+abbrev pub to_next_dispatch : ℕ → Request
+to_next_dispatch at = record { at = at; operation = operation.NextDispatch }
+
+abbrev pub to_dispatched : ℕ → ℕ → Request
+to_dispatched at number = record { at = at; operation = operation.Dispatched number }

@@ -1,5 +1,5 @@
 -- the shards of a service: what each is opened with, which calls are refused before any is entered, and on which one the others are served
-use Rattle.std.specs.Prelude.{ℕ, ◌%◌, ◌&&◌, nat_le, nat_lt, Bool, if◌then◌else◌, List, [], ◌∷◌, codes, length, map, Option, None, Some}
+use Rattle.std.specs.Prelude.{ℕ, ◌%◌, ◌&&◌, nat_le, nat_lt, Bool, if◌then◌else◌, List, length, map, Option, None, Some}
 use Rattle.std.specs.List.{range_with_len}
 use Rattle.wf_event_values.specs.declared.field.Field.TheVariants as field
 use Rattle.wf_event_values.specs.declared.refusal.Refusal.{Refusal}
@@ -18,9 +18,9 @@ use Rattle.service_model.specs.Limits.{most_commands}
 use Rattle.service_model.specs.Outcome.{hash_of}
 use Rattle.service_model.specs.Service.{opening}
 
--- a shard's setup; the only task queue so far is `main`
+-- a shard's setup
 abbrev pub setup_of : Settings → ℕ → Setup
-setup_of K shard = record { service = K.service; shard = shard; shards = K.shards; queues = codes "main" ∷ [] }
+setup_of K shard = record { service = K.service; shard = shard; shards = K.shards; queues = K.queues }
 
 -- the contents of all shards at opening
 abbrev pub opening_contents : Settings → List Content
@@ -41,7 +41,7 @@ token_refusal K t = if is_token K t then None else Some InvalidToken
 abbrev pub completion_refusal : Settings → CompleteWorkflowTask → Option Refusal
 completion_refusal K q = if is_token K q.task then (if nat_le (length q.commands) most_commands then None else Some (InvalidArgument field.Commands)) else Some InvalidToken
 
--- as what an operation is refused before any shard is entered, where it is; a timer turn is served for a call that names its shard
+-- as what an operation is refused before any shard is entered, where it is; those that name none are served for a call that names their shard
 abbrev pub refusal_of : Settings → Operation → Option Refusal
 refusal_of K (operation.Start q) = None
 refusal_of K (operation.Signal q) = None
@@ -55,6 +55,8 @@ refusal_of K (operation.Heartbeat q) = token_refusal K q.task
 refusal_of K (operation.History q) = None
 refusal_of K (operation.Describe q) = None
 refusal_of K operation.TimerTurn = Some (InvalidArgument field.Shard)
+refusal_of K operation.NextDispatch = Some (InvalidArgument field.Shard)
+refusal_of K (operation.Dispatched number) = Some (InvalidArgument field.Shard)
 
 -- the shard of a workflow ID: its hash modulo the number of shards
 abbrev pub shard_of_id : Settings → List ℕ → ℕ
@@ -74,6 +76,8 @@ shard_of K (operation.Heartbeat q) = q.task.shard
 shard_of K (operation.History q) = shard_of_id K q.workflow_id
 shard_of K (operation.Describe q) = shard_of_id K q.workflow_id
 shard_of K operation.TimerTurn = 0
+shard_of K operation.NextDispatch = 0
+shard_of K (operation.Dispatched number) = 0
 
 abbrev pub slot_of : Settings → Request → ℕ
 slot_of K q = shard_of K q.operation

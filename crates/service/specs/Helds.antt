@@ -4,6 +4,7 @@ use Rattle.service_model.specs.declared.request.Request.{Request}
 use Rattle.service_model.specs.Outcome.{Reply}
 use Rattle.gate.specs.declared.view.View.{View}
 use Rattle.gate.specs.Helds as of_held
+use Rattle.matching.specs.Named as matching
 use Rattle.shard.specs.Standing as shard
 use Rattle.service.specs.declared.held.Held.{Held}
 use Rattle.service.specs.declared.service.Service.{Service}
@@ -22,6 +23,7 @@ promised h = of_held.promised h.inner
 pub record IsHeldBy (h : Held) (x : Service) : Type 0 where
   pub opened : IsOpened x
   pub own : of_held.IsHeldBy shard.opened h.inner x.gate
+  pub hints : matching.IsPassOf h.hints x.queues
 
 -- the request was served to the pass, as far as it knows once it has left
 abbrev pub Enters : Service → Pass → Held → Request → Type 0

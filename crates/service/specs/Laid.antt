@@ -4,8 +4,10 @@ use Rattle.std.specs.List.{range_with_len, AllByRecursion}
 use Rattle.service_model.specs.declared.request.Request.{Request}
 use Rattle.service_model.specs.declared.settings.Settings.{Settings}
 use Rattle.service_model.specs.Service.{opening}
+use Rattle.matching.specs.Named as matching
 use Rattle.shard.specs.View.{ShardView}
 use Rattle.shard.specs.Standing.{StandsFor, opened}
+use Rattle.service.specs.declared.service.Pass.{Pass}
 use Rattle.service.specs.Contents.{setup_of}
 
 -- so many shards, each fresh, with an empty record
@@ -14,3 +16,7 @@ pub record IsLaid (K : Settings) (shards : List (ShardView × List (ℕ × Reque
   pub count : length shards ≡ n
   pub bases : AllByRecursion (λ (x : ShardView × List (ℕ × Request)). x.1 ≡ []) shards
   pub stands : AllByRecursion (λ (x : ShardView × List (ℕ × Request)). StandsFor x.0 (opened x.0)) shards
+
+-- a new pass with this number knows of no hint
+abbrev pub AreFresh : Settings → ℕ → Pass → Type 0
+AreFresh K number p = matching.IsFresh K.passes K.shards K.capacity number p.hints

@@ -5,3 +5,4 @@ pub mod Helds
 pub mod Laid
 pub mod Ranges
 pub mod Services
+pub mod Turns

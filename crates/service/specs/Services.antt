@@ -1,12 +1,12 @@
 -- what a clause reads of a service and of its passes
-use Rattle.std.specs.Prelude.{◌≡◌, ℕ, ◌<◌, ◌≤◌, [], map, Option, None, Some, Err, Result, IfOk, IfErr}
+use Rattle.std.specs.Prelude.{◌≡◌, ℕ, ◌<◌, ◌≤◌, true, List, [], length, map, Option, None, Some, Err, Result, IfOk, IfErr}
 use Rattle.wf_event_values.specs.declared.refusal.Refusal.{Refusal}
 use Rattle.service_model.specs.declared.call.Call.{Call}
 use Rattle.service_model.specs.declared.content.Content.{Content}
 use Rattle.service_model.specs.declared.request.Request.{Request}
 use Rattle.service_model.specs.declared.settings.Settings.{Settings}
 use Rattle.service_model.specs.Calls.{request_of}
-use Rattle.service_model.specs.Limits.{most_passes, most_shards, service_numbers}
+use Rattle.service_model.specs.Limits.{most_capacity, most_passes, most_queues, most_shards, service_numbers}
 use Rattle.service_model.specs.Growth.{KeepsHistories}
 use Rattle.service_model.specs.Outcome.{Reply}
 use Rattle.service_model.specs.Service.{answer, after, opening}
@@ -17,6 +17,9 @@ use Rattle.gate.specs.Gates as of_gate
 use Rattle.shard.specs.Standing as shard
 use Rattle.service.specs.declared.service.Service.{Service}
 use Rattle.service.specs.declared.service.Pass.{Pass}
+use Rattle.matching.specs.declared.view.View.{View as HintView}
+use Rattle.matching.specs.Named as matching
+use Rattle.service.specs.Ranges.{are_different}
 use Rattle.service.specs.Contents.{setup_of, opening_contents, refusal_of, slot_of, refusal_of_call, slot_of_call}
 
 abbrev pub settings_of : Service → Settings
@@ -30,6 +33,10 @@ shard_of_request x q = slot_of x.settings q
 abbrev pub known_by : Pass → View Request Content
 known_by p = gate.view p.inner
 
+-- what it knows of the hints in each queue
+abbrev pub hints_by : Pass → List HintView
+hints_by p = matching.known_by p.hints
+
 -- the settings are in their ranges
 pub record IsInRange (K : Settings) : Type 0 where
   pub some_shard : 1 ≤ K.shards
@@ -37,6 +44,11 @@ pub record IsInRange (K : Settings) : Type 0 where
   pub some_pass : 1 ≤ K.passes
   pub few_passes : K.passes ≤ most_passes
   pub service : K.service < service_numbers
+  pub some_queue : 1 ≤ length K.queues
+  pub few_queues : length K.queues ≤ most_queues
+  pub different : are_different K.queues ≡ true
+  pub some_capacity : 1 ≤ K.capacity
+  pub few_capacity : K.capacity ≤ most_capacity
 
 -- the service was opened by its settings, without records
 pub record IsOpened (x : Service) : Type 0 where
@@ -45,11 +57,15 @@ pub record IsOpened (x : Service) : Type 0 where
   pub starts : map (λ y. shard.opened y.0) (of_gate.opened x.gate) ≡ opening_contents x.settings
   pub bases : (s : ℕ) → of_gate.base_of x.gate s ≡ []
   pub passes : of_gate.given x.gate ≡ x.settings.passes
+  pub names : matching.names_of x.queues ≡ x.settings.queues
+  pub capacity : matching.capacity_of x.queues ≡ x.settings.capacity
+  pub named_shards : matching.shards_of x.queues ≡ x.settings.shards
 
 -- the pass is one that this service gave
 pub record IsPassOf (p : Pass) (x : Service) : Type 0 where
   pub opened : IsOpened x
   pub own : of_gate.IsPassOf p.inner x.gate
+  pub hints : matching.IsPassOf p.hints x.queues
 
 -- A request was served on a shard to a pass that knew v and then knows w: the record that it then has seen of that shard
 -- is all that it had seen there, perhaps other entries, and this one, the reply is the sequential service's after the entries before,
@@ -95,6 +111,7 @@ ServedAtLast x p p' q r = ServedOnAtLast x p p' (refusal_of x.settings q.operati
 pub record IsTriedOn (x : Service) (p p' : Pass) (refusal : Option Refusal) (shard : ℕ) (q : Request) (result : Result Reply (Refused × Request)) : Type 0 where
   pub own : IsPassOf p' x
   pub named : gate.number (known_by p') ≡ gate.number (known_by p)
+  pub hints : hints_by p' ≡ hints_by p
   pub ok : IfOk result (λ r. ServedOn x p p' refusal shard q r)
   pub back : IfErr result (λ e. e.1 ≡ q)
   pub err : IfErr result (λ e. gate.Refuses e.0 (known_by p) (known_by p') shard)
@@ -104,6 +121,7 @@ pub record IsTriedOn (x : Service) (p p' : Pass) (refusal : Option Refusal) (sha
 pub record IsServedOnBy {E : Type 0} (x : Service) (p p' : Pass) (refusal : Option Refusal) (shard : ℕ) (q : Request) (result : Result Reply (E × Request)) : Type 0 where
   pub own : IsPassOf p' x
   pub named : gate.number (known_by p') ≡ gate.number (known_by p)
+  pub hints : hints_by p' ≡ hints_by p
   pub ok : IfOk result (λ r. ServedOnAtLast x p p' refusal shard q r)
   pub back : IfErr result (λ e. e.1 ≡ q)
   pub err : IfErr result (λ e. gate.Waited (known_by p) (known_by p') shard)

@@ -32,7 +32,8 @@ fn handed_down(passes: Vec<Pass>, room: PassRoom) -> Vec<gate::Pass<Shard>>
 {
     let PassRoom { passes: mut all } = room;
     for pass in passes {
-        all.push_reserved(pass.into_inner());
+        let (inner, _hints) = pass.into_parts();
+        all.push_reserved(inner);
     }
     all
 }

@@ -7,6 +7,7 @@ ghost use Rattle.service.specs.Asks.{to_start};
 use crate::calls::request;
 use crate::service::{Pass, Service, Shard};
 use gate::Refused;
+use matching::QueuesPass;
 use service_model::answer::Reply;
 use service_model::request::{Operation, Request, Start};
 use wf_event_values::Moment;
@@ -15,6 +16,7 @@ use wf_event_values::Moment;
 /// spends it.
 pub struct Held<'a> {
     pub(crate) inner: gate::Held<'a, Shard>,
+    pub(crate) hints: QueuesPass,
 }
 
 impl Service {
@@ -40,9 +42,10 @@ impl Service {
     {
         let request = request(at, Operation::Start(asked));
         let slot = self.slot_of(&request);
-        match self.gate.try_enter(pass.into_inner(), slot, request) {
-            Ok(inner) => Ok(Held { inner }),
-            Err((why, inner, request)) => Err((why, Pass { inner }, request)),
+        let (inner, hints) = pass.into_parts();
+        match self.gate.try_enter(inner, slot, request) {
+            Ok(inner) => Ok(Held { inner, hints }),
+            Err((why, inner, request)) => Err((why, Pass { inner, hints }, request)),
         }
     }
 }
@@ -57,8 +60,8 @@ impl Held<'_> {
         ensures seen { known_by result.0 ≡ leaving self.entry }
         ensures reply { result.1 ≡ promised self.entry }
     {
-        let Held { inner } = self;
+        let Held { inner, hints } = self;
         let (inner, reply) = inner.leave();
-        (Pass { inner }, reply)
+        (Pass { inner, hints }, reply)
     }
 }

@@ -12,14 +12,17 @@
 mod activities;
 mod calls;
 mod close;
+mod dispatch_turns;
 mod held;
 mod meet;
 mod open;
+mod polls;
 mod route;
 mod service;
 mod tasks;
 mod turns;
 
+pub use dispatch_turns::{Stop, Turned};
 pub use gate::{Record, Refused};
 pub use held::Held;
 pub use service::{Pass, Service};

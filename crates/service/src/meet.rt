@@ -1,12 +1,12 @@
 //! How two passes tell each other what they have seen.
 
-ghost use Rattle.std.specs.Prelude.{ℕ, ◌<◌};
+ghost use Rattle.std.specs.Prelude.{◌≡◌, ℕ, ◌<◌};
 ghost use Rattle.gate.specs.Passes.{Agree, KeepsOwn};
 
 use crate::service::{Pass, Service};
 
 impl Service {
-    ghost use Rattle.service.specs.Services.{IsPassOf, known_by, settings_of};
+    ghost use Rattle.service.specs.Services.{IsPassOf, hints_by, known_by, settings_of};
 
     /// Of each shard, the record that one pass had seen began the one that the other had. Afterwards
     /// both have seen the longer. It takes no memory, and changes no shard.
@@ -15,6 +15,7 @@ impl Service {
         requires second { IsPassOf second.old self.now }
         ensures first_own { IsPassOf first.new self.now }
         ensures second_own { IsPassOf second.new self.now }
+        ensures hints { (hints_by first.new ≡ hints_by first.old) × (hints_by second.new ≡ hints_by second.old) }
         ensures agree { (shard : ℕ) → shard < (settings_of self.now).shards → Agree (known_by first.old) (known_by second.old) (known_by first.new) (known_by second.new) shard }
         ensures first { KeepsOwn (known_by first.old) (known_by first.new) }
         ensures second { KeepsOwn (known_by second.old) (known_by second.new) }

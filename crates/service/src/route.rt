@@ -14,8 +14,8 @@ use wf_event_values::{Field, Id, Refusal};
 impl Service {
     ghost use Rattle.service.specs.Services.{settings_of, shard_of_request};
 
-    /// As what an operation is refused before any shard is entered, where it is. A timer turn names no
-    /// shard: it is served for a call that does.
+    /// As what an operation is refused before any shard is entered, where it is. A timer turn and the
+    /// parts of a dispatch turn name no shard: they are served for a call that does.
     pub(crate) fn refusal_of(&self, operation: &Operation) -> Option<Refusal>
         ensures { result ≡ refusal_of (settings_of self.now) operation.now }
     {
@@ -31,7 +31,9 @@ impl Service {
             | Operation::Signal(_)
             | Operation::History(_)
             | Operation::Describe(_) => None,
-            Operation::TimerTurn => Some(Refusal::InvalidArgument(Field::Shard)),
+            Operation::TimerTurn | Operation::NextDispatch | Operation::Dispatched(_) => {
+                Some(Refusal::InvalidArgument(Field::Shard))
+            }
         }
     }
 
@@ -53,7 +55,7 @@ impl Service {
             | Operation::CancelActivity(asked)
             | Operation::Heartbeat(asked) => usize::from(asked.task.shard),
             Operation::FailActivity(asked) => usize::from(asked.task.shard),
-            Operation::TimerTurn => 0,
+            Operation::TimerTurn | Operation::NextDispatch | Operation::Dispatched(_) => 0,
         }
     }
 

@@ -4,6 +4,7 @@ ghost use Rattle.std.specs.Prelude.{◌≡◌, ◌<◌, ◌≤◌, None, length,
 
 use crate::close::PassRoom;
 use gate::{Gate, Record, Refused};
+use matching::{Queues, QueuesPass};
 use service_model::answer::Reply;
 use service_model::request::Request;
 use service_model::settings::Settings;
@@ -18,6 +19,7 @@ pub(crate) type Shard = shard::Shard<mutable_state::Run>;
 pub struct Service {
     pub(crate) settings: Settings,
     pub(crate) gate: Gate<Shard>,
+    pub(crate) queues: Queues,
     // Room for what `close` hands down and for what it answers, made by `open` so that closing
     // can't fail. Threads can't share a list of passes, so that one lies behind a lock, which
     // nobody takes.
@@ -32,6 +34,7 @@ impl Drop for Service {
         let Service {
             settings: _,
             gate: _,
+            queues: _,
             handed_down: _,
             records: _,
         } = self;
@@ -41,20 +44,22 @@ impl Drop for Service {
 /// The right to call one service. It is one thread's at a time.
 pub struct Pass {
     pub(crate) inner: gate::Pass<Shard>,
+    pub(crate) hints: QueuesPass,
 }
 
 impl Drop for Pass {
     fn drop(self) {
-        let Pass { inner: _ } = self;
+        let Pass { inner: _, hints: _ } = self;
     }
 }
 
 impl Pass {
-    pub(crate) fn into_inner(self) -> gate::Pass<Shard>
-        ensures { result ≡ self.inner }
+    /// The right to step on the shards, and the one to push and pop hints.
+    pub(crate) fn into_parts(self) -> (gate::Pass<Shard>, QueuesPass)
+        ensures { result ≡ (self.inner, self.hints) }
     {
-        let Pass { inner } = self;
-        inner
+        let Pass { inner, hints } = self;
+        (inner, hints)
     }
 }
 
@@ -69,6 +74,7 @@ impl Service {
         let Service {
             settings: _,
             gate,
+            queues: _,
             handed_down,
             records,
         } = self;

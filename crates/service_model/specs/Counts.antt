@@ -1,16 +1,17 @@
 -- reading and counting on what a shard issued: transfers to other shards, and dispatches to task queues (this service's)
-use Rattle.std.specs.Prelude.{ℕ, ◌+◌, cond, ◌&&◌, nat_lt, nat_le, ◌==◌, [], List, length, slice_get, Option, None, Some, unwrap_or}
+use Rattle.std.specs.Prelude.{ℕ, ◌+◌, cond, ◌&&◌, nat_lt, nat_le, ◌==◌, [], List, length, slice_get, Option, None, Some, Ok, unwrap_or}
 use Rattle.wf_event_values.specs.declared.field.Field.TheVariants as field
 use Rattle.wf_event_values.specs.declared.refusal.Refusal.TheVariants.{InvalidArgument}
 use Rattle.service_model.specs.declared.answer.Answer.{Answer}
 use Rattle.service_model.specs.declared.answer.Answer.TheVariants.{Transfer as ATransfer, NoTransfer, Counted, Dispatch as ADispatch, NoDispatch}
 use Rattle.service_model.specs.declared.answer.Acknowledged.TheVariants.{Acknowledged, Already, OutOfOrder as NotInOrder}
+use Rattle.service_model.specs.declared.answer.NumberedDispatch.{NumberedDispatch}
 use Rattle.service_model.specs.declared.content.Setup.{Setup}
 use Rattle.service_model.specs.declared.content.Outgoing.{Outgoing}
 use Rattle.service_model.specs.declared.content.Dispatch.{Dispatch}
 use Rattle.service_model.specs.declared.request.Acknowledge.{Acknowledge}
 use Rattle.service_model.specs.declared.transfer.TransferContent.{TransferContent}
-use Rattle.service_model.specs.Outcome.{Outcome, Counting, AcknowledgesTo, CountsDispatch, answered, refused}
+use Rattle.service_model.specs.Outcome.{Outcome, Reply, Counting, AcknowledgesTo, CountsDispatch, answered, refused}
 
 -- the transfers to a shard
 abbrev pub outgoing_to : List Outgoing → ℕ → Outgoing
@@ -55,3 +56,8 @@ next_dispatch all so_far = answered (dispatch_answer (so_far + 1) (slice_get all
 -- a dispatch was pushed
 unfoldable pub dispatched : List Dispatch → ℕ → ℕ → Outcome
 dispatched all so_far number = acknowledges (length all) so_far number CountsDispatch
+
+-- the dispatch that a reply has
+abbrev pub dispatch_of : Reply → Option NumberedDispatch
+dispatch_of (Ok (ADispatch d)) = Some d
+dispatch_of _ = None

@@ -1,6 +1,5 @@
 -- what a step issues for a run that it changed: found in the run's states before and after (this service's)
-use Rattle.std.specs.Prelude.{ℕ, Bool, true, false, cond, not, List, ◌++◌, [], drop, filter_map, length, Option, None, Some}
-use Rattle.std.specs.Option.{option_map_or}
+use Rattle.std.specs.Prelude.{ℕ, Bool, true, false, cond, not, List, ◌++◌, [], drop, filter_map, length, Option, None, Some, option_map, option_and_then}
 use Rattle.wf_event.specs.declared.event.Event.{Event}
 use Rattle.wf_event.specs.declared.attributes.Attributes.{Attributes}
 use Rattle.wf_event.specs.declared.attributes.Attributes.TheVariants.{WorkflowTaskScheduled, ActivityTaskScheduled, StartChildWorkflowExecutionInitiated, SignalExternalWorkflowExecutionInitiated, RequestCancelExternalWorkflowExecutionInitiated, WorkflowExecutionCompleted, WorkflowExecutionFailed, WorkflowExecutionCanceled, WorkflowExecutionContinuedAsNew}
@@ -26,30 +25,36 @@ use Rattle.service_model.specs.Outcome.{Sent, shard_of, run_id, if_some}
 abbrev pub new_events : RunState → RunState → List Event
 new_events before after' = drop (length before.shown) after'.shown
 
+-- the dispatch of the task that an event of this id schedules, by what it carries
+abbrev pub dispatch_by : Setup → ℕ → ℕ → Attributes → Option Dispatch
+dispatch_by setup run id (WorkflowTaskScheduled a) = Some (record { queue = a.task_queue; hint = record { kind = Workflow; shard = setup.shard; run = run; event = id; attempt = a.attempt } })
+dispatch_by setup run id (ActivityTaskScheduled a) = Some (record { queue = a.task_queue; hint = record { kind = Activity; shard = setup.shard; run = run; event = id; attempt = 1 } })
+dispatch_by setup run id _ = None
+
 -- the dispatch of a task that an event schedules
 abbrev pub task_dispatch : Setup → ℕ → Event → Option Dispatch
-task_dispatch setup run e = by_kind e.attributes
-  where
-    by_kind : Attributes → Option Dispatch
-    by_kind (WorkflowTaskScheduled a) = Some (record { queue = a.task_queue; hint = record { kind = Workflow; shard = setup.shard; run = run; event = e.id; attempt = a.attempt } })
-    by_kind (ActivityTaskScheduled a) = Some (record { queue = a.task_queue; hint = record { kind = Activity; shard = setup.shard; run = run; event = e.id; attempt = 1 } })
-    by_kind _ = None
+task_dispatch setup run e = dispatch_by setup run e.id e.attributes
 
-abbrev pub fields_queue : Option ScheduledAttributes → List ℕ
-fields_queue None = []
-fields_queue (Some a) = a.task_queue
+-- the dispatch of an activity's attempt
+abbrev pub row_dispatch : Setup → ℕ → ActivityRow → Option Dispatch
+row_dispatch setup run r = option_map (λ (a : ScheduledAttributes). record { queue = a.task_queue; hint = record { kind = Activity; shard = setup.shard; run = run; event = r.opened.id; attempt = r.attempt } }) (scheduled_fields r.opened.attributes)
 
-abbrev pub row_dispatch : Setup → ℕ → ActivityRow → Dispatch
-row_dispatch setup run r = record { queue = fields_queue (scheduled_fields r.opened.attributes); hint = record { kind = Activity; shard = setup.shard; run = run; event = r.opened.id; attempt = r.attempt } }
+-- the activity whose attempt a note queues again
+abbrev pub queued_by : ℕ → Note → Option ℕ
+queued_by activity Ready = Some activity
+queued_by activity _ = None
 
--- the dispatch of an attempt that a note queues
+abbrev pub queued_again : Fact → Option ℕ
+queued_again (an_event f) = None
+queued_again (a_note n) = queued_by n.activity n.note
+
+-- the same, of the activity in use that this event scheduled
+abbrev pub attempt_dispatch : Setup → ℕ → RunState → ℕ → Option Dispatch
+attempt_dispatch setup run s activity = option_and_then (row_dispatch setup run) (row_of s activity)
+
+-- the dispatch of an attempt that a fact queues again
 abbrev pub ready_dispatch : Setup → ℕ → RunState → Fact → Option Dispatch
-ready_dispatch setup run s (an_event f) = None
-ready_dispatch setup run s (a_note n) = by_note n.note
-  where
-    by_note : Note → Option Dispatch
-    by_note Ready = option_map_or (λ r. Some (row_dispatch setup run r)) (row_of s n.activity) None
-    by_note _ = None
+ready_dispatch setup run s f = option_and_then (attempt_dispatch setup run s) (queued_again f)
 
 -- the dispatches that a step issues for one run: of the tasks that it scheduled, and of the attempts that it queued
 abbrev pub dispatches_of : Setup → ℕ → RunState → RunState → List Fact → List Dispatch

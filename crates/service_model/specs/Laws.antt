@@ -1,4 +1,9 @@
 -- what is so of every history: laws of the definitions themselves
+use Rattle.service_model.specs.declared.answer.NumberedDispatch.{NumberedDispatch}
+use Rattle.service_model.specs.declared.content.Setup.{Setup}
+use Rattle.service_model.specs.declared.request.Operation.TheVariants.{NextDispatch}
+use Rattle.service_model.specs.Counts.{dispatch_of}
+use Rattle.service_model.specs.Service.{Entry, answer, replay}
 use Rattle.std.specs.Prelude.{◌≡◌, ℕ, ◌+◌, ◌≤◌, ◌==◌, Bool, List, [], ◌∷◌, filter, slice_get, Some}
 use Rattle.std.specs.List.{AllByRecursion}
 use Rattle.wf_event.specs.declared.event.Event.{Event}
@@ -24,3 +29,7 @@ OrdersByKeys = (xs : List Keyed) → IsInOrder xs (ordered xs)
 -- the first event has the id 1, and each other one the id after that of the one before
 abbrev pub CountsFromOne : Type 0
 CountsFromOne = (J : Journal) (k : ℕ) (e : Event) → slice_get (shown J) k ≡ Some e → e.id ≡ k + 1
+
+-- a dispatch that a shard answers names that shard
+abbrev pub NamesItsShard : Type 0
+NamesItsShard = (setup : Setup) (R : List Entry) (at : ℕ) (d : NumberedDispatch) → dispatch_of (answer (replay setup R) (record { at = at; operation = NextDispatch })) ≡ Some d → d.dispatch.hint.shard ≡ setup.shard

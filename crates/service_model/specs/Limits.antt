@@ -7,6 +7,12 @@ most_shards = 64
 abbrev pub most_passes : ℕ
 most_passes = 256
 
+abbrev pub most_queues : ℕ
+most_queues = 64
+
+abbrev pub most_capacity : ℕ
+most_capacity = 65536
+
 -- a service's number has 48 bits in a run id
 abbrev pub service_numbers : ℕ
 service_numbers = 2 ^ 48

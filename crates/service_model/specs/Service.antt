@@ -117,6 +117,8 @@ outcome_of S m (served.Heartbeat q) = outcome S m (ToHeartbeat q)
 outcome_of S m (served.History q) = outcome S m (ToShowHistory q)
 outcome_of S m (served.Describe q) = outcome S m (ToDescribe q)
 outcome_of S m served.TimerTurn = outcome S m ToTurnTimers
+outcome_of S m served.NextDispatch = outcome S m ToShowDispatch
+outcome_of S m (served.Dispatched number) = outcome S m (ToCountDispatch number)
 
 -- facts as entries of a step, by their places from n on
 abbrev pub entries : ℕ → ℕ → ℕ → List Fact → Journal

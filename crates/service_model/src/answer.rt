@@ -1,4 +1,8 @@
 //! What a shard answers.
+
+ghost use Rattle.std.specs.Prelude.{◌≡◌, MatchResult, None, Ok, Some};
+ghost use Rattle.service_model.specs.Counts.{dispatch_of};
+
 use crate::content::Dispatch;
 use crate::transfer::Transfer;
 use wf_event::Event;
@@ -204,6 +208,18 @@ impl Drop for Answer {
             Answer::Counted(_) => {}
             Answer::Dispatch(_) => {}
             Answer::NoDispatch => {}
+        }
+    }
+}
+
+impl Answer {
+    /// The dispatch that it has, or the answer where it has none.
+    pub fn into_dispatch(self) -> Result<NumberedDispatch, Answer>
+        ensures { MatchResult result (λ d. dispatch_of (Ok self) ≡ Some d) (λ a. (a ≡ self) × (dispatch_of (Ok self) ≡ None)) }
+    {
+        match self {
+            Answer::Dispatch(dispatch) => Ok(dispatch),
+            other => Err(other),
         }
     }
 }

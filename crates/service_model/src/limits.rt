@@ -6,6 +6,15 @@ pub const MOST_SHARDS: u64 = 64;
 /// The most passes of a service.
 pub const MOST_PASSES: u64 = 256;
 
+/// The most task queues of a service.
+pub const MOST_QUEUES: usize = 64;
+
+/// The most hints that a task queue may have room for.
+pub const MOST_CAPACITY: u64 = 65_536;
+
+/// How many hints a task queue has room for where nothing is said.
+pub const DEFAULT_CAPACITY: u64 = 1024;
+
 /// The number below which a service's own number lies: it has 48 bits in a run id.
 pub const SERVICE_NUMBERS: u64 = 281_474_976_710_656;
 

@@ -228,6 +228,10 @@ pub enum Operation {
     /// Lets the shard's first deadline fire, if it is due. It names no shard, so a service makes it
     /// of a call that does.
     TimerTurn,
+    /// Asks for the first dispatch that is not counted. It names no shard either.
+    NextDispatch,
+    /// Counts the dispatch of that number, which was pushed. It names no shard either.
+    Dispatched(u64),
 }
 
 impl Drop for Operation {
@@ -245,6 +249,8 @@ impl Drop for Operation {
             Operation::History(_) => {}
             Operation::Describe(_) => {}
             Operation::TimerTurn => {}
+            Operation::NextDispatch => {}
+            Operation::Dispatched(_) => {}
         }
     }
 }

@@ -8,7 +8,7 @@ use crate::draws::Draws;
 use crate::known::Known;
 use crate::requests::request;
 use gate::Object;
-use service_model::answer::{Answer, Reply};
+use service_model::answer::{Acknowledged, Answer, Reply};
 use service_model::content::Setup;
 use service_model::request::Request;
 use service_model_answer::answer;
@@ -22,10 +22,10 @@ use wire_replies::reply_text;
 type Shard = shard::Shard<mutable_state::Run>;
 
 /// How many requests each test draws.
-const COUNT: u64 = 400;
+const COUNT: u64 = 480;
 
 /// How many kinds of reply there are.
-const KINDS: usize = 33;
+const KINDS: usize = 38;
 
 /// Service 1's shard, with the queue `main`.
 fn setup(alloc: Global, shard: u16, shards: u16) -> Result<Setup, Refusal>
@@ -54,7 +54,7 @@ fn serve(shard: &mut Shard, request: &Request) -> Result<Reply, AllocError>
 
 /// Which kind of reply it is, if it is one that these requests get.
 fn kind(reply: &Reply) -> Option<usize>
-    ensures { IfSome result (λ k. k < 33) }
+    ensures { IfSome result (λ k. k < 38) }
 {
     match reply {
         Ok(Answer::Started(_)) => Some(0),
@@ -83,13 +83,18 @@ fn kind(reply: &Reply) -> Option<usize>
         Ok(Answer::ActivityCanceled) => Some(25),
         Ok(Answer::Heartbeat(_)) => Some(26),
         Err(Refusal::InvalidArgument(Field::Token)) => Some(27),
+        Ok(Answer::Dispatch(_)) => Some(33),
+        Ok(Answer::NoDispatch) => Some(34),
+        Ok(Answer::Counted(Acknowledged::Already)) => Some(35),
+        Ok(Answer::Counted(Acknowledged::Acknowledged)) => Some(36),
+        Ok(Answer::Counted(Acknowledged::OutOfOrder)) => Some(37),
         _ => None,
     }
 }
 
 /// Which kind of reply it is that a deadline of this class fired.
 fn fired_kind(class: DeadlineClass) -> Option<usize>
-    ensures { IfSome result (λ k. k < 33) }
+    ensures { IfSome result (λ k. k < 38) }
 {
     match class {
         DeadlineClass::RunTimeout => Some(18),
@@ -139,7 +144,7 @@ fn compare<R: Abort + AllocGlobal>(
 /// All kinds of reply but one for another shard's workflow IDs.
 #[test]
 fn one_shard(rt: HostRuntime) -> Result<(), Fail> {
-    let seen = compare(&rt, 0, 1, 1).map_err(|refusal| refusal.name())?;
+    let seen = compare(&rt, 0, 1, 2).map_err(|refusal| refusal.name())?;
     for (kind, count) in seen.iter().enumerate() {
         assert_eq!(rt; *count == 0, kind == 8, "{kind}");
     }
@@ -150,7 +155,7 @@ fn one_shard(rt: HostRuntime) -> Result<(), Fail> {
 /// of reply.
 #[test]
 fn second_of_two(rt: HostRuntime) -> Result<(), Fail> {
-    let seen = compare(&rt, 1, 2, 2).map_err(|refusal| refusal.name())?;
+    let seen = compare(&rt, 1, 2, 4).map_err(|refusal| refusal.name())?;
     assert!(rt; seen[8] > 0);
     let missing = seen.iter().filter(|count| **count == 0).count();
     assert!(rt; missing <= 1, "{missing}");

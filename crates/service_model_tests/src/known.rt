@@ -7,12 +7,13 @@ use std::alloc::{AllocError, Global};
 use wf_event::Attributes;
 use wf_event_values::{DeadlineClass, TaskKind};
 
-/// The hints and tokens that replies gave, old ones too.
+/// The hints and tokens that replies gave, old ones too, and the number of the last dispatch.
 #[derive(Drop)]
 pub(crate) struct Known {
     hints: Vec<Hint>,
     tokens: Vec<TakenTask>,
     attempts: Vec<TakenTask>,
+    dispatch: u64,
 }
 
 impl Known {
@@ -21,11 +22,12 @@ impl Known {
             hints: Vec::new(alloc),
             tokens: Vec::new(alloc),
             attempts: Vec::new(alloc),
+            dispatch: 0,
         }
     }
 
     /// Learns from a reply: a run's first task, the last tasks that a history shows, the attempt that
-    /// a deadline queues, and a token.
+    /// a deadline queues, a dispatch, and a token.
     pub(crate) fn learn(&mut self, shard: u16, reply: &Reply) -> Result<(), AllocError> {
         match reply {
             Ok(Answer::Started(run)) => {
@@ -60,6 +62,10 @@ impl Known {
                     self.hints.push(hint)?;
                 }
             }
+            Ok(Answer::Dispatch(next)) => {
+                self.dispatch = next.number;
+                self.hints.push(next.dispatch.hint)?;
+            }
             _ => {}
         }
         Ok(())
@@ -78,6 +84,15 @@ impl Known {
             }
         }
         found
+    }
+
+    /// The number of the last dispatch, now and then the one before it or the one behind it.
+    pub(crate) fn dispatch(&self, draws: &mut Draws) -> u64 {
+        match draws.below(6) {
+            0 => self.dispatch.saturating_sub(1),
+            1 => self.dispatch.saturating_add(1),
+            _ => self.dispatch,
+        }
     }
 
     /// One of the last hints, now and then one that names another task.

@@ -38,7 +38,7 @@ pub(crate) fn request(
 }
 
 fn operation(alloc: Global, draws: &mut Draws, known: &Known) -> Result<Operation, Refusal> {
-    match draws.below(32) {
+    match draws.below(36) {
         0..=1 => Ok(Operation::Start(start(alloc, draws)?)),
         2..=3 => Ok(Operation::Signal(signal(alloc, draws)?)),
         4..=9 => Ok(Operation::StartTask(known.hint(draws))),
@@ -50,6 +50,8 @@ fn operation(alloc: Global, draws: &mut Draws, known: &Known) -> Result<Operatio
         15..=17 => Ok(Operation::History(read(alloc, draws)?)),
         18..=23 => Ok(Operation::TimerTurn),
         24..=30 => report(alloc, draws, known),
+        31..=32 => Ok(Operation::NextDispatch),
+        33..=34 => Ok(Operation::Dispatched(known.dispatch(draws))),
         _ => Ok(Operation::Describe(read(alloc, draws)?)),
     }
 }

@@ -1,17 +1,43 @@
 //! What the tests ask.
 
+ghost use Rattle.std.specs.Prelude.{◌≡◌};
+
+use service_model::limits::DEFAULT_CAPACITY;
 use service_model::request::{Signal, Start};
-use service_model::settings::Settings;
+use service_model::settings::{Settings, main_queue};
 use std::alloc::AllocGlobal;
 use std::process::Abort;
 use wf_event_values::{ConflictPolicy, Field, Id, Moment, ReusePolicy, RunId, Span, Text};
 
+/// So many shards and passes, and the queue `main`.
+pub(crate) fn settings<R: Abort + AllocGlobal>(
+    rt: &R,
+    shards: u64,
+    passes: u64,
+    service: u64,
+) -> Settings
+    ensures shards { result.shards ≡ shards }
+    ensures passes { result.passes ≡ passes }
+{
+    match main_queue(rt.alloc()) {
+        Ok(queues) => Settings {
+            shards,
+            passes,
+            service,
+            queues,
+            capacity: DEFAULT_CAPACITY,
+        },
+        Err(_) => panic!(rt; "no memory"),
+    }
+}
+
 /// Two shards, of which `a` lies on the first and `b` on the second.
-pub(crate) const TWO_SHARDS: Settings = Settings {
-    shards: 2,
-    passes: 2,
-    service: 1,
-};
+pub(crate) fn two_shards<R: Abort + AllocGlobal>(rt: &R) -> Settings
+    ensures shards { result.shards ≡ 2 }
+    ensures passes { result.passes ≡ 2 }
+{
+    settings(rt, 2, 2, 1)
+}
 
 pub(crate) fn id<R: Abort + AllocGlobal>(rt: &R, text: &str) -> Id {
     match Id::new(rt.alloc(), Field::WorkflowId, text) {

@@ -4,7 +4,7 @@
 ghost use Rattle.std.specs.Prelude.{◌≡◌};
 ghost use Rattle.service.specs.Services.{IsPassOf};
 
-use crate::asked::{TWO_SHARDS, id, signal, start};
+use crate::asked::{id, signal, start, two_shards};
 use crate::passes::{open, take_pass};
 use service::{Pass, Service};
 use service_model::answer::{Answer, Reply};
@@ -136,14 +136,14 @@ fn assert_calls_that_never_wait<R: Abort + AllocGlobal>(rt: &R, service: &Servic
 
 #[test]
 fn calls_that_may_wait(rt: HostRuntime) {
-    let (service, mut passes) = open(&rt, &TWO_SHARDS);
+    let (service, mut passes) = open(&rt, &two_shards(&rt));
     let mut pass = take_pass(&service, &mut passes);
     assert_calls_that_may_wait(&rt, &service, &mut pass);
 }
 
 #[test]
 fn calls_that_never_wait(rt: HostRuntime) {
-    let (service, mut passes) = open(&rt, &TWO_SHARDS);
+    let (service, mut passes) = open(&rt, &two_shards(&rt));
     let mut pass = take_pass(&service, &mut passes);
     assert_calls_that_never_wait(&rt, &service, &mut pass);
 }

@@ -13,6 +13,8 @@ mod limits;
 #[cfg(test)]
 mod passes;
 #[cfg(test)]
+mod queues;
+#[cfg(test)]
 mod refusals;
 #[cfg(test)]
 mod threads;

@@ -3,22 +3,17 @@
 ghost use Rattle.std.specs.Prelude.{◌≡◌};
 ghost use Rattle.service.specs.Services.{IsPassOf};
 
-use crate::asked::{id, signal, start};
+use crate::asked::{id, settings, signal, start};
 use crate::passes::{close, give_back, open, take_pass};
 use service::{Pass, Service};
 use service_model::answer::{Answer, Reply};
 use service_model::request::Read;
-use service_model::settings::Settings;
 use std::alloc::AllocGlobal;
 use std::process::Abort;
 use wf_event_values::{Moment, Refusal};
 
-/// As many shards and passes as there may be.
-const MOST: Settings = Settings {
-    shards: 64,
-    passes: 256,
-    service: 281_474_976_710_655,
-};
+/// The largest number that a service may have.
+const LAST_SERVICE: u64 = 281_474_976_710_655;
 
 const RUNS: u64 = 1200;
 
@@ -36,7 +31,7 @@ fn started_on(reply: &Reply, shard: u16) -> u64 {
 /// The last pass steps on the last shard, and meets the one before it.
 #[test]
 fn as_many_shards_and_passes_as_there_may_be(rt: HostRuntime) {
-    let (service, mut passes) = open(&rt, &MOST);
+    let (service, mut passes) = open(&rt, &settings(&rt, 64, 256, LAST_SERVICE));
     let mut last = take_pass(&service, &mut passes);
     let mut other = take_pass(&service, &mut passes);
     match service.try_start(&mut last, start(&rt, "cw", None), Moment::zero()) {
@@ -106,12 +101,7 @@ fn length_of_history<R: Abort + AllocGlobal>(rt: &R, service: &Service, pass: &m
 
 #[test]
 fn runs_and_events_by_the_thousand(rt: HostRuntime) {
-    let one = Settings {
-        shards: 1,
-        passes: 1,
-        service: 1,
-    };
-    let (service, mut passes) = open(&rt, &one);
+    let (service, mut passes) = open(&rt, &settings(&rt, 1, 1, 1));
     let mut pass = take_pass(&service, &mut passes);
     start_each(&rt, &service, &mut pass);
     signal_often(&rt, &service, &mut pass);
@@ -122,19 +112,14 @@ fn runs_and_events_by_the_thousand(rt: HostRuntime) {
 /// before those of services.
 #[test]
 fn settings_out_of_range(rt: HostRuntime) {
-    let settings = [
+    let wrong = [
         (65, 257, 1, "shards"),
         (64, 0, 1, "passes"),
         (64, 257, 281_474_976_710_656, "passes"),
         (1, 256, 281_474_976_710_656, "service"),
     ];
-    for (shards, passes, service, name) in settings {
-        let settings = Settings {
-            shards,
-            passes,
-            service,
-        };
-        match Service::open(rt.alloc(), &settings) {
+    for (shards, passes, service, name) in wrong {
+        match Service::open(rt.alloc(), &settings(&rt, shards, passes, service)) {
             Err(Refusal::InvalidArgument(field)) => assert_eq!(rt; field.name(), name),
             _ => panic!(rt; "{name} is in its range"),
         }

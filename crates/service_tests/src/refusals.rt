@@ -4,7 +4,7 @@ ghost use Rattle.std.specs.Prelude.{◌≡◌};
 ghost use Rattle.gate.specs.Passes.{number};
 ghost use Rattle.service.specs.Services.{IsPassOf, known_by};
 
-use crate::asked::TWO_SHARDS;
+use crate::asked::two_shards;
 use crate::passes::{close_two, open, take_pass};
 use service::{Pass, Service};
 use service_model::request::{
@@ -107,7 +107,7 @@ fn assert_no_tokens<R: Abort + AllocGlobal + Wait>(rt: &R, service: &Service, pa
 
 #[test]
 fn what_is_refused_enters_no_shard(rt: HostRuntime) {
-    let (service, mut passes) = open(&rt, &TWO_SHARDS);
+    let (service, mut passes) = open(&rt, &two_shards(&rt));
     let second = take_pass(&service, &mut passes);
     let mut first = take_pass(&service, &mut passes);
     assert_no_tokens(&rt, &service, &mut first);
@@ -119,8 +119,10 @@ fn what_is_refused_enters_no_shard(rt: HostRuntime) {
         attempt: 1,
     });
     assert_refused(&rt, &service, &mut first, hint, "shard");
-    // A timer turn's own request names no shard.
+    // The requests of turns name no shard.
     assert_refused(&rt, &service, &mut first, Operation::TimerTurn, "shard");
+    assert_refused(&rt, &service, &mut first, Operation::NextDispatch, "shard");
+    assert_refused(&rt, &service, &mut first, Operation::Dispatched(1), "shard");
     let records = close_two(&rt, service, first, second);
     assert_eq!(rt; records.len(), 2);
     assert!(rt; records[0].is_empty() && records[1].is_empty());

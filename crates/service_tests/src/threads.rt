@@ -5,12 +5,11 @@ ghost use Rattle.gate.specs.Passes.{number};
 ghost use Rattle.service.specs.Services.{IsPassOf, known_by};
 ghost use Rattle.std.specs.Thread.{IsSync};
 
-use crate::asked::{TWO_SHARDS, id, is_first_run, moment, signal, start};
+use crate::asked::{id, is_first_run, moment, settings, signal, start, two_shards};
 use crate::passes::{close, close_two, give_back, open, take_pass};
 use service::{Pass, Record, Refused, Service};
 use service_model::answer::{Answer, Reply};
 use service_model::request::{Operation, Request};
-use service_model::settings::Settings;
 use std::alloc::AllocGlobal;
 use std::process::Abort;
 use std::sync::Wait;
@@ -22,12 +21,6 @@ use wf_event_values::{Moment, Refusal};
 const WORKFLOWS: [&str; 5] = ["a", "b", "c", "d", "e"];
 
 const SIGNALS: u64 = 3000;
-
-const FOUR_PASSES: Settings = Settings {
-    shards: 4,
-    passes: 4,
-    service: 1,
-};
 
 fn is_started(reply: &Reply, shard: u16) -> bool {
     matches!(reply, Ok(Answer::Started(run)) if is_first_run(*run, shard))
@@ -50,7 +43,9 @@ fn workflow_of(request: &Request) -> &str {
         | Operation::FailActivity(_)
         | Operation::CancelActivity(_)
         | Operation::Heartbeat(_)
-        | Operation::TimerTurn => "",
+        | Operation::TimerTurn
+        | Operation::NextDispatch
+        | Operation::Dispatched(_) => "",
     }
 }
 
@@ -119,7 +114,7 @@ fn stay_and_leave<R: Abort + AllocGlobal + Threads + Sync>(
 
 #[test]
 fn a_pass_on_a_shard_keeps_others_out(rt: HostRuntime) {
-    let (service, mut passes) = open(&rt, &TWO_SHARDS);
+    let (service, mut passes) = open(&rt, &two_shards(&rt));
     let second = take_pass(&service, &mut passes);
     let first = take_pass(&service, &mut passes);
     let (first, second) = stay_and_leave(&rt, &service, first, second);
@@ -176,7 +171,7 @@ fn start_at_once<R: Abort + AllocGlobal + Wait + Threads + Sync>(
 
 #[test]
 fn two_threads_start_one_workflow(rt: HostRuntime) {
-    let (service, mut passes) = open(&rt, &TWO_SHARDS);
+    let (service, mut passes) = open(&rt, &two_shards(&rt));
     let second = take_pass(&service, &mut passes);
     let first = take_pass(&service, &mut passes);
     let (first, second, first_won) = start_at_once(&rt, &service, first, second);
@@ -321,7 +316,7 @@ fn assert_in_order<R: Abort>(rt: &R, records: &[Record<Request>], pass: u8) {
 
 #[test]
 fn four_threads_signal_on_four_shards(rt: HostRuntime) {
-    let (service, mut passes) = open(&rt, &FOUR_PASSES);
+    let (service, mut passes) = open(&rt, &settings(&rt, 4, 4, 1));
     let d = take_pass(&service, &mut passes);
     let c = take_pass(&service, &mut passes);
     let b = take_pass(&service, &mut passes);

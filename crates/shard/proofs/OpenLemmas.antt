@@ -125,6 +125,7 @@ kept old i x n t t' same there how = ⊎_elim (λ (e : (n ≡ i) × (t ≡ x)). 
 -- a step leaves at most one open run of each ID
 pub one-open-after : {T : Type 0} (v : ShardView) (at : ℕ) (c : Change T) (o : Outcome) → FitsChange v at c o → IsOneOpen (states v.runs) → IsOneOpen (runs_after c (states v.runs))
 one-open-after v at change.Nothing o fits one = one
+one-open-after v at change.Counted o fits one = one
 one-open-after v at (change.Created new) o fits one =
     let (request, a, more, added, created, is) = fits in
     let named : id_of new.run.state ≡ a.workflow_id = ap id_of is.made ∙ id-of-begun at more request a in

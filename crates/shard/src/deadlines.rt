@@ -1,4 +1,4 @@
-//! The first deadlines of a shard's runs.
+//! The first deadlines of a shard's runs, and what a step leaves to be looked up.
 
 ghost use Rattle.std.specs.Prelude.{◌≡◌, None, option_map, IfOk, OnOk};
 ghost use Rattle.service_model.specs.TimerTurns.{all_dues, due_now, least};
@@ -12,7 +12,7 @@ use timeouts::Due;
 use wf_event_values::Moment;
 
 impl<T: KeepsRun> Shard<T> {
-    /// Looks up the first deadline of the run that changed since, if one did.
+    /// Looks up the first deadline and the dispatches of the run that changed since, if one did.
     pub(crate) fn note_change(&mut self) -> Result<(), AllocError>
         ensures same { state self.new ≡ state self.old }
         ensures runs { self.new.runs ≡ self.old.runs }
@@ -21,7 +21,11 @@ impl<T: KeepsRun> Shard<T> {
         let Some(index) = self.changed else {
             return Ok(());
         };
-        let due = self.runs[index].first_due(self.alloc, index as u64 + 1)?;
+        let run = &self.runs[index];
+        let due = run.first_due(self.alloc, index as u64 + 1)?;
+        let issued = self.dispatches.issued(self.alloc, &self.setup, run, index)?;
+        let shown = run.shown(self.alloc)?;
+        self.dispatches.issue(index, shown, issued)?;
         self.deadlines.set(index, due);
         self.changed = None;
         Ok(())

@@ -20,12 +20,14 @@ pub struct MoreOf {
     pub plan: mutable_state::Plan,
 }
 
-/// What a step does to the runs.
+/// What a step does to the runs and the dispatches.
 #[derive(Drop)]
 pub enum Change<T: KeepsRun> {
     Nothing,
     Created(NewRun<T>),
     Added(MoreOf),
+    /// The first dispatch that waits is counted.
+    Counted,
 }
 
 /// A step that can't fail any more.

@@ -17,7 +17,7 @@ impl<T: KeepsRun> Shard<T> {
     /// Makes all that the request's step needs. The shard stands for the same contents, whatever the result.
     pub fn prepare(&mut self, request: &Request) -> Result<Plan<T>, AllocError>
         ensures same { state self.new ≡ state self.old }
-        ensures plan { IfOk result (λ plan. FitsStep self.new plan (max request.now.at self.old.last) (outcome_in (runs_in self.old) (max request.now.at self.old.last) request.now.operation)) }
+        ensures plan { IfOk result (λ plan. FitsStep self.new plan (max request.now.at self.old.last) (outcome_in self.old.waiting (runs_in self.old) (max request.now.at self.old.last) request.now.operation)) }
     {
         let moment = request.at.later(self.last);
         match &request.operation {
@@ -33,6 +33,8 @@ impl<T: KeepsRun> Shard<T> {
             Operation::CancelActivity(end) => self.prepare_cancel_activity(moment, end),
             Operation::Heartbeat(beat) => self.prepare_heartbeat(moment, beat),
             Operation::TimerTurn => self.prepare_timer_turn(moment),
+            Operation::NextDispatch => self.prepare_next_dispatch(moment),
+            Operation::Dispatched(number) => self.prepare_dispatched(moment, *number),
         }
     }
 }

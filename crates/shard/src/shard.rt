@@ -6,9 +6,11 @@ ghost use Rattle.service_model.specs.Outcome.{Outcome};
 ghost use Rattle.service_model.specs.RunState.{id_of};
 ghost use Rattle.mutable_state.specs.Steps.{after_step, FitStep};
 ghost use Rattle.shard.specs.View.{IsSetup, state, states};
-ghost use Rattle.shard.specs.Fitting.{FitsChange, state_after, room_at, state_at};
+ghost use Rattle.shard.specs.Fitting.{CountsFirst, FitsChange, issued_for, issued_new, state_after, room_at, state_at};
+ghost use Rattle.shard.specs.Issuing.{one_counted, with_issued};
 ghost use Rattle.shard.specs.Standing.{Grows};
 
+use crate::dispatches::{Dispatches, readied};
 use crate::plan::{Change, MoreOf, NewRun, Plan};
 use indexmap::IndexMap;
 use mutable_state_keeper::{KeepsRun, Run};
@@ -28,8 +30,10 @@ pub struct Shard<T: KeepsRun> {
     pub(crate) index: IndexMap<String, usize>,
     /// The first deadline of each run, at the run's place.
     pub(crate) deadlines: Deadlines,
-    /// The place of the run that the last step changed, where its deadline was not looked up since:
-    /// that may take memory, so the next step does it.
+    /// The tasks that are to be handed to their queues.
+    pub(crate) dispatches: Dispatches,
+    /// The place of the run that the last step changed, where its deadline and its dispatches were not
+    /// looked up since: that may take memory, so the next step does it.
     pub(crate) changed: Option<usize>,
     pub(crate) last: Moment,
 }
@@ -42,6 +46,7 @@ impl<T: KeepsRun> Drop for Shard<T> {
             runs: _,
             index: _,
             deadlines: _,
+            dispatches: _,
             changed: _,
             last: _,
         } = self;
@@ -51,7 +56,8 @@ impl<T: KeepsRun> Drop for Shard<T> {
 impl<T: KeepsRun> Model for Shard<T> {
     ghost use Rattle.std.specs.Prelude.{◌-◌, ◌<◌, ◌^◌, length, min, vec_capacity, vec_len};
     ghost use Rattle.indexmap.specs.IndexMap.{get_by_text, spare};
-    ghost use Rattle.shard.specs.View.{ShardView, HasFirsts, IsIndexed, IsSetup, states};
+    ghost use Rattle.shard.specs.Issuing.{all_waiting};
+    ghost use Rattle.shard.specs.View.{ShardView, HasFirsts, HasShown, IsIndexed, IsSetup, states};
 
     ghost Value = { ShardView };
 
@@ -60,17 +66,18 @@ impl<T: KeepsRun> Model for Shard<T> {
       runs = a.runs.items;
       changed = a.changed;
       last = a.last;
-      room = min (vec_capacity a.runs - vec_len a.runs) (min (spare a.index) a.deadlines.room);
+      room = min (vec_capacity a.runs - vec_len a.runs) (min (spare a.index) (min a.deadlines.room a.dispatches.room));
+      waiting = all_waiting a.setup a.dispatches a.changed (states a.runs.items);
     } };
 
-    ghost invariant = { λ a. IsSetup a.setup × IsIndexed (get_by_text a.index) a.runs.items × (length a.runs.items < 2 ^ 60) × HasFirsts a.deadlines.slots a.changed (states a.runs.items) };
+    ghost invariant = { λ a. IsSetup a.setup × IsIndexed (get_by_text a.index) a.runs.items × (length a.runs.items < 2 ^ 60) × HasFirsts a.deadlines.slots a.changed (states a.runs.items) × HasShown a.dispatches.shown a.changed (states a.runs.items) };
 }
 
 impl<T: KeepsRun> Shard<T> {
     /// A shard without runs.
     pub fn new(alloc: Global, setup: Setup) -> Shard<T>
         requires { IsSetup setup }
-        ensures { state result ≡ record { setup = setup; runs = []; last = 0 } }
+        ensures { state result ≡ record { setup = setup; runs = []; last = 0; waiting = record { dispatches = []; counted = 0 } } }
     {
         Shard {
             alloc,
@@ -78,6 +85,7 @@ impl<T: KeepsRun> Shard<T> {
             runs: Vec::new(alloc),
             index: IndexMap::new(alloc),
             deadlines: Deadlines::new(alloc),
+            dispatches: Dispatches::new(alloc),
             changed: None,
             last: Moment::zero(),
         }
@@ -106,6 +114,7 @@ impl<T: KeepsRun> Shard<T> {
             Change::Nothing => {}
             Change::Created(created) => self.add(created),
             Change::Added(more) => self.grow(more),
+            Change::Counted => self.count(),
         }
         self.last = moment;
         reply
@@ -118,6 +127,7 @@ impl<T: KeepsRun> Shard<T> {
         requires few { length self.old.runs + 1 < 2 ^ 60 }
         requires named { id_of created.run.state ≡ string_bytes created.key }
         ensures runs { states self.new.runs ≡ states self.old.runs ++ created.run.state ∷ [] }
+        ensures waiting { self.new.waiting ≡ with_issued self.old.waiting (issued_new created.run.state (state self.old)) }
         ensures setup { self.new.setup ≡ self.old.setup }
         ensures last { self.new.last ≡ self.old.last }
     {
@@ -126,6 +136,7 @@ impl<T: KeepsRun> Shard<T> {
         let _ = self.index.insert(key, index + 1).unwrap();
         self.runs.push(run).unwrap();
         self.deadlines.push_none();
+        self.dispatches.add_run();
         self.changed = Some(index);
     }
 
@@ -136,12 +147,23 @@ impl<T: KeepsRun> Shard<T> {
         requires room { length more.plan.change.facts ≤ room_at self.old.runs more.index }
         requires fits { FitStep more.plan.change.moment (state_at (states self.old.runs) more.index) more.plan.change.facts }
         ensures runs { states self.new.runs ≡ slice_set (states self.old.runs) more.index (after_step more.plan.change.moment more.plan.change.facts (state_at (states self.old.runs) more.index)) }
+        ensures waiting { self.new.waiting ≡ with_issued self.old.waiting (issued_for more (state self.old)) }
         ensures setup { self.new.setup ≡ self.old.setup }
         ensures last { self.new.last ≡ self.old.last }
     {
         let MoreOf { index, plan } = more;
+        let ready = readied(plan.change.facts.as_slice());
         let run = &mut self.runs[index];
         run.commit(plan);
+        self.dispatches.note(ready);
         self.changed = Some(index);
+    }
+
+    /// Counts the first dispatch that waits.
+    fn count(&mut self)
+        requires { CountsFirst self.old }
+        ensures state { state self.new ≡ record { setup = self.old.setup; runs = states self.old.runs; last = self.old.last; waiting = one_counted self.old.waiting } }
+    {
+        self.dispatches.count_first();
     }
 }

@@ -136,6 +136,7 @@ impl<T: KeepsRun> Shard<T> {
         self.note_change()?;
         self.runs.reserve(1)?;
         self.deadlines.reserve(1)?;
+        self.dispatches.reserve(1)?;
         self.index.reserve(1)
     }
 }

@@ -6,7 +6,8 @@ ghost use Rattle.service.specs.Services.{IsPassOf};
 use crate::calls::{DUE, answered, completion, first_task, start, unexpected};
 use service::{Pass, Service};
 use service_model::answer::Answer;
-use service_model::settings::Settings;
+use service_model::limits::DEFAULT_CAPACITY;
+use service_model::settings::{Settings, main_queue};
 use std::alloc::Global;
 use std::io;
 use wf_event_values::{Field, Moment};
@@ -19,6 +20,8 @@ pub(crate) fn open(alloc: Global) -> io::Result<(Service, Pass)>
         shards: 1,
         passes: 1,
         service: 1,
+        queues: main_queue(alloc)?,
+        capacity: DEFAULT_CAPACITY,
     };
     let Ok((service, mut passes)) = Service::open(alloc, &settings) else {
         return Err(unexpected());

@@ -6,7 +6,8 @@ use service_model::answer::{
 };
 use service_model::content::Dispatch;
 use service_model::request::Hint;
-use service_model::settings::Settings;
+use service_model::limits::DEFAULT_CAPACITY;
+use service_model::settings::{Settings, main_queue};
 use service_model::transfer::{ChildStartFailed, Transfer, TransferContent};
 use std::alloc::{AllocGlobal, Global};
 use std::io;
@@ -140,6 +141,8 @@ fn print_lanes<R: Print + AllocGlobal>(rt: &R) -> io::Result<()> {
         shards: 1,
         passes: 3,
         service: 1,
+        queues: main_queue(rt.alloc())?,
+        capacity: DEFAULT_CAPACITY,
     };
     for line in [
         "{\"lane\":2,\"op\":\"history\",\"workflow_id\":\"a\"}",

@@ -6,8 +6,10 @@ use Rattle.script_settings.proofs.words.settings_of.Goals as goal
 pub returns-clause-sets : goal.returns-clause-sets
 returns-clause-sets c = record {
   taken = c.in-Ok.ensures.fails;
-  shards = rw (← c.in-Ok.ensures.rows) c.in_ok-number.ensures.set;
+  shards = rw (← c.in-Ok.ensures.rows) c.in_ok-shards.ensures.set;
   passes = refl;
-  service = rw (← c.in-Ok.ensures.rows) c.in_ok-number-2.ensures.set;
+  service = rw (← c.in-Ok.ensures.rows) c.in_ok-service.ensures.set;
+  queues = c.in-Ok-main_queue.ensures;
+  capacity = refl;
   file_is = c.get_str.ensures ∙ first_value-rows (found_of c.in-Ok.matches) (codes "FILE") ∙ ap (first_of (codes "FILE")) c.in-Ok.ensures.rows;
 }

@@ -6,4 +6,4 @@ use Rattle.service_model_tests.proofs.compared.compare.Goals as goal
 pub loop-number-init : goal.loop-number-init
 loop-number-init g c =
     let fresh = c.new-object.ensures in
-    (opened c.new-object.result, stands-fresh c.new-object.result (fresh ∙ ap (λ s. record { setup = s; runs = []; last = 0 }) (sym (ap (λ t. t.setup) fresh))))
+    (opened c.new-object.result, stands-fresh c.new-object.result (fresh ∙ ap (λ s. record { setup = s; runs = []; last = 0; waiting = record { dispatches = []; counted = 0 } }) (sym (ap (λ t. t.setup) fresh))))

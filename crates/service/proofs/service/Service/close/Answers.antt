@@ -10,6 +10,11 @@ use Rattle.service.proofs.CloseLemmas.{opened-by}
 use Rattle.service_model.proofs.ListLemmas.{get-map, map-get}
 use Rattle.service.proofs.service.Service.close.Goals as goal
 
+pub handed_down-passes-requires : goal.handed_down-passes-requires
+handed_down-passes-requires c =
+    let opened = opened-by c.args.passes.items c.args.self c.args.self.some_pass c.requires.own c.requires.all in
+    omega (arith, c.requires.count, opened.range.few_passes)
+
 pub close-requires-clause-own : goal.close-requires-clause-own
 close-requires-clause-own c = λ k i there.
     let (p, place, is) = get-map (λ p. p.inner) c.args.passes.items k i (ap (λ t. slice_get t k) (sym c.handed_down-passes.ensures) ∙ there) in

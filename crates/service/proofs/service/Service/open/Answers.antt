@@ -1,12 +1,12 @@
 use Rattle.std.proofs.Common.{ap, sym, ◌∙◌, subst, arith, length}
-use Rattle.std.specs.Prelude.{map, slice_get}
-use Rattle.gate.specs.Passes.{IsFresh}
-use Rattle.gate.specs.Gates as of_gate
+use Rattle.std.specs.Prelude.{◌<◌, ◌≤◌, map, slice_get, vec_capacity}
 use Rattle.gate.specs.Gated.{at}
 use Rattle.shard.specs.Standing.{opened}
+use Rattle.service_model.specs.declared.settings.Settings.{Settings}
 use Rattle.service.specs.declared.service.Pass.{Pass}
-use Rattle.service.specs.Services.{known_by}
-use Rattle.service_model.proofs.ListLemmas.{get-map}
+use Rattle.service.specs.Contents.{opening_contents}
+use Rattle.service.specs.Services.{IsInRange}
+use Rattle.service_model.proofs.ListLemmas.{map-get}
 use Rattle.service.proofs.OpenLemmas.{bases-at, keeping-at, standing-at, in-range}
 use Rattle.service.proofs.service.Service.open.Goals as goal
 
@@ -20,25 +20,34 @@ pub invariant_of-service : goal.invariant_of-service
 invariant_of-service c =
     let range = in-range c.args.settings.now (sym c.in_ok-check_ranges.ensures) in
     let exact = c.in_ok-records.ensures.exact in
-    record { some_pass = omega (arith, range.some_pass); roomy = (ap length c.in_ok-records.ensures.items, omega (arith, exact)) }
+    let same = c.in_ok-copy.ensures in
+    record {
+      some_pass = subst (λ (K : Settings). 0 < K.passes) (sym same) (omega (arith, range.some_pass));
+      roomy = (ap length c.in_ok-records.ensures.items, subst (λ (K : Settings). K.shards ≤ vec_capacity c.in_ok-records.records) (sym same) (omega (arith, exact)));
+    }
 
 pub returns-clause-own : goal.returns-clause-own
 returns-clause-own c = λ k p there.
-    let (inner, place, is) = get-map (λ i. record { inner = i }) c.in_ok-gate.inner.items k p (sym (ap (λ t. slice_get t k) c.in_ok-passes.ensures) ∙ there) in
-    let P : Pass → Type 0 = λ q. of_gate.IsPassOf q.inner c.in_ok-gate.gate in
+    let same = sym c.in_ok-copy.ensures in
+    let inner = ap (λ t. slice_get t k) (sym c.in_ok-passes.ensures.inner) ∙ map-get (λ (q : Pass). q.inner) c.in_ok-passes.passes.items k p there in
+    let hints = ap (λ t. slice_get t k) (sym c.in_ok-passes.ensures.hints) ∙ map-get (λ (q : Pass). q.hints) c.in_ok-passes.passes.items k p there in
     record {
       opened = record {
-        range = in-range c.args.settings.now (sym c.in_ok-check_ranges.ensures);
-        slots = c.in_ok-gate.ensures.slots ∙ c.in_ok-objects.ensures.laid.count;
-        starts = ap (map (λ y. opened y.0)) c.in_ok-gate.ensures.opened ∙ c.in_ok-objects.ensures.laid.starts;
+        range = subst (λ K. IsInRange K) same (in-range c.args.settings.now (sym c.in_ok-check_ranges.ensures));
+        slots = c.in_ok-gate.ensures.slots ∙ c.in_ok-objects.ensures.laid.count ∙ ap (λ (K : Settings). K.shards) same;
+        starts = ap (map (λ y. opened y.0)) c.in_ok-gate.ensures.opened ∙ c.in_ok-objects.ensures.laid.starts ∙ ap opening_contents same;
         bases = λ s. ap (λ t. at (map (λ y. y.1) t) s) c.in_ok-gate.ensures.opened ∙ bases-at c.in_ok-objects.objects.items s c.in_ok-objects.ensures.laid.bases;
-        passes = c.in_ok-gate.ensures.given.0;
+        passes = c.in_ok-gate.ensures.given.0 ∙ ap (λ (K : Settings). K.passes) same;
+        names = c.in_ok-queues.ensures.names ∙ ap (λ (K : Settings). K.queues) same;
+        capacity = c.in_ok-queues.ensures.capacity ∙ ap (λ (K : Settings). K.capacity) same;
+        named_shards = c.in_ok-queues.ensures.shards ∙ ap (λ (K : Settings). K.shards) same;
       };
-      own = subst P (sym is) (c.in_ok-gate.ensures.own k inner place);
+      own = c.in_ok-gate.ensures.own k p.inner inner;
+      hints = c.in_ok-queues.ensures.own k p.hints hints;
     }
 
 pub returns-clause-fresh : goal.returns-clause-fresh
-returns-clause-fresh c = λ k p there.
-    let (inner, place, is) = get-map (λ i. record { inner = i }) c.in_ok-gate.inner.items k p (sym (ap (λ t. slice_get t k) c.in_ok-passes.ensures) ∙ there) in
-    let P : Pass → Type 0 = λ q. IsFresh k (known_by q) in
-    subst P (sym is) (c.in_ok-gate.ensures.fresh k inner place)
+returns-clause-fresh c = λ k p there. c.in_ok-gate.ensures.fresh k p.inner (ap (λ t. slice_get t k) (sym c.in_ok-passes.ensures.inner) ∙ map-get (λ (q : Pass). q.inner) c.in_ok-passes.passes.items k p there)
+
+pub returns-clause-hints : goal.returns-clause-hints
+returns-clause-hints c = λ k p there. c.in_ok-queues.ensures.fresh k p.hints (ap (λ t. slice_get t k) (sym c.in_ok-passes.ensures.hints) ∙ map-get (λ (q : Pass). q.hints) c.in_ok-passes.passes.items k p there)

@@ -11,15 +11,16 @@ step-requires-clause-slot g c =
     omega (arith, below, slots)
 
 pub returns-in-Some : goal.returns-in-Some
-returns-in-Some g c = record { own = c.requires.own; named = refl; ok = by-refusal _ _ _ _ c.in-Some.is; back = tt; err = tt }
+returns-in-Some g c = record { own = c.requires.own; named = refl; hints = refl; ok = by-refusal _ _ _ _ c.in-Some.is; back = tt; err = tt }
 
 pub returns-in-None : goal.returns-in-None
 returns-in-None g c =
-    let p' : Pass = record { inner = c.step.new.pass } in
+    let p' : Pass = record { inner = c.step.new.pass; hints = c.args.pass.now.hints } in
     let none = c.in-None.is in
     record {
-      own = record { opened = c.requires.own.opened; own = c.step.ensures.own };
+      own = record { opened = c.requires.own.opened; own = c.step.ensures.own; hints = c.requires.own.hints };
       named = c.step.ensures.named;
+      hints = refl;
       ok = weaker c.step.result _ _ (λ r step. by-step _ _ _ _ r none (served-at-last c.args.pass.now (known_by p') c.args.self.now c.args.slot c.args.request r c.requires.own (c.requires.there none) step)) c.step.ensures.ok;
       back = c.step.ensures.back;
       err = c.step.ensures.err;

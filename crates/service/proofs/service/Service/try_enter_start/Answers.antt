@@ -17,5 +17,5 @@ returns-in-Ok-clause-ok c =
     let Q : Request → Type 0 = λ q. IsServed c.args.self.now (known_by c.args.pass) w q r in
     let none : refusal_of c.args.self.now.settings c.request-request.result.operation ≡ None = ap (λ q. refusal_of c.args.self.now.settings q.operation) c.request-request.ensures in
     let below = shard-below c.args.self.now.settings c.request-request.result.operation c.requires.opened.range.some_shard none in
-    let entered = rw (ap view c.into_inner.ensures) at c.in-Ok.ensures.ok in
+    let entered = rw (ap (λ p. view p.0) c.into_parts-inner.ensures) at c.in-Ok.ensures.ok in
     subst Q c.request-request.ensures (served c.args.pass w c.args.self.now _ c.request-request.result r c.requires below (subst P c.slot_of-slot.ensures entered))

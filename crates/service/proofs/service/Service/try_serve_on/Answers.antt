@@ -11,15 +11,16 @@ try_step-requires-clause-slot c =
     omega (arith, below, slots)
 
 pub returns-in-Some : goal.returns-in-Some
-returns-in-Some c = record { own = c.requires.own; named = refl; ok = by-refusal _ _ _ _ c.in-Some.is; back = tt; err = tt }
+returns-in-Some c = record { own = c.requires.own; named = refl; hints = refl; ok = by-refusal _ _ _ _ c.in-Some.is; back = tt; err = tt }
 
 pub returns-in-None : goal.returns-in-None
 returns-in-None c =
-    let p' : Pass = record { inner = c.try_step.new.pass } in
+    let p' : Pass = record { inner = c.try_step.new.pass; hints = c.args.pass.now.hints } in
     let none = c.in-None.is in
     record {
-      own = record { opened = c.requires.own.opened; own = c.try_step.ensures.own };
+      own = record { opened = c.requires.own.opened; own = c.try_step.ensures.own; hints = c.requires.own.hints };
       named = c.try_step.ensures.named;
+      hints = refl;
       ok = weaker c.try_step.result _ _ (λ r step. by-step _ _ _ _ r none (served c.args.pass.now (known_by p') c.args.self.now c.args.slot c.args.request r c.requires.own (c.requires.there none) step)) c.try_step.ensures.ok;
       back = c.try_step.ensures.back;
       err = c.try_step.ensures.err;

@@ -1,0 +1,91 @@
+//! The tasks that a run hands to their queues.
+
+ghost use Rattle.std.specs.Prelude.{◌≡◌, drop, filter_map, IfOk};
+ghost use Rattle.service_model.specs.Issued.{task_dispatch, row_dispatch};
+ghost use Rattle.mutable_state.specs.Activities.{row_said};
+
+use crate::activity::Activity;
+use service_model::content::{Dispatch, Setup};
+use service_model::request::Hint;
+use std::alloc::{AllocError, Global};
+use wf_event::{Attributes, Event};
+use wf_event_values::TaskKind;
+
+/// The dispatch of the task that an event schedules in the run with this ordinal, if it schedules one.
+pub fn task_dispatch(setup: &Setup, run: u64, event: &Event) -> Result<Option<Dispatch>, AllocError>
+    ensures { IfOk result (λ found. found ≡ task_dispatch setup.now run event.now) }
+{
+    let (queue, kind, attempt) = match &event.attributes {
+        Attributes::WorkflowTaskScheduled(task) => {
+            (task.task_queue.clone()?, TaskKind::Workflow, task.attempt)
+        }
+        Attributes::ActivityTaskScheduled(activity) => {
+            (activity.task_queue.clone()?, TaskKind::Activity, 1)
+        }
+        _ => return Ok(None),
+    };
+    let hint = Hint {
+        kind,
+        shard: setup.shard,
+        run,
+        event: event.id,
+        attempt,
+    };
+    Ok(Some(Dispatch { queue, hint }))
+}
+
+/// The dispatch of an activity's attempt in the run with this ordinal.
+pub fn attempt_dispatch(
+    setup: &Setup,
+    run: u64,
+    activity: &Activity,
+) -> Result<Option<Dispatch>, AllocError>
+    ensures { IfOk result (λ found. found ≡ row_dispatch setup.now run (row_said activity.now)) }
+{
+    let Attributes::ActivityTaskScheduled(scheduled) = &activity.scheduled.attributes else {
+        return Ok(None);
+    };
+    let hint = Hint {
+        kind: TaskKind::Activity,
+        shard: setup.shard,
+        run,
+        event: activity.scheduled.id,
+        attempt: activity.notes.attempt,
+    };
+    Ok(Some(Dispatch {
+        queue: scheduled.task_queue.clone()?,
+        hint,
+    }))
+}
+
+/// The dispatches of the tasks that these events schedule, but for so many first ones, in the run with this ordinal.
+pub fn dispatches_behind(
+    alloc: Global,
+    setup: &Setup,
+    run: u64,
+    events: &[Event],
+    first: usize,
+) -> Result<Vec<Dispatch>, AllocError>
+    ensures { IfOk result (λ found. found.items ≡ filter_map (task_dispatch setup.now run) (drop first events.now)) }
+{
+    let later = &events[first.min(events.len())..];
+    dispatches_of(alloc, setup, run, later)
+}
+
+/// The dispatches of the tasks that these events schedule.
+fn dispatches_of(
+    alloc: Global,
+    setup: &Setup,
+    run: u64,
+    events: &[Event],
+) -> Result<Vec<Dispatch>, AllocError>
+    ensures { IfOk result (λ found. found.items ≡ filter_map (task_dispatch setup.now run) events.now) }
+{
+    let mut found = Vec::new(alloc);
+    for event in events {
+        if let Some(dispatch) = task_dispatch(setup, run, event)? {
+            found.push(dispatch)?;
+        }
+    }
+    Ok(found)
+}

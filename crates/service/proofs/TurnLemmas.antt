@@ -1,0 +1,54 @@
+-- which shard a dispatch names that a service reads
+use Rattle.std.proofs.Common.{◌≡◌, ℕ, ◌<◌, Bool, true, false, List, [], ◌∷◌, sym, ap, ◌∙◌, subst, arith, refl, Option, Some, None}
+use Rattle.std.proofs.lemmas.Bool.Decides.{nat_tests}
+use Rattle.std.specs.Prelude.{nat_lt, if◌then◌else◌, Result, Ok, Err, IfOk}
+use Rattle.wf_event_values.specs.declared.field.Field.TheVariants as field
+use Rattle.wf_event_values.specs.declared.policies.TaskKind.{TaskKind}
+use Rattle.wf_event_values.specs.declared.refusal.Refusal.TheVariants.{InvalidArgument}
+use Rattle.service_model.specs.declared.answer.NumberedDispatch.{NumberedDispatch}
+use Rattle.service_model.specs.declared.content.Content.{Content}
+use Rattle.service_model.specs.declared.request.Hint.{Hint}
+use Rattle.service_model.specs.declared.request.Request.{Request}
+use Rattle.service_model.specs.Counts.{dispatch_of}
+use Rattle.service_model.specs.Outcome.{Reply}
+use Rattle.service_model.specs.Service.{after}
+use Rattle.service_model.proofs.DispatchLemmas.{NamesShard, names-after, names-opening, next-named}
+use Rattle.gate.specs.declared.view.View.{View}
+use Rattle.gate.specs.Records.{replay}
+use Rattle.service.specs.declared.service.Service.{Service}
+use Rattle.matching.specs.declared.view.View.{View as HintView}
+use Rattle.matching.specs.Named.{Pops}
+use Rattle.service.specs.Asks.{to_next_dispatch, to_start_task}
+use Rattle.service.specs.Contents.{setup_of}
+use Rattle.service.specs.Services.{Answered, IsServedAtLast}
+use Rattle.service.specs.Turns.{AnsweredOn, Polls}
+
+names-replayed : (shard : ℕ) (S : Content) (R : List (ℕ × Request)) → NamesShard shard S → NamesShard shard (replay after S R)
+names-replayed shard S [] h = h
+names-replayed shard S (e ∷ R) h = names-replayed shard (after S e.1) R (names-after shard S e.1 h)
+
+-- the dispatch that the next one of a shard is names that shard, so one that is there
+pub next-below : (x : Service) (shard at : ℕ) (v w : View Request Content) (r : Reply) → AnsweredOn x shard v w (to_next_dispatch at) r → (d : NumberedDispatch) → dispatch_of r ≡ Some d → d.dispatch.hint.shard < x.settings.shards
+next-below x shard at v w r done d is = by_test (nat_lt shard x.settings.shards) refl done
+  where
+    served : nat_lt shard x.settings.shards ≡ true → IsServedAtLast x v w shard (to_next_dispatch at) r → d.dispatch.hint.shard < x.settings.shards
+    served below h =
+        let step = h.served.step in
+        let P : Content → Type 0 = λ S. NamesShard shard S in
+        let start : NamesShard shard step.start = subst P (sym h.served.start) (names-opening (setup_of x.settings shard)) in
+        let named : d.dispatch.hint.shard ≡ shard = next-named shard (replay after step.start step.front) at d (names-replayed shard step.start step.front start) (ap dispatch_of (sym step.reply) ∙ is) in
+        grind (arith, nat_tests)
+
+    by_test : (b : Bool) → nat_lt shard x.settings.shards ≡ b → Answered (if b then None else Some (InvalidArgument field.Shard)) (IsServedAtLast x v w shard (to_next_dispatch at) r) v w r → d.dispatch.hint.shard < x.settings.shards
+    by_test true below h = served below h
+    by_test false below h = absurd (let clash = sym (ap dispatch_of h.0) ∙ is in cc)
+
+-- what holds of the value of an Ok
+pub each-next : (x : Service) (shard at : ℕ) (v w : View Request Content) {E : Type 0} (result : Result Reply E) → IfOk result (λ r. AnsweredOn x shard v w (to_next_dispatch at) r) → IfOk result (λ r. (d : NumberedDispatch) → dispatch_of r ≡ Some d → d.dispatch.hint.shard < x.settings.shards)
+each-next x shard at v w (Ok r) h = next-below x shard at v w r h
+each-next x shard at v w (Err e) h = tt
+
+-- a hint was popped, and its task asked for
+pub polled : (x : Service) (o : Option ℕ) (kind : TaskKind) (at : ℕ) (v w : View Request Content) (hs ws : List HintView) (h : Hint) (r : Reply) → Pops o kind hs ws (Ok (Some h)) → IsServedAtLast x v w h.shard (to_start_task at h) r → Polls x o kind at v w hs ws (Some r)
+polled x None kind at v w hs ws h r popped served = absurd (let clash = popped.0 in cc)
+polled x (Some place) kind at v w hs ws h r popped served = (h, popped, served)

@@ -1,0 +1,91 @@
+-- what a poll and a dispatch turn do, part by part
+use Rattle.std.specs.Prelude.{◌≡◌, ◌⊎◌, ℕ, List, Option, None, Some, Result, Ok, Err}
+use Rattle.wf_event_values.specs.declared.policies.TaskKind.{TaskKind}
+use Rattle.wf_event_values.specs.declared.refusal.Refusal.{Refusal}
+use Rattle.wf_event_values.specs.declared.refusal.Refusal.TheVariants.{UnknownTaskQueue}
+use Rattle.service_model.specs.declared.answer.NumberedDispatch.{NumberedDispatch}
+use Rattle.service_model.specs.declared.content.Content.{Content}
+use Rattle.service_model.specs.declared.request.Hint.{Hint}
+use Rattle.service_model.specs.declared.request.Request.{Request}
+use Rattle.service_model.specs.Counts.{dispatch_of}
+use Rattle.service_model.specs.Outcome.{Reply}
+use Rattle.gate.specs.declared.view.View.{View}
+use Rattle.gate.specs.Passes.{Waited}
+use Rattle.matching.specs.declared.view.View.{View as HintView}
+use Rattle.matching.specs.Named as matching
+use Rattle.matching.specs.Named.{place_in, slot_of, StoodAt, TakenAt, Pushes}
+use Rattle.service.specs.declared.service.Service.{Service}
+use Rattle.service.specs.declared.dispatch_turns.Stop.{Stop}
+use Rattle.service.specs.declared.dispatch_turns.Stop.TheVariants.{AtEnd, AfterTaking, AfterPushing}
+use Rattle.service.specs.declared.dispatch_turns.Turned.{Turned}
+use Rattle.service.specs.declared.dispatch_turns.Turned.TheVariants.{First, Taken, Unpushed, Pushed, Dispatched}
+use Rattle.service.specs.Asks.{to_start_task, to_next_dispatch, to_dispatched}
+use Rattle.service.specs.Contents.{shard_refusal}
+use Rattle.service.specs.Services.{Answered, IsServedAtLast}
+
+-- the place of a queue of that name, if there is one
+abbrev pub place_of : Service → List ℕ → Option ℕ
+place_of x queue = place_in (matching.names_of x.queues) queue
+
+-- the request was answered on a shard to a pass that knew v and then knows w: it was served there, or refused before the shard was entered
+abbrev pub AnsweredOn : Service → ℕ → (v w : View Request Content) → Request → Reply → Type 0
+AnsweredOn x shard v w q r = Answered (shard_refusal x.settings shard) (IsServedAtLast x v w shard q r) v w r
+
+-- What a poll comes to. The queue was not named; or none waited in it at one moment; or a hint was popped, and its task asked for
+abbrev pub Polls : Service → Option ℕ → TaskKind → ℕ → (v w : View Request Content) → (hs ws : List HintView) → Option Reply → Type 0
+Polls x None kind at v w hs ws r = (r ≡ Some (Err UnknownTaskQueue)) × (w ≡ v) × (ws ≡ hs)
+Polls x (Some place) kind at v w hs ws None = (w ≡ v) × StoodAt hs ws (slot_of place kind) 0
+Polls x (Some place) kind at v w hs ws (Some r) = (h : Hint) × TakenAt hs ws (slot_of place kind) h × IsServedAtLast x v w h.shard (to_start_task at h) r
+
+-- where memory was refused, this hint was popped and no step made
+abbrev pub PollKept : Option ℕ → TaskKind → (v w : View Request Content) → (hs ws : List HintView) → Hint → Type 0
+PollKept None kind v w hs ws h = ⊥
+PollKept (Some place) kind v w hs ws h = TakenAt hs ws (slot_of place kind) h × Waited v w h.shard
+
+-- the last part: the dispatch is counted, whatever that answers
+pub record Counts (x : Service) (shard at number : ℕ) (v w : View Request Content) : Type 0 where
+  pub reply : Reply
+  pub step : AnsweredOn x shard v w (to_dispatched at number) reply
+
+-- what follows a push: an Ok is followed by the last part, unless the turn is to end there
+abbrev pub AfterPush : Service → (shard at : ℕ) → Stop → ℕ → (v w : View Request Content) → Result (Unit {0}) Refusal → Turned → Type 0
+AfterPush x shard at AtEnd number v w (Ok done) t = (t ≡ Dispatched number) × Counts x shard at number v w
+AfterPush x shard at AfterTaking number v w (Ok done) t = ⊥
+AfterPush x shard at AfterPushing number v w (Ok done) t = (t ≡ Pushed number) × (w ≡ v)
+AfterPush x shard at stop number v w (Err e) t = (t ≡ Unpushed e) × (w ≡ v)
+
+-- the second part: the hint is pushed to its queue
+pub record Pushing (x : Service) (shard at : ℕ) (stop : Stop) (d : NumberedDispatch) (v w : View Request Content) (hs ws : List HintView) (t : Turned) : Type 0 where
+  pub pushed : Result (Unit {0}) Refusal
+  pub push : Pushes (place_of x d.dispatch.queue) (matching.capacity_of x.queues) hs ws d.dispatch.hint pushed
+  pub rest : AfterPush x shard at stop d.number v w pushed t
+
+abbrev pub AfterDispatch : Service → (shard at : ℕ) → Stop → NumberedDispatch → (v w : View Request Content) → (hs ws : List HintView) → Turned → Type 0
+AfterDispatch x shard at AtEnd d v w hs ws t = Pushing x shard at AtEnd d v w hs ws t
+AfterDispatch x shard at AfterTaking d v w hs ws t = (t ≡ Taken d.number) × (w ≡ v) × (ws ≡ hs)
+AfterDispatch x shard at AfterPushing d v w hs ws t = Pushing x shard at AfterPushing d v w hs ws t
+
+-- what follows the first part: without a dispatch its reply is the turn's
+abbrev pub AfterNext : Service → (shard at : ℕ) → Stop → Reply → Option NumberedDispatch → (v w : View Request Content) → (hs ws : List HintView) → Turned → Type 0
+AfterNext x shard at stop r None v w hs ws t = (t ≡ First r) × (w ≡ v) × (ws ≡ hs)
+AfterNext x shard at stop r (Some d) v w hs ws t = AfterDispatch x shard at stop d v w hs ws t
+
+-- A dispatch turn: the first part reads the next dispatch of the shard, and the rest follows from its reply
+pub record Turns (x : Service) (shard at : ℕ) (stop : Stop) (v w : View Request Content) (hs ws : List HintView) (t : Turned) : Type 0 where
+  pub next : Reply
+  pub met : View Request Content
+  pub step : AnsweredOn x shard v met (to_next_dispatch at) next
+  pub rest : AfterNext x shard at stop next (dispatch_of next) met w hs ws t
+
+-- Where memory was refused, it was in the first part; or the first part answered a dispatch, whose hint was pushed
+pub record TurnPushed (x : Service) (shard at : ℕ) (v w : View Request Content) (hs ws : List HintView) : Type 0 where
+  pub next : Reply
+  pub met : View Request Content
+  pub step : AnsweredOn x shard v met (to_next_dispatch at) next
+  pub taken : NumberedDispatch
+  pub found : dispatch_of next ≡ Some taken
+  pub push : Pushes (place_of x taken.dispatch.queue) (matching.capacity_of x.queues) hs ws taken.dispatch.hint (Ok tt)
+  pub waited : Waited met w shard
+
+abbrev pub TurnKept : Service → (shard at : ℕ) → (v w : View Request Content) → (hs ws : List HintView) → Type 0
+TurnKept x shard at v w hs ws = (Waited v w shard × (ws ≡ hs)) ⊎ TurnPushed x shard at v w hs ws

@@ -1,0 +1,87 @@
+-- what is kept of each run, as runs are added and change
+use Rattle.std.proofs.Common.{◌≡◌, ◌≢◌, ℕ, ◌+◌, ◌<◌, ◌⊎◌, inl, inr, List, [], ◌∷◌, ◌++◌, length, length-append, length-set, refl, sym, ap, ◌∙◌, subst, arith, zero, suc, slice_index_or, slice_set, Option, Some, None}
+use Rattle.std.proofs.lemmas.List.{get_or-set_same, get_or-set_other}
+use Rattle.std.proofs.lemmas.Option.{slice_get_within}
+use Rattle.std.specs.Prelude.{slice_get, unwrap_or}
+use Rattle.service_model.specs.RunState.{RunState}
+use Rattle.timeouts.specs.Firsts.{first_due, KeepsFirsts}
+use Rattle.timeouts.specs.declared.due.Due.{Due}
+use Rattle.shard.specs.View.{KeepsEach, HasFirsts, HasShown}
+
+same-or-apart : (m n : ℕ) → (m ≡ n) ⊎ (m ≢ n)
+same-or-apart zero zero = inl refl
+same-or-apart zero (suc n) = inr (λ h. omega (arith, h))
+same-or-apart (suc m) zero = inr (λ h. omega (arith, h))
+same-or-apart (suc m) (suc n) = elim (same-or-apart m n) [ inl h ↦ inl (ap suc h) | inr h ↦ inr (λ e. h (omega (arith, e))) ]
+
+one-place : (m n : ℕ) → ◌≡◌ {A = Option ℕ} (Some m) (Some n) → m ≡ n
+one-place m n e = ap (λ o. unwrap_or o 0) e
+
+get-set-other : (runs : List RunState) (n k : ℕ) (s t : RunState) → k ≢ n → slice_get (slice_set runs n s) k ≡ Some t → slice_get runs k ≡ Some t
+get-set-other [] n k s t apart there = there
+get-set-other (r ∷ runs) zero zero s t apart there = absurd (apart refl)
+get-set-other (r ∷ runs) zero (suc k) s t apart there = there
+get-set-other (r ∷ runs) (suc n) zero s t apart there = there
+get-set-other (r ∷ runs) (suc n) (suc k) s t apart there = get-set-other runs n k s t (λ e. apart (ap suc e)) there
+
+get-push : (runs : List RunState) (k : ℕ) (s t : RunState) → k ≢ length runs → slice_get (runs ++ s ∷ []) k ≡ Some t → slice_get runs k ≡ Some t
+get-push [] zero s t apart there = absurd (apart refl)
+get-push [] (suc k) s t apart there = there
+get-push (r ∷ runs) zero s t apart there = there
+get-push (r ∷ runs) (suc k) s t apart there = get-push runs k s t (λ e. apart (ap suc e)) there
+
+index-push : {A : Type 0} (d : A) (slots : List A) (k : ℕ) → slice_index_or (slots ++ d ∷ []) k d ≡ slice_index_or slots k d
+index-push d [] zero = refl
+index-push d [] (suc k) = refl
+index-push d (o ∷ slots) zero = refl
+index-push d (o ∷ slots) (suc k) = index-push d slots k
+
+-- all first deadlines are kept, where no run changed
+pub firsts-kept : (slots : List (Option Due)) (changed : Option ℕ) (runs : List RunState) → changed ≡ None → HasFirsts slots changed runs → KeepsFirsts 1 slots runs
+firsts-kept slots changed runs none h = record {
+  count = h.count;
+  first = λ k s there. let next : k + 1 ≡ 1 + k = omega arith in h.each k s there (λ e. let clash = sym none ∙ e in cc) ∙ ap (λ n. first_due n s) next;
+}
+
+-- the run that changed was looked up
+pub each-noted : {A B : Type 0} {says : A → B} {fact : ℕ → RunState → B} {none : A} (slots : List A) (n : ℕ) (runs : List RunState) (s : RunState) (x : A) → slice_get runs n ≡ Some s → says x ≡ fact n s → KeepsEach says fact none slots (Some n) runs → KeepsEach says fact none (slice_set slots n x) None runs
+each-noted {says = says} {fact = fact} {none = none} slots n runs s x there is h = record {
+  count = length-set slots n x ∙ h.count;
+  within = tt;
+  each = λ k t at _. elim (same-or-apart k n) [
+    | inl same ↦
+        let which : s ≡ t = ap (λ o. unwrap_or o s) (sym there ∙ ap (slice_get runs) (sym same) ∙ at) in
+        let low : n < length slots = omega (arith, h.within, h.count) in
+        ap (λ m. says (slice_index_or (slice_set slots n x) m none)) same ∙ ap says (get_or-set_same slots n x none low) ∙ is
+        ∙ ap (λ m. fact m s) (sym same) ∙ ap (fact k) which
+    | inr apart ↦ ap says (get_or-set_other slots n k x none apart) ∙ h.each k t at (λ e. apart (sym (one-place n k e)))
+  ];
+}
+
+-- one run changed
+pub each-grown : {A B : Type 0} {says : A → B} {fact : ℕ → RunState → B} {d : A} (slots : List A) (changed : Option ℕ) (n : ℕ) (runs : List RunState) (s : RunState) → changed ≡ None → n < length runs → KeepsEach says fact d slots changed runs → KeepsEach says fact d slots (Some n) (slice_set runs n s)
+each-grown slots changed n runs s none there h = record {
+  count = h.count ∙ sym (length-set runs n s);
+  within = subst (λ k. n < k) (sym (length-set runs n s)) there;
+  each = λ k t at apart. h.each k t (get-set-other runs n k s t (λ e. apart (ap Some (sym e))) at) (λ e. let clash = sym none ∙ e in cc);
+}
+
+-- a run was added
+pub each-added : {A B : Type 0} {says : A → B} {fact : ℕ → RunState → B} {d : A} (slots : List A) (changed : Option ℕ) (runs : List RunState) (s : RunState) → changed ≡ None → KeepsEach says fact d slots changed runs → KeepsEach says fact d (slots ++ d ∷ []) (Some (length runs)) (runs ++ s ∷ [])
+each-added {says = says} {d = d} slots changed runs s none h = record {
+  count = length-append slots (d ∷ []) ∙ ap (λ k. k + 1) h.count ∙ sym (length-append runs (s ∷ []));
+  within = omega (arith, length-append runs (s ∷ []));
+  each = λ k t at apart. ap says (index-push d slots k) ∙ h.each k t (get-push runs k s t (λ e. apart (ap Some (sym e))) at) (λ e. let clash = sym none ∙ e in cc);
+}
+
+pub each-fresh : {A B : Type 0} {says : A → B} {fact : ℕ → RunState → B} {d : A} (slots : List A) (runs : List RunState) → slots ≡ [] → runs ≡ [] → KeepsEach says fact d slots None runs
+each-fresh {A = A} {says = says} {fact = fact} {d = d} slots runs no_slots no_runs = subst (λ (l : List A). KeepsEach says fact d l None runs) (sym no_slots) (subst (λ (l : List RunState). KeepsEach says fact d [] None l) (sym no_runs)
+    (record { count = refl; within = tt; each = λ k s there _. absurd (let past = slice_get_within [] k s there in omega (arith, past)) }))
+
+-- a run's state is as it was, so all are
+pub each-same : {A B : Type 0} {says : A → B} {fact : ℕ → RunState → B} {d : A} (slots : List A) (changed : Option ℕ) (runs now : List RunState) → now ≡ runs → KeepsEach says fact d slots changed runs → KeepsEach says fact d slots changed now
+each-same {says = says} {fact = fact} {d = d} slots changed runs now is h = subst (λ l. KeepsEach says fact d slots changed l) (sym is) h
+
+-- so many events as a run showed, that had not changed
+pub shown-at : (counts : List ℕ) (changed : Option ℕ) (runs : List RunState) (n : ℕ) (s : RunState) → changed ≡ None → slice_get runs n ≡ Some s → HasShown counts changed runs → slice_index_or counts n 0 ≡ length s.shown
+shown-at counts changed runs n s none there h = h.each n s there (λ e. let clash = sym none ∙ e in cc)

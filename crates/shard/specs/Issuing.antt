@@ -1,0 +1,64 @@
+-- what a shard issued and has not counted yet, and what of it is looked up behind the step that issued it
+use Rattle.std.specs.Prelude.{ℕ, ◌+◌, ◌-◌, List, [], ◌++◌, drop, filter_map, length, slice_get, slice_index_or, option_to_list, Option, None, Some, option_and_then}
+use Rattle.service_model.specs.declared.content.Content.{Content}
+use Rattle.service_model.specs.declared.content.Dispatch.{Dispatch}
+use Rattle.service_model.specs.declared.content.Setup.{Setup}
+use Rattle.service_model.specs.declared.journal.Fact.{Fact}
+use Rattle.service_model.specs.Counts.{acknowledges, dispatch_answer}
+use Rattle.service_model.specs.Issued.{task_dispatch, row_dispatch, queued_again}
+use Rattle.service_model.specs.Outcome.{Outcome, CountsDispatch, answered}
+use Rattle.service_model.specs.RunState.{RunState, no_run}
+use Rattle.service_model.specs.Tasks.{pending_row}
+
+-- the dispatches that were issued and not counted, and how many were counted
+pub record Waiting : Type 0 where
+  pub dispatches : List Dispatch
+  pub counted : ℕ
+
+-- those of a content
+abbrev pub waiting_in : Content → Waiting
+waiting_in S = record { dispatches = drop S.dispatched S.dispatches; counted = S.dispatched }
+
+-- one more was counted, the first that waited
+abbrev pub one_counted : Waiting → Waiting
+one_counted w = record { dispatches = drop 1 w.dispatches; counted = w.counted + 1 }
+
+-- more were issued
+abbrev pub with_issued : Waiting → List Dispatch → Waiting
+with_issued w more = record { dispatches = w.dispatches ++ more; counted = w.counted }
+
+-- the dispatches as they are kept: those that were looked up, and what the others are found by; of each run how many events it showed when its dispatches were last looked up, and the activity whose attempt the last step queued again
+pub record DispatchesView : Type 0 where
+  pub waiting : Waiting
+  pub shown : List ℕ
+  pub ready : Option ℕ
+  pub room : ℕ
+
+-- the activity whose attempt the last of a step's facts queues again
+abbrev pub readied : List Fact → Option ℕ
+readied facts = option_and_then queued_again (slice_get facts (length facts - 1))
+
+-- the dispatch of the pending activity that this event scheduled
+abbrev pub queued_dispatch : Setup → ℕ → RunState → ℕ → Option Dispatch
+queued_dispatch setup run s id = option_and_then (row_dispatch setup run) (pending_row s id)
+
+-- the dispatches that a step issued for the run with this ordinal, where the run had shown so many events before, and the step queued the attempt of this activity again
+abbrev pub issued_since : Setup → ℕ → Option ℕ → ℕ → RunState → List Dispatch
+issued_since setup shown ready run s = filter_map (task_dispatch setup run) (drop shown s.shown) ++ option_to_list (option_and_then (queued_dispatch setup run s) ready)
+
+-- those of the run that changed last, if one did
+abbrev pub not_looked_up : Setup → DispatchesView → Option ℕ → List RunState → List Dispatch
+not_looked_up setup d None runs = []
+not_looked_up setup d (Some n) runs = issued_since setup (slice_index_or d.shown n 0) d.ready (n + 1) (slice_index_or runs n no_run)
+
+-- all that waits, where this run changed last
+abbrev pub all_waiting : Setup → DispatchesView → Option ℕ → List RunState → Waiting
+all_waiting setup d changed runs = with_issued d.waiting (not_looked_up setup d changed runs)
+
+-- the first that waits, under its number
+abbrev pub next_waiting : Waiting → Outcome
+next_waiting w = answered (dispatch_answer (w.counted + 1) (slice_get w.dispatches 0))
+
+-- the dispatch of that number is counted, where it is the first that waits
+abbrev pub count_waiting : Waiting → ℕ → Outcome
+count_waiting w number = acknowledges (w.counted + length w.dispatches) w.counted number CountsDispatch
