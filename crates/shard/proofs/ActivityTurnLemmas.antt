@@ -50,8 +50,24 @@ has-kept kept (x ∷ rows) k r there = by_test (kept x) k there (λ n. has-kept 
     by_test true (suc n) is again = or-right (x.opened.id == r.opened.id) rest (again n is)
     by_test false n is again = or-right (x.opened.id == r.opened.id) rest (again n is)
 
+-- what a filter keeps passes its test
+is-kept : (kept : ActivityRow → Bool) (rows : List ActivityRow) (k : ℕ) (r : ActivityRow) → slice_get (filter kept rows) k ≡ Some r → kept r ≡ true
+is-kept kept [] k r there = absurd (cc)
+is-kept kept (x ∷ rows) k r there = by_test (kept x) refl k there (λ n. is-kept kept rows n r)
+  where
+    by_test : (b : Bool) → kept x ≡ b → (n : ℕ) → slice_get (cond b (x ∷ filter kept rows) (filter kept rows)) n ≡ Some r → ((m : ℕ) → slice_get (filter kept rows) m ≡ Some r → kept r ≡ true) → kept r ≡ true
+    by_test true is zero there again = ap (λ o. kept (unwrap_or o x)) (sym there) ∙ is
+    by_test true is (suc n) there again = again n there
+    by_test false is n there again = again n there
+
+is-free : (b : Bool) → not b ≡ true → b ≡ false
+is-free true h = absurd (cc)
+is-free false h = refl
+
 -- the next attempt is queued
 pub ready-fits : (at id : ℕ) (s : RunState) → is_open s ≡ true → HasActivity s id → FitStep at s (noted id Ready ∷ [])
 ready-fits at id s opened has =
     let there : has_id id (used AnActivity s) ≡ true = ap (λ k. has_id k (used AnActivity s)) (sym has.named) ∙ has-kept (λ (r : ActivityRow). not (is_settled AnActivity r.opened.id (held_attributes s))) s.activities has.place has.row has.there in
-    (record { open_run = opened; in_use = there }, tt)
+    let kept : not (is_settled AnActivity has.row.opened.id (held_attributes s)) ≡ true = is-kept (λ (r : ActivityRow). not (is_settled AnActivity r.opened.id (held_attributes s))) s.activities has.place has.row has.there in
+    let free : is_settled AnActivity id (held_attributes s) ≡ false = ap (λ k. is_settled AnActivity k (held_attributes s)) (sym has.named) ∙ is-free (is_settled AnActivity has.row.opened.id (held_attributes s)) kept in
+    (record { open_run = opened; in_use = there; may_queue = (free, refl) }, tt)

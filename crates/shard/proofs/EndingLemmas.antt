@@ -1,5 +1,6 @@
 -- the end of an activity
 use Rattle.std.proofs.Common.{◌≡◌, ℕ, ◌+◌, ◌<◌, Bool, true, false, cond, not, ◌&&◌, ◌||◌, ◌==◌, ◌≤◌, List, [], ◌∷◌, ◌++◌, append-nil, length, refl, sym, ap, ◌∙◌, subst, arith, nat_le, Option, Some, None}
+use Rattle.std.proofs.lemmas.Bool.{eqb-true}
 use Rattle.std.proofs.lemmas.Bool.Decides.{nat_tests}
 use Rattle.std.specs.Prelude.{filter, find, map, unwrap_or, option_map, IfSome}
 use Rattle.wf_event.specs.declared.event.Event.{Event}
@@ -14,6 +15,7 @@ use Rattle.wf_event_values.specs.declared.policies.RetryState.TheVariants.{Cance
 use Rattle.service_model.specs.declared.journal.Fact.{Fact}
 use Rattle.service_model.specs.declared.journal.NewEvent.{NewEvent}
 use Rattle.service_model.specs.declared.journal.Note.{Note}
+use Rattle.service_model.specs.declared.journal.Note.TheVariants.{Taken, Ended, Ready, Beat}
 use Rattle.service_model.specs.declared.request.FailActivity.{FailActivity}
 use Rattle.service_model.specs.declared.request.TakenTask.{TakenTask}
 use Rattle.service_model.specs.Activities.{attempt_started, by_verdict, fail_activity, fail_at, fail_fields, keep_running, running_attempt, verdict_at}
@@ -27,7 +29,7 @@ use Rattle.service_model.specs.RunState.{RunState, ActivityRow, used, pending, i
 use Rattle.service_model.specs.Tasks.{pending_row}
 use Rattle.mutable_state.specs.declared.activity.Activity.{Activity}
 use Rattle.mutable_state.specs.Activities.{row_said}
-use Rattle.mutable_state.specs.Steps.{IsFirst, IsLater, Place, FitsEvent, FitFrom, FitStep, has_id, with_event, with_new, buffer_of, used_with, row_id, new_row}
+use Rattle.mutable_state.specs.Steps.{IsFirst, IsLater, MayQueue, Place, FitsEvent, FitFrom, FitStep, has_id, with_event, with_new, buffer_of, used_with, row_id, new_row}
 use Rattle.shard.specs.Attempts.{ended_activity, HasAttempt, HasNext, has_run_of, runs_at}
 use Rattle.shard.specs.View.{ShardView, states, runs_in}
 use Rattle.shard.proofs.IndexLemmas.{length-states}
@@ -167,8 +169,32 @@ has-used id held (e ∷ es) h = by_test (not (is_settled AnActivity e.id held)) 
     by_test true g again = by_both (e.id == id) g again
     by_test false g again = or-right (e.id == id) (has_id id es) (again g)
 
+-- nothing that settles a pending activity is held back
+pending-free : (id : ℕ) (held : List Attributes) (es : List Event) → has_id id (filter (λ (e : Event). not (is_settled AnActivity e.id held)) es) ≡ true → is_settled AnActivity id held ≡ false
+pending-free id held [] h = absurd (cc)
+pending-free id held (e ∷ es) h = by_test (is_settled AnActivity e.id held) refl h (pending-free id held es)
+  where
+    rest : List Event
+    rest = filter (λ (x : Event). not (is_settled AnActivity x.id held)) es
+
+    by_id : (b : Bool) → (e.id == id) ≡ b → is_settled AnActivity e.id held ≡ false → (b || has_id id rest) ≡ true → (has_id id rest ≡ true → is_settled AnActivity id held ≡ false) → is_settled AnActivity id held ≡ false
+    by_id true same free g again = subst (λ k. is_settled AnActivity k held ≡ false) (eqb-true e.id id same) free
+    by_id false same free g again = again g
+
+    by_test : (b : Bool) → is_settled AnActivity e.id held ≡ b → has_id id (cond (not b) (e ∷ rest) rest) ≡ true → (has_id id rest ≡ true → is_settled AnActivity id held ≡ false) → is_settled AnActivity id held ≡ false
+    by_test true is g again = again g
+    by_test false is g again = by_id (e.id == id) refl is g again
+
+may-queue : (n : Note) (id : ℕ) (s : RunState) → is_settled AnActivity id (held_attributes s) ≡ false → MayQueue n id s []
+may-queue Taken id s free = tt
+may-queue Ended id s free = tt
+may-queue Ready id s free = (free, refl)
+may-queue (Beat text) id s free = tt
+
 pub note-fits : (at id : ℕ) (s : RunState) (n : Note) → is_open s ≡ true → has_id id (pending AnActivity s) ≡ true → FitStep at s (noted id n ∷ [])
-note-fits at id s n opened there = (record { open_run = opened; in_use = has-used id (held_attributes s) (used AnActivity s) there }, tt)
+note-fits at id s n opened there =
+    let free = pending-free id (held_attributes s) (used AnActivity s) there in
+    (record { open_run = opened; in_use = has-used id (held_attributes s) (used AnActivity s) there; may_queue = may-queue n id s free }, tt)
 
 and-left : (a b : Bool) → (a && b) ≡ true → a ≡ true
 and-left true b h = refl
