@@ -3,3 +3,4 @@ pub mod LineLemmas
 pub mod OutputLemmas
 pub mod EndLemmas
 pub mod OnePassLemmas
+mod RangeLemmas

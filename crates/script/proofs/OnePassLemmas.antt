@@ -2,7 +2,7 @@
 use Rattle.std.proofs.Common.{◌≡◌, ◌≢◌, ℕ, ◌+◌, ◌<◌, ◌≤◌, true, List, [], ◌∷◌, ◌++◌, length, refl, sym, ap, ◌∙◌, arith, zero, suc, Option, None, Some, slice_index_or, slice_set, subst, length-append, append-nil, ◌⊎◌, inl, inr}
 use Rattle.std.proofs.lemmas.Bool.Decides.{nat_tests}
 use Rattle.std.proofs.lemmas.List.FromFn.{get_or-map-range_with_len}
-use Rattle.std.specs.Prelude.{map, slice_get, ◌==◌, if◌then◌else◌, Result, Ok, Err, IfOk, IfErr}
+use Rattle.std.specs.Prelude.{map, slice_get, ◌==◌, if◌then◌else◌, Result, Ok, Err}
 use Rattle.wf_event_values.specs.declared.refusal.Refusal.{Refusal}
 use Rattle.gate.specs.declared.object.Refused.{Refused}
 use Rattle.gate.specs.declared.object.Refused.TheVariants.{Busy, NoMemory}
@@ -20,7 +20,7 @@ use Rattle.gate.specs.Records.{replay, by, past, FromGiven, Begins}
 use Rattle.service.specs.declared.service.Service.{Service}
 use Rattle.service.specs.declared.service.Pass.{Pass}
 use Rattle.service.specs.Contents.{setup_of, refusal_of_call, slot_of_call, opening_contents}
-use Rattle.service.specs.Services.{known_by, Answered, IsPassOf, IsServedOn, IsTriedCall, ServedOn, settings_of}
+use Rattle.service.specs.Services.{known_by, IsPassOf, IsServedOn, IsTriedCall, ServedOn, settings_of}
 use Rattle.service.proofs.ServedLemmas.{call-below}
 use Rattle.script.specs.OnePass.{content_seen, contents_seen, IsOnePass}
 use Rattle.script.specs.Serving.{reply_to_asked, contents_after_asked, content_at, reply_unless, contents_unless}

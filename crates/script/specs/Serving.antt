@@ -7,6 +7,7 @@ use Rattle.service_model.specs.declared.settings.Settings.{Settings}
 use Rattle.service_model.specs.Calls.{request_of}
 use Rattle.service_model.specs.Outcome.{Reply}
 use Rattle.service_model.specs.Service.{after, answer, opening}
+use Rattle.service.specs.Ranges.{are_queues}
 use Rattle.service.specs.Contents.{refusal_of_call, setup_of, slot_of_call}
 use Rattle.script.specs.Asked.{asked}
 use Rattle.script.specs.Lines.{Line}
@@ -58,4 +59,6 @@ is_refusal (Err refusal) = true
 
 -- the setting of this name is out of its range
 abbrev pub IsOutOfRange : Settings → List ℕ → Type 0
-IsOutOfRange K name = ((name ≡ codes "shards") × ((K.shards ≡ 0) ⊎ (64 < K.shards))) ⊎ ((name ≡ codes "service") × (2 ^ 48 ≤ K.service))
+IsOutOfRange K name =
+    ((name ≡ codes "shards") × ((K.shards ≡ 0) ⊎ (64 < K.shards))) ⊎ (((name ≡ codes "service") × (2 ^ 48 ≤ K.service))
+    ⊎ (((name ≡ codes "queues") × (are_queues K.queues ≡ false)) ⊎ ((name ≡ codes "capacity") × ((K.capacity ≡ 0) ⊎ (65536 < K.capacity)))))
