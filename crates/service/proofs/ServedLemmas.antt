@@ -21,7 +21,7 @@ use Rattle.gate.specs.Passes as gate
 use Rattle.service.specs.declared.service.Service.{Service}
 use Rattle.service.specs.declared.service.Pass.{Pass}
 use Rattle.service.specs.Contents.{setup_of, opening_contents, is_token, refusal_of, refusal_of_call, shard_of, shard_refusal, slot_of_call}
-use Rattle.service.specs.Services.{known_by, Answered, IsPassOf, IsServedAtLast, IsServedOn, shard_of_request}
+use Rattle.service.specs.Services.{known_by, Answered, IsPassOf, IsServedAtLast, IsServedOn}
 
 get-range : {X : Type 0} (f : ℕ → X) (a n k : ℕ) → k < n → slice_get (map f (range_with_len a n)) k ≡ Some (f (a + k))
 get-range f a zero k h = absurd (omega arith)
@@ -54,6 +54,10 @@ shard-below K (operation.Signal q) some none = mod_below (hash_of q.workflow_id)
 shard-below K (operation.StartTask h) some none = let there : nat_lt h.shard K.shards ≡ true = unrefused _ _ _ none in grind (arith, nat_tests)
 shard-below K (operation.CompleteWorkflowTask q) some none = token-below K q.task (unrefused _ _ _ none)
 shard-below K (operation.FailWorkflowTask q) some none = token-below K q.task (unrefused _ _ _ none)
+shard-below K (operation.CompleteActivity q) some none = token-below K q.task (unrefused _ _ _ none)
+shard-below K (operation.FailActivity q) some none = token-below K q.task (unrefused _ _ _ none)
+shard-below K (operation.CancelActivity q) some none = token-below K q.task (unrefused _ _ _ none)
+shard-below K (operation.Heartbeat q) some none = token-below K q.task (unrefused _ _ _ none)
 shard-below K (operation.History q) some none = mod_below (hash_of q.workflow_id) K.shards (omega (arith, some))
 shard-below K (operation.Describe q) some none = mod_below (hash_of q.workflow_id) K.shards (omega (arith, some))
 shard-below K operation.TimerTurn some none = absurd (cc)

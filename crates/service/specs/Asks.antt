@@ -8,6 +8,8 @@ use Rattle.service_model.specs.declared.request.Read.{Read}
 use Rattle.service_model.specs.declared.request.Hint.{Hint}
 use Rattle.service_model.specs.declared.request.CompleteWorkflowTask.{CompleteWorkflowTask}
 use Rattle.service_model.specs.declared.request.FailWorkflowTask.{FailWorkflowTask}
+use Rattle.service_model.specs.declared.request.ActivityText.{ActivityText}
+use Rattle.service_model.specs.declared.request.FailActivity.{FailActivity}
 
 abbrev pub to_start : ℕ → Start → Request
 to_start at q = record { at = at; operation = operation.Start q }
@@ -23,6 +25,18 @@ to_complete_workflow_task at q = record { at = at; operation = operation.Complet
 
 abbrev pub to_fail_workflow_task : ℕ → FailWorkflowTask → Request
 to_fail_workflow_task at q = record { at = at; operation = operation.FailWorkflowTask q }
+
+abbrev pub to_complete_activity : ℕ → ActivityText → Request
+to_complete_activity at q = record { at = at; operation = operation.CompleteActivity q }
+
+abbrev pub to_fail_activity : ℕ → FailActivity → Request
+to_fail_activity at q = record { at = at; operation = operation.FailActivity q }
+
+abbrev pub to_cancel_activity : ℕ → ActivityText → Request
+to_cancel_activity at q = record { at = at; operation = operation.CancelActivity q }
+
+abbrev pub to_heartbeat : ℕ → ActivityText → Request
+to_heartbeat at q = record { at = at; operation = operation.Heartbeat q }
 
 abbrev pub to_show_history : ℕ → Read → Request
 to_show_history at q = record { at = at; operation = operation.History q }

@@ -9,6 +9,7 @@
 //! gives the records, which settle any dispute.
 #![tactic(auto)]
 
+mod activities;
 mod calls;
 mod close;
 mod held;

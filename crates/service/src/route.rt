@@ -23,6 +23,10 @@ impl Service {
             Operation::StartTask(hint) => shard_refusal(&self.settings, hint.shard),
             Operation::CompleteWorkflowTask(asked) => completion_refusal(&self.settings, asked),
             Operation::FailWorkflowTask(asked) => token_refusal(&self.settings, &asked.task),
+            Operation::CompleteActivity(asked)
+            | Operation::CancelActivity(asked)
+            | Operation::Heartbeat(asked) => token_refusal(&self.settings, &asked.task),
+            Operation::FailActivity(asked) => token_refusal(&self.settings, &asked.task),
             Operation::Start(_)
             | Operation::Signal(_)
             | Operation::History(_)
@@ -45,6 +49,10 @@ impl Service {
             Operation::StartTask(hint) => usize::from(hint.shard),
             Operation::CompleteWorkflowTask(asked) => usize::from(asked.task.shard),
             Operation::FailWorkflowTask(asked) => usize::from(asked.task.shard),
+            Operation::CompleteActivity(asked)
+            | Operation::CancelActivity(asked)
+            | Operation::Heartbeat(asked) => usize::from(asked.task.shard),
+            Operation::FailActivity(asked) => usize::from(asked.task.shard),
             Operation::TimerTurn => 0,
         }
     }

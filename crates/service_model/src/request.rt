@@ -219,6 +219,10 @@ pub enum Operation {
     StartTask(Hint),
     CompleteWorkflowTask(CompleteWorkflowTask),
     FailWorkflowTask(FailWorkflowTask),
+    CompleteActivity(ActivityText),
+    FailActivity(FailActivity),
+    CancelActivity(ActivityText),
+    Heartbeat(ActivityText),
     History(Read),
     Describe(Read),
     /// Lets the shard's first deadline fire, if it is due. It names no shard, so a service makes it
@@ -234,6 +238,10 @@ impl Drop for Operation {
             Operation::StartTask(_) => {}
             Operation::CompleteWorkflowTask(_) => {}
             Operation::FailWorkflowTask(_) => {}
+            Operation::CompleteActivity(_) => {}
+            Operation::FailActivity(_) => {}
+            Operation::CancelActivity(_) => {}
+            Operation::Heartbeat(_) => {}
             Operation::History(_) => {}
             Operation::Describe(_) => {}
             Operation::TimerTurn => {}

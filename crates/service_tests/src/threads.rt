@@ -46,6 +46,10 @@ fn workflow_of(request: &Request) -> &str {
         Operation::StartTask(_)
         | Operation::CompleteWorkflowTask(_)
         | Operation::FailWorkflowTask(_)
+        | Operation::CompleteActivity(_)
+        | Operation::FailActivity(_)
+        | Operation::CancelActivity(_)
+        | Operation::Heartbeat(_)
         | Operation::TimerTurn => "",
     }
 }

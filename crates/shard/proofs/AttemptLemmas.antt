@@ -1,8 +1,6 @@
 -- taking the attempt of an activity
 use Rattle.std.proofs.Common.{◌≡◌, ℕ, Bool, true, false, cond, ◌||◌, ◌==◌, List, [], ◌∷◌, refl, sym, ap, ◌∙◌, Option, Some, None}
 use Rattle.std.specs.Prelude.{find, map, IfSome}
-use Rattle.std.specs.List.{list_any}
-use Rattle.wf_event.specs.declared.event.Event.{Event}
 use Rattle.wf_event.specs.declared.payloads.ActivityTaskScheduled.{ActivityTaskScheduled as ScheduledAttributes}
 use Rattle.wf_event.specs.Role.{AnActivity}
 use Rattle.service_model.specs.declared.answer.ActivityTask.{ActivityTask as Task}

@@ -1,32 +1,34 @@
 -- what a deadline that fires adds to its run may come
 use Rattle.std.proofs.Common.{◌≡◌, ℕ, zero, suc, Bool, true, false, ◌==◌, ◌||◌, cond, List, [], ◌∷◌, refl, sym, ap, ◌∙◌, arith, Some, None}
 use Rattle.std.proofs.lemmas.Bool.Decides.{nat_tests}
-use Rattle.std.specs.Prelude.{Result, Ok, Err, OnOk, slice_get, unwrap_or}
-use Rattle.std.specs.List.{list_any}
+use Rattle.std.specs.Prelude.{slice_get, unwrap_or}
 use Rattle.wf_event.specs.declared.event.Event.{Event}
 use Rattle.wf_event.specs.declared.attributes.Attributes.TheVariants.{WorkflowExecutionTimedOut, TimerFired}
 use Rattle.wf_event.specs.Role.{ATimer, role, opens, settles, closing_status}
 use Rattle.wf_event_values.specs.declared.policies.DeadlineClass.{DeadlineClass}
-use Rattle.wf_event_values.specs.declared.policies.DeadlineClass.TheVariants.{RunTimeout, WorkflowTask, UserTimer}
+use Rattle.wf_event_values.specs.declared.policies.DeadlineClass.TheVariants.{RunTimeout, WorkflowTask, ScheduleToClose, ScheduleToStart, Heartbeat, StartToClose, RetryReady, UserTimer}
+use Rattle.wf_event_values.specs.declared.policies.TimeoutKind.TheVariants.{ScheduleToClose as ToClose, ScheduleToStart as ToStart, Heartbeat as NoHeartbeat, StartToClose as ToEnd}
 use Rattle.service_model.specs.declared.journal.Fact.{Fact}
 use Rattle.service_model.specs.Deadlines.{dues}
 use Rattle.service_model.specs.Journal.{plain}
 use Rattle.service_model.specs.Outcome.{is_no_task, schedule_task}
 use Rattle.service_model.specs.Pending.{Task, NoTask, IsScheduled, IsStarted}
 use Rattle.service_model.specs.RunState.{RunState, is_open, pending}
+use Rattle.service_model.specs.Tasks.{pending_row}
 use Rattle.service_model.specs.TimerTurns.{RunDue, fire, timer_name}
 use Rattle.mutable_state.specs.Steps.{IsFirst, FitsEvent, FitStep, has_id}
 use Rattle.timeouts.specs.Firsts.{of_run, HasTimer}
 use Rattle.timeouts.specs.Slots.{IsOneOf}
-use Rattle.timeouts.proofs.ClassLemmas.{due-open, due-task, due-timer}
+use Rattle.timeouts.proofs.ClassLemmas.{due-open, due-retry, due-task, due-timer}
+use Rattle.shard.proofs.ActivityTurnLemmas.{attempt-fits, closed-fits, ready-fits}
 
 -- the run's own timeout, also while a workflow task is started
-pub over-fits : (at : ℕ) (s : RunState) (d : RunDue) → IsOneOf d (of_run d.run (dues s)) → FitStep at s (plain WorkflowExecutionTimedOut ∷ [])
+over-fits : (at : ℕ) (s : RunState) (d : RunDue) → IsOneOf d (of_run d.run (dues s)) → FitStep at s (plain WorkflowExecutionTimedOut ∷ [])
 unfolding role opens settles
 over-fits at s d is = (record { open_run = due-open s d.run d is; fits_role = (tt, refl); begins_none = refl; may_settle = tt; may_ask = refl; cancels_none = refl; first_signal = refl }, tt)
 
 -- the timeout of a started workflow task, and its next attempt
-pub task-fits : (at : ℕ) (s : RunState) (d : RunDue) → d.at.class ≡ WorkflowTask → IsOneOf d (of_run d.run (dues s)) → FitStep at s (fire s at d.at.event WorkflowTask)
+task-fits : (at : ℕ) (s : RunState) (d : RunDue) → d.at.class ≡ WorkflowTask → IsOneOf d (of_run d.run (dues s)) → FitStep at s (fire s at d.at.event WorkflowTask)
 unfolding role opens settles fire closing_status
 task-fits at s d class is =
     let opened = due-open s d.run d is in (
@@ -47,7 +49,7 @@ has-at (x ∷ es) (suc k) e there = by_test (x.id == e.id) (has-at es k e there)
     by_test false rest = rest
 
 -- the firing of a pending timer, and a workflow task where there is none
-pub timer-fits : (at : ℕ) (s : RunState) (d : RunDue) → d.at.class ≡ UserTimer → IsOneOf d (of_run d.run (dues s)) → FitStep at s (fire s at d.at.event UserTimer)
+timer-fits : (at : ℕ) (s : RunState) (d : RunDue) → d.at.class ≡ UserTimer → IsOneOf d (of_run d.run (dues s)) → FitStep at s (fire s at d.at.event UserTimer)
 unfolding role opens settles fire closing_status
 timer-fits at s d class is = by_task s.task refl
   where
@@ -68,6 +70,20 @@ timer-fits at s d class is = by_task s.task refl
     by_task IsScheduled same = (now [], tt)
     by_task IsStarted same = (now [], tt)
 
-pub on-any : {T E : Type 0} (r : Result T E) (P : Type 0) → P → OnOk r P
-on-any (Ok x) P h = h
-on-any (Err e) P h = tt
+-- whatever the deadline, where it is one of the run's
+pub fire-fits : (at : ℕ) (s : RunState) (d : RunDue) → IsOneOf d (of_run d.run (dues s)) → FitStep at s (fire s at d.at.event d.at.class)
+unfolding fire
+fire-fits at s d is = by_class d.at.class refl
+  where
+    opened : is_open s ≡ true
+    opened = due-open s d.run d is
+
+    by_class : (k : DeadlineClass) → d.at.class ≡ k → FitStep at s (fire s at d.at.event k)
+    by_class RunTimeout class = over-fits at s d is
+    by_class WorkflowTask class = task-fits at s d class is
+    by_class ScheduleToClose class = closed-fits at s d.at.event ToClose (pending_row s d.at.event) opened refl
+    by_class ScheduleToStart class = closed-fits at s d.at.event ToStart (pending_row s d.at.event) opened refl
+    by_class Heartbeat class = attempt-fits at s d.at.event NoHeartbeat (pending_row s d.at.event) opened refl
+    by_class StartToClose class = attempt-fits at s d.at.event ToEnd (pending_row s d.at.event) opened refl
+    by_class RetryReady class = ready-fits at d.at.event s opened (due-retry s d.run d class is)
+    by_class UserTimer class = timer-fits at s d class is

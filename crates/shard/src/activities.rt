@@ -14,17 +14,18 @@ ghost use Rattle.shard.specs.Attempts.{has_run_of, task_of, task_for, waits_at};
 ghost use Rattle.shard.specs.Fitting.{FitsStep};
 ghost use Rattle.shard.specs.View.{state, runs_in};
 
-use crate::plan::{Change, MoreOf, Plan};
+use crate::heartbeats::note_facts;
+use crate::plan::Plan;
 use crate::prepare::answered;
 use crate::shard::Shard;
-use mutable_state::{Activity, ActivityPhase, Change as MoreFacts};
+use mutable_state::{Activity, ActivityPhase};
 use mutable_state_keeper::KeepsRun;
 use service_model::answer::{ActivityTask, Answer};
-use service_model::journal::{Fact, Note, NoteFact};
+use service_model::journal::Note;
 use service_model::request::Hint;
-use std::alloc::{AllocError, Global};
+use std::alloc::AllocError;
 use wf_event::Attributes;
-use wf_event_values::{Id, Items, Moment, RunId};
+use wf_event_values::{Id, Moment, RunId};
 
 impl<T: KeepsRun> Shard<T> {
     /// The attempt of an activity is taken, where it waits.
@@ -36,7 +37,7 @@ impl<T: KeepsRun> Shard<T> {
         ensures same { state self.new ≡ state self.old }
         ensures plan { IfOk result (λ plan. FitsStep self.new plan moment (take_by_kind (runs_in self.old) hint of_an_activity)) }
     {
-        let Some(n) = self.run_of(hint) else {
+        let Some(n) = self.run_of(hint.shard, hint.run) else {
             return Ok(answered(moment, Answer::Stale));
         };
         let Some(task) = self.attempt_for(n, hint)? else {
@@ -46,13 +47,13 @@ impl<T: KeepsRun> Shard<T> {
         Ok(plan)
     }
 
-    /// The ordinal that the hint names, where the shard has that run.
-    fn run_of(&self, hint: Hint) -> Option<usize>
-        ensures some { has_run_of (runs_in self.now) hint ≡ is_some result }
-        ensures found { IfSome result (λ n. (n ≡ hint.run) × (1 ≤ n) × (n ≤ length self.now.runs)) }
+    /// The ordinal of a run, where the shard of this number is this one and has it.
+    pub(crate) fn run_of(&self, shard: u16, run: u64) -> Option<usize>
+        ensures some { has_run_of (runs_in self.now) shard run ≡ is_some result }
+        ensures found { IfSome result (λ n. (n ≡ run) × (1 ≤ n) × (n ≤ length self.now.runs)) }
     {
-        let n = hint.run as usize;
-        if hint.shard != self.setup.shard || n < 1 || n > self.runs.len() {
+        let n = run as usize;
+        if shard != self.setup.shard || n < 1 || n > self.runs.len() {
             return None;
         }
         Some(n)
@@ -91,13 +92,9 @@ impl<T: KeepsRun> Shard<T> {
         ensures same { state self.new ≡ state self.old }
         ensures plan { IfOk result (λ plan. FitsStep self.new plan moment (adds hint.run (noted hint.event Taken ∷ []) (an_activity_task task))) }
     {
-        let facts = taken_facts(self.alloc, hint.event)?;
-        let plan = self.prepare_in(n - 1, MoreFacts { moment, facts })?;
-        Ok(Plan {
-            moment,
-            change: Change::Added(MoreOf { index: n - 1, plan }),
-            reply: Ok(Answer::ActivityTask(task)),
-        })
+        let facts = note_facts(self.alloc, hint.event, Note::Taken)?;
+        let plan = self.prepare_more(moment, n, facts, Answer::ActivityTask(task))?;
+        Ok(plan)
     }
 }
 
@@ -133,16 +130,4 @@ fn waits(activity: &Activity, attempt: u32) -> bool
     ensures { result ≡ waits_at attempt (row_said activity.now) }
 {
     matches!(activity.notes.phase, ActivityPhase::Queued) && activity.notes.attempt == attempt
-}
-
-/// The note of an attempt that is taken.
-fn taken_facts(alloc: Global, activity: u64) -> Result<Items<Fact>, AllocError>
-    ensures { IfOk result (λ facts. facts ≡ noted activity Taken ∷ []) }
-{
-    let mut facts = Vec::new(alloc);
-    facts.push(Fact::Note(NoteFact {
-        activity,
-        note: Note::Taken,
-    }))?;
-    Ok(Items::from_vec(facts))
 }

@@ -28,6 +28,10 @@ impl<T: KeepsRun> Shard<T> {
             Operation::StartTask(hint) => self.prepare_start_task(moment, *hint),
             Operation::CompleteWorkflowTask(end) => self.prepare_completion(moment, end),
             Operation::FailWorkflowTask(end) => self.prepare_failure(moment, end),
+            Operation::CompleteActivity(end) => self.prepare_complete_activity(moment, end),
+            Operation::FailActivity(end) => self.prepare_fail_activity(moment, end),
+            Operation::CancelActivity(end) => self.prepare_cancel_activity(moment, end),
+            Operation::Heartbeat(beat) => self.prepare_heartbeat(moment, beat),
             Operation::TimerTurn => self.prepare_timer_turn(moment),
         }
     }

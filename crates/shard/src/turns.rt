@@ -1,30 +1,31 @@
 //! Timer turns: the first deadline of the shard fires, if it is due.
 
-ghost use Rattle.std.specs.Prelude.{◌≡◌, ◌∷◌, [], IfOk, OnOk, Some};
+ghost use Rattle.std.specs.Prelude.{◌≡◌, ◌∷◌, [], IfOk, Some};
 ghost use Rattle.wf_event.specs.declared.attributes.Attributes.TheVariants.{WorkflowExecutionTimedOut};
 ghost use Rattle.service_model.specs.Completion.{next_attempt};
 ghost use Rattle.service_model.specs.Deadlines.{dues};
 ghost use Rattle.service_model.specs.Journal.{plain};
 ghost use Rattle.service_model.specs.TimerTurns.{fire, fire_due, timer_turn};
-ghost use Rattle.mutable_state.specs.Steps.{FitStep};
 ghost use Rattle.timeouts.specs.Firsts.{HasTimer, IsOfRun, of_run};
 ghost use Rattle.timeouts.specs.Slots.{run_due, IsOneOf};
 ghost use Rattle.shard.specs.View.{state, states, runs_in};
 ghost use Rattle.shard.specs.Fitting.{FitsStep};
 
-use crate::plan::{Change, MoreOf, Plan};
+use crate::activity_turns::{activity_over, attempt_over};
+use crate::heartbeats::note_facts;
+use crate::plan::Plan;
 use crate::prepare::answered;
 use crate::shard::Shard;
 use crate::signals::is_none;
-use mutable_state::{Change as MoreFacts, plain};
+use mutable_state::plain;
 use mutable_state_keeper::{KeepsRun, Run};
 use service_model::answer::{Answer, Fired};
-use service_model::journal::Fact;
+use service_model::journal::{Fact, Note};
 use std::alloc::{AllocError, Global};
 use timeouts::Due;
 use wf_event::Attributes;
 use wf_event::payloads::{TaskEnd, TimerEnd};
-use wf_event_values::{DeadlineClass, Items, Moment};
+use wf_event_values::{DeadlineClass, Items, Moment, TimeoutKind};
 
 impl<T: KeepsRun> Shard<T> {
     #[tactic(auto, unfolding(service_model::specs::TimerTurns::timer_turn))]
@@ -46,21 +47,19 @@ impl<T: KeepsRun> Shard<T> {
     {
         let n = due.run as usize;
         let facts = fired_facts(self.alloc, &self.runs[n - 1], moment, due)?;
-        let plan = self.prepare_in(n - 1, MoreFacts { moment, facts })?;
-        Ok(Plan {
-            moment,
-            change: Change::Added(MoreOf { index: n - 1, plan }),
-            reply: Ok(Answer::Fired(Fired {
-                class: due.class,
-                due: due.due,
-                event: due.event,
-                run: self.run_id(n),
-            })),
-        })
+        let answer = Answer::Fired(Fired {
+            class: due.class,
+            due: due.due,
+            event: due.event,
+            run: self.run_id(n),
+        });
+        let plan = self.prepare_more(moment, n, facts, answer)?;
+        Ok(plan)
     }
 }
 
 /// What a deadline of a run writes.
+#[tactic(auto, unfolding(service_model::specs::TimerTurns::fire))]
 fn fired_facts<T: KeepsRun>(
     alloc: Global,
     run: &Run<T>,
@@ -68,15 +67,25 @@ fn fired_facts<T: KeepsRun>(
     due: Due,
 ) -> Result<Items<Fact>, AllocError>
     requires { IsOneOf (run_due due) (of_run due.run (dues run.now.state)) }
-    ensures facts { IfOk result (λ facts. facts ≡ fire run.now.state moment due.event due.class) }
-    ensures fits { OnOk result (FitStep moment run.now.state (fire run.now.state moment due.event due.class)) }
+    ensures { IfOk result (λ facts. facts ≡ fire run.now.state moment due.event due.class) }
 {
     match due.class {
         DeadlineClass::RunTimeout => run_timed_out(alloc),
         DeadlineClass::WorkflowTask => task_timed_out(alloc, run),
+        DeadlineClass::ScheduleToClose => {
+            activity_over(alloc, run, due.event, TimeoutKind::ScheduleToClose)
+        }
+        DeadlineClass::ScheduleToStart => {
+            activity_over(alloc, run, due.event, TimeoutKind::ScheduleToStart)
+        }
+        DeadlineClass::Heartbeat => {
+            attempt_over(alloc, run, moment, due.event, TimeoutKind::Heartbeat)
+        }
+        DeadlineClass::StartToClose => {
+            attempt_over(alloc, run, moment, due.event, TimeoutKind::StartToClose)
+        }
+        DeadlineClass::RetryReady => note_facts(alloc, due.event, Note::Ready),
         DeadlineClass::UserTimer => timer_fired(alloc, run, due.event),
-        // Those of activities wait for the command that schedules one.
-        _ => Err(AllocError),
     }
 }
 

@@ -1,20 +1,20 @@
 -- of which classes a run's deadlines are
-use Rattle.std.proofs.Common.{◌≡◌, ℕ, zero, suc, ◌+◌, ◌-◌, inl, inr, Bool, true, false, cond, List, [], ◌∷◌, ◌++◌, refl, sym, ap, ◌∙◌, subst}
-use Rattle.std.specs.Prelude.{Option, Some, None, not, map, filter, flat_map, ◌==◌, unwrap_or, slice_get}
+use Rattle.std.proofs.Common.{◌≡◌, ℕ, suc, ◌+◌, inl, inr, Bool, true, false, cond, List, [], ◌∷◌, ◌++◌, refl, sym, ap, ◌∙◌, subst}
+use Rattle.std.specs.Prelude.{Option, Some, None, flat_map, ◌==◌, unwrap_or, slice_get}
 use Rattle.std.specs.List.{AllByRecursion}
 use Rattle.wf_event.specs.declared.event.Event.{Event}
 use Rattle.wf_event.specs.declared.attributes.Attributes.{Attributes}
 use Rattle.wf_event.specs.declared.attributes.Attributes.TheVariants.{TimerStarted}
 use Rattle.wf_event.specs.declared.payloads.TimerStarted.{TimerStarted as TimerFields}
 use Rattle.wf_event.specs.declared.payloads.ActivityTaskScheduled.{ActivityTaskScheduled as ScheduledAttributes}
-use Rattle.wf_event.specs.Role.{AnActivity, ATimer}
+use Rattle.wf_event.specs.Role.{ATimer}
 use Rattle.wf_event_values.specs.declared.policies.DeadlineClass.{DeadlineClass}
 use Rattle.wf_event_values.specs.declared.policies.DeadlineClass.TheVariants.{RunTimeout, WorkflowTask, ScheduleToClose, ScheduleToStart, Heartbeat, StartToClose, RetryReady, UserTimer}
 use Rattle.service_model.specs.Deadlines.{Due, dues, due_after, run_timeout_dues, workflow_task_dues, task_timeout, activity_dues, row_dues, by_phase, timer_dues, pending_rows, scheduled_fields}
-use Rattle.service_model.specs.Pending.{Phase, IsQueued, IsRunning, IsWaiting, Task, NoTask, IsScheduled, IsStarted, is_settled}
-use Rattle.service_model.specs.RunState.{RunState, ActivityRow, Beginning, held_attributes, is_open, last_task, pending}
+use Rattle.service_model.specs.Pending.{Phase, IsQueued, IsRunning, IsWaiting, Task, NoTask, IsScheduled, IsStarted}
+use Rattle.service_model.specs.RunState.{RunState, ActivityRow, Beginning, is_open, last_task, pending}
 use Rattle.service_model.specs.TimerTurns.{RunDue}
-use Rattle.timeouts.specs.Firsts.{of_run, HasTimer}
+use Rattle.timeouts.specs.Firsts.{of_run, HasTimer, HasActivity}
 use Rattle.timeouts.specs.Slots.{IsOneOf}
 
 module _ (P : Due → Type 0) where
@@ -49,21 +49,25 @@ module _ (P : Due → Type 0) where
   one n (x ∷ ds) d h (inl is) = subst (λ (y : RunDue). P y.at) (sym is) h.0
   one n (x ∷ ds) d h (inr rest) = one n ds d h.1 rest
 
-  phases : OfClass ScheduleToStart → OfClass Heartbeat → OfClass StartToClose → OfClass RetryReady → (r : ActivityRow) (a : ScheduledAttributes) (p : Phase) → Are (by_phase r a p)
-  unfolding Are OfClass
-  phases queued beat running ready r a IsQueued = after (unwrap_or r.ready r.opened.at) a.schedule_to_start ScheduleToStart r.opened.id (queued _ _)
-  phases queued beat running ready r a IsRunning =
-      both (due_after (unwrap_or r.sign_of_life r.opened.at) a.heartbeat Heartbeat r.opened.id) (due_after (unwrap_or r.taken r.opened.at) a.start_to_close StartToClose r.opened.id)
-      (after (unwrap_or r.sign_of_life r.opened.at) a.heartbeat Heartbeat r.opened.id (beat _ _)) (after (unwrap_or r.taken r.opened.at) a.start_to_close StartToClose r.opened.id (running _ _))
-  phases queued beat running ready r a IsWaiting = (ready _ _, tt)
+  -- so is each deadline of a class that an activity has
+  OfRow : DeadlineClass → ActivityRow → Type 0
+  OfRow class r = (due : ℕ) → P (record { due = due; class = class; event = r.opened.id })
 
-  activities : OfClass ScheduleToClose → OfClass ScheduleToStart → OfClass Heartbeat → OfClass StartToClose → OfClass RetryReady → (r : ActivityRow) → Are (activity_dues r)
-  unfolding Are OfClass
-  activities close queued beat running ready r = by_fields (scheduled_fields r.opened.attributes)
+  phases : (r : ActivityRow) (a : ScheduledAttributes) → OfRow ScheduleToStart r → OfRow Heartbeat r → OfRow StartToClose r → OfRow RetryReady r → (p : Phase) → Are (by_phase r a p)
+  unfolding Are OfRow
+  phases r a queued beat running ready IsQueued = after (unwrap_or r.ready r.opened.at) a.schedule_to_start ScheduleToStart r.opened.id (queued _)
+  phases r a queued beat running ready IsRunning =
+      both (due_after (unwrap_or r.sign_of_life r.opened.at) a.heartbeat Heartbeat r.opened.id) (due_after (unwrap_or r.taken r.opened.at) a.start_to_close StartToClose r.opened.id)
+      (after (unwrap_or r.sign_of_life r.opened.at) a.heartbeat Heartbeat r.opened.id (beat _)) (after (unwrap_or r.taken r.opened.at) a.start_to_close StartToClose r.opened.id (running _))
+  phases r a queued beat running ready IsWaiting = (ready _, tt)
+
+  activities : (r : ActivityRow) → OfRow ScheduleToClose r → OfRow ScheduleToStart r → OfRow Heartbeat r → OfRow StartToClose r → OfRow RetryReady r → Are (activity_dues r)
+  unfolding Are OfRow
+  activities r close queued beat running ready = by_fields (scheduled_fields r.opened.attributes)
     where
       by_fields : (o : Option ScheduledAttributes) → AllByRecursion P (row_dues r o)
       by_fields None = tt
-      by_fields (Some a) = both (due_after r.opened.at a.schedule_to_close ScheduleToClose r.opened.id) (by_phase r a r.phase) (after r.opened.at a.schedule_to_close ScheduleToClose r.opened.id (close _ _)) (phases queued beat running ready r a r.phase)
+      by_fields (Some a) = both (due_after r.opened.at a.schedule_to_close ScheduleToClose r.opened.id) (by_phase r a r.phase) (after r.opened.at a.schedule_to_close ScheduleToClose r.opened.id (close _)) (phases r a queued beat running ready r.phase)
 
   timers : (e : Event) → ((a : TimerFields) (due : ℕ) → e.attributes ≡ TimerStarted a → P (record { due = due; class = UserTimer; event = e.id })) → Are (timer_dues e)
   unfolding Are
@@ -110,12 +114,12 @@ is_task_class _ = false
 
 -- a worker has the workflow task that has a deadline
 pub due-task : (s : RunState) (n : ℕ) (d : RunDue) → d.at.class ≡ WorkflowTask → IsOneOf d (of_run n (dues s)) → s.task ≡ IsStarted
-unfolding is_task_class Are OfClass
+unfolding is_task_class Are OfClass OfRow
 due-task s n d class is =
     let P : Due → Type 0 = λ x. is_task_class x.class ≡ true → s.task ≡ IsStarted in
     let none : (c : DeadlineClass) → is_task_class c ≡ false → (due event : ℕ) → is_task_class c ≡ true → s.task ≡ IsStarted = λ c h _ _ e. absurd (let clash : true ≡ false = sym e ∙ h in cc) in
     one P n (dues s) d (all-dues P s (none RunTimeout refl) (λ started _ _ _. started)
-    (flat P activity_dues (pending_rows s) (λ _ r _. activities P (none ScheduleToClose refl) (none ScheduleToStart refl) (none Heartbeat refl) (none StartToClose refl) (none RetryReady refl) r))
+    (flat P activity_dues (pending_rows s) (λ _ r _. activities P r (λ due. none ScheduleToClose refl due r.opened.id) (λ due. none ScheduleToStart refl due r.opened.id) (λ due. none Heartbeat refl due r.opened.id) (λ due. none StartToClose refl due r.opened.id) (λ due. none RetryReady refl due r.opened.id)))
     (flat P timer_dues (pending ATimer s) (λ _ e _. timers P e (λ _ due _. none UserTimer refl due e.id)))) is (ap is_task_class class)
 
 is_timer_class : DeadlineClass → Bool
@@ -124,25 +128,24 @@ is_timer_class _ = false
 
 -- the timer is pending that has a deadline
 pub due-timer : (s : RunState) (n : ℕ) (d : RunDue) → d.at.class ≡ UserTimer → IsOneOf d (of_run n (dues s)) → HasTimer s d.at.event
-unfolding is_timer_class Are OfClass
+unfolding is_timer_class Are OfClass OfRow
 due-timer s n d class is =
     let P : Due → Type 0 = λ x. is_timer_class x.class ≡ true → HasTimer s x.event in
     let none : (c : DeadlineClass) → is_timer_class c ≡ false → (due event : ℕ) → is_timer_class c ≡ true → HasTimer s event = λ c h _ _ e. absurd (let clash : true ≡ false = sym e ∙ h in cc) in
     one P n (dues s) d (all-dues P s (none RunTimeout refl) (λ _. none WorkflowTask refl)
-    (flat P activity_dues (pending_rows s) (λ _ r _. activities P (none ScheduleToClose refl) (none ScheduleToStart refl) (none Heartbeat refl) (none StartToClose refl) (none RetryReady refl) r))
+    (flat P activity_dues (pending_rows s) (λ _ r _. activities P r (λ due. none ScheduleToClose refl due r.opened.id) (λ due. none ScheduleToStart refl due r.opened.id) (λ due. none Heartbeat refl due r.opened.id) (λ due. none StartToClose refl due r.opened.id) (λ due. none RetryReady refl due r.opened.id)))
     (flat P timer_dues (pending ATimer s) (λ k e there. timers P e (λ a _ starts _. record { place = k; event = e; timer = a; there = there; named = refl; starts = starts })))) is (ap is_timer_class class)
 
--- the classes of a run without activities
-unfoldable pub is_own_class : DeadlineClass → Bool
-is_own_class RunTimeout = true
-is_own_class WorkflowTask = true
-is_own_class UserTimer = true
-is_own_class _ = false
+is_retry_class : DeadlineClass → Bool
+is_retry_class RetryReady = true
+is_retry_class _ = false
 
-pub due-own : (s : RunState) (n : ℕ) (d : RunDue) → s.activities ≡ [] → IsOneOf d (of_run n (dues s)) → is_own_class d.at.class ≡ true
-unfolding is_own_class Are OfClass
-due-own s n d no_activities is =
-    let P : Due → Type 0 = λ x. is_own_class x.class ≡ true in
-    one P n (dues s) d (all-dues P s (λ _ _. refl) (λ _ _ _. refl)
-    (subst (λ l. AllByRecursion P (flat_map activity_dues (filter (λ (r : ActivityRow). not (is_settled AnActivity r.opened.id (held_attributes s))) l))) (sym no_activities) tt)
-    (flat P timer_dues (pending ATimer s) (λ _ e _. timers P e (λ _ _ _. refl)))) is
+-- the activity is pending whose next attempt has a deadline
+pub due-retry : (s : RunState) (n : ℕ) (d : RunDue) → d.at.class ≡ RetryReady → IsOneOf d (of_run n (dues s)) → HasActivity s d.at.event
+unfolding is_retry_class Are OfClass OfRow
+due-retry s n d class is =
+    let P : Due → Type 0 = λ x. is_retry_class x.class ≡ true → HasActivity s x.event in
+    let none : (c : DeadlineClass) → is_retry_class c ≡ false → (due event : ℕ) → is_retry_class c ≡ true → HasActivity s event = λ c h _ _ e. absurd (let clash : true ≡ false = sym e ∙ h in cc) in
+    one P n (dues s) d (all-dues P s (none RunTimeout refl) (λ _. none WorkflowTask refl)
+    (flat P activity_dues (pending_rows s) (λ k r there. activities P r (λ due. none ScheduleToClose refl due r.opened.id) (λ due. none ScheduleToStart refl due r.opened.id) (λ due. none Heartbeat refl due r.opened.id) (λ due. none StartToClose refl due r.opened.id) (λ _ _. record { place = k; row = r; there = there; named = refl })))
+    (flat P timer_dues (pending ATimer s) (λ _ e _. timers P e (λ _ due _. none UserTimer refl due e.id)))) is (ap is_retry_class class)

@@ -4,8 +4,8 @@ use Rattle.wf_event.specs.declared.event.Event.{Event}
 use Rattle.wf_event.specs.declared.attributes.Attributes.TheVariants.{TimerStarted}
 use Rattle.wf_event.specs.declared.payloads.TimerStarted.{TimerStarted as TimerFields}
 use Rattle.wf_event.specs.Role.{ATimer}
-use Rattle.service_model.specs.Deadlines.{Due, dues}
-use Rattle.service_model.specs.RunState.{RunState, no_run, pending}
+use Rattle.service_model.specs.Deadlines.{Due, dues, pending_rows}
+use Rattle.service_model.specs.RunState.{RunState, ActivityRow, no_run, pending}
 use Rattle.service_model.specs.TimerTurns.{RunDue, least}
 use Rattle.timeouts.specs.declared.due.Due.{Due as Kept}
 use Rattle.timeouts.specs.Slots.{run_due, IsOneOf}
@@ -41,6 +41,13 @@ pub record HasTimer (s : RunState) (id : ℕ) : Type 0 where
   pub there : slice_get (pending ATimer s) place ≡ Some event
   pub named : event.id ≡ id
   pub starts : event.attributes ≡ TimerStarted timer
+
+-- an activity is pending that this event scheduled
+pub record HasActivity (s : RunState) (id : ℕ) : Type 0 where
+  pub place : ℕ
+  pub row : ActivityRow
+  pub there : slice_get (pending_rows s) place ≡ Some row
+  pub named : row.opened.id ≡ id
 
 -- of each run, where the ordinals count from n, its first deadline is kept at its place
 pub record KeepsFirsts (n : ℕ) (slots : List (Option Kept)) (states : List RunState) : Type 0 where

@@ -20,6 +20,7 @@ use Rattle.service_model.specs.declared.settings.Settings.{Settings}
 use Rattle.wire_fields.specs.Steps.{◌>>=◌}
 use Rattle.wire_fields.specs.Kinds.{text_of, id_of, number_of, span_of, run_of, token_of, reuse_of, conflict_of}
 use Rattle.wire_fields.specs.Fields.{required, or_default, optional}
+use Rattle.wire_requests.specs.Activities.{activity_text_of, fail_activity_of}
 use Rattle.wire_requests.specs.Commands.{commands_of}
 use Rattle.wire_requests.specs.Tasks.{workflow_task_in}
 use Rattle.wire_requests.specs.declared.op.Op.{Op}
@@ -103,6 +104,10 @@ call_of settings op.Start at line = start_of line >>= (λ x. asks at (operation.
 call_of settings op.Signal at line = signal_of line >>= (λ x. asks at (operation.Signal x))
 call_of settings op.CompleteWorkflowTask at line = complete_workflow_task_of settings line >>= (λ x. asks at (operation.CompleteWorkflowTask x))
 call_of settings op.FailWorkflowTask at line = fail_workflow_task_of settings line >>= (λ x. asks at (operation.FailWorkflowTask x))
+call_of settings op.CompleteActivity at line = activity_text_of settings field.Result line >>= (λ x. asks at (operation.CompleteActivity x))
+call_of settings op.FailActivity at line = fail_activity_of settings line >>= (λ x. asks at (operation.FailActivity x))
+call_of settings op.CancelActivity at line = activity_text_of settings field.Details line >>= (λ x. asks at (operation.CancelActivity x))
+call_of settings op.Heartbeat at line = activity_text_of settings field.Details line >>= (λ x. asks at (operation.Heartbeat x))
 call_of settings op.History at line = read_of line >>= (λ x. asks at (operation.History x))
 call_of settings op.Describe at line = read_of line >>= (λ x. asks at (operation.Describe x))
 call_of settings op.TimerTurn at line = timer_turn_of settings at line

@@ -5,6 +5,7 @@ ghost use Rattle.serde_json.specs.View.{view};
 ghost use Rattle.wf_event_values.specs.Gives.{Gives};
 ghost use Rattle.wire_requests.specs.Operations.{start_of, signal_of, complete_workflow_task_of, fail_workflow_task_of, read_of, shard_in, asks, call_of, allowed_conflict};
 
+use crate::activities::{activity_text, fail_activity};
 use crate::commands::Commands;
 use crate::op::Op;
 use crate::tasks::workflow_task_in;
@@ -150,6 +151,22 @@ pub(crate) fn call_of(
         Op::FailWorkflowTask => {
             let failure = fail_workflow_task(alloc, settings, line)?;
             Ok(asks(at, Operation::FailWorkflowTask(failure)))
+        }
+        Op::CompleteActivity => {
+            let completion = activity_text(alloc, settings, Field::Result, line)?;
+            Ok(asks(at, Operation::CompleteActivity(completion)))
+        }
+        Op::FailActivity => {
+            let failure = fail_activity(alloc, settings, line)?;
+            Ok(asks(at, Operation::FailActivity(failure)))
+        }
+        Op::CancelActivity => {
+            let cancel = activity_text(alloc, settings, Field::Details, line)?;
+            Ok(asks(at, Operation::CancelActivity(cancel)))
+        }
+        Op::Heartbeat => {
+            let beat = activity_text(alloc, settings, Field::Details, line)?;
+            Ok(asks(at, Operation::Heartbeat(beat)))
         }
         Op::History => Ok(asks(at, Operation::History(read(alloc, line)?))),
         Op::Describe => Ok(asks(at, Operation::Describe(read(alloc, line)?))),

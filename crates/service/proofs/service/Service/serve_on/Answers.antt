@@ -1,4 +1,4 @@
-use Rattle.std.proofs.Common.{◌≡◌, ◌<◌, ◌∙◌, sym, arith, None, refl}
+use Rattle.std.proofs.Common.{◌<◌, arith, refl}
 use Rattle.service.specs.declared.service.Pass.{Pass}
 use Rattle.service.specs.Services.{known_by}
 use Rattle.service.proofs.ServedLemmas.{by-refusal, by-step, served-at-last, weaker}

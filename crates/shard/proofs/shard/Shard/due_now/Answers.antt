@@ -1,4 +1,4 @@
-use Rattle.std.proofs.Common.{◌≡◌, ◌∙◌, sym, ap, subst}
+use Rattle.std.proofs.Common.{◌∙◌, ap}
 use Rattle.service_model.specs.TimerTurns.{all_dues, due_now, least}
 use Rattle.timeouts.proofs.FirstLemmas.{due-firsts}
 use Rattle.shard.specs.View.{states}

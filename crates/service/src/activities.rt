@@ -1,0 +1,171 @@
+//! The calls on running activities: each makes the request of its arguments and serves it on the
+//! shard that its task token names.
+
+ghost use Rattle.service.specs.Asks.{to_complete_activity, to_fail_activity, to_cancel_activity, to_heartbeat};
+
+use crate::calls::request;
+use crate::service::{Pass, Service};
+use gate::Refused;
+use service_model::answer::Reply;
+use service_model::request::{ActivityText, FailActivity, Operation, Request};
+use std::alloc::AllocError;
+use std::sync::Wait;
+use wf_event_values::Moment;
+
+impl Service {
+    ghost use Rattle.service.specs.Services.{IsPassOf, IsServedBy, IsTried};
+
+    /// Completes a running activity (Temporal, RespondActivityTaskCompleted), with a result text. A
+    /// shard that is not there, or a run, an event or an attempt 0, is an invalid token (ours). An
+    /// attempt that isn't running is not found. It never waits.
+    ///
+    /// # Errors
+    /// As [`Service::try_serve`].
+    pub fn try_complete_activity(
+        &self,
+        pass: &mut Pass,
+        asked: ActivityText,
+        at: Moment,
+    ) -> Result<Reply, (Refused, Request)>
+        requires { IsPassOf pass.old self.now }
+        ensures { IsTried self.now pass.old pass.new (to_complete_activity at asked) result }
+    {
+        self.try_serve(pass, request(at, Operation::CompleteActivity(asked)))
+    }
+
+    /// Completes a running activity (Temporal, RespondActivityTaskCompleted), with a result text. A
+    /// shard that is not there, or a run, an event or an attempt 0, is an invalid token (ours). An
+    /// attempt that isn't running is not found. It may wait for ever.
+    ///
+    /// # Errors
+    /// As [`Service::serve`].
+    pub fn complete_activity<R: Wait>(
+        &self,
+        rt: &R,
+        pass: &mut Pass,
+        asked: ActivityText,
+        at: Moment,
+    ) -> Result<Reply, (AllocError, Request)>
+        requires { IsPassOf pass.old self.now }
+        ensures { IsServedBy self.now pass.old pass.new (to_complete_activity at asked) result }
+    {
+        self.serve(rt, pass, request(at, Operation::CompleteActivity(asked)))
+    }
+
+    /// Fails a running attempt of an activity (Temporal, RespondActivityTaskFailed): the activity
+    /// is tried again by its retry policy, and the reply says when, or it has failed, and the reply
+    /// says why. A shard that is not there, or a run, an event or an attempt 0, is an invalid token
+    /// (ours). An attempt that isn't running is not found. It never waits.
+    ///
+    /// # Errors
+    /// As [`Service::try_serve`].
+    pub fn try_fail_activity(
+        &self,
+        pass: &mut Pass,
+        asked: FailActivity,
+        at: Moment,
+    ) -> Result<Reply, (Refused, Request)>
+        requires { IsPassOf pass.old self.now }
+        ensures { IsTried self.now pass.old pass.new (to_fail_activity at asked) result }
+    {
+        self.try_serve(pass, request(at, Operation::FailActivity(asked)))
+    }
+
+    /// Fails a running attempt of an activity (Temporal, RespondActivityTaskFailed): the activity
+    /// is tried again by its retry policy, and the reply says when, or it has failed, and the reply
+    /// says why. A shard that is not there, or a run, an event or an attempt 0, is an invalid token
+    /// (ours). An attempt that isn't running is not found. It may wait for ever.
+    ///
+    /// # Errors
+    /// As [`Service::serve`].
+    pub fn fail_activity<R: Wait>(
+        &self,
+        rt: &R,
+        pass: &mut Pass,
+        asked: FailActivity,
+        at: Moment,
+    ) -> Result<Reply, (AllocError, Request)>
+        requires { IsPassOf pass.old self.now }
+        ensures { IsServedBy self.now pass.old pass.new (to_fail_activity at asked) result }
+    {
+        self.serve(rt, pass, request(at, Operation::FailActivity(asked)))
+    }
+
+    /// Cancels a running activity that was asked to cancel (Temporal, RespondActivityTaskCanceled),
+    /// with details. A shard that is not there, or a run, an event or an attempt 0, is an invalid
+    /// token (ours). An attempt that isn't running is not found; an activity that wasn't asked to
+    /// cancel is an invalid argument `token` (ours). It never waits.
+    ///
+    /// # Errors
+    /// As [`Service::try_serve`].
+    pub fn try_cancel_activity(
+        &self,
+        pass: &mut Pass,
+        asked: ActivityText,
+        at: Moment,
+    ) -> Result<Reply, (Refused, Request)>
+        requires { IsPassOf pass.old self.now }
+        ensures { IsTried self.now pass.old pass.new (to_cancel_activity at asked) result }
+    {
+        self.try_serve(pass, request(at, Operation::CancelActivity(asked)))
+    }
+
+    /// Cancels a running activity that was asked to cancel (Temporal, RespondActivityTaskCanceled),
+    /// with details. A shard that is not there, or a run, an event or an attempt 0, is an invalid
+    /// token (ours). An attempt that isn't running is not found; an activity that wasn't asked to
+    /// cancel is an invalid argument `token` (ours). It may wait for ever.
+    ///
+    /// # Errors
+    /// As [`Service::serve`].
+    pub fn cancel_activity<R: Wait>(
+        &self,
+        rt: &R,
+        pass: &mut Pass,
+        asked: ActivityText,
+        at: Moment,
+    ) -> Result<Reply, (AllocError, Request)>
+        requires { IsPassOf pass.old self.now }
+        ensures { IsServedBy self.now pass.old pass.new (to_cancel_activity at asked) result }
+    {
+        self.serve(rt, pass, request(at, Operation::CancelActivity(asked)))
+    }
+
+    /// Reports that a running attempt goes on (Temporal, RecordActivityTaskHeartbeat), with details
+    /// that the next attempt is given; the reply says whether the activity was asked to cancel. A
+    /// shard that is not there, or a run, an event or an attempt 0, is an invalid token (ours). An
+    /// attempt that isn't running is not found. It never waits.
+    ///
+    /// # Errors
+    /// As [`Service::try_serve`].
+    pub fn try_heartbeat(
+        &self,
+        pass: &mut Pass,
+        asked: ActivityText,
+        at: Moment,
+    ) -> Result<Reply, (Refused, Request)>
+        requires { IsPassOf pass.old self.now }
+        ensures { IsTried self.now pass.old pass.new (to_heartbeat at asked) result }
+    {
+        self.try_serve(pass, request(at, Operation::Heartbeat(asked)))
+    }
+
+    /// Reports that a running attempt goes on (Temporal, RecordActivityTaskHeartbeat), with details
+    /// that the next attempt is given; the reply says whether the activity was asked to cancel. A
+    /// shard that is not there, or a run, an event or an attempt 0, is an invalid token (ours). An
+    /// attempt that isn't running is not found. It may wait for ever.
+    ///
+    /// # Errors
+    /// As [`Service::serve`].
+    pub fn heartbeat<R: Wait>(
+        &self,
+        rt: &R,
+        pass: &mut Pass,
+        asked: ActivityText,
+        at: Moment,
+    ) -> Result<Reply, (AllocError, Request)>
+        requires { IsPassOf pass.old self.now }
+        ensures { IsServedBy self.now pass.old pass.new (to_heartbeat at asked) result }
+    {
+        self.serve(rt, pass, request(at, Operation::Heartbeat(asked)))
+    }
+}

@@ -1,0 +1,56 @@
+//! Steps that add facts to a run.
+
+ghost use Rattle.std.specs.Prelude.{◌≡◌, ◌≤◌, IfOk, length};
+ghost use Rattle.service_model.specs.Outcome.{adds, outside, run_at};
+ghost use Rattle.mutable_state.specs.Steps.{FitStep};
+ghost use Rattle.shard.specs.Fitting.{FitsStep};
+ghost use Rattle.shard.specs.View.{state, runs_in};
+
+use crate::plan::{Change, MoreOf, Plan};
+use crate::shard::Shard;
+use crate::signals::is_none;
+use mutable_state::{Change as MoreFacts, plain};
+use mutable_state_keeper::{KeepsRun, Run};
+use service_model::answer::Answer;
+use service_model::journal::Fact;
+use std::alloc::{AllocError, Global};
+use wf_event_values::{Items, Moment};
+
+impl<T: KeepsRun> Shard<T> {
+    /// A step that adds facts to the run with that ordinal, and answers so.
+    pub(crate) fn prepare_more(
+        &mut self,
+        moment: Moment,
+        n: usize,
+        facts: Items<Fact>,
+        answer: Answer,
+    ) -> Result<Plan<T>, AllocError>
+        requires from { 1 ≤ n }
+        requires to { n ≤ length self.old.runs }
+        requires fits { FitStep moment (run_at (runs_in self.old) n) facts }
+        ensures same { state self.new ≡ state self.old }
+        ensures plan { IfOk result (λ plan. FitsStep self.new plan moment (adds n facts answer)) }
+    {
+        let plan = self.prepare_in(n - 1, MoreFacts { moment, facts })?;
+        Ok(Plan {
+            moment,
+            change: Change::Added(MoreOf { index: n - 1, plan }),
+            reply: Ok(answer),
+        })
+    }
+}
+
+/// Facts from outside, and a workflow task where none is scheduled or started.
+pub(crate) fn from_outside<T: KeepsRun>(
+    alloc: Global,
+    run: &Run<T>,
+    facts: Vec<Fact>,
+) -> Result<Items<Fact>, AllocError>
+    ensures { IfOk result (λ all. all ≡ outside run.now.state facts.items) }
+{
+    let mut facts = facts;
+    if is_none(run.task(alloc)?.phase) {
+        facts.push(plain(run.schedule_task(1)?))?;
+    }
+    Ok(Items::from_vec(facts))
+}
