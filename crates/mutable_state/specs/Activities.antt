@@ -1,5 +1,5 @@
 -- the activities of a run as they are asked for
-use Rattle.std.specs.Prelude.{◌≡◌, ℕ, Bool, false, cond, List, [], find, map, Option, None, option_map, option_and_then}
+use Rattle.std.specs.Prelude.{◌≡◌, ℕ, Bool, false, cond, List, [], filter_map, find, map, Option, None, option_map, option_and_then}
 use Rattle.wf_event.specs.declared.event.Event.{Event}
 use Rattle.service_model.specs.Completion.{is_running_phase}
 use Rattle.service_model.specs.RunState.{RunState, ActivityRow, is_open}
@@ -35,6 +35,9 @@ noted_activities s = map noted_activity s.activities
 -- the same of a thing that is kept, where it is an activity
 abbrev pub activity_at : List Event → Open → Option NotedActivity
 activity_at es o = option_map noted_activity (row_at es o)
+
+abbrev pub noted_among : List Event → List Open → List NotedActivity
+noted_among es os = filter_map (activity_at es) os
 
 -- a run that has closed has no activity
 abbrev pub HasNoActivityClosed : RunState → Type 0

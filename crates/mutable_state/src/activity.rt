@@ -1,8 +1,8 @@
 //! The activities of a run, as they are asked for.
 
-ghost use Rattle.std.specs.Prelude.{◌≡◌, filter_map, find, option_copied, option_map, IfOk, OnOk};
+ghost use Rattle.std.specs.Prelude.{◌≡◌, find, option_copied, option_map, IfOk, OnOk};
 ghost use Rattle.service_model.specs.Tasks.{pending_row};
-ghost use Rattle.mutable_state.specs.Activities.{row_said, kept_activity, is_activity, noted_activity, noted_activities, activity_at, HasNoActivityClosed};
+ghost use Rattle.mutable_state.specs.Activities.{row_said, kept_activity, is_activity, noted_activity, noted_activities, noted_among, activity_at, HasNoActivityClosed};
 ghost use Rattle.mutable_state.specs.Noted.{kept_row};
 
 use crate::notes::Notes;
@@ -74,7 +74,7 @@ fn noted_among(
     rows: &[Open],
     history: &History,
 ) -> Result<Vec<NotedActivity>, AllocError>
-    ensures { IfOk result (λ noted. noted.items ≡ filter_map (activity_at history.now.lists.events) rows.now) }
+    ensures { IfOk result (λ noted. noted.items ≡ noted_among history.now.lists.events rows.now) }
 {
     let mut noted = Vec::new(alloc);
     for row in rows {

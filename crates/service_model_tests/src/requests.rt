@@ -1,7 +1,7 @@
 //! Drawn requests: few workflow IDs and request ids, moments that go back, unknown queues, run ids
 //! of this shard and of others, now and then a policy or a command that isn't served, and tasks that
-//! wait, were taken, or were ended long ago. Durations are such that many deadlines are due, but none
-//! of an activity.
+//! wait, were taken, or were ended long ago. Durations are such that many deadlines are due, but no
+//! activity's.
 
 ghost use Rattle.std.specs.Prelude.{◌≡◌, ◌<◌};
 
@@ -69,8 +69,8 @@ fn completion(
     })
 }
 
-/// A marker, a timer or an activity most of the time, seldom a command that isn't served, and else one
-/// that closes.
+/// A marker, a timer or an activity most of the time, seldom a command that isn't served, and else
+/// one that closes.
 fn command(alloc: Global, draws: &mut Draws, known: &Known) -> Result<Command, Refusal> {
     match draws.below(22) {
         0..=2 => Ok(Command::RecordMarker(RecordMarker {
@@ -94,7 +94,7 @@ fn command(alloc: Global, draws: &mut Draws, known: &Known) -> Result<Command, R
     }
 }
 
-/// An activity whose attempts take longer than all steps together, seldom one with no limit to close.
+/// An activity whose attempts take longer than all steps together, seldom one without that limit.
 fn activity(alloc: Global, draws: &mut Draws) -> Result<ScheduleActivityTask, Refusal> {
     let limit = if draws.one_in(16) { 0 } else { 1_000_000 };
     Ok(ScheduleActivityTask {

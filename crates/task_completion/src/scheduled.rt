@@ -14,7 +14,7 @@ use wf_event::{Attributes, RetryPolicy};
 const LONGEST_WAIT: u64 = 1_000_000_000_000;
 
 /// The event of an activity whose policy is in range.
-pub fn scheduled(activity: &ScheduleActivityTask) -> Result<Attributes, AllocError>
+pub(crate) fn scheduled(activity: &ScheduleActivityTask) -> Result<Attributes, AllocError>
     requires { IsTrue (good_policy activity.now.retry) }
     ensures { IfOk result (λ attributes. attributes ≡ scheduled_by activity.now) }
 {

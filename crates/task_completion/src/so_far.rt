@@ -5,7 +5,7 @@ ghost use Rattle.std.specs.List.{list_any};
 ghost use Rattle.wf_event.specs.RetryPolicies.{good_policy};
 ghost use Rattle.service_model.specs.Completion.{has_members};
 ghost use Rattle.service_model.specs.Pending.{is_cancel_request_of};
-ghost use Rattle.task_completion.specs.Judging.{event_named, HasGoodPolicy, is_asked, activity_scheduled, activity_asked, cancel_asked, timer_started, timer_canceled, recorded, closed, by_kind, judged_now, left};
+ghost use Rattle.task_completion.specs.Judging.{event_named, HasGoodPolicy, is_asked, activity_scheduled, activity_asked, cancel_asked, timer_started, timer_canceled, recorded, closed, by_kind, judged_now, Leaves};
 
 use crate::rows::{
     count_pending, event_named, has_pending_row, has_row, is_firing_of, is_running, was_asked,
@@ -85,7 +85,14 @@ impl<'a> SoFar<'a> {
         notes: Vec<NotedActivity>,
         held: Vec<Option<u64>>,
     ) -> SoFar<'a>
-        ensures { result ≡ record { setup = setup.now; facts = []; is_closed = false; first = first; timers = timers.entry.items; activities = activities.entry.items; notes = notes.items; held = held.items } }
+        ensures setup { result.setup ≡ setup.now }
+        ensures facts { result.facts ≡ [] }
+        ensures open_run { result.is_closed ≡ false }
+        ensures first { result.first ≡ first }
+        ensures timers { result.timers ≡ timers.entry.items }
+        ensures activities { result.activities ≡ activities.entry.items }
+        ensures notes { result.notes ≡ notes.items }
+        ensures held { result.held ≡ held.items }
     {
         SoFar {
             alloc,
@@ -102,7 +109,7 @@ impl<'a> SoFar<'a> {
 
     /// Judges one more command: its facts are added, or it is faulty.
     pub fn judge(&mut self, command: &'a Command) -> Result<Result<(), Cause>, AllocError>
-        ensures { IfOk result (λ judged. left judged self.new ≡ judged_now self.old command.now) }
+        ensures { IfOk result (Leaves self.new (judged_now self.old command.now)) }
     {
         if self.is_closed {
             return Ok(Err(Cause::CommandAfterClose));
@@ -116,7 +123,7 @@ impl<'a> SoFar<'a> {
     /// Judges a command whose own fields have no fault. Those of other types are not served so far.
     fn judge_checked(&mut self, command: &'a Command) -> Result<Result<(), Cause>, AllocError>
         requires { HasGoodPolicy command.now }
-        ensures { IfOk result (λ judged. left judged self.new ≡ by_kind self.old command.now) }
+        ensures { IfOk result (Leaves self.new (by_kind self.old command.now)) }
     {
         match command {
             Command::ScheduleActivityTask(activity) => self.schedule_activity(activity),
@@ -154,7 +161,7 @@ impl<'a> SoFar<'a> {
         activity: &'a ScheduleActivityTask,
     ) -> Result<Result<(), Cause>, AllocError>
         requires { IsTrue (good_policy activity.now.retry) }
-        ensures { IfOk result (λ judged. left judged self.new ≡ activity_scheduled activity.now self.old) }
+        ensures { IfOk result (Leaves self.new (activity_scheduled activity.now self.old)) }
     {
         if !self.setup.knows_queue(&activity.task_queue) {
             return Ok(Err(Cause::BadScheduleActivityAttributes));
@@ -174,7 +181,7 @@ impl<'a> SoFar<'a> {
 
     /// A pending activity of which no attempt is running is canceled at once.
     fn request_cancel_activity(&mut self, scheduled: u64) -> Result<Result<(), Cause>, AllocError>
-        ensures { IfOk result (λ judged. left judged self.new ≡ activity_asked scheduled self.old) }
+        ensures { IfOk result (Leaves self.new (activity_asked scheduled self.old)) }
     {
         if !has_row(self.activities.as_slice(), scheduled) || self.is_asked(scheduled) {
             return Ok(Err(Cause::BadRequestCancelActivityAttributes));
@@ -213,7 +220,7 @@ impl<'a> SoFar<'a> {
 
     /// The id of a timer is free once it fired or was canceled.
     fn start_timer(&mut self, timer: &'a StartTimer) -> Result<Result<(), Cause>, AllocError>
-        ensures { IfOk result (λ judged. left judged self.new ≡ timer_started timer.now self.old) }
+        ensures { IfOk result (Leaves self.new (timer_started timer.now self.old)) }
     {
         if event_named(self.timers.as_slice(), &timer.timer_id).is_some() {
             return Ok(Err(Cause::StartTimerDuplicateId));
@@ -231,7 +238,7 @@ impl<'a> SoFar<'a> {
 
     /// A timer whose firing is held back may be canceled: the firing is taken away.
     fn cancel_timer(&mut self, timer_id: &Id) -> Result<Result<(), Cause>, AllocError>
-        ensures { IfOk result (λ judged. left judged self.new ≡ timer_canceled timer_id.now (event_named timer_id.now self.old.timers) self.old) }
+        ensures { IfOk result (Leaves self.new (timer_canceled timer_id.now (event_named timer_id.now self.old.timers) self.old)) }
     {
         let Some(started) = event_named(self.timers.as_slice(), timer_id) else {
             return Ok(Err(Cause::BadCancelTimerAttributes));
@@ -245,7 +252,7 @@ impl<'a> SoFar<'a> {
     }
 
     fn record(&mut self, marker: &RecordMarker) -> Result<Result<(), Cause>, AllocError>
-        ensures { IfOk result (λ judged. left judged self.new ≡ recorded marker.now self.old) }
+        ensures { IfOk result (Leaves self.new (recorded marker.now self.old)) }
     {
         let name = marker.name.clone()?;
         let details = marker.details.clone()?;
@@ -255,7 +262,7 @@ impl<'a> SoFar<'a> {
 
     /// A run isn't closed while an event is held back, of which the worker does not know.
     fn close(&mut self, attributes: Attributes) -> Result<Result<(), Cause>, AllocError>
-        ensures { IfOk result (λ judged. left judged self.new ≡ closed attributes self.old) }
+        ensures { IfOk result (Leaves self.new (closed attributes self.old)) }
     {
         if self.held.len() > 0 {
             return Ok(Err(Cause::UnhandledCommand));
