@@ -22,10 +22,10 @@ use wire_replies::reply_text;
 type Shard = shard::Shard<mutable_state::Run>;
 
 /// How many requests each test draws.
-const COUNT: u64 = 500;
+const COUNT: u64 = 400;
 
 /// How many kinds of reply there are.
-const KINDS: usize = 22;
+const KINDS: usize = 33;
 
 /// Service 1's shard, with the queue `main`.
 fn setup(alloc: Global, shard: u16, shards: u16) -> Result<Setup, Refusal>
@@ -54,7 +54,7 @@ fn serve(shard: &mut Shard, request: &Request) -> Result<Reply, AllocError>
 
 /// Which kind of reply it is, if it is one that these requests get.
 fn kind(reply: &Reply) -> Option<usize>
-    ensures { IfSome result (λ k. k < 22) }
+    ensures { IfSome result (λ k. k < 33) }
 {
     match reply {
         Ok(Answer::Started(_)) => Some(0),
@@ -77,19 +77,29 @@ fn kind(reply: &Reply) -> Option<usize>
         Ok(Answer::NothingDue) => Some(17),
         Ok(Answer::Fired(fired)) => fired_kind(fired.class),
         Ok(Answer::ActivityTask(_)) => Some(21),
+        Ok(Answer::ActivityCompleted) => Some(22),
+        Ok(Answer::Retrying(_)) => Some(23),
+        Ok(Answer::ActivityFailed(_)) => Some(24),
+        Ok(Answer::ActivityCanceled) => Some(25),
+        Ok(Answer::Heartbeat(_)) => Some(26),
+        Err(Refusal::InvalidArgument(Field::Token)) => Some(27),
         _ => None,
     }
 }
 
 /// Which kind of reply it is that a deadline of this class fired.
 fn fired_kind(class: DeadlineClass) -> Option<usize>
-    ensures { IfSome result (λ k. k < 22) }
+    ensures { IfSome result (λ k. k < 33) }
 {
     match class {
         DeadlineClass::RunTimeout => Some(18),
         DeadlineClass::WorkflowTask => Some(19),
         DeadlineClass::UserTimer => Some(20),
-        _ => None,
+        DeadlineClass::ScheduleToClose => Some(28),
+        DeadlineClass::ScheduleToStart => Some(29),
+        DeadlineClass::Heartbeat => Some(30),
+        DeadlineClass::StartToClose => Some(31),
+        DeadlineClass::RetryReady => Some(32),
     }
 }
 
@@ -129,7 +139,7 @@ fn compare<R: Abort + AllocGlobal>(
 /// All kinds of reply but one for another shard's workflow IDs.
 #[test]
 fn one_shard(rt: HostRuntime) -> Result<(), Fail> {
-    let seen = compare(&rt, 0, 1, 4).map_err(|refusal| refusal.name())?;
+    let seen = compare(&rt, 0, 1, 1).map_err(|refusal| refusal.name())?;
     for (kind, count) in seen.iter().enumerate() {
         assert_eq!(rt; *count == 0, kind == 8, "{kind}");
     }

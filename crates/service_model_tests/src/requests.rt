@@ -1,14 +1,14 @@
 //! Drawn requests: few workflow IDs and request ids, moments that go back, unknown queues, run ids
 //! of this shard and of others, now and then a policy or a command that isn't served, and tasks that
-//! wait, were taken, or were ended long ago. Durations are such that many deadlines are due, but no
-//! activity's.
+//! wait, were taken, or were ended long ago. Durations are such that many deadlines are due.
 
 ghost use Rattle.std.specs.Prelude.{◌≡◌, ◌<◌};
 
 use crate::draws::Draws;
 use crate::known::Known;
 use service_model::request::{
-    CompleteWorkflowTask, FailWorkflowTask, Operation, Read, Request, Signal, Start,
+    ActivityText, CompleteWorkflowTask, FailActivity, FailWorkflowTask, Operation, Read, Request,
+    Signal, Start,
 };
 use std::alloc::Global;
 use wf_command::Command;
@@ -38,19 +38,45 @@ pub(crate) fn request(
 }
 
 fn operation(alloc: Global, draws: &mut Draws, known: &Known) -> Result<Operation, Refusal> {
-    match draws.below(22) {
+    match draws.below(32) {
         0..=1 => Ok(Operation::Start(start(alloc, draws)?)),
-        2..=4 => Ok(Operation::Signal(signal(alloc, draws)?)),
-        5..=8 => Ok(Operation::StartTask(known.hint(draws))),
-        9..=11 => Ok(Operation::CompleteWorkflowTask(completion(alloc, draws, known)?)),
-        12 => Ok(Operation::FailWorkflowTask(FailWorkflowTask {
+        2..=3 => Ok(Operation::Signal(signal(alloc, draws)?)),
+        4..=9 => Ok(Operation::StartTask(known.hint(draws))),
+        10..=13 => Ok(Operation::CompleteWorkflowTask(completion(alloc, draws, known)?)),
+        14 => Ok(Operation::FailWorkflowTask(FailWorkflowTask {
             task: known.token(draws),
             message: input(alloc, draws)?,
         })),
-        13..=15 => Ok(Operation::History(read(alloc, draws)?)),
-        16..=20 => Ok(Operation::TimerTurn),
+        15..=17 => Ok(Operation::History(read(alloc, draws)?)),
+        18..=23 => Ok(Operation::TimerTurn),
+        24..=30 => report(alloc, draws, known),
         _ => Ok(Operation::Describe(read(alloc, draws)?)),
     }
+}
+
+/// What a worker says of an attempt.
+fn report(alloc: Global, draws: &mut Draws, known: &Known) -> Result<Operation, Refusal> {
+    let task = known.attempt(draws);
+    let text = input(alloc, draws)?;
+    match draws.below(8) {
+        0 => Ok(Operation::CompleteActivity(ActivityText { task, text })),
+        1..=3 => Ok(Operation::FailActivity(FailActivity {
+            task,
+            message: text,
+            error_type: error_type(alloc, draws)?,
+            non_retryable: draws.one_in(16),
+        })),
+        4..=5 => Ok(Operation::CancelActivity(ActivityText { task, text })),
+        _ => Ok(Operation::Heartbeat(ActivityText { task, text })),
+    }
+}
+
+fn error_type(alloc: Global, draws: &mut Draws) -> Result<Option<Text>, Refusal> {
+    if draws.one_in(2) {
+        return Ok(None);
+    }
+    let name = if draws.one_in(4) { "fatal" } else { "busy" };
+    Ok(Some(Text::new(alloc, Field::ErrorType, name)?))
 }
 
 /// A completion by up to three commands.
@@ -69,8 +95,8 @@ fn completion(
     })
 }
 
-/// A marker, a timer or an activity most of the time, seldom a command that isn't served, and else
-/// one that closes.
+/// A marker, a timer or an activity most of the time, seldom a command that isn't served, and else one
+/// that closes.
 fn command(alloc: Global, draws: &mut Draws, known: &Known) -> Result<Command, Refusal> {
     match draws.below(22) {
         0..=2 => Ok(Command::RecordMarker(RecordMarker {
@@ -94,24 +120,25 @@ fn command(alloc: Global, draws: &mut Draws, known: &Known) -> Result<Command, R
     }
 }
 
-/// An activity whose attempts take longer than all steps together, seldom one without that limit.
+/// An activity, seldom one with no limit to close.
 fn activity(alloc: Global, draws: &mut Draws) -> Result<ScheduleActivityTask, Refusal> {
-    let limit = if draws.one_in(16) { 0 } else { 1_000_000 };
+    let mut non_retryable = Vec::new(alloc);
+    non_retryable.push(Text::new(alloc, Field::NonRetryable, "fatal")?)?;
     Ok(ScheduleActivityTask {
         activity_id: activity_id(alloc, draws)?,
         activity_type: Text::new(alloc, Field::ActivityType, "charge")?,
         task_queue: queue(alloc, draws)?,
         input: input(alloc, draws)?,
-        schedule_to_start: Span::none(),
-        start_to_close: Span::new(Field::StartToClose, limit)?,
-        schedule_to_close: Span::none(),
-        heartbeat: Span::none(),
+        schedule_to_start: span(draws, 400)?,
+        start_to_close: Span::new(Field::StartToClose, draws.below(400))?,
+        schedule_to_close: span(draws, 1000)?,
+        heartbeat: span(draws, 200)?,
         retry: PolicyFields {
-            attempts: draws.below(3),
-            factor: 2,
-            initial: 1 + draws.below(1000),
+            attempts: draws.below(4),
+            factor: 1 + draws.below(3),
+            initial: 1 + draws.below(50),
             maximum: 0,
-            non_retryable: Items::from_vec(Vec::new(alloc)),
+            non_retryable: Items::from_vec(non_retryable),
         },
     })
 }
