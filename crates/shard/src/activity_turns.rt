@@ -28,7 +28,8 @@ pub(crate) fn activity_over<T: KeepsRun>(
     id: u64,
     kind: TimeoutKind,
 ) -> Result<Items<Fact>, AllocError>
-    ensures { IfOk result (λ facts. facts ≡ activity_over run.now.state id kind (pending_row run.now.state id)) }
+    ensures { IfOk result (λ facts.
+        facts ≡ activity_over run.now.state id kind (pending_row run.now.state id)) }
 {
     let Some(activity) = run.pending_activity(alloc, id)? else {
         return Ok(Items::from_vec(Vec::new(alloc)));
@@ -41,7 +42,9 @@ pub(crate) fn activity_over<T: KeepsRun>(
 
 /// The start of the attempt that a worker has, if one does.
 fn started_first(alloc: Global, activity: &Activity) -> Result<Vec<Fact>, AllocError>
-    ensures { IfOk result (λ facts. facts.items ≡ cond (is_running_phase (row_said activity.now).phase) (attempt_started (row_said activity.now) ∷ []) []) }
+    ensures { IfOk result (λ facts. facts.items
+        ≡ cond (is_running_phase (row_said activity.now).phase)
+        (attempt_started (row_said activity.now) ∷ []) []) }
 {
     let mut facts = Vec::new(alloc);
     if is_taken(activity) {
@@ -69,7 +72,8 @@ pub(crate) fn attempt_over<T: KeepsRun>(
     id: u64,
     kind: TimeoutKind,
 ) -> Result<Items<Fact>, AllocError>
-    ensures { IfOk result (λ facts. facts ≡ attempt_verdict run.now.state moment kind (pending_row run.now.state id)) }
+    ensures { IfOk result (λ facts.
+        facts ≡ attempt_verdict run.now.state moment kind (pending_row run.now.state id)) }
 {
     let Some(activity) = run.pending_activity(alloc, id)? else {
         return Ok(Items::from_vec(Vec::new(alloc)));
@@ -89,7 +93,8 @@ fn attempt_over_by<T: KeepsRun>(
     kind: TimeoutKind,
     verdict: Verdict,
 ) -> Result<Items<Fact>, AllocError>
-    ensures { IfOk result (λ facts. facts ≡ attempt_over run.now.state (row_said activity.now) kind (says verdict)) }
+    ensures { IfOk result (λ facts.
+        facts ≡ attempt_over run.now.state (row_said activity.now) kind (says verdict)) }
 {
     let id = activity.scheduled.id;
     match verdict {

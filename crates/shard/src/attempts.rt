@@ -35,7 +35,8 @@ impl<T: KeepsRun> Shard<T> {
         request: &ActivityText,
     ) -> Result<Plan<T>, AllocError>
         ensures same { state self.new ≡ state self.old }
-        ensures plan { IfOk result (λ plan. FitsStep self.new plan moment (complete_activity (runs_in self.old) request.now)) }
+        ensures plan { IfOk result (λ plan.
+            FitsStep self.new plan moment (complete_activity (runs_in self.old) request.now)) }
     {
         let Some(activity) = self.attempt_running(request.task)? else {
             return Ok(refused(moment, Refusal::NotFound));
@@ -57,7 +58,8 @@ impl<T: KeepsRun> Shard<T> {
         request: &ActivityText,
     ) -> Result<Plan<T>, AllocError>
         ensures same { state self.new ≡ state self.old }
-        ensures plan { IfOk result (λ plan. FitsStep self.new plan moment (cancel_activity (runs_in self.old) request.now)) }
+        ensures plan { IfOk result (λ plan.
+            FitsStep self.new plan moment (cancel_activity (runs_in self.old) request.now)) }
     {
         let Some(activity) = self.attempt_running(request.task)? else {
             return Ok(refused(moment, Refusal::NotFound));
@@ -86,7 +88,9 @@ impl<T: KeepsRun> Shard<T> {
         requires running { HasAttempt self.old task (row_said activity.now) }
         requires ends { ended_activity last ≡ Some task.event }
         ensures same { state self.new ≡ state self.old }
-        ensures plan { IfOk result (λ plan. FitsStep self.new plan moment (adds task.run (ends_activity (run_at (runs_in self.old) task.run) (row_said activity.now) last) answer)) }
+        ensures plan { IfOk result (λ plan. FitsStep self.new plan moment
+            (adds task.run
+            (ends_activity (run_at (runs_in self.old) task.run) (row_said activity.now) last) answer)) }
     {
         let n = task.run as usize;
         let facts = ended_facts(self.alloc, &self.runs[n - 1], activity, last)?;
@@ -96,8 +100,10 @@ impl<T: KeepsRun> Shard<T> {
 
     /// The activity whose running attempt a token names.
     pub(crate) fn attempt_running(&self, task: TakenTask) -> Result<Option<Activity>, AllocError>
-        ensures found { IfOk result (λ found. option_map row_said found ≡ running_attempt (runs_in self.now) task) }
-        ensures running { IfOk result (λ found. IfSome found (λ activity. HasAttempt self.now task (row_said activity))) }
+        ensures found { IfOk result (λ found.
+            option_map row_said found ≡ running_attempt (runs_in self.now) task) }
+        ensures running { IfOk result (λ found.
+            IfSome found (λ activity. HasAttempt self.now task (row_said activity))) }
     {
         let Some(n) = self.run_of(task.shard, task.run) else {
             return Ok(None);
@@ -111,8 +117,10 @@ impl<T: KeepsRun> Shard<T> {
         requires from { 1 ≤ n }
         requires to { n ≤ length self.now.runs }
         requires run { n ≡ task.run }
-        ensures found { IfOk result (λ found. option_map row_said found ≡ keep_running task (pending_row (run_at (runs_in self.now) task.run) task.event)) }
-        ensures open { IfOk result (λ found. IfSome found (λ activity. is_open (run_at (runs_in self.now) task.run) ≡ true)) }
+        ensures found { IfOk result (λ found. option_map row_said found
+            ≡ keep_running task (pending_row (run_at (runs_in self.now) task.run) task.event)) }
+        ensures open { IfOk result (λ found.
+            IfSome found (λ activity. is_open (run_at (runs_in self.now) task.run) ≡ true)) }
     {
         let Some(activity) = self.runs[n - 1].pending_activity(self.alloc, task.event)? else {
             return Ok(None);
@@ -145,7 +153,8 @@ pub(crate) fn ended_facts<T: KeepsRun>(
     activity: &Activity,
     last: Attributes,
 ) -> Result<Items<Fact>, AllocError>
-    ensures { IfOk result (λ facts. facts ≡ ends_activity run.now.state (row_said activity.now) last) }
+    ensures { IfOk result (λ facts.
+        facts ≡ ends_activity run.now.state (row_said activity.now) last) }
 {
     let mut facts = Vec::new(alloc);
     facts.push(attempt_started(activity))?;
@@ -154,7 +163,8 @@ pub(crate) fn ended_facts<T: KeepsRun>(
     Ok(all)
 }
 
-/// The start of an attempt, which is written as it ends its activity, with the moment of its taking.
+/// The start of an attempt, which is written as it ends its activity, with the moment of its
+/// taking.
 pub(crate) fn attempt_started(activity: &Activity) -> Fact
     ensures { result ≡ attempt_started (row_said activity.now) }
 {

@@ -19,7 +19,8 @@ use std::alloc::{AllocError, Global};
 use wf_event_values::{Items, Moment, Refusal};
 
 impl<T: KeepsRun> Shard<T> {
-    /// A heartbeat of a running attempt, which keeps its details, and answers whether the activity was asked to cancel.
+    /// A heartbeat of a running attempt, which keeps its details, and answers whether the activity was
+    /// asked to cancel.
     #[tactic(auto, unfolding(service_model::specs::Activities::heartbeat))]
     pub(crate) fn prepare_heartbeat(
         &mut self,
@@ -27,7 +28,8 @@ impl<T: KeepsRun> Shard<T> {
         request: &ActivityText,
     ) -> Result<Plan<T>, AllocError>
         ensures same { state self.new ≡ state self.old }
-        ensures plan { IfOk result (λ plan. FitsStep self.new plan moment (heartbeat (runs_in self.old) request.now)) }
+        ensures plan { IfOk result (λ plan.
+            FitsStep self.new plan moment (heartbeat (runs_in self.old) request.now)) }
     {
         let Some(activity) = self.attempt_running(request.task)? else {
             return Ok(refused(moment, Refusal::NotFound));
@@ -48,7 +50,8 @@ impl<T: KeepsRun> Shard<T> {
     ) -> Result<Plan<T>, AllocError>
         requires { (r : ActivityRow) × HasAttempt self.old task r }
         ensures same { state self.new ≡ state self.old }
-        ensures plan { IfOk result (λ plan. FitsStep self.new plan moment (adds task.run (noted task.event note ∷ []) answer)) }
+        ensures plan { IfOk result (λ plan.
+            FitsStep self.new plan moment (adds task.run (noted task.event note ∷ []) answer)) }
     {
         let facts = note_facts(self.alloc, task.event, note)?;
         let plan = self.prepare_more(moment, task.run as usize, facts, answer)?;

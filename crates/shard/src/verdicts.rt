@@ -34,7 +34,8 @@ impl<T: KeepsRun> Shard<T> {
         request: &FailActivity,
     ) -> Result<Plan<T>, AllocError>
         ensures same { state self.new ≡ state self.old }
-        ensures plan { IfOk result (λ plan. FitsStep self.new plan moment (fail_activity (runs_in self.old) moment request.now)) }
+        ensures plan { IfOk result (λ plan.
+            FitsStep self.new plan moment (fail_activity (runs_in self.old) moment request.now)) }
     {
         let Some(activity) = self.attempt_running(request.task)? else {
             return Ok(refused(moment, Refusal::NotFound));
@@ -61,7 +62,8 @@ impl<T: KeepsRun> Shard<T> {
         requires running { HasAttempt self.old request.now.task (row_said activity.now) }
         requires next { HasNext request.now.task.attempt (says verdict) }
         ensures same { state self.new ≡ state self.old }
-        ensures plan { IfOk result (λ plan. FitsStep self.new plan moment (by_verdict (runs_in self.old) request.now (row_said activity.now) (says verdict))) }
+        ensures plan { IfOk result (λ plan. FitsStep self.new plan moment
+            (by_verdict (runs_in self.old) request.now (row_said activity.now) (says verdict))) }
     {
         match verdict {
             Verdict::GiveUp(state) => {
@@ -80,7 +82,9 @@ impl<T: KeepsRun> Shard<T> {
 
 /// The verdict on the attempt of an activity that ended so at a moment.
 pub(crate) fn verdict_of(activity: &Activity, ended: Ended, moment: Moment) -> Option<Verdict>
-    ensures verdict { option_map says result ≡ option_map (λ a. verdict_at (row_said activity.now) a (ending_of ended.entry) moment) (scheduled_fields activity.now.scheduled.attributes) }
+    ensures verdict { option_map says result
+        ≡ option_map (λ a. verdict_at (row_said activity.now) a (ending_of ended.entry) moment)
+        (scheduled_fields activity.now.scheduled.attributes) }
     ensures next { IfSome result (λ verdict. HasNext activity.now.notes.attempt (says verdict)) }
 {
     let Attributes::ActivityTaskScheduled(scheduled) = &activity.scheduled.attributes else {
@@ -105,7 +109,8 @@ fn judged(
     at: Moment,
     deadline: Option<u64>,
 ) -> Verdict
-    ensures verdict { says result ≡ verdict policy.now (ending_of ended.entry) cancel_requested attempt at deadline }
+    ensures verdict { says result
+        ≡ verdict policy.now (ending_of ended.entry) cancel_requested attempt at deadline }
     ensures next { HasNext attempt (says result) }
 {
     verdict_on(policy, ended, cancel_requested, attempt, at, deadline)
@@ -123,7 +128,12 @@ fn close_deadline(scheduled: Moment, schedule_to_close: Span) -> Option<u64>
 
 /// The end of an activity by a failure that is not retried.
 fn failure(request: &FailActivity, retry: RetryState) -> Result<Attributes, AllocError>
-    ensures { IfOk result (λ last. last ≡ a_failure (record { scheduled = request.now.task.event; message = request.now.message; error_type = request.now.error_type; retry = retry })) }
+    ensures { IfOk result (λ last. last ≡ a_failure (record {
+      scheduled = request.now.task.event;
+      message = request.now.message;
+      error_type = request.now.error_type;
+      retry = retry;
+    })) }
 {
     Ok(Attributes::ActivityTaskFailed(ActivityTaskFailed {
         scheduled: request.task.event,
