@@ -11,7 +11,7 @@ use wire_requests::{Asked, read_line};
 
 /// What a line asks for. A line that is too long, or whose bytes are no UTF-8, is refused here; what is
 /// text is read as JSON.
-pub(crate) fn asked(alloc: Global, settings: &Settings, line: &Line) -> Result<Asked, Refusal>
+pub fn asked(alloc: Global, settings: &Settings, line: &Line) -> Result<Asked, Refusal>
     ensures { Gives result (asked settings.now line.now) }
 {
     let Some(bytes) = line.bytes() else {

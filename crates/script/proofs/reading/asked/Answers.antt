@@ -7,7 +7,7 @@ use Rattle.wf_event_values.specs.declared.refusal.Refusal.TheVariants.{InvalidAr
 use Rattle.service_model.specs.declared.settings.Settings.{Settings}
 use Rattle.wire_requests.specs.Calls.{asked_of_line}
 use Rattle.script.specs.Asked.{asked}
-use Rattle.script.proofs.asked.asked.Goals as goal
+use Rattle.script.proofs.reading.asked.Goals as goal
 
 -- bytes that are text ask what the text asks
 asked-text : (K : Settings) (line : Option (List ℕ)) (bytes text : List ℕ) → Some bytes ≡ line → text ≡ bytes → IsUtf8 bytes → asked K line ≡ asked_of_line K text
