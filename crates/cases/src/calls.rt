@@ -16,7 +16,7 @@ use std::io;
 use std::sync::Wait;
 use wf_event_values::{Field, Refusal};
 use wire_replies::reply_text;
-use wire_requests::read_call;
+use wire_requests::{Asked, read_line};
 
 /// Which form of a call is made.
 #[derive(Clone, Copy)]
@@ -67,29 +67,32 @@ impl Opened {
     ) -> Result<Option<Reply>, AllocError> {
         let asked = match step {
             Step::Line(line) => asked(rt.alloc(), &self.settings, line),
-            Step::StartTask { hint, at } => Ok(Call::Request(Request {
+            Step::StartTask { hint, at } => Ok(Some(Call::Request(Request {
                 at: *at,
                 operation: Operation::StartTask(*hint),
-            })),
+            }))),
             Step::Skip => return Ok(None),
         };
         match asked {
-            Ok(call) => Ok(Some(self.reply(rt, form, call)?)),
+            Ok(Some(call)) => Ok(Some(self.reply(rt, form, call)?)),
+            Ok(None) => Ok(None),
             Err(refusal) => Ok(Some(Err(refusal))),
         }
     }
 }
 
-/// What a line asks, or the fault that a script finds in it.
-fn asked(alloc: Global, settings: &Settings, line: &[u8]) -> Result<Call, Refusal> {
+/// The call that a line asks for, which a barrier doesn't, or the fault that a script finds in it.
+fn asked(alloc: Global, settings: &Settings, line: &[u8]) -> Result<Option<Call>, Refusal> {
     if line.len() > LINE_LIMIT {
         return Err(Refusal::InvalidArgument(Field::Line));
     }
     let Ok(text) = str::from_utf8(line) else {
         return Err(Refusal::InvalidArgument(Field::Json));
     };
-    let (_lane, call) = read_call(alloc, settings, text)?;
-    Ok(call)
+    match read_line(alloc, settings, text)? {
+        Asked::Barrier => Ok(None),
+        Asked::Call(lane) => Ok(Some(lane.into_call())),
+    }
 }
 
 /// The service that a case's command line opens, or nothing where the case can't be run by calls:

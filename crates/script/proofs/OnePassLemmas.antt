@@ -23,7 +23,7 @@ use Rattle.service.specs.Contents.{setup_of, refusal_of_call, slot_of_call, open
 use Rattle.service.specs.Services.{known_by, IsPassOf, IsServedOn, IsTriedCall, ServedOn, settings_of}
 use Rattle.service.proofs.ServedLemmas.{call-below}
 use Rattle.script.specs.OnePass.{content_seen, contents_seen, IsOnePass}
-use Rattle.script.specs.Serving.{reply_to_asked, contents_after_asked, content_at, reply_unless, contents_unless}
+use Rattle.script.specs.Serving.{reply_to_call, contents_after_call, content_at, reply_unless, contents_unless}
 
 -- all entries are of the one pass
 by-only : (es : List (ℕ × Request)) → FromGiven 1 es → by 0 es ≡ es
@@ -127,16 +127,16 @@ contents-on K x p p' None s q r h below done = contents-served K x p p' s q r h 
 contents-on K x p p' (Some e) s q r h below done = ap (contents_seen x.settings) done.1
 
 -- the reply to a call is the sequential service's
-pub reply-is : (K : Settings) (x : Service) (p p' : Pass) (c : Call) (r : Reply) → IsOnePass K x p → ServedOn x p p' (refusal_of_call x.settings c) (slot_of_call x.settings c) (request_of c) r → r ≡ reply_to_asked K (contents_seen K (known_by p)) (Ok (0, c))
+pub reply-is : (K : Settings) (x : Service) (p p' : Pass) (c : Call) (r : Reply) → IsOnePass K x p → ServedOn x p p' (refusal_of_call x.settings c) (slot_of_call x.settings c) (request_of c) r → r ≡ reply_to_call K (contents_seen K (known_by p)) c
 reply-is K x p p' c r h done =
-    let T : Settings → Type 0 = λ k. r ≡ reply_to_asked k (contents_seen k (known_by p)) (Ok (0, c)) in
+    let T : Settings → Type 0 = λ k. r ≡ reply_to_call k (contents_seen k (known_by p)) c in
     subst T h.settings (reply-on K x p p' (refusal_of_call x.settings c) (slot_of_call x.settings c) (request_of c) r h (call-below x.settings c h.own.opened.range.some_shard) done)
 
 -- and so are the contents that it leaves
 pub contents-are : (K : Settings) (x : Service) (p p' : Pass) (c : Call) (r : Reply) → IsOnePass K x p → ServedOn x p p' (refusal_of_call x.settings c) (slot_of_call x.settings c) (request_of c) r →
-    contents_seen K (known_by p') ≡ contents_after_asked K (contents_seen K (known_by p)) (Ok (0, c))
+    contents_seen K (known_by p') ≡ contents_after_call K (contents_seen K (known_by p)) c
 contents-are K x p p' c r h done =
-    let T : Settings → Type 0 = λ k. contents_seen k (known_by p') ≡ contents_after_asked k (contents_seen k (known_by p)) (Ok (0, c)) in
+    let T : Settings → Type 0 = λ k. contents_seen k (known_by p') ≡ contents_after_call k (contents_seen k (known_by p)) c in
     subst T h.settings (contents-on K x p p' (refusal_of_call x.settings c) (slot_of_call x.settings c) (request_of c) r h (call-below x.settings c h.own.opened.range.some_shard) done)
 
 -- a pass that was refused for memory is as it was

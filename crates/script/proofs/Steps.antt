@@ -11,7 +11,7 @@ use Rattle.script.specs.Progress.{Served, Progress, Stopped}
 
 -- ---- lines behind a line so far
 
-left-append : (p : Line) (a b : List ℕ) → left p (a ++ b) ≡ left (left p a) b
+pub left-append : (p : Line) (a b : List ℕ) → left p (a ++ b) ≡ left (left p a) b
 unfolding left
 left-append p [] b = refl
 left-append p (x ∷ a) b = by_test (eqb x 10) (left-append (Some []) a b) (left-append (longer p x) a b)
@@ -21,7 +21,7 @@ left-append p (x ∷ a) b = by_test (eqb x 10) (left-append (Some []) a b) (left
     by_test true ends more = ends
     by_test false ends more = more
 
-ended-append : (p : Line) (a b : List ℕ) → ended p (a ++ b) ≡ ended p a ++ ended (left p a) b
+pub ended-append : (p : Line) (a b : List ℕ) → ended p (a ++ b) ≡ ended p a ++ ended (left p a) b
 unfolding ended left
 ended-append p [] b = refl
 ended-append p (x ∷ a) b = by_test (eqb x 10) (ended-append (Some []) a b) (ended-append (longer p x) a b)

@@ -1,8 +1,7 @@
 -- Where a script stands between two lines.
 use Rattle.std.specs.Prelude.{ℕ, ◌+◌, ◌||◌, List, [], ◌∷◌, ◌++◌, Bool, false}
-use Rattle.wire_replies.specs.Replies.{reply_line}
 use Rattle.script.specs.Lines.{Line}
-use Rattle.script.specs.Serving.{Contents, contents_after, is_refusal, reply_to}
+use Rattle.script.specs.Serving.{Contents, contents_after, is_refusal, reply_to, text_of}
 use Rattle.service.specs.Contents.{opening_contents}
 use Rattle.service_model.specs.declared.settings.Settings.{Settings}
 
@@ -25,9 +24,9 @@ after_line c line = record {
   refused = c.refused || is_refusal (reply_to c.settings c.contents line);
 }
 
--- the reply line of the next line
+-- the reply line of the next line, if it has one
 unfoldable pub line_text : Cursor → Line → List ℕ
-line_text c line = reply_line c.number (reply_to c.settings c.contents line)
+line_text c line = text_of c.number (reply_to c.settings c.contents line)
 
 abbrev pub after_lines : Cursor → List Line → Cursor
 after_lines c [] = c

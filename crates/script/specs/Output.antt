@@ -1,25 +1,24 @@
 -- What a script prints: the replies of the sequential service to its lines, one after another.
-use Rattle.std.specs.Prelude.{ℕ, ◌+◌, List, [], ◌∷◌, ◌++◌, Bool}
+use Rattle.std.specs.Prelude.{ℕ, ◌+◌, List, [], ◌∷◌, ◌++◌, Bool, Option}
 use Rattle.std.specs.List.{list_any}
 use Rattle.service_model.specs.Outcome.{Reply}
-use Rattle.wire_replies.specs.Replies.{reply_line}
 use Rattle.script.specs.Lines.{Line}
-use Rattle.script.specs.Serving.{Contents, contents_after, is_refusal, reply_to}
+use Rattle.script.specs.Serving.{Contents, contents_after, is_refusal, reply_to, text_of}
 use Rattle.service.specs.Contents.{opening_contents}
 use Rattle.service_model.specs.declared.settings.Settings.{Settings}
 
--- the replies to lines that are served one after another
-abbrev pub replies_from : Settings → Contents → List Line → List Reply
+-- the replies to lines that are served one after another, where they have one
+abbrev pub replies_from : Settings → Contents → List Line → List (Option Reply)
 replies_from K S [] = []
 replies_from K S (line ∷ lines) = reply_to K S line ∷ replies_from K (contents_after K S line) lines
 
--- the texts of replies, whose lines are numbered from this one on
-abbrev pub numbered_from : ℕ → List Reply → List ℕ
+-- the texts of replies to lines that are numbered from this one on
+abbrev pub numbered_from : ℕ → List (Option Reply) → List ℕ
 numbered_from number [] = []
-numbered_from number (reply ∷ replies) = reply_line number reply ++ numbered_from (number + 1) replies
+numbered_from number (reply ∷ replies) = text_of number reply ++ numbered_from (number + 1) replies
 
 -- the replies to the lines of a script
-abbrev pub replies_to : Settings → List Line → List Reply
+abbrev pub replies_to : Settings → List Line → List (Option Reply)
 replies_to K lines = replies_from K (opening_contents K) lines
 
 -- what a script of these lines prints

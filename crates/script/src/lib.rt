@@ -5,13 +5,14 @@
 //! of the text, each on the shard of its workflow ID, under the lines' numbers.
 #![tactic(auto)]
 
-mod asked;
 mod fault;
 mod line;
+mod reading;
 mod run;
 mod script;
 mod serving;
 
 pub use fault::ScriptFault;
-pub use line::LINE_LIMIT;
+pub use line::{LINE_LIMIT, Line};
+pub use reading::asked;
 pub use run::{Outcome, run_one};

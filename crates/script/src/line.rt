@@ -11,7 +11,7 @@ pub const LINE_LIMIT: usize = 1_048_576;
 
 /// A line so far: its bytes, or nothing once they are more than a line may have.
 #[derive(Drop)]
-pub(crate) struct Line {
+pub struct Line {
     bytes: Option<Vec<u8>>,
 }
 
@@ -24,7 +24,7 @@ impl Model for Line {
 }
 
 impl Line {
-    pub(crate) fn new(alloc: Global) -> Line
+    pub fn new(alloc: Global) -> Line
         ensures { result ≡ Some [] }
     {
         Line {
@@ -33,7 +33,7 @@ impl Line {
     }
 
     /// One byte more. A line that grows past the limit gives its memory up.
-    pub(crate) fn push(&mut self, byte: u8) -> Result<(), AllocError>
+    pub fn push(&mut self, byte: u8) -> Result<(), AllocError>
         ensures { OnOk result (self.new ≡ longer self.old byte) }
     {
         if let Some(bytes) = &mut self.bytes {
@@ -46,7 +46,7 @@ impl Line {
         Ok(())
     }
 
-    pub(crate) fn is_empty(&self) -> bool
+    pub fn is_empty(&self) -> bool
         ensures { result ≡ is_empty_line self.now }
     {
         match &self.bytes {
@@ -56,7 +56,7 @@ impl Line {
     }
 
     /// The bytes, or nothing where they are too many.
-    pub(crate) fn bytes(&self) -> Option<&[u8]>
+    pub fn bytes(&self) -> Option<&[u8]>
         ensures { option_map (λ b. b.now) result ≡ self.now }
     {
         match &self.bytes {

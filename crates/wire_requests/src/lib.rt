@@ -10,4 +10,4 @@ mod operations;
 mod retry_policy;
 mod tasks;
 
-pub use calls::read_call;
+pub use calls::{Asked, LaneCall, read_line};

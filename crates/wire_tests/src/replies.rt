@@ -13,7 +13,7 @@ use std::alloc::{AllocGlobal, Global};
 use std::io;
 use wf_event_values::{DeadlineClass, Items, Refusal, RetryState, Status, TaskKind, Text};
 use wire_replies::history_text;
-use wire_requests::read_call;
+use wire_requests::{Asked, read_line};
 
 fn print_answers_to_clients<R: Print + AllocGlobal>(rt: &R) -> io::Result<()> {
     print_answer(rt, 3, Answer::SignaledRun(run(1)))?;
@@ -147,9 +147,11 @@ fn print_lanes<R: Print + AllocGlobal>(rt: &R) -> io::Result<()> {
     for line in [
         "{\"lane\":2,\"op\":\"history\",\"workflow_id\":\"a\"}",
         "{\"lane\":3,\"op\":\"history\",\"workflow_id\":\"a\"}",
+        "{\"lane\":3,\"barrier\":true}",
     ] {
-        match read_call(rt.alloc(), &three, line) {
-            Ok((lane, _call)) => println!(rt; "lane {lane}")?,
+        match read_line(rt.alloc(), &three, line) {
+            Ok(Asked::Barrier) => println!(rt; "a barrier")?,
+            Ok(Asked::Call(call)) => println!(rt; "lane {}", call.lane)?,
             Err(refusal) => print_refusal(rt, 1, refusal)?,
         }
     }

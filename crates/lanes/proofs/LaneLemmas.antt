@@ -1,0 +1,20 @@
+-- what holds of the passes of all lanes
+use Rattle.std.proofs.Common.{◌≡◌, ◌<◌, List, All, map, length, get_or, sym, ap, ◌∙◌, subst, arith}
+use Rattle.std.proofs.lemmas.List.{get_or-map, length-map}
+use Rattle.service.specs.declared.service.Pass.{Pass}
+use Rattle.lanes.specs.declared.lane.Lane.{Lane}
+
+-- it holds of lanes with the same passes
+pub own-same : (P : Pass → Type 0) (xs ys : List Lane) → map (λ (l : Lane). l.pass) ys ≡ map (λ (l : Lane). l.pass) xs → All (λ (l : Lane). P l.pass) xs → All (λ (l : Lane). P l.pass) ys
+own-same P xs ys same all k d below =
+    let count : length ys ≡ length xs = sym (length-map ys (λ (l : Lane). l.pass)) ∙ ap length same ∙ length-map xs (λ (l : Lane). l.pass) in
+    let within : k < length xs = omega (arith, count, below) in
+    let is : (get_or xs k d).pass ≡ (get_or ys k d).pass =
+    sym (get_or-map (λ (l : Lane). l.pass) xs k d d.pass within) ∙ ap (λ l. get_or l k d.pass) (sym same) ∙ get_or-map (λ (l : Lane). l.pass) ys k d d.pass below in
+    subst P is (all k d within)
+
+-- it holds of lanes made of passes of which it holds
+pub own-of : (P : Pass → Type 0) (ps : List Pass) (ys : List Lane) → map (λ (l : Lane). l.pass) ys ≡ ps → All P ps → All (λ (l : Lane). P l.pass) ys
+own-of P ps ys is all k d below =
+    let count : length ys ≡ length ps = sym (length-map ys (λ (l : Lane). l.pass)) ∙ ap length is in
+    subst P (ap (λ l. get_or l k d.pass) (sym is) ∙ get_or-map (λ (l : Lane). l.pass) ys k d d.pass below) (all k d.pass (omega (arith, count, below)))

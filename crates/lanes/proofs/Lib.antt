@@ -1,0 +1,4 @@
+pub mod FaultLemmas
+pub mod LaneLemmas
+pub mod PrintLemmas
+pub mod ToldLemmas

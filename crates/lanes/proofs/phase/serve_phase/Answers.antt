@@ -1,0 +1,11 @@
+use Rattle.lanes.proofs.LaneLemmas.{own-same}
+use Rattle.lanes.proofs.phase.serve_phase.Goals as goal
+
+pub returns-in_err-refused-clause-own : goal.returns-in_err-refused-clause-own
+returns-in_err-refused-clause-own g c = own-same (g.D.Door.admits c.args.door.now) c.meet_all.new.lanes c.print.new.lanes c.print.ensures.passes c.meet_all.ensures.own
+
+pub returns-in-Err-clause-own : goal.returns-in-Err-clause-own
+returns-in-Err-clause-own g c = own-same (g.D.Door.admits c.args.door.now) c.meet_all.new.lanes c.print.new.lanes c.print.ensures.passes c.meet_all.ensures.own
+
+pub returns-clause-own : goal.returns-clause-own
+returns-clause-own g c = own-same (g.D.Door.admits c.args.door.now) c.meet_all.new.lanes c.print.new.lanes c.print.ensures.passes c.meet_all.ensures.own

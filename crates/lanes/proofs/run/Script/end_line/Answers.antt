@@ -1,0 +1,16 @@
+use Rattle.std.proofs.Common.{rules}
+use Rattle.lanes.proofs.LaneLemmas.{own-same}
+use Rattle.lanes.proofs.ToldLemmas.{told-closed}
+use Rattle.lanes.proofs.run.Script.end_line.Goals as goal
+
+pub returns-in_default-clause-own : goal.returns-in_default-clause-own
+returns-in_default-clause-own g c = own-same (g.D.Door.admits c.args.door.now) c.args.self.now.lanes.items c.add_line.new.self.lanes.items c.add_line.ensures.passes c.requires
+
+pub returns-then-not-closes-clause-own : goal.returns-then-not-closes-clause-own
+returns-then-not-closes-clause-own g c = own-same (g.D.Door.admits c.args.door.now) c.args.self.now.lanes.items c.add_line.new.self.lanes.items c.add_line.ensures.passes c.requires
+
+pub close-requires-after_bounds : goal.close-requires-after_bounds
+close-requires-after_bounds g c = let own = own-same (g.D.Door.admits c.args.door.now) c.args.self.now.lanes.items c.add_line.new.self.lanes.items c.add_line.ensures.passes c.requires in search (rules, own)
+
+pub returns-clause-told : goal.returns-clause-told
+returns-clause-told g c = λ lines held h. told-closed _ _ _ _ _ _ _ c.in_ok-close.ensures.closed (c.in-Ok.ensures.told lines held _ h)

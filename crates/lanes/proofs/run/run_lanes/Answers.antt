@@ -1,0 +1,44 @@
+use Rattle.std.proofs.Common.{[], arith}
+use Rattle.std.proofs.lemmas.Result.{err_from_is_err_and}
+use Rattle.wire_counted.proofs.Known.{Consumes-none}
+use Rattle.lanes.proofs.FaultLemmas.{device-fault, device-later}
+use Rattle.lanes.proofs.LaneLemmas.{own-of}
+use Rattle.lanes.proofs.run.run_lanes.Goals as goal
+
+pub loop-init : goal.loop-init
+loop-init g c = record {
+  room = omega (arith, c.in_ok-buffer.ensures.len);
+  own = own-of (g.D.Door.admits c.args.door.now) c.args.passes.items c.in_ok-script.script.lanes.items c.in_ok-script.ensures.passes c.requires;
+  progress = record { text = []; read = Consumes-none _; told = c.in_ok-script.ensures.told _ _ };
+  reads = omega arith;
+  writes = omega arith;
+}
+
+pub returns-in_err-turn-clause-fault : goal.returns-in_err-turn-clause-fault
+returns-in_err-turn-clause-fault g c =
+    let p = err_from_is_err_and c.from_residual-in_err-turn.result c.from_residual-in_err-turn.ensures.1 in
+    rw (p.1, p.2) (device-later _ c.loop.reader.failures _ _ c.loop.writer.failures _ _ c.loop.invariant.reads c.loop.invariant.writes c.in_err-turn.ensures.fault)
+
+pub returns-in_err-finish-clause-fault : goal.returns-in_err-finish-clause-fault
+returns-in_err-finish-clause-fault g c =
+    let p = err_from_is_err_and c.from_residual-in_err-finish.result c.from_residual-in_err-finish.ensures.1 in
+    rw (p.1, p.2) (device-fault _ _ _ _ c.turn.new.writer.failures _ (omega (arith, c.loop.invariant.writes, c.turn.ensures.write_grows)) c.in_err-finish.ensures.fault)
+
+pub returns-then-branch-clause-ran : goal.returns-then-branch-clause-ran
+returns-then-branch-clause-ran g c =
+    let p = c.in_ok-turn.ensures.progress _ _ c.loop.invariant.progress in
+    record {
+      text = p.text;
+      read = p.read;
+      at_end = c.in_ok-turn.ensures.end c.if-branch.true;
+      told = c.in_ok-finish.ensures.ended p.text _ p.told;
+    }
+
+pub loop-preserved : goal.loop-preserved
+loop-preserved g c = record {
+  room = omega (arith, c.loop.invariant.room);
+  own = c.turn.ensures.own;
+  progress = c.in_ok-turn.ensures.progress _ _ c.loop.invariant.progress;
+  reads = omega (arith, c.loop.invariant.reads, c.turn.ensures.read_grows);
+  writes = omega (arith, c.loop.invariant.writes, c.turn.ensures.write_grows);
+}

@@ -1,0 +1,59 @@
+//! What the lanes' calls go through.
+
+ghost use Rattle.std.specs.Prelude.{◌≡◌, IfOk};
+ghost use Rattle.service.specs.Services.{IsPassOf, ServedOnAtLast, known_by, settings_of};
+ghost use Rattle.service.specs.Contents.{refusal_of_call, slot_of_call};
+ghost use Rattle.service_model.specs.Calls.{request_of};
+
+use service::{Pass, Service};
+use service_model::answer::Reply;
+use service_model::call::Call;
+use std::alloc::AllocError;
+use std::sync::Wait;
+
+/// What serves the calls of passes that are its own.
+pub trait Door {
+    ghost use Rattle.service.specs.declared.service.Pass.{Pass};
+    ghost use Rattle.service_model.specs.declared.call.Call.{Call};
+    ghost use Rattle.service_model.specs.Outcome.{Reply};
+
+    // The pass is one of this door's.
+    ghost admits: { Self → Pass → Type 0 };
+
+    // A call of a pass that knew this, and then knew that, was answered so.
+    ghost serves: { Self → Pass → Pass → Call → Reply → Type 0 };
+
+    /// Serves a call. It may wait for ever.
+    fn call<R: Wait>(&self, rt: &R, pass: &mut Pass, call: Call) -> Result<Reply, AllocError>
+        requires { admits self.now pass.old }
+        ensures own { admits self.now pass.new }
+        ensures served { IfOk result (λ r. serves self.now pass.old pass.new call r) };
+
+    /// Two passes tell each other what they have seen.
+    fn meet(&self, one: &mut Pass, other: &mut Pass)
+        requires one { admits self.now one.old }
+        requires other { admits self.now other.old }
+        ensures one { admits self.now one.new }
+        ensures other { admits self.now other.new };
+}
+
+impl Door for Service {
+    ghost use Rattle.service.specs.Services.{IsPassOf, ServedOnAtLast, settings_of};
+    ghost use Rattle.service.specs.Contents.{refusal_of_call, slot_of_call};
+    ghost use Rattle.service_model.specs.Calls.{request_of};
+
+    ghost admits = { λ x p. IsPassOf p x };
+
+    ghost serves = { λ x p p' c r. ServedOnAtLast x p p' (refusal_of_call (settings_of x) c) (slot_of_call (settings_of x) c) (request_of c) r };
+
+    fn call<R: Wait>(&self, rt: &R, pass: &mut Pass, call: Call) -> Result<Reply, AllocError> {
+        match self.serve_call(rt, pass, call) {
+            Ok(reply) => Ok(reply),
+            Err((error, _request)) => Err(error),
+        }
+    }
+
+    fn meet(&self, one: &mut Pass, other: &mut Pass) {
+        Service::meet(self, one, other);
+    }
+}

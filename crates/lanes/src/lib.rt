@@ -1,0 +1,14 @@
+//! Scripts over several lanes: a line goes to the thread of its lane, and all lanes run at the same time.
+//!
+//! `run_lanes` reads lines up to a barrier or the end, lets every lane serve its own in their order, each
+//! in a thread of its own with its own pass, and then writes the replies in the order of the lines.
+#![tactic(auto)]
+
+mod door;
+mod lane;
+mod phase;
+mod print;
+mod run;
+
+pub use door::Door;
+pub use run::run_lanes;

@@ -1,0 +1,85 @@
+//! The lines between two barriers.
+
+ghost use Rattle.std.specs.Prelude.{◌≡◌, ◌+◌, ◌<◌, ◌≤◌, ◌^◌, All, length, IfOk, IfErr, OnErr};
+ghost use Rattle.script.specs.Endings.{IsWriteFault};
+ghost use Rattle.lanes.specs.Printed.{Printed, Begun};
+
+use crate::door::Door;
+use crate::lane::Lane;
+use crate::print::{Place, print};
+use script::ScriptFault;
+use std::alloc::Global;
+use std::io::Write;
+use std::sync::Wait;
+use std::thread;
+use std::thread::Threads;
+use wire_counted::Counted;
+
+/// Lets all lanes make their calls at the same time, each in a thread of its own.
+fn serve_lanes<R: Threads + Wait + Sync, D: Door + Sync>(
+    rt: &R,
+    alloc: Global,
+    door: &D,
+    lanes: &mut [Lane],
+)
+    requires { All (λ l. D.admits door.now l.pass) lanes.old }
+    ensures own { All (λ l. D.admits door.now l.pass) lanes.new }
+    ensures count { length lanes.new ≡ length lanes.old }
+{
+    let threads = lanes.len();
+    if threads > 0 {
+        thread::for_each_mut(
+            rt,
+            lanes,
+            threads,
+            &|_, lane: &mut Lane|
+                requires { D.admits door.now lane.now.pass }
+                ensures { D.admits door.entry.now lane.exit.now.pass }
+            { lane.serve(rt, alloc, door) },
+        );
+    }
+}
+
+/// The first lane meets every other, in their order.
+fn meet_all<D: Door>(door: &D, lanes: &mut [Lane])
+    requires { All (λ l. D.admits door.now l.pass) lanes.old }
+    ensures own { All (λ l. D.admits door.now l.pass) lanes.new }
+    ensures count { length lanes.new ≡ length lanes.old }
+{
+    if let Some((first, rest)) = lanes.split_first_mut() {
+        for other in rest {
+            door.meet(&mut first.pass, &mut other.pass);
+        }
+    }
+}
+
+/// Lets all lanes make their calls, lets the first one meet every other, and writes the replies to the
+/// lines, which are numbered from this one on. It says whether one of them is a refusal.
+pub(crate) fn serve_phase<R: Threads + Wait + Sync, D: Door + Sync, W: Write>(
+    rt: &R,
+    alloc: Global,
+    door: &D,
+    lanes: &mut [Lane],
+    first: u64,
+    places: &[Place],
+    writer: &mut Counted<W>,
+) -> Result<bool, ScriptFault>
+    requires own { All (λ l. D.admits door.now l.pass) lanes.old }
+    requires numbers { first + length places.now < 2 ^ 64 }
+    ensures own { All (λ l. D.admits door.now l.pass) lanes.new }
+    ensures count { length lanes.new ≡ length lanes.old }
+    ensures printed { IfOk result (λ refused. Printed first places.now refused
+        (W.contents writer.old.inner) (W.contents writer.new.inner)) }
+    ensures begun { OnErr result (Begun first places.now
+        (W.contents writer.old.inner) (W.contents writer.new.inner)) }
+    ensures grows { writer.old.failures ≤ writer.new.failures }
+    ensures fault { IfErr result (λ e. IsWriteFault e writer.old.failures writer.new.failures) }
+{
+    serve_lanes(rt, alloc, door, lanes);
+    meet_all(door, lanes);
+    let refused = print(alloc, lanes, first, places, writer)?;
+    if let Err(error) = writer.flush() {
+        return Err(ScriptFault::Write(error));
+    }
+    Ok(refused)
+}

@@ -1,0 +1,211 @@
+#!/usr/bin/env python3
+"""Draws a workflow's history as one page: events down, time across.
+
+    ./serve FILE | tools/timeline.py > page.html      draws the last history among the replies
+    tools/timeline.py REPLIES > page.html             the same, of a file of replies
+
+Workflow tasks, activities, timers and children are bars from the event that opened them to the one
+that ended them: light while they wait, dark while a worker has them. A ring marks an event that was
+held back while a workflow task was started: it stands behind events that were made later.
+The page needs nothing beside itself. This script only reads replies; no proof covers it.
+"""
+import html
+import json
+import sys
+
+ROW, LEFT, WIDTH, RIGHT, TOP = 22, 290, 700, 40, 46
+KINDS = {"task": "#4c6ef5", "activity": "#2b8a3e", "timer": "#e8590c", "child": "#9c36b5"}
+OPENS = {
+    "WorkflowTaskScheduled": "task",
+    "ActivityTaskScheduled": "activity",
+    "TimerStarted": "timer",
+    "StartChildWorkflowExecutionInitiated": "child",
+}
+ENDS = {
+    "WorkflowTaskCompleted": "scheduled",
+    "WorkflowTaskFailed": "scheduled",
+    "WorkflowTaskTimedOut": "scheduled",
+    "ActivityTaskCompleted": "scheduled",
+    "ActivityTaskFailed": "scheduled",
+    "ActivityTaskTimedOut": "scheduled",
+    "ActivityTaskCanceled": "scheduled",
+    "TimerFired": "started",
+    "TimerCanceled": "started",
+    "ChildWorkflowExecutionCompleted": "initiated",
+    "ChildWorkflowExecutionFailed": "initiated",
+    "ChildWorkflowExecutionCanceled": "initiated",
+    "ChildWorkflowExecutionTimedOut": "initiated",
+    "ChildWorkflowExecutionTerminated": "initiated",
+    "StartChildWorkflowExecutionFailed": "initiated",
+}
+SAID = ("name", "activity_id", "timer_id", "marker_name", "workflow_id", "cause", "reason", "retry", "attempt")
+
+
+class NoHistory(Exception):
+    """The replies hold no history."""
+
+
+def last_history(lines):
+    """The last reply that answers a history."""
+    found = None
+    for line in lines:
+        reply = json.loads(line)
+        if reply.get("ok") == "history":
+            found = reply
+    if found is None:
+        raise NoHistory("there is no history among these replies")
+    return found
+
+
+def held_back(events):
+    """The ids of the events that were made before one that stands in front of them."""
+    held, latest = set(), 0
+    for event in events:
+        if event["at"] < latest:
+            held.add(event["id"])
+        latest = max(latest, event["at"])
+    return held
+
+
+class Bar:
+    """What an event opened: from its moment to its end, and since when a worker had it."""
+
+    def __init__(self, event, kind):
+        self.row = event["id"] - 1
+        self.kind = kind
+        self.begin = event["at"]
+        self.taken = event["at"] if kind in ("timer", "child") else None
+        self.end = None
+        self.attempt = event["attrs"].get("attempt", 1)
+
+    def take(self, at, attempt):
+        self.taken = at
+        self.attempt = attempt or self.attempt
+
+
+def bars_of(events):
+    """The bars of a history, by the ids of the events that opened them."""
+    bars = {}
+    for event in events:
+        kind, attrs = event["type"], event["attrs"]
+        if kind in OPENS:
+            bars[event["id"]] = Bar(event, OPENS[kind])
+        opener = bars.get(attrs.get("scheduled"))
+        if kind == "WorkflowTaskStarted" and opener:
+            opener.take(event["at"], None)
+        if kind == "ActivityTaskStarted" and opener:
+            opener.take(attrs["taken"], attrs["attempt"])
+        ended = bars.get(attrs.get(ENDS.get(kind, "")))
+        if ended:
+            ended.end = event["at"]
+    return bars
+
+
+class Scale:
+    """Moments as places across the page."""
+
+    def __init__(self, events):
+        moments = [event["at"] for event in events]
+        self.first, self.last = min(moments), max(moments)
+
+    def x(self, moment):
+        span = max(self.last - self.first, 1)
+        return LEFT + WIDTH * (moment - self.first) / span
+
+
+def rectangle(x, y, width, color, opacity):
+    return (
+        f'<rect x="{x:.1f}" y="{y}" width="{max(width, 2):.1f}" height="10" rx="2" '
+        f'fill="{color}" fill-opacity="{opacity}"/>'
+    )
+
+
+def drawn_bar(bar, scale):
+    """A bar: light up to its taking, dark from there on; an open end fades out to the right."""
+    y, color = TOP + bar.row * ROW - 5, KINDS[bar.kind]
+    end = scale.last if bar.end is None else bar.end
+    taken = end if bar.taken is None else bar.taken
+    begin, middle, stop = scale.x(bar.begin), scale.x(taken), scale.x(end)
+    parts = [rectangle(begin, y, middle - begin, color, 0.25)]
+    if bar.taken is not None:
+        parts.append(rectangle(middle, y, stop - middle, color, 0.45 if bar.end is None else 0.85))
+    if bar.attempt > 1:
+        parts.append(f'<text x="{stop + 8:.1f}" y="{y + 9}" class="note">attempt {bar.attempt}</text>')
+    return "".join(parts)
+
+
+def label(event):
+    """What stands beside an event: its id, its type and the first field that says more."""
+    said = next((event["attrs"][key] for key in SAID if key in event["attrs"]), "")
+    text = f'{event["id"]}  {event["type"]}'
+    return html.escape(text), html.escape(str(said))[:24]
+
+
+def drawn_event(event, scale, held):
+    y = TOP + (event["id"] - 1) * ROW
+    name, said = label(event)
+    ring = f'<circle cx="{scale.x(event["at"]):.1f}" cy="{y}" r="7" class="ring"/>' if event["id"] in held else ""
+    details = html.escape(json.dumps(event["attrs"], ensure_ascii=False))
+    return (
+        f'<g><title>at {event["at"]}: {details}</title>'
+        f'<text x="8" y="{y + 4}">{name} <tspan class="note">{said}</tspan></text>'
+        f'<circle cx="{scale.x(event["at"]):.1f}" cy="{y}" r="3"/>{ring}</g>'
+    )
+
+
+def axis(scale, height):
+    """Five moments across the top, with a line down from each."""
+    parts, shown = [], set()
+    for step in range(5):
+        moment = scale.first + (scale.last - scale.first) * step // 4
+        if moment in shown:
+            continue
+        shown.add(moment)
+        x = scale.x(moment)
+        parts.append(f'<line x1="{x:.1f}" y1="28" x2="{x:.1f}" y2="{height}" class="grid"/>')
+        parts.append(f'<text x="{x:.1f}" y="20" text-anchor="middle" class="note">{moment} ms</text>')
+    return "".join(parts)
+
+
+STYLE = """
+:root { color-scheme: light dark; }
+body { font: 14px system-ui, sans-serif; margin: 2em; }
+svg { font: 12px ui-monospace, monospace; fill: currentColor; }
+.note { opacity: 0.65; }
+.grid { stroke: currentColor; stroke-opacity: 0.15; }
+.ring { fill: none; stroke: #e03131; stroke-width: 2; }
+"""
+
+
+def picture(events):
+    scale, held = Scale(events), held_back(events)
+    height = TOP + len(events) * ROW
+    width = LEFT + WIDTH + RIGHT + 60
+    bars = "".join(drawn_bar(bar, scale) for bar in bars_of(events).values())
+    rows = "".join(drawn_event(event, scale, held) for event in events)
+    return (
+        f'<svg xmlns="http://www.w3.org/2000/svg" width="{width}" height="{height}" '
+        f'viewBox="0 0 {width} {height}">{axis(scale, height)}{bars}{rows}</svg>'
+    )
+
+
+def page(history):
+    legend = "".join(f'<span style="color:{color}">&#9632;</span> {kind} ' for kind, color in KINDS.items())
+    title = html.escape(history["run"])
+    return (
+        f"<!doctype html><html lang=en><meta charset=utf-8><title>{title}</title><style>{STYLE}</style>"
+        f"<h1>Run {title}</h1><p>{legend} &mdash; light: waits, dark: a worker has it, "
+        f'<span style="color:#e03131">&#9711;</span> was held back</p>{picture(history["events"])}</html>\n'
+    )
+
+
+def main():
+    try:
+        source = open(sys.argv[1], encoding="utf-8") if sys.argv[1:] else sys.stdin
+        sys.stdout.write(page(last_history(source)))
+    except (NoHistory, OSError, ValueError) as fault:
+        sys.exit(f"timeline: {fault}")
+
+
+if __name__ == "__main__":
+    main()
