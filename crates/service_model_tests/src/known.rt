@@ -5,11 +5,28 @@ use service_model::answer::{Answer, Fired, History, Reply};
 use service_model::request::{Hint, TakenTask};
 use std::alloc::{AllocError, Global};
 use wf_event::Attributes;
-use wf_event_values::{DeadlineClass, TaskKind};
+use wf_event_values::{DeadlineClass, Refusal, TaskKind};
+
+/// What a worker would do next.
+#[derive(Clone, Copy)]
+pub(crate) enum Next {
+    Start,
+    /// It looks at a history, which shows the tasks that may wait.
+    Look,
+    Take,
+    /// It waits for something to happen.
+    Wake,
+    Complete,
+    /// It says something of an attempt.
+    Report,
+    /// It has heard that the activity is to cancel.
+    Cancel,
+}
 
 /// The hints and tokens that replies gave, old ones too, and the number of the last dispatch.
 #[derive(Drop)]
 pub(crate) struct Known {
+    pub(crate) next: Next,
     hints: Vec<Hint>,
     tokens: Vec<TakenTask>,
     attempts: Vec<TakenTask>,
@@ -19,6 +36,7 @@ pub(crate) struct Known {
 impl Known {
     pub(crate) fn new(alloc: Global) -> Known {
         Known {
+            next: Next::Look,
             hints: Vec::new(alloc),
             tokens: Vec::new(alloc),
             attempts: Vec::new(alloc),
@@ -29,15 +47,19 @@ impl Known {
     /// Learns from a reply: a run's first task, the last tasks that a history shows, the attempt that
     /// a deadline queues, a dispatch, and a token.
     pub(crate) fn learn(&mut self, shard: u16, reply: &Reply) -> Result<(), AllocError> {
+        self.next = next_after(reply);
         match reply {
             Ok(Answer::Started(run)) => {
                 self.hints.push(hint(shard, run.ordinal(), 2, 1))?;
             }
             Ok(Answer::History(history)) => {
-                if let Some(hint) = last_activity(shard, history) {
+                self.next = Next::Wake;
+                if let Some(hint) = waiting_task(shard, history) {
+                    self.next = Next::Take;
                     self.hints.push(hint)?;
                 }
-                if let Some(hint) = last_hint(shard, history) {
+                if let Some(hint) = self.waiting_activity(shard, history) {
+                    self.next = Next::Take;
                     self.hints.push(hint)?;
                 }
             }
@@ -71,16 +93,45 @@ impl Known {
         Ok(())
     }
 
+    /// The first attempt of the last activity that a history shows, where none was taken.
+    fn waiting_activity(&self, shard: u16, history: &History) -> Option<Hint> {
+        let run = history.run.ordinal();
+        let mut found = None;
+        for event in history.events.as_slice() {
+            if let Attributes::ActivityTaskScheduled(_) = &event.attributes {
+                if !self.was_taken(run, event.id) {
+                    found = Some(activity_hint(shard, run, event.id, 1));
+                }
+            }
+        }
+        found
+    }
+
+    /// Whether an attempt of the activity was taken.
+    fn was_taken(&self, run: u64, event: u64) -> bool {
+        self.attempts
+            .iter()
+            .any(|taken| taken.run == run && taken.event == event)
+    }
+
     /// The attempt that a deadline queues, by the last one of that activity.
     fn next_attempt(&self, shard: u16, fired: Fired) -> Option<Hint> {
-        let DeadlineClass::RetryReady = fired.class else {
-            return None;
-        };
-        let mut found = None;
+        match fired.class {
+            DeadlineClass::RetryReady => {
+                let run = fired.run.ordinal();
+                let last = self.last_attempt(run, fired.event);
+                Some(activity_hint(shard, run, fired.event, last.saturating_add(1)))
+            }
+            _ => None,
+        }
+    }
+
+    /// The number of the last attempt of an activity that was taken, or 0.
+    fn last_attempt(&self, run: u64, event: u64) -> u32 {
+        let mut found = 0;
         for taken in &self.attempts {
-            if taken.run == fired.run.ordinal() && taken.event == fired.event {
-                let attempt = taken.attempt.saturating_add(1);
-                found = Some(activity_hint(shard, taken.run, taken.event, attempt));
+            if taken.run == run && taken.event == event {
+                found = taken.attempt;
             }
         }
         found
@@ -97,6 +148,9 @@ impl Known {
 
     /// One of the last hints, now and then one that names another task.
     pub(crate) fn hint(&self, draws: &mut Draws) -> Hint {
+        if draws.one_in(8) {
+            return self.guess(draws);
+        }
         let mut drawn = match recent(self.hints.len(), draws) {
             Some(place) if place < self.hints.len() => self.hints[place],
             _ => hint(0, draws.below(3), draws.below(4), 1),
@@ -113,12 +167,25 @@ impl Known {
         drawn
     }
 
-    /// The event of one of the last attempts, or else of one of the last hints.
-    pub(crate) fn scheduled(&self, draws: &mut Draws) -> u64 {
-        if draws.one_in(2) {
+    /// The first attempt of an activity that one of the first events of a run may have scheduled.
+    fn guess(&self, draws: &mut Draws) -> Hint {
+        let task = self.token(draws);
+        activity_hint(task.shard, task.run, 5 + draws.below(10), 1)
+    }
+
+    /// The event of the activity of this run whose attempt was taken last, or 0; now and then that of
+    /// another task.
+    pub(crate) fn scheduled(&self, draws: &mut Draws, run: u64) -> u64 {
+        if draws.one_in(8) {
             return self.hint(draws).event;
         }
-        self.attempt(draws).event
+        let mut found = 0;
+        for taken in &self.attempts {
+            if taken.run == run {
+                found = taken.event;
+            }
+        }
+        found
     }
 
     /// One of the last tokens, most of which were used, now and then one that names another task.
@@ -172,29 +239,33 @@ fn activity_hint(shard: u16, run: u64, event: u64, attempt: u32) -> Hint {
     }
 }
 
+fn next_after(reply: &Reply) -> Next {
+    match reply {
+        Ok(Answer::Started(_)) | Ok(Answer::History(_)) | Ok(Answer::Fired(_)) => Next::Take,
+        Ok(Answer::WorkflowTask(_)) => Next::Complete,
+        Ok(Answer::ActivityTask(_)) | Ok(Answer::Completed) => Next::Report,
+        Ok(Answer::Heartbeat(true)) => Next::Cancel,
+        Err(Refusal::NotFound) => Next::Start,
+        _ => Next::Look,
+    }
+}
+
 /// One of the last four places of a list of that length, the last one most often.
 fn recent(count: usize, draws: &mut Draws) -> Option<usize> {
-    let back = if draws.one_in(2) { 0 } else { draws.below(4) };
+    let back = if draws.one_in(4) { draws.below(4) } else { 0 };
     count.checked_sub(1 + back as usize)
 }
 
-/// The last workflow task that a history shows.
-fn last_hint(shard: u16, history: &History) -> Option<Hint> {
+/// The last workflow task that a history shows, where it waits to be taken.
+fn waiting_task(shard: u16, history: &History) -> Option<Hint> {
     let mut found = None;
     for event in history.events.as_slice() {
-        if let Attributes::WorkflowTaskScheduled(task) = &event.attributes {
-            found = Some(hint(shard, history.run.ordinal(), event.id, task.attempt));
-        }
-    }
-    found
-}
-
-/// The first attempt of the last activity that a history shows.
-fn last_activity(shard: u16, history: &History) -> Option<Hint> {
-    let mut found = None;
-    for event in history.events.as_slice() {
-        if let Attributes::ActivityTaskScheduled(_) = &event.attributes {
-            found = Some(activity_hint(shard, history.run.ordinal(), event.id, 1));
+        match &event.attributes {
+            Attributes::WorkflowTaskScheduled(task) => {
+                found = Some(hint(shard, history.run.ordinal(), event.id, task.attempt));
+            }
+            Attributes::WorkflowTaskStarted(_) => found = None,
+            _ => {}
         }
     }
     found

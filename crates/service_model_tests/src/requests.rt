@@ -5,7 +5,7 @@
 ghost use Rattle.std.specs.Prelude.{◌≡◌, ◌<◌};
 
 use crate::draws::Draws;
-use crate::known::Known;
+use crate::known::{Known, Next};
 use service_model::request::{
     ActivityText, CompleteWorkflowTask, FailActivity, FailWorkflowTask, Operation, Read, Request,
     Signal, Start,
@@ -19,7 +19,7 @@ use wf_event_values::{
 };
 
 /// How many workflow IDs there are.
-const WORKFLOWS: u64 = 10;
+const WORKFLOWS: u64 = 3;
 
 /// How many request ids there are.
 const REQUESTS: u64 = 4;
@@ -31,27 +31,47 @@ pub(crate) fn request(
     known: &Known,
     number: u64,
 ) -> Result<Request, Refusal> {
-    let millis = number.saturating_mul(10).saturating_add(draws.below(60));
+    let millis = number.saturating_mul(5).saturating_add(draws.below(30));
     let at = Moment::new(Field::At, millis)?;
     let operation = operation(alloc, draws, known)?;
     Ok(Request { at, operation })
 }
 
+/// Most of the time what comes next in a run.
 fn operation(alloc: Global, draws: &mut Draws, known: &Known) -> Result<Operation, Refusal> {
-    match draws.below(36) {
-        0..=1 => Ok(Operation::Start(start(alloc, draws)?)),
-        2..=3 => Ok(Operation::Signal(signal(alloc, draws)?)),
-        4..=9 => Ok(Operation::StartTask(known.hint(draws))),
-        10..=13 => Ok(Operation::CompleteWorkflowTask(completion(alloc, draws, known)?)),
-        14 => Ok(Operation::FailWorkflowTask(FailWorkflowTask {
+    if draws.one_in(3) {
+        return any_operation(alloc, draws, known);
+    }
+    match known.next {
+        Next::Start => Ok(Operation::Start(start(alloc, draws)?)),
+        Next::Look => Ok(Operation::History(read(alloc, draws)?)),
+        Next::Take => Ok(Operation::StartTask(known.hint(draws))),
+        Next::Wake if draws.one_in(3) => Ok(Operation::TimerTurn),
+        Next::Wake => Ok(Operation::Signal(signal(alloc, draws)?)),
+        Next::Complete => Ok(Operation::CompleteWorkflowTask(completion(alloc, draws, known)?)),
+        Next::Report => report(alloc, draws, known),
+        Next::Cancel => Ok(Operation::CancelActivity(ActivityText {
+            task: known.attempt(draws),
+            text: input(alloc, draws)?,
+        })),
+    }
+}
+
+fn any_operation(alloc: Global, draws: &mut Draws, known: &Known) -> Result<Operation, Refusal> {
+    match draws.below(33) {
+        0..=2 => Ok(Operation::Start(start(alloc, draws)?)),
+        3..=5 => Ok(Operation::Signal(signal(alloc, draws)?)),
+        6..=8 => Ok(Operation::StartTask(known.hint(draws))),
+        9..=10 => Ok(Operation::CompleteWorkflowTask(completion(alloc, draws, known)?)),
+        11 => Ok(Operation::FailWorkflowTask(FailWorkflowTask {
             task: known.token(draws),
             message: input(alloc, draws)?,
         })),
-        15..=17 => Ok(Operation::History(read(alloc, draws)?)),
-        18..=23 => Ok(Operation::TimerTurn),
-        24..=30 => report(alloc, draws, known),
-        31..=32 => Ok(Operation::NextDispatch),
-        33..=34 => Ok(Operation::Dispatched(known.dispatch(draws))),
+        12..=14 => Ok(Operation::History(read(alloc, draws)?)),
+        15..=21 => Ok(Operation::TimerTurn),
+        22..=26 => report(alloc, draws, known),
+        27..=28 => Ok(Operation::NextDispatch),
+        29..=31 => Ok(Operation::Dispatched(known.dispatch(draws))),
         _ => Ok(Operation::Describe(read(alloc, draws)?)),
     }
 }
@@ -62,13 +82,13 @@ fn report(alloc: Global, draws: &mut Draws, known: &Known) -> Result<Operation, 
     let text = input(alloc, draws)?;
     match draws.below(8) {
         0 => Ok(Operation::CompleteActivity(ActivityText { task, text })),
-        1..=3 => Ok(Operation::FailActivity(FailActivity {
+        1..=2 => Ok(Operation::FailActivity(FailActivity {
             task,
             message: text,
             error_type: error_type(alloc, draws)?,
             non_retryable: draws.one_in(16),
         })),
-        4..=5 => Ok(Operation::CancelActivity(ActivityText { task, text })),
+        3 => Ok(Operation::CancelActivity(ActivityText { task, text })),
         _ => Ok(Operation::Heartbeat(ActivityText { task, text })),
     }
 }
@@ -81,40 +101,42 @@ fn error_type(alloc: Global, draws: &mut Draws) -> Result<Option<Text>, Refusal>
     Ok(Some(Text::new(alloc, Field::ErrorType, name)?))
 }
 
-/// A completion by up to three commands.
+/// A completion by up to two commands.
 fn completion(
     alloc: Global,
     draws: &mut Draws,
     known: &Known,
 ) -> Result<CompleteWorkflowTask, Refusal> {
+    let task = known.token(draws);
+    let asked = known.scheduled(draws, task.run);
     let mut commands = Vec::new(alloc);
-    for _ in 0..draws.below(4) {
-        commands.push(command(alloc, draws, known)?)?;
+    for _ in 0..1 + draws.below(2) {
+        commands.push(command(alloc, draws, asked)?)?;
     }
     Ok(CompleteWorkflowTask {
-        task: known.token(draws),
+        task,
         commands: Items::from_vec(commands),
     })
 }
 
 /// A marker, a timer or an activity most of the time, seldom a command that isn't served, and else one
 /// that closes.
-fn command(alloc: Global, draws: &mut Draws, known: &Known) -> Result<Command, Refusal> {
-    match draws.below(22) {
-        0..=2 => Ok(Command::RecordMarker(RecordMarker {
+fn command(alloc: Global, draws: &mut Draws, asked: u64) -> Result<Command, Refusal> {
+    match draws.below(26) {
+        0..=1 => Ok(Command::RecordMarker(RecordMarker {
             name: Text::new(alloc, Field::Name, "mark")?,
             details: input(alloc, draws)?,
         })),
-        3..=6 => Ok(Command::StartTimer(StartTimer {
+        2..=4 => Ok(Command::StartTimer(StartTimer {
             timer_id: timer_id(alloc, draws)?,
             duration: Span::new(Field::Duration, draws.below(100))?,
         })),
-        7 => Ok(Command::CancelTimer(timer_id(alloc, draws)?)),
-        8..=12 => Ok(Command::ScheduleActivityTask(activity(alloc, draws)?)),
-        13..=15 => Ok(Command::RequestCancelActivityTask(known.scheduled(draws))),
-        16..=17 => Ok(Command::CompleteWorkflowExecution(input(alloc, draws)?)),
-        18..=19 => Ok(Command::FailWorkflowExecution(input(alloc, draws)?)),
-        20 => Ok(Command::CancelWorkflowExecution(input(alloc, draws)?)),
+        5 => Ok(Command::CancelTimer(timer_id(alloc, draws)?)),
+        6..=13 if asked > 0 => Ok(Command::RequestCancelActivityTask(asked)),
+        6..=21 => Ok(Command::ScheduleActivityTask(activity(alloc, draws)?)),
+        22 => Ok(Command::CompleteWorkflowExecution(input(alloc, draws)?)),
+        23 => Ok(Command::FailWorkflowExecution(input(alloc, draws)?)),
+        24 => Ok(Command::CancelWorkflowExecution(input(alloc, draws)?)),
         _ => Ok(Command::RequestCancelExternalWorkflowExecution(RequestCancelExternal {
             workflow_id: workflow_id(alloc, draws)?,
             run: run(draws),
@@ -203,12 +225,12 @@ fn timer_id(alloc: Global, draws: &mut Draws) -> Result<Id, Refusal> {
 }
 
 fn activity_id(alloc: Global, draws: &mut Draws) -> Result<Id, Refusal> {
-    let text = format!(in alloc; "activity-{}", draws.below(4))?;
+    let text = format!(in alloc; "activity-{}", draws.below(16))?;
     Id::new(alloc, Field::ActivityId, text.as_str())
 }
 
 fn queue(alloc: Global, draws: &mut Draws) -> Result<Id, Refusal> {
-    let name = if draws.one_in(8) { "nobody" } else { "main" };
+    let name = if draws.one_in(16) { "nobody" } else { "main" };
     Id::new(alloc, Field::TaskQueue, name)
 }
 
@@ -227,13 +249,13 @@ fn span(draws: &mut Draws, limit: u64) -> Result<Span, Refusal>
     Span::new(Field::Duration, draws.below(limit))
 }
 
-/// A third of the requests name a run.
+/// A sixth of the requests name a run.
 fn run(draws: &mut Draws) -> Option<RunId> {
-    if !draws.one_in(3) {
+    if !draws.one_in(6) {
         return None;
     }
     let service = if draws.one_in(8) { 2 } else { 1 };
     let shard = draws.below(2) as u16;
-    let ordinal = draws.below(WORKFLOWS + 2);
+    let ordinal = draws.below(WORKFLOWS + 7);
     Some(RunId::new(service, shard, ordinal))
 }

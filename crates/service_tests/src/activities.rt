@@ -121,8 +121,11 @@ fn schedule<R: Abort + AllocGlobal>(
     let at = Moment::zero();
     let _ = service.try_start_task(pass, hint(TaskKind::Workflow, scheduled), at);
     let command = activity(rt, name);
-    let completed =
-        service.try_complete_workflow_task(pass, completion(rt, scheduled, command), at);
+    let completed = service.try_complete_workflow_task(
+        pass,
+        completion(rt, scheduled, command),
+        at,
+    );
     assert_eq!(rt; shown(completed), "completed");
     let taken = service.try_start_task(pass, hint(TaskKind::Activity, activity_event), at);
     assert_eq!(rt; shown(taken), "task");
@@ -142,8 +145,11 @@ fn ask_to_cancel<R: Abort + AllocGlobal>(
     let at = Moment::zero();
     let _ = service.try_start_task(pass, hint(TaskKind::Workflow, scheduled), at);
     let command = Command::RequestCancelActivityTask(activity_event);
-    let completed =
-        service.try_complete_workflow_task(pass, completion(rt, scheduled, command), at);
+    let completed = service.try_complete_workflow_task(
+        pass,
+        completion(rt, scheduled, command),
+        at,
+    );
     assert_eq!(rt; shown(completed), "completed");
 }
 
