@@ -33,7 +33,12 @@ pub(crate) fn request(
 ) -> Result<Request, Refusal> {
     let millis = number.saturating_mul(5).saturating_add(draws.below(30));
     let at = Moment::new(Field::At, millis)?;
-    let operation = operation(alloc, draws, known)?;
+    let operation = if number == 0 {
+        // A shard that has served nothing has no dispatch.
+        Operation::NextDispatch
+    } else {
+        operation(alloc, draws, known)?
+    };
     Ok(Request { at, operation })
 }
 
