@@ -3,7 +3,7 @@
 
 ghost use Rattle.service.specs.Services.{IsPassOf};
 
-use crate::asked::{TWO_SHARDS, id, signal, start, text};
+use crate::asked::{id, signal, start, text, two_shards};
 use crate::passes::{open, take_pass};
 use service::{Pass, Service};
 use service_model::answer::{Answer, Reply};
@@ -155,7 +155,7 @@ fn ask_to_cancel<R: Abort + AllocGlobal>(
 
 #[test]
 fn calls_that_may_wait(rt: HostRuntime) {
-    let (service, mut passes) = open(&rt, &TWO_SHARDS);
+    let (service, mut passes) = open(&rt, &two_shards(&rt));
     let mut pass = take_pass(&service, &mut passes);
     let at = Moment::zero();
     let _ = service.try_start(&mut pass, start(&rt, "a", None), at);
@@ -176,7 +176,7 @@ fn calls_that_may_wait(rt: HostRuntime) {
 
 #[test]
 fn calls_that_never_wait(rt: HostRuntime) {
-    let (service, mut passes) = open(&rt, &TWO_SHARDS);
+    let (service, mut passes) = open(&rt, &two_shards(&rt));
     let mut pass = take_pass(&service, &mut passes);
     let at = Moment::zero();
     let _ = service.try_start(&mut pass, start(&rt, "a", None), at);
