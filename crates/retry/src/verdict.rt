@@ -81,7 +81,11 @@ fn lists(policy: &RetryPolicy, error_type: Option<&Text>) -> bool
     ensures { result ≡ is_listed policy.now.non_retryable (option_copied error_type.entry) }
 {
     match error_type {
-        Some(error_type) => policy.fields().non_retryable.as_slice().contains(error_type),
+        Some(error_type) => policy
+            .fields()
+            .non_retryable
+            .as_slice()
+            .contains(error_type),
         None => false,
     }
 }

@@ -5,8 +5,8 @@ use service_model::answer::{
     Acknowledged, ActivityTask, Answer, Description, Fired, History, NumberedDispatch, Retrying,
 };
 use service_model::content::Dispatch;
-use service_model::request::Hint;
 use service_model::limits::DEFAULT_CAPACITY;
+use service_model::request::Hint;
 use service_model::settings::{Settings, main_queue};
 use service_model::transfer::{ChildStartFailed, Transfer, TransferContent};
 use std::alloc::{AllocGlobal, Global};

@@ -3,11 +3,11 @@
 use crate::printed::{id, moment, print_event, span, text};
 use std::alloc::{AllocGlobal, Global};
 use std::io;
-use wf_event::{Attributes, RetryPolicy};
 use wf_event::payloads::{
     ActivityTaskCanceled, ActivityTaskCompleted, ActivityTaskFailed, ActivityTaskScheduled,
     ActivityTaskStarted, ActivityTaskTimedOut, PolicyFields, TaskEnd, TimerEnd, TimerStarted,
 };
+use wf_event::{Attributes, RetryPolicy};
 use wf_event_values::{Items, RetryState, Text, TimeoutKind};
 
 fn scheduled(alloc: Global, non_retryable: Vec<Text>) -> io::Result<Attributes> {
