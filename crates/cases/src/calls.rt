@@ -52,8 +52,8 @@ impl Opened {
     /// what it lacks.
     fn reply<R: Wait>(&mut self, rt: &R, form: CallForm, call: Call) -> Result<Reply, AllocError> {
         let reply = match form {
-            CallForm::MayWait => self.service.serve_call(rt, &mut self.pass, call).ok(),
-            CallForm::NeverWaits => self.service.try_serve_call(&mut self.pass, call).ok(),
+            CallForm::MayWait => self.service.serve_step(rt, &mut self.pass, call).ok(),
+            CallForm::NeverWaits => self.service.try_serve_step(&mut self.pass, call).ok(),
         };
         reply.ok_or(AllocError)
     }

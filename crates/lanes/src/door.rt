@@ -2,7 +2,7 @@
 
 ghost use Rattle.std.specs.Prelude.{◌≡◌, IfOk};
 ghost use Rattle.service.specs.Services.{IsPassOf, ServedOnAtLast, known_by, settings_of};
-ghost use Rattle.service.specs.Contents.{refusal_of_call, slot_of_call};
+ghost use Rattle.service.specs.Contents.{refusal_of_step, slot_of_step};
 ghost use Rattle.service_model.specs.Calls.{request_of};
 
 use service::{Pass, Service};
@@ -39,15 +39,15 @@ pub trait Door {
 
 impl Door for Service {
     ghost use Rattle.service.specs.Services.{IsPassOf, ServedOnAtLast, settings_of};
-    ghost use Rattle.service.specs.Contents.{refusal_of_call, slot_of_call};
+    ghost use Rattle.service.specs.Contents.{refusal_of_step, slot_of_step};
     ghost use Rattle.service_model.specs.Calls.{request_of};
 
     ghost admits = { λ x p. IsPassOf p x };
 
-    ghost serves = { λ x p p' c r. ServedOnAtLast x p p' (refusal_of_call (settings_of x) c) (slot_of_call (settings_of x) c) (request_of c) r };
+    ghost serves = { λ x p p' c r. ServedOnAtLast x p p' (refusal_of_step (settings_of x) c) (slot_of_step (settings_of x) c) (request_of c) r };
 
     fn call<R: Wait>(&self, rt: &R, pass: &mut Pass, call: Call) -> Result<Reply, AllocError> {
-        match self.serve_call(rt, pass, call) {
+        match self.serve_step(rt, pass, call) {
             Ok(reply) => Ok(reply),
             Err((error, _request)) => Err(error),
         }

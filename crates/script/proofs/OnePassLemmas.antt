@@ -7,7 +7,7 @@ use Rattle.wf_event_values.specs.declared.refusal.Refusal.{Refusal}
 use Rattle.gate.specs.declared.object.Refused.{Refused}
 use Rattle.gate.specs.declared.object.Refused.TheVariants.{Busy, NoMemory}
 use Rattle.std.specs.List.{range_with_len}
-use Rattle.service_model.specs.declared.call.Call.{Call}
+use Rattle.service_model.specs.declared.call.StepCall.{StepCall}
 use Rattle.service_model.specs.declared.content.Content.{Content}
 use Rattle.service_model.specs.declared.request.Request.{Request}
 use Rattle.service_model.specs.declared.settings.Settings.{Settings}
@@ -19,8 +19,8 @@ use Rattle.gate.specs.Passes as gate
 use Rattle.gate.specs.Records.{replay, by, past, FromGiven, Begins}
 use Rattle.service.specs.declared.service.Service.{Service}
 use Rattle.service.specs.declared.service.Pass.{Pass}
-use Rattle.service.specs.Contents.{setup_of, refusal_of_call, slot_of_call, opening_contents}
-use Rattle.service.specs.Services.{known_by, IsPassOf, IsServedOn, IsTriedCall, ServedOn, settings_of}
+use Rattle.service.specs.Contents.{setup_of, refusal_of_step, slot_of_step, opening_contents}
+use Rattle.service.specs.Services.{known_by, IsPassOf, IsServedOn, IsTriedStep, ServedOn, settings_of}
 use Rattle.service.proofs.ServedLemmas.{call-below}
 use Rattle.script.specs.OnePass.{content_seen, contents_seen, IsOnePass}
 use Rattle.script.specs.Serving.{reply_to_call, contents_after_call, content_at, reply_unless, contents_unless}
@@ -127,17 +127,17 @@ contents-on K x p p' None s q r h below done = contents-served K x p p' s q r h 
 contents-on K x p p' (Some e) s q r h below done = ap (contents_seen x.settings) done.1
 
 -- the reply to a call is the sequential service's
-pub reply-is : (K : Settings) (x : Service) (p p' : Pass) (c : Call) (r : Reply) → IsOnePass K x p → ServedOn x p p' (refusal_of_call x.settings c) (slot_of_call x.settings c) (request_of c) r → r ≡ reply_to_call K (contents_seen K (known_by p)) c
+pub reply-is : (K : Settings) (x : Service) (p p' : Pass) (c : StepCall) (r : Reply) → IsOnePass K x p → ServedOn x p p' (refusal_of_step x.settings c) (slot_of_step x.settings c) (request_of c) r → r ≡ reply_to_call K (contents_seen K (known_by p)) c
 reply-is K x p p' c r h done =
     let T : Settings → Type 0 = λ k. r ≡ reply_to_call k (contents_seen k (known_by p)) c in
-    subst T h.settings (reply-on K x p p' (refusal_of_call x.settings c) (slot_of_call x.settings c) (request_of c) r h (call-below x.settings c h.own.opened.range.some_shard) done)
+    subst T h.settings (reply-on K x p p' (refusal_of_step x.settings c) (slot_of_step x.settings c) (request_of c) r h (call-below x.settings c h.own.opened.range.some_shard) done)
 
 -- and so are the contents that it leaves
-pub contents-are : (K : Settings) (x : Service) (p p' : Pass) (c : Call) (r : Reply) → IsOnePass K x p → ServedOn x p p' (refusal_of_call x.settings c) (slot_of_call x.settings c) (request_of c) r →
+pub contents-are : (K : Settings) (x : Service) (p p' : Pass) (c : StepCall) (r : Reply) → IsOnePass K x p → ServedOn x p p' (refusal_of_step x.settings c) (slot_of_step x.settings c) (request_of c) r →
     contents_seen K (known_by p') ≡ contents_after_call K (contents_seen K (known_by p)) c
 contents-are K x p p' c r h done =
     let T : Settings → Type 0 = λ k. contents_seen k (known_by p') ≡ contents_after_call k (contents_seen k (known_by p)) c in
-    subst T h.settings (contents-on K x p p' (refusal_of_call x.settings c) (slot_of_call x.settings c) (request_of c) r h (call-below x.settings c h.own.opened.range.some_shard) done)
+    subst T h.settings (contents-on K x p p' (refusal_of_step x.settings c) (slot_of_step x.settings c) (request_of c) r h (call-below x.settings c h.own.opened.range.some_shard) done)
 
 -- a pass that was refused for memory is as it was
 pub keeps-one : (K : Settings) (x : Service) (p p' : Pass) → IsOnePass K x p → IsPassOf p' x → gate.SeenNothing (known_by p) (known_by p') → IsOnePass K x p'
@@ -169,11 +169,11 @@ contents-fresh K x p own fresh = all-fresh 0 K.shards
         ∙ ap (λ t. opening (setup_of K a) ∷ t) (all-fresh (a + 1) n)
 
 -- whatever a call came to, the pass is still the only one
-pub one-pass-after : (K : Settings) (x : Service) (p p' : Pass) (c : Call) (result : Result Reply (Refused × Request)) → IsOnePass K x p → IsTriedCall x p p' c result → IsOnePass K x p'
-one-pass-after K x p p' c (Ok r) h tried = goes-on K x p p' (refusal_of_call x.settings c) (slot_of_call x.settings c) (request_of c) r h tried.own tried.ok
+pub one-pass-after : (K : Settings) (x : Service) (p p' : Pass) (c : StepCall) (result : Result Reply (Refused × Request)) → IsOnePass K x p → IsTriedStep x p p' c result → IsOnePass K x p'
+one-pass-after K x p p' c (Ok r) h tried = goes-on K x p p' (refusal_of_step x.settings c) (slot_of_step x.settings c) (request_of c) r h tried.own tried.ok
 one-pass-after K x p p' c (Err e) h tried = by_cause e.0 tried.err
   where
-    by_cause : (why : Refused) → gate.Refuses why (known_by p) (known_by p') (slot_of_call x.settings c) → IsOnePass K x p'
+    by_cause : (why : Refused) → gate.Refuses why (known_by p) (known_by p') (slot_of_step x.settings c) → IsOnePass K x p'
     by_cause Busy away = keeps-one K x p p' h tried.own away.nothing
     by_cause NoMemory nothing = keeps-one K x p p' h tried.own nothing.0
 

@@ -12,7 +12,7 @@ use Rattle.wire_requests.specs.declared.calls.Asked.TheVariants.{Barrier, Call a
 use Rattle.wire_requests.specs.declared.calls.LaneCall.{LaneCall}
 use Rattle.service_model.specs.Service.{after, answer, opening}
 use Rattle.service.specs.Ranges.{are_queues}
-use Rattle.service.specs.Contents.{refusal_of_call, setup_of, slot_of_call}
+use Rattle.service.specs.Contents.{refusal_of_step, setup_of, slot_of_step}
 use Rattle.script.specs.Asked.{asked}
 use Rattle.script.specs.Lines.{Line}
 
@@ -36,13 +36,13 @@ contents_unless (Some refusal) S next = S
 
 -- the reply to a call
 abbrev pub reply_to_call : Settings → Contents → Call → Reply
-reply_to_call K S c = reply_unless (refusal_of_call K c) (answer (content_at K S (slot_of_call K c)) (request_of c))
+reply_to_call K S c = reply_unless (refusal_of_step K c) (answer (content_at K S (slot_of_step K c)) (request_of c))
 
 -- the contents that it leaves
 abbrev pub contents_after_call : Settings → Contents → Call → Contents
 contents_after_call K S c =
-    let shard = slot_of_call K c in
-    contents_unless (refusal_of_call K c) S (slice_set S shard (after (content_at K S shard) (request_of c)))
+    let shard = slot_of_step K c in
+    contents_unless (refusal_of_step K c) S (slice_set S shard (after (content_at K S shard) (request_of c)))
 
 -- the reply to what a line asks; a barrier has none
 abbrev pub reply_to_asked : Settings → Contents → Result Asked Refusal → Option Reply

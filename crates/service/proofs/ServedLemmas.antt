@@ -5,8 +5,8 @@ use Rattle.std.proofs.lemmas.Nat.{mod_below}
 use Rattle.std.specs.Prelude.{map, slice_get, unwrap_or, if◌then◌else◌, nat_lt, ◌&&◌, Result}
 use Rattle.std.specs.List.{range_with_len}
 use Rattle.wf_event_values.specs.declared.refusal.Refusal.{Refusal}
-use Rattle.service_model.specs.declared.call.Call.{Call}
-use Rattle.service_model.specs.declared.call.Call.TheVariants as call
+use Rattle.service_model.specs.declared.call.StepCall.{StepCall}
+use Rattle.service_model.specs.declared.call.StepCall.TheVariants as call
 use Rattle.service_model.specs.declared.content.Content.{Content}
 use Rattle.service_model.specs.declared.request.Operation.{Operation}
 use Rattle.service_model.specs.declared.request.Operation.TheVariants as operation
@@ -20,7 +20,7 @@ use Rattle.gate.specs.declared.view.View.{View}
 use Rattle.gate.specs.Passes as gate
 use Rattle.service.specs.declared.service.Service.{Service}
 use Rattle.service.specs.declared.service.Pass.{Pass}
-use Rattle.service.specs.Contents.{setup_of, opening_contents, is_token, refusal_of, refusal_of_call, shard_of, shard_refusal, slot_of_call}
+use Rattle.service.specs.Contents.{setup_of, opening_contents, is_token, refusal_of, refusal_of_step, shard_of, shard_refusal, slot_of_step}
 use Rattle.service.specs.Services.{known_by, Answered, IsPassOf, IsServedAtLast, IsServedOn}
 
 get-range : {X : Type 0} (f : ℕ → X) (a n k : ℕ) → k < n → slice_get (map f (range_with_len a n)) k ≡ Some (f (a + k))
@@ -69,7 +69,7 @@ pub named-below : (K : Settings) (shard : ℕ) → shard_refusal K shard ≡ Non
 named-below K shard none = let there : nat_lt shard K.shards ≡ true = unrefused _ _ _ none in grind (arith, nat_tests)
 
 -- so is the shard of a call
-pub call-below : (K : Settings) (c : Call) → 1 ≤ K.shards → refusal_of_call K c ≡ None → slot_of_call K c < K.shards
+pub call-below : (K : Settings) (c : StepCall) → 1 ≤ K.shards → refusal_of_step K c ≡ None → slot_of_step K c < K.shards
 call-below K (call.Request q) some none = shard-below K q.operation some none
 call-below K (call.TimerTurn t) some none = named-below K t.shard none
 

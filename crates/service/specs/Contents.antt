@@ -4,8 +4,8 @@ use Rattle.std.specs.List.{range_with_len}
 use Rattle.wf_event_values.specs.declared.field.Field.TheVariants as field
 use Rattle.wf_event_values.specs.declared.refusal.Refusal.{Refusal}
 use Rattle.wf_event_values.specs.declared.refusal.Refusal.TheVariants.{InvalidArgument, InvalidToken}
-use Rattle.service_model.specs.declared.call.Call.{Call}
-use Rattle.service_model.specs.declared.call.Call.TheVariants as call
+use Rattle.service_model.specs.declared.call.StepCall.{StepCall}
+use Rattle.service_model.specs.declared.call.StepCall.TheVariants as call
 use Rattle.service_model.specs.declared.content.Content.{Content}
 use Rattle.service_model.specs.declared.content.Setup.{Setup}
 use Rattle.service_model.specs.declared.request.CompleteWorkflowTask.{CompleteWorkflowTask}
@@ -83,11 +83,11 @@ abbrev pub slot_of : Settings → Request → ℕ
 slot_of K q = shard_of K q.operation
 
 -- as what a call is refused before any shard is entered, where it is
-abbrev pub refusal_of_call : Settings → Call → Option Refusal
-refusal_of_call K (call.Request q) = refusal_of K q.operation
-refusal_of_call K (call.TimerTurn t) = shard_refusal K t.shard
+abbrev pub refusal_of_step : Settings → StepCall → Option Refusal
+refusal_of_step K (call.Request q) = refusal_of K q.operation
+refusal_of_step K (call.TimerTurn t) = shard_refusal K t.shard
 
 -- the shard of a call: its request's, or the one that it names
-abbrev pub slot_of_call : Settings → Call → ℕ
-slot_of_call K (call.Request q) = slot_of K q
-slot_of_call K (call.TimerTurn t) = t.shard
+abbrev pub slot_of_step : Settings → StepCall → ℕ
+slot_of_step K (call.Request q) = slot_of K q
+slot_of_step K (call.TimerTurn t) = t.shard

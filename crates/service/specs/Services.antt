@@ -1,7 +1,7 @@
 -- what a clause reads of a service and of its passes
 use Rattle.std.specs.Prelude.{◌≡◌, ℕ, ◌<◌, ◌≤◌, true, List, [], length, map, Option, None, Some, Err, Result, IfOk, IfErr}
 use Rattle.wf_event_values.specs.declared.refusal.Refusal.{Refusal}
-use Rattle.service_model.specs.declared.call.Call.{Call}
+use Rattle.service_model.specs.declared.call.StepCall.{StepCall}
 use Rattle.service_model.specs.declared.content.Content.{Content}
 use Rattle.service_model.specs.declared.request.Request.{Request}
 use Rattle.service_model.specs.declared.settings.Settings.{Settings}
@@ -20,7 +20,7 @@ use Rattle.service.specs.declared.service.Pass.{Pass}
 use Rattle.matching.specs.declared.view.View.{View as HintView}
 use Rattle.matching.specs.Named as matching
 use Rattle.service.specs.Ranges.{are_different}
-use Rattle.service.specs.Contents.{setup_of, opening_contents, refusal_of, slot_of, refusal_of_call, slot_of_call}
+use Rattle.service.specs.Contents.{setup_of, opening_contents, refusal_of, slot_of, refusal_of_step, slot_of_step}
 
 abbrev pub settings_of : Service → Settings
 settings_of x = x.settings
@@ -134,8 +134,8 @@ abbrev pub IsServedBy : {E : Type 0} → Service → Pass → Pass → Request �
 IsServedBy x p p' q result = IsServedOnBy x p p' (refusal_of x.settings q.operation) (shard_of_request x q) q result
 
 -- what came of a call, by the step that it makes
-abbrev pub IsTriedCall : Service → Pass → Pass → Call → Result Reply (Refused × Request) → Type 0
-IsTriedCall x p p' c result = IsTriedOn x p p' (refusal_of_call x.settings c) (slot_of_call x.settings c) (request_of c) result
+abbrev pub IsTriedStep : Service → Pass → Pass → StepCall → Result Reply (Refused × Request) → Type 0
+IsTriedStep x p p' c result = IsTriedOn x p p' (refusal_of_step x.settings c) (slot_of_step x.settings c) (request_of c) result
 
-abbrev pub IsServedCall : {E : Type 0} → Service → Pass → Pass → Call → Result Reply (E × Request) → Type 0
-IsServedCall x p p' c result = IsServedOnBy x p p' (refusal_of_call x.settings c) (slot_of_call x.settings c) (request_of c) result
+abbrev pub IsServedStep : {E : Type 0} → Service → Pass → Pass → StepCall → Result Reply (E × Request) → Type 0
+IsServedStep x p p' c result = IsServedOnBy x p p' (refusal_of_step x.settings c) (slot_of_step x.settings c) (request_of c) result

@@ -15,8 +15,8 @@ use Rattle.matching.specs.declared.view.View.{View as HintView}
 use Rattle.matching.specs.Named as matching
 use Rattle.matching.specs.Named.{place_in, slot_of, StoodAt, TakenAt, Pushes}
 use Rattle.service.specs.declared.service.Service.{Service}
-use Rattle.service.specs.declared.dispatch_turns.Stop.{Stop}
-use Rattle.service.specs.declared.dispatch_turns.Stop.TheVariants.{AtEnd, AfterTaking, AfterPushing}
+use Rattle.service_model.specs.declared.call.Stop.{Stop}
+use Rattle.service_model.specs.declared.call.Stop.TheVariants.{AtEnd, AfterFirstPart, AfterSecondPart}
 use Rattle.service.specs.declared.dispatch_turns.Turned.{Turned}
 use Rattle.service.specs.declared.dispatch_turns.Turned.TheVariants.{First, Taken, Unpushed, Pushed, Dispatched}
 use Rattle.service.specs.Asks.{to_start_task, to_next_dispatch, to_dispatched}
@@ -50,8 +50,8 @@ pub record Counts (x : Service) (shard at number : ℕ) (v w : View Request Cont
 -- what follows a push: an Ok is followed by the last part, unless the turn is to end there
 abbrev pub AfterPush : Service → (shard at : ℕ) → Stop → ℕ → (v w : View Request Content) → Result (Unit {0}) Refusal → Turned → Type 0
 AfterPush x shard at AtEnd number v w (Ok done) t = (t ≡ Dispatched number) × Counts x shard at number v w
-AfterPush x shard at AfterTaking number v w (Ok done) t = ⊥
-AfterPush x shard at AfterPushing number v w (Ok done) t = (t ≡ Pushed number) × (w ≡ v)
+AfterPush x shard at AfterFirstPart number v w (Ok done) t = ⊥
+AfterPush x shard at AfterSecondPart number v w (Ok done) t = (t ≡ Pushed number) × (w ≡ v)
 AfterPush x shard at stop number v w (Err e) t = (t ≡ Unpushed e) × (w ≡ v)
 
 -- the second part: the hint is pushed to its queue
@@ -62,8 +62,8 @@ pub record Pushing (x : Service) (shard at : ℕ) (stop : Stop) (d : NumberedDis
 
 abbrev pub AfterDispatch : Service → (shard at : ℕ) → Stop → NumberedDispatch → (v w : View Request Content) → (hs ws : List HintView) → Turned → Type 0
 AfterDispatch x shard at AtEnd d v w hs ws t = Pushing x shard at AtEnd d v w hs ws t
-AfterDispatch x shard at AfterTaking d v w hs ws t = (t ≡ Taken d.number) × (w ≡ v) × (ws ≡ hs)
-AfterDispatch x shard at AfterPushing d v w hs ws t = Pushing x shard at AfterPushing d v w hs ws t
+AfterDispatch x shard at AfterFirstPart d v w hs ws t = (t ≡ Taken d.number) × (w ≡ v) × (ws ≡ hs)
+AfterDispatch x shard at AfterSecondPart d v w hs ws t = Pushing x shard at AfterSecondPart d v w hs ws t
 
 -- what follows the first part: without a dispatch its reply is the turn's
 abbrev pub AfterNext : Service → (shard at : ℕ) → Stop → Reply → Option NumberedDispatch → (v w : View Request Content) → (hs ws : List HintView) → Turned → Type 0

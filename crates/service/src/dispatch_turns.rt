@@ -11,18 +11,11 @@ use crate::calls::request;
 use crate::route::shard_refusal;
 use crate::service::{Pass, Service};
 use service_model::answer::{NumberedDispatch, Reply};
+use service_model::call::Stop;
 use service_model::request::Operation;
 use std::alloc::AllocError;
 use std::sync::Wait;
 use wf_event_values::{Moment, Refusal};
-
-/// Where a turn is to end.
-#[derive(Clone, Copy)]
-pub enum Stop {
-    AtEnd,
-    AfterTaking,
-    AfterPushing,
-}
 
 /// What a turn came to.
 #[derive(Drop)]
@@ -70,7 +63,7 @@ impl Service {
             Err(reply) => return Ok(Turned::First(reply)),
         };
         let number = taken.number;
-        if let Stop::AfterTaking = stop {
+        if let Stop::AfterFirstPart = stop {
             return Ok(Turned::Taken(number));
         }
         if let Err(refusal) = self.queues.push_hint(
@@ -81,7 +74,7 @@ impl Service {
         ) {
             return Ok(Turned::Unpushed(refusal));
         }
-        if let Stop::AfterPushing = stop {
+        if let Stop::AfterSecondPart = stop {
             return Ok(Turned::Pushed(number));
         }
         self.count_dispatch(rt, pass, shard, number, at)?;

@@ -22,7 +22,7 @@ mod service;
 mod tasks;
 mod turns;
 
-pub use dispatch_turns::{Stop, Turned};
+pub use dispatch_turns::Turned;
 pub use gate::{Record, Refused};
 pub use held::Held;
 pub use service::{Pass, Service};

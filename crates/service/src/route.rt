@@ -1,10 +1,10 @@
 //! To which shard a request goes, and which requests go to none.
 
 ghost use Rattle.std.specs.Prelude.{◌≡◌, ◌<◌};
-ghost use Rattle.service.specs.Contents.{completion_refusal, is_token, refusal_of, refusal_of_call, shard_of_id, shard_refusal, slot_of_call, token_refusal};
+ghost use Rattle.service.specs.Contents.{completion_refusal, is_token, refusal_of, refusal_of_step, shard_of_id, shard_refusal, slot_of_step, token_refusal};
 
 use crate::service::Service;
-use service_model::call::Call;
+use service_model::call::StepCall;
 use service_model::limits::MOST_COMMANDS;
 use service_model::request::{CompleteWorkflowTask, Operation, Request, TakenTask};
 use service_model::settings::Settings;
@@ -60,23 +60,23 @@ impl Service {
     }
 
     /// As what a call is refused before any shard is entered, where it is.
-    pub(crate) fn refusal_of_call(&self, call: &Call) -> Option<Refusal>
-        ensures { result ≡ refusal_of_call (settings_of self.now) call.now }
+    pub(crate) fn refusal_of_step(&self, call: &StepCall) -> Option<Refusal>
+        ensures { result ≡ refusal_of_step (settings_of self.now) call.now }
     {
         match call {
-            Call::Request(request) => self.refusal_of(&request.operation),
-            Call::TimerTurn(turn) => shard_refusal(&self.settings, turn.shard),
+            StepCall::Request(request) => self.refusal_of(&request.operation),
+            StepCall::TimerTurn(turn) => shard_refusal(&self.settings, turn.shard),
         }
     }
 
     /// The slot of a call's shard.
-    pub(crate) fn slot_of_call(&self, call: &Call) -> usize
+    pub(crate) fn slot_of_step(&self, call: &StepCall) -> usize
         requires { 0 < (settings_of self.now).shards }
-        ensures { result ≡ slot_of_call (settings_of self.now) call.now }
+        ensures { result ≡ slot_of_step (settings_of self.now) call.now }
     {
         match call {
-            Call::Request(request) => self.slot_of(request),
-            Call::TimerTurn(turn) => usize::from(turn.shard),
+            StepCall::Request(request) => self.slot_of(request),
+            StepCall::TimerTurn(turn) => usize::from(turn.shard),
         }
     }
 }

@@ -8,14 +8,14 @@ use crate::route::shard_refusal;
 use crate::service::{Pass, Service};
 use gate::Refused;
 use service_model::answer::Reply;
-use service_model::call::Call;
+use service_model::call::StepCall;
 use service_model::request::{Operation, Request};
 use std::alloc::AllocError;
 use std::sync::Wait;
 use wf_event_values::Moment;
 
 impl Service {
-    ghost use Rattle.service.specs.Services.{IsPassOf, IsServedCall, IsServedOnBy, IsTriedCall, IsTriedOn, settings_of};
+    ghost use Rattle.service.specs.Services.{IsPassOf, IsServedStep, IsServedOnBy, IsTriedStep, IsTriedOn, settings_of};
 
     /// Lets the first deadline of a shard fire, if it is due at that moment, else answers `NothingDue`.
     /// The order of deadlines is by due moment, then by run, class and event (ours). A shard that is
@@ -62,12 +62,12 @@ impl Service {
     ///
     /// # Errors
     /// As [`Service::try_serve`], with the request of the step that the call makes.
-    pub fn try_serve_call(&self, pass: &mut Pass, call: Call) -> Result<Reply, (Refused, Request)>
+    pub fn try_serve_step(&self, pass: &mut Pass, call: StepCall) -> Result<Reply, (Refused, Request)>
         requires { IsPassOf pass.old self.now }
-        ensures { IsTriedCall self.now pass.old pass.new call result }
+        ensures { IsTriedStep self.now pass.old pass.new call result }
     {
-        let refusal = self.refusal_of_call(&call);
-        let slot = self.slot_of_call(&call);
+        let refusal = self.refusal_of_step(&call);
+        let slot = self.slot_of_step(&call);
         self.try_serve_on(pass, refusal, slot, call.into_request())
     }
 
@@ -75,17 +75,17 @@ impl Service {
     ///
     /// # Errors
     /// As [`Service::serve`], with the request of the step that the call makes.
-    pub fn serve_call<R: Wait>(
+    pub fn serve_step<R: Wait>(
         &self,
         rt: &R,
         pass: &mut Pass,
-        call: Call,
+        call: StepCall,
     ) -> Result<Reply, (AllocError, Request)>
         requires { IsPassOf pass.old self.now }
-        ensures { IsServedCall self.now pass.old pass.new call result }
+        ensures { IsServedStep self.now pass.old pass.new call result }
     {
-        let refusal = self.refusal_of_call(&call);
-        let slot = self.slot_of_call(&call);
+        let refusal = self.refusal_of_step(&call);
+        let slot = self.slot_of_step(&call);
         self.serve_on(rt, pass, refusal, slot, call.into_request())
     }
 }

@@ -139,7 +139,8 @@ pub enum Acknowledged {
     OutOfOrder,
 }
 
-/// What a step answers.
+/// What a call answers. The last four are a poll's and a dispatch turn's; the others are answers of one
+/// step on one shard.
 pub enum Answer {
     Started(RunId),
     Existing(RunId),
@@ -172,6 +173,14 @@ pub enum Answer {
     Counted(Acknowledged),
     Dispatch(NumberedDispatch),
     NoDispatch,
+    /// No task waited in the task queue.
+    Empty,
+    /// The number of the dispatch that a turn read, and left.
+    Taken(u64),
+    /// The number of the dispatch whose hint was pushed, and that is not counted yet.
+    Pushed(u64),
+    /// The number of the dispatch whose hint was pushed, and that was counted.
+    Dispatched(u64),
 }
 
 impl Drop for Answer {
@@ -208,6 +217,10 @@ impl Drop for Answer {
             Answer::Counted(_) => {}
             Answer::Dispatch(_) => {}
             Answer::NoDispatch => {}
+            Answer::Empty => {}
+            Answer::Taken(_) => {}
+            Answer::Pushed(_) => {}
+            Answer::Dispatched(_) => {}
         }
     }
 }

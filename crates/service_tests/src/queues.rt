@@ -6,8 +6,9 @@ ghost use Rattle.std.specs.Thread.{IsSync};
 
 use crate::asked::{id, settings, start};
 use crate::passes::{open, take_pass};
-use service::{Pass, Service, Stop, Turned};
+use service::{Pass, Service, Turned};
 use service_model::answer::{Answer, Reply};
+use service_model::call::Stop;
 use service_model::limits::DEFAULT_CAPACITY;
 use service_model::request::Hint;
 use service_model::settings::Settings;
@@ -128,8 +129,8 @@ fn a_turn_that_ends_before_its_last_part(rt: HostRuntime) {
     let (service, mut passes) = open(&rt, &one_queue(&rt, 2));
     let mut pass = take_pass(&service, &mut passes);
     start_one(&rt, &service, &mut pass, "a");
-    assert_turn(&rt, &service, &mut pass, Stop::AfterTaking, "taken", 1);
-    assert_turn(&rt, &service, &mut pass, Stop::AfterPushing, "pushed", 1);
+    assert_turn(&rt, &service, &mut pass, Stop::AfterFirstPart, "taken", 1);
+    assert_turn(&rt, &service, &mut pass, Stop::AfterSecondPart, "pushed", 1);
     assert_turn(&rt, &service, &mut pass, Stop::AtEnd, "dispatched", 1);
     assert_poll(&rt, &service, &mut pass, "main", "a");
     assert_poll(&rt, &service, &mut pass, "main", "stale");

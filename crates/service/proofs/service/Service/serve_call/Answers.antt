@@ -1,8 +1,0 @@
-use Rattle.std.proofs.Common.{◌<◌, ◌∙◌, sym, subst}
-use Rattle.service.proofs.ServedLemmas.{call-below}
-use Rattle.service.proofs.service.Service.serve_call.Goals as goal
-
-pub serve_on-requires-clause-there : goal.serve_on-requires-clause-there
-serve_on-requires-clause-there g c = λ none.
-    let below = call-below c.args.self.now.settings c.args.call c.requires.opened.range.some_shard (sym c.refusal_of_call-refusal.ensures ∙ none) in
-    subst (λ k. k < c.args.self.now.settings.shards) (sym c.slot_of_call-slot.ensures) below
