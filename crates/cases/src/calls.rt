@@ -8,13 +8,13 @@ use script::LINE_LIMIT;
 use script_settings::settings_of;
 use service::{Pass, Service};
 use service_model::answer::Reply;
-use service_model::call::Call;
-use service_model::request::{Operation, Request};
+use service_model::call::{Call, StepCall};
+use service_model::request::{Hint, Operation, Request};
 use service_model::settings::Settings;
 use std::alloc::{AllocError, AllocGlobal, Global};
 use std::io;
 use std::sync::Wait;
-use wf_event_values::{Field, Refusal};
+use wf_event_values::{Field, Moment, Refusal};
 use wire_replies::reply_text;
 use wire_requests::{Asked, read_line};
 
@@ -49,13 +49,16 @@ impl Opened {
     }
 
     /// The reply of a call. With one pass no other one is ever on a shard, so only memory can be
-    /// what it lacks.
+    /// what it lacks. What is more than one step has no form that never waits.
     fn reply<R: Wait>(&mut self, rt: &R, form: CallForm, call: Call) -> Result<Reply, AllocError> {
-        let reply = match form {
-            CallForm::MayWait => self.service.serve_step(rt, &mut self.pass, call).ok(),
-            CallForm::NeverWaits => self.service.try_serve_step(&mut self.pass, call).ok(),
-        };
-        reply.ok_or(AllocError)
+        match (form, call) {
+            (CallForm::NeverWaits, Call::Step(step)) => self
+                .service
+                .try_serve_step(&mut self.pass, step)
+                .ok()
+                .ok_or(AllocError),
+            (_, call) => self.service.serve_call(rt, &mut self.pass, call),
+        }
     }
 
     /// What is answered to a step, or nothing where it asks nothing.
@@ -67,10 +70,7 @@ impl Opened {
     ) -> Result<Option<Reply>, AllocError> {
         let asked = match step {
             Step::Line(line) => asked(rt.alloc(), &self.settings, line),
-            Step::StartTask { hint, at } => Ok(Some(Call::Request(Request {
-                at: *at,
-                operation: Operation::StartTask(*hint),
-            }))),
+            Step::StartTask { hint, at } => Ok(Some(start_task(*hint, *at))),
             Step::Skip => return Ok(None),
         };
         match asked {
@@ -79,6 +79,12 @@ impl Opened {
             Err(refusal) => Ok(Some(Err(refusal))),
         }
     }
+}
+
+/// The call that takes a task.
+fn start_task(hint: Hint, at: Moment) -> Call {
+    let operation = Operation::StartTask(hint);
+    Call::Step(StepCall::Request(Request { at, operation }))
 }
 
 /// The call that a line asks for, which a barrier doesn't, or the fault that a script finds in it.
@@ -96,13 +102,14 @@ fn asked(alloc: Global, settings: &Settings, line: &[u8]) -> Result<Option<Call>
 }
 
 /// The service that a case's command line opens, or nothing where the case can't be run by calls:
-/// its lines stand in a file, its standard output gets full, or no service is opened.
+/// its lines stand in a file or go to several lanes, its standard output gets full, or no service is
+/// opened.
 fn opened_for(alloc: Global, case: &Case) -> Option<Opened> {
     if case.room().is_some() {
         return None;
     }
     match settings_of(alloc, case.words()) {
-        Ok((settings, None)) => Opened::open(alloc, &settings).ok(),
+        Ok((settings, None)) if settings.passes == 1 => Opened::open(alloc, &settings).ok(),
         _ => None,
     }
 }

@@ -8,9 +8,16 @@ use Rattle.clap.specs.Words.{App, Kinds, Row, Rule, Text, fault_of, first_of, ma
 unfoldable pub option_rule : Text → Rule
 option_rule name = record (new_rule name) { long = Some name }
 
--- wfserve [--shards N] [--service K] [FILE]
+-- wfserve [--shards N] [--passes P] [--service K] [--queues NAMES] [--capacity C] [FILE]
 unfoldable pub wfserve : App
-wfserve = with_rule (with_rule (with_rule (new_app (codes "wfserve")) (option_rule (codes "shards"))) (option_rule (codes "service"))) (new_rule (codes "FILE"))
+wfserve =
+    let command = new_app (codes "wfserve") in
+    let command = with_rule command (option_rule (codes "shards")) in
+    let command = with_rule command (option_rule (codes "passes")) in
+    let command = with_rule command (option_rule (codes "service")) in
+    let command = with_rule command (option_rule (codes "queues")) in
+    let command = with_rule command (option_rule (codes "capacity")) in
+    with_rule command (new_rule (codes "FILE"))
 
 -- clap's matches of the words
 unfoldable pub matches_in : List Text → List Row

@@ -12,4 +12,7 @@ pub enum Fault {
     /// The text given to this option is no whole number below 2^64.
     #[error("--{0} takes a whole number")]
     Number(&'static str),
+    /// A name among those given to `--queues` is empty, or longer than 255 bytes.
+    #[error("--queues takes names of 1 to 255 bytes, separated by commas")]
+    Queues,
 }

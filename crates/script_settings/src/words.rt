@@ -6,16 +6,25 @@ ghost use Rattle.script_settings.specs.CommandLine.{option_rule, matches_in, fau
 ghost use Rattle.script_settings.specs.Settings.{Sets, IsFaultIn, IsFaultOf};
 
 use crate::fault::Fault;
+use crate::queues::queues;
 use clap::{Arg, ArgMatches, Command, Error};
 use service_model::limits::DEFAULT_CAPACITY;
-use service_model::settings::{Settings, main_queue};
+use service_model::settings::Settings;
 use std::alloc::{AllocError, Global};
 
 const ABOUT: &str = "Serves a workflow service's calls: a JSON line in, a reply line out.";
 
 const SHARDS: &str = "How many shards keep the workflows: 1 to 64, 1 by default";
 
+const PASSES: &str = "How many lanes serve the lines at the same time: 1 to 256, 1 by default";
+
 const SERVICE: &str = "The service's number, part of each run id: 0 to 2^48 - 1, 1 by default";
+
+const QUEUES: &str =
+    "The names of the task queues, with commas between them: 1 to 64, main by default";
+
+const CAPACITY: &str =
+    "How many hints wait in a task queue at most: 1 to 65536, 1024 by default";
 
 const FILE: &str = "The file whose lines are served; standard input by default";
 
@@ -39,7 +48,10 @@ fn matched<'a>(alloc: Global, words: &'a [&'a str]) -> Result<ArgMatches<'a>, Er
 {
     let command = Command::new(alloc, "wfserve").about(ABOUT);
     let command = with_option(alloc, command, "shards", SHARDS)?;
+    let command = with_option(alloc, command, "passes", PASSES)?;
     let command = with_option(alloc, command, "service", SERVICE)?;
+    let command = with_option(alloc, command, "queues", QUEUES)?;
+    let command = with_option(alloc, command, "capacity", CAPACITY)?;
     let command = command.arg(Arg::new(alloc, "FILE").help(FILE))?;
     command.try_get_matches_from(words)
 }
@@ -72,18 +84,12 @@ pub fn settings_of<'a>(
         Ok(matches) => matches,
         Err(error) => return Err(Fault::Words(error)),
     };
-    let shards = number(&matches, "shards", 1)?;
-    let service = number(&matches, "service", 1)?;
-    let queues = match main_queue(alloc) {
-        Ok(queues) => queues,
-        Err(error) => return Err(Fault::Words(Error::from(error))),
-    };
     let settings = Settings {
-        shards,
-        passes: 1,
-        service,
-        queues,
-        capacity: DEFAULT_CAPACITY,
+        shards: number(&matches, "shards", 1)?,
+        passes: number(&matches, "passes", 1)?,
+        service: number(&matches, "service", 1)?,
+        queues: queues(alloc, &matches)?,
+        capacity: number(&matches, "capacity", DEFAULT_CAPACITY)?,
     };
     Ok((settings, matches.get_str("FILE")))
 }

@@ -79,18 +79,9 @@ pub struct DispatchTurn {
 }
 
 /// What a client asks of a service.
+#[derive(Drop)]
 pub enum Call {
     Step(StepCall),
     Poll(Poll),
     DispatchTurn(DispatchTurn),
-}
-
-impl Drop for Call {
-    fn drop(self) {
-        match self {
-            Call::Step(_) => {}
-            Call::Poll(_) => {}
-            Call::DispatchTurn(_) => {}
-        }
-    }
 }

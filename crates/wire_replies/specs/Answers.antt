@@ -105,3 +105,7 @@ answer_members (answer.OutOfOrder number) = with_number (codes "out_of_order") n
 answer_members (answer.Counted a) = ok_member (acknowledged_name a)
 answer_members (answer.Dispatch d) = with_number (codes "taken") d.number
 answer_members answer.NoDispatch = ok_member (codes "none")
+answer_members answer.Empty = ok_member (codes "empty")
+answer_members (answer.Taken number) = with_number (codes "taken") number
+answer_members (answer.Pushed number) = with_number (codes "pushed") number
+answer_members (answer.Dispatched number) = with_number (codes "dispatched") number

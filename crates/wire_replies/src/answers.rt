@@ -143,5 +143,9 @@ pub(crate) fn put_answer(fields: &mut Fields, answer: &Answer) -> Result<(), All
         Answer::Counted(acknowledged) => fields.text("ok", acknowledged_name(*acknowledged)),
         Answer::Dispatch(dispatch) => put_with_number(fields, "taken", dispatch.number),
         Answer::NoDispatch => fields.text("ok", "none"),
+        Answer::Empty => fields.text("ok", "empty"),
+        Answer::Taken(number) => put_with_number(fields, "taken", *number),
+        Answer::Pushed(number) => put_with_number(fields, "pushed", *number),
+        Answer::Dispatched(number) => put_with_number(fields, "dispatched", *number),
     }
 }

@@ -3,6 +3,8 @@ pub mod ActivityCommands
 pub mod Commands
 pub mod Operations
 pub mod Ops
+pub mod Polls
 pub mod Calls
 pub mod RetryPolicies
 pub mod Tasks
+pub mod Turns

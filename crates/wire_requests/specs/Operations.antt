@@ -1,14 +1,16 @@
 -- the fields of each operation: their faults are looked for in the order in which they stand here
-use Rattle.std.specs.Prelude.{ℕ, [], ◌&&◌, nat_lt, if◌then◌else◌, Result, Ok, Err}
+use Rattle.std.specs.Prelude.{ℕ, [], Result, Ok, Err}
 use Rattle.serde_json.specs.Data.{Data}
 use Rattle.wf_event_values.specs.declared.refusal.Refusal.{Refusal}
 use Rattle.wf_event_values.specs.declared.refusal.Refusal.TheVariants.{InvalidArgument}
 use Rattle.wf_event_values.specs.declared.field.Field.TheVariants as field
 use Rattle.wf_event_values.specs.declared.policies.ReusePolicy.TheVariants.{AllowDuplicate}
+use Rattle.wf_event_values.specs.declared.policies.TaskKind.TheVariants.{Workflow, Activity}
 use Rattle.wf_event_values.specs.declared.policies.ConflictPolicy.{ConflictPolicy}
 use Rattle.wf_event_values.specs.declared.policies.ConflictPolicy.TheVariants.{Fail, TerminateExisting}
 use Rattle.service_model.specs.declared.call.Call.{Call}
 use Rattle.service_model.specs.declared.call.Call.TheVariants as call
+use Rattle.service_model.specs.declared.call.StepCall.TheVariants as step
 use Rattle.service_model.specs.declared.request.Start.{Start}
 use Rattle.service_model.specs.declared.request.Signal.{Signal}
 use Rattle.service_model.specs.declared.request.CompleteWorkflowTask.{CompleteWorkflowTask}
@@ -18,11 +20,13 @@ use Rattle.service_model.specs.declared.request.Operation.{Operation}
 use Rattle.service_model.specs.declared.request.Operation.TheVariants as operation
 use Rattle.service_model.specs.declared.settings.Settings.{Settings}
 use Rattle.wire_fields.specs.Steps.{◌>>=◌}
-use Rattle.wire_fields.specs.Kinds.{text_of, id_of, number_of, span_of, run_of, token_of, reuse_of, conflict_of}
+use Rattle.wire_fields.specs.Kinds.{text_of, id_of, span_of, run_of, token_of, reuse_of, conflict_of}
 use Rattle.wire_fields.specs.Fields.{required, or_default, optional}
 use Rattle.wire_requests.specs.Activities.{activity_text_of, fail_activity_of}
 use Rattle.wire_requests.specs.Commands.{commands_of}
+use Rattle.wire_requests.specs.Polls.{poll_of}
 use Rattle.wire_requests.specs.Tasks.{workflow_task_in}
+use Rattle.wire_requests.specs.Turns.{dispatch_turn_of, timer_turn_of}
 use Rattle.wire_requests.specs.declared.op.Op.{Op}
 use Rattle.wire_requests.specs.declared.op.Op.TheVariants as op
 
@@ -86,17 +90,9 @@ read_of line = do
   run ← optional run_of field.Run line
   Ok (record { workflow_id = workflow_id; run = run })
 
--- the shard that a number names: one that is there
-abbrev pub shard_in : Settings → ℕ → Result ℕ Refusal
-shard_in settings n = if nat_lt n 65536 && nat_lt n settings.shards then Ok n else Err (InvalidArgument field.Shard)
-
--- timer_turn
-abbrev pub timer_turn_of : Settings → ℕ → Data → Result Call Refusal
-timer_turn_of settings at line = required number_of field.Shard line >>= shard_in settings >>= (λ shard. Ok (call.TimerTurn (record { shard = shard; at = at })))
-
 -- the request of an operation at a moment
 abbrev pub asks : ℕ → Operation → Result Call Refusal
-asks at operation = Ok (call.Request (record { at = at; operation = operation }))
+asks at operation = Ok (call.Step (step.Request (record { at = at; operation = operation })))
 
 -- what a line of this operation asks for, at the line's moment
 abbrev pub call_of : Settings → Op → ℕ → Data → Result Call Refusal
@@ -110,4 +106,7 @@ call_of settings op.CancelActivity at line = activity_text_of settings field.Det
 call_of settings op.Heartbeat at line = activity_text_of settings field.Details line >>= (λ x. asks at (operation.Heartbeat x))
 call_of settings op.History at line = read_of line >>= (λ x. asks at (operation.History x))
 call_of settings op.Describe at line = read_of line >>= (λ x. asks at (operation.Describe x))
-call_of settings op.TimerTurn at line = timer_turn_of settings at line
+call_of settings op.TimerTurn at line = timer_turn_of settings at line >>= (λ x. Ok (call.Step (step.TimerTurn x)))
+call_of settings op.PollWorkflowTask at line = poll_of Workflow at line >>= (λ x. Ok (call.Poll x))
+call_of settings op.PollActivityTask at line = poll_of Activity at line >>= (λ x. Ok (call.Poll x))
+call_of settings op.DispatchTurn at line = dispatch_turn_of settings at line >>= (λ x. Ok (call.DispatchTurn x))

@@ -7,7 +7,9 @@ mod calls;
 mod commands;
 mod op;
 mod operations;
+mod polls;
 mod retry_policy;
 mod tasks;
+mod turns;
 
 pub use calls::{Asked, LaneCall, read_line};

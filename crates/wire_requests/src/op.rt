@@ -22,6 +22,9 @@ pub(crate) enum Op {
     History,
     Describe,
     TimerTurn,
+    PollWorkflowTask,
+    PollActivityTask,
+    DispatchTurn,
 }
 
 fn op_named(name: &str) -> Option<Op>
@@ -39,6 +42,9 @@ fn op_named(name: &str) -> Option<Op>
         "history" => Some(Op::History),
         "describe" => Some(Op::Describe),
         "timer_turn" => Some(Op::TimerTurn),
+        "poll_workflow_task" => Some(Op::PollWorkflowTask),
+        "poll_activity_task" => Some(Op::PollActivityTask),
+        "dispatch_turn" => Some(Op::DispatchTurn),
         _ => None,
     }
 }

@@ -3,20 +3,22 @@
 ghost use Rattle.std.specs.Prelude.{◌≡◌, [], Ok, Err};
 ghost use Rattle.serde_json.specs.View.{view};
 ghost use Rattle.wf_event_values.specs.Gives.{Gives};
-ghost use Rattle.wire_requests.specs.Operations.{start_of, signal_of, complete_workflow_task_of, fail_workflow_task_of, read_of, shard_in, asks, call_of, allowed_conflict};
+ghost use Rattle.wire_requests.specs.Operations.{start_of, signal_of, complete_workflow_task_of, fail_workflow_task_of, read_of, asks, call_of, allowed_conflict};
 
 use crate::activities::{activity_text, fail_activity};
 use crate::commands::Commands;
 use crate::op::Op;
+use crate::polls::poll;
 use crate::tasks::workflow_task_in;
+use crate::turns::{dispatch_turn, timer_turn};
 use serde_json::Value;
-use service_model::call::{Call, TimerTurn};
+use service_model::call::{Call, StepCall};
 use service_model::request::{
     CompleteWorkflowTask, FailWorkflowTask, Operation, Read, Request, Signal, Start,
 };
 use service_model::settings::Settings;
 use std::alloc::Global;
-use wf_event_values::{ConflictPolicy, Field, Moment, Refusal, ReusePolicy, Span, Text};
+use wf_event_values::{ConflictPolicy, Field, Moment, Refusal, ReusePolicy, Span, TaskKind, Text};
 use wire_fields::{optional, or_default, required};
 
 /// A conflict policy that is served: each but the one that terminates a run.
@@ -114,21 +116,11 @@ fn read(alloc: Global, line: &Value) -> Result<Read, Refusal>
     Ok(Read { workflow_id, run })
 }
 
-/// The shard that a number names: one that is there.
-fn shard_in(settings: &Settings, number: u64) -> Result<u16, Refusal>
-    ensures { result ≡ shard_in settings.now number }
-{
-    match u16::try_from(number) {
-        Ok(shard) if number < settings.shards => Ok(shard),
-        _ => Err(Refusal::InvalidArgument(Field::Shard)),
-    }
-}
-
 /// The request of an operation at a moment.
 fn asks(at: Moment, operation: Operation) -> Call
     ensures { Ok result ≡ asks at operation }
 {
-    Call::Request(Request { at, operation })
+    Call::Step(StepCall::Request(Request { at, operation }))
 }
 
 /// What an operation's line asks for, at the line's moment.
@@ -171,9 +163,14 @@ pub(crate) fn call_of(
         Op::History => Ok(asks(at, Operation::History(read(alloc, line)?))),
         Op::Describe => Ok(asks(at, Operation::Describe(read(alloc, line)?))),
         Op::TimerTurn => {
-            let number = required(alloc, line, Field::Shard)?;
-            let shard = shard_in(settings, number)?;
-            Ok(Call::TimerTurn(TimerTurn { shard, at }))
+            let turn = timer_turn(alloc, settings, at, line)?;
+            Ok(Call::Step(StepCall::TimerTurn(turn)))
+        }
+        Op::PollWorkflowTask => Ok(Call::Poll(poll(alloc, TaskKind::Workflow, at, line)?)),
+        Op::PollActivityTask => Ok(Call::Poll(poll(alloc, TaskKind::Activity, at, line)?)),
+        Op::DispatchTurn => {
+            let turn = dispatch_turn(alloc, settings, at, line)?;
+            Ok(Call::DispatchTurn(turn))
         }
     }
 }

@@ -1,0 +1,248 @@
+"""Speaks with wfserve: starts the program, writes a line for each call, and reads its reply line.
+
+It needs nothing but Python 3.8. The program is proved; this module is not.
+
+    from wfserve import Service
+
+    with Service(["../../serve"]) as service:
+        run = service.start("order-17", "Order")
+        print(service.history("order-17"))
+"""
+
+import json
+import subprocess
+
+
+class Refused(Exception):
+    """The service refused a call. Nothing of it took effect."""
+
+    def __init__(self, request, reply):
+        self.request = request
+        self.reply = reply
+        self.line = reply["line"]
+        self.name = reply["error"]
+        # Which field an InvalidArgument is about, and which run an AlreadyStarted.
+        self.field = reply.get("field")
+        self.run = reply.get("run")
+        about = f" ({self.field})" if self.field else ""
+        super().__init__(f"line {self.line}: {request['op']}: {self.name}{about}")
+
+
+class Ended(Exception):
+    """The program ended while a reply was awaited, or said what is no reply to the line."""
+
+
+class Clock:
+    """The moments that calls are made at, in milliseconds. They are handed in, so a run can be repeated."""
+
+    def __init__(self, now=0):
+        self.now = now
+
+    def advance(self, milliseconds):
+        self.now += milliseconds
+
+
+class Task:
+    """A task that a worker polled: a workflow task, or an activity's attempt."""
+
+    def __init__(self, reply):
+        self.token = reply["token"]
+        self.run = reply["run"]
+        self.workflow_id = reply["workflow_id"]
+        self.attempt = reply["attempt"]
+        # Those of an activity: what it is, and what its last attempt's heartbeat told.
+        self.activity_id = reply.get("activity_id")
+        self.activity_type = reply.get("activity_type")
+        self.input = reply.get("input")
+        self.details = reply.get("details")
+
+
+class Service:
+    """A running wfserve. Each method writes one line and reads its reply; a refusal raises Refused."""
+
+    def __init__(self, command, clock=None):
+        self.clock = clock or Clock()
+        self._line = 0
+        self._program = subprocess.Popen(
+            list(command), stdin=subprocess.PIPE, stdout=subprocess.PIPE, text=True, encoding="utf-8"
+        )
+
+    def __enter__(self):
+        return self
+
+    def __exit__(self, *_):
+        self.close()
+
+    def close(self):
+        """Ends the input and waits for the program. Its status: 0, or 1 where a reply was a refusal."""
+        if not self._program.stdin.closed:
+            self._program.stdin.close()
+        status = self._program.wait()
+        self._program.stdout.close()
+        return status
+
+    def call(self, op, **fields):
+        """The reply to one line; fields that are None are left out."""
+        request = {"op": op, "at": self.clock.now}
+        request.update((name, value) for name, value in fields.items() if value is not None)
+        self._line += 1
+        reply = self._exchange(json.dumps(request, separators=(",", ":")))
+        if reply.get("line") != self._line:
+            raise Ended(f"line {self._line}: the reply is to another line: {reply}")
+        if "error" in reply:
+            raise Refused(request, reply)
+        return reply
+
+    def _exchange(self, line):
+        try:
+            self._program.stdin.write(line + "\n")
+            self._program.stdin.flush()
+            text = self._program.stdout.readline()
+        except BrokenPipeError:
+            text = ""
+        if not text.endswith("\n"):
+            raise Ended(f"line {self._line}: the program ended with status {self._program.wait()}")
+        return json.loads(text)
+
+    # Workflows.
+
+    def start(self, workflow_id, workflow_type, task_queue="main", **fields):
+        """Starts a workflow; fields as in docs/PROFILE.md (input, request_id, reuse, run_timeout, ..). Its run."""
+        return self.call(
+            "start", workflow_id=workflow_id, workflow_type=workflow_type, task_queue=task_queue, **fields
+        )["run"]
+
+    def signal(self, workflow_id, name, input=None, run=None, request_id=None):
+        """Signals a workflow. False where a signal with this request id was there before."""
+        reply = self.call(
+            "signal", workflow_id=workflow_id, name=name, input=input, run=run, request_id=request_id
+        )
+        return reply["ok"] == "signaled"
+
+    def history(self, workflow_id, run=None):
+        """The events of a run, the latest where none is named."""
+        return self.call("history", workflow_id=workflow_id, run=run)["events"]
+
+    def describe(self, workflow_id, run=None):
+        """A run in numbers, and its status."""
+        return self.call("describe", workflow_id=workflow_id, run=run)
+
+    # Workers.
+
+    def poll_workflow_task(self, task_queue="main"):
+        """A workflow task of the queue, or None where none waits or the one that did is over."""
+        return self._poll("poll_workflow_task", task_queue)
+
+    def poll_activity_task(self, task_queue="main"):
+        """An activity's attempt of the queue, in the same way."""
+        return self._poll("poll_activity_task", task_queue)
+
+    def _poll(self, op, task_queue):
+        while True:
+            reply = self.call(op, task_queue=task_queue)
+            if reply["ok"] == "task":
+                return Task(reply)
+            if reply["ok"] == "empty":
+                return None
+
+    def complete_workflow_task(self, task, commands):
+        """Says what the workflow does next. The cause where a command is at fault, else None."""
+        return self.call("complete_workflow_task", token=task.token, commands=commands).get("cause")
+
+    def fail_workflow_task(self, task, message=None):
+        self.call("fail_workflow_task", token=task.token, message=message)
+
+    def complete_activity(self, task, result=None):
+        self.call("complete_activity", token=task.token, result=result)
+
+    def fail_activity(self, task, message=None, error_type=None, non_retryable=None):
+        """Fails an attempt. The moment of the next one, or None where there is none."""
+        return self.call(
+            "fail_activity", token=task.token, message=message, error_type=error_type,
+            non_retryable=non_retryable,
+        ).get("ready")
+
+    def cancel_activity(self, task, details=None):
+        self.call("cancel_activity", token=task.token, details=details)
+
+    def heartbeat(self, task, details=None):
+        """Tells that an attempt goes on. True where the workflow has asked it to cancel."""
+        return self.call("heartbeat", token=task.token, details=details)["cancel_requested"]
+
+    # What makes the service go on: tasks are handed to their queues, and deadlines fire.
+
+    def dispatch_turn(self, shard=0):
+        """Hands the shard's next task to its queue. False where none waits."""
+        return self.call("dispatch_turn", shard=shard)["ok"] != "none"
+
+    def timer_turn(self, shard=0):
+        """Lets the shard's first deadline fire. The reply, or None where none is due."""
+        reply = self.call("timer_turn", shard=shard)
+        return None if reply["ok"] == "none" else reply
+
+
+class ActivityFailed(Exception):
+    """An activity raises it to fail its attempt, with a message for the history."""
+
+
+class Worker:
+    """Polls one task queue, and lets the shards go on.
+
+    `workflows` has for each workflow type a function from a history to the commands that come next, and
+    `activities` for each activity type one from its task to its result.
+    """
+
+    def __init__(self, service, task_queue="main", shards=1, workflows=None, activities=None):
+        self.service = service
+        self.task_queue = task_queue
+        self.shards = shards
+        self.workflows = workflows or {}
+        self.activities = activities or {}
+
+    def run_until_idle(self):
+        """Works until nothing is left to do at this moment."""
+        while self._turn_shards() + self._work():
+            pass
+
+    def _turn_shards(self):
+        """How many tasks were handed over, and deadlines fired."""
+        turns = 0
+        for shard in range(self.shards):
+            while self.service.timer_turn(shard):
+                turns += 1
+            while self._dispatches(shard):
+                turns += 1
+        return turns
+
+    def _dispatches(self, shard):
+        try:
+            return self.service.dispatch_turn(shard)
+        except Refused as refused:
+            # A queue that is full has room again once its tasks were polled.
+            if refused.name == "QueueFull":
+                return False
+            raise
+
+    def _work(self):
+        """How many tasks were done."""
+        done = 0
+        while (task := self.service.poll_workflow_task(self.task_queue)) is not None:
+            self._decide(task)
+            done += 1
+        while (task := self.service.poll_activity_task(self.task_queue)) is not None:
+            self._attempt(task)
+            done += 1
+        return done
+
+    def _decide(self, task):
+        history = self.service.history(task.workflow_id, task.run)
+        decide = self.workflows[history[0]["attrs"]["workflow_type"]]
+        self.service.complete_workflow_task(task, decide(history))
+
+    def _attempt(self, task):
+        try:
+            result = self.activities[task.activity_type](task)
+        except ActivityFailed as failed:
+            self.service.fail_activity(task, str(failed))
+        else:
+            self.service.complete_activity(task, result)

@@ -1,0 +1,62 @@
+//! The lines that ask a shard for a turn.
+
+ghost use Rattle.std.specs.Prelude.{◌≡◌};
+ghost use Rattle.serde_json.specs.View.{view};
+ghost use Rattle.wf_event_values.specs.Gives.{Gives};
+ghost use Rattle.wire_requests.specs.Turns.{dispatch_turn_of, shard_in, stop_in, timer_turn_of};
+
+use serde_json::Value;
+use service_model::call::{DispatchTurn, Stop, TimerTurn};
+use service_model::settings::Settings;
+use std::alloc::Global;
+use wf_event_values::{Field, Moment, Refusal};
+use wire_fields::{or_default, required};
+
+/// The shard that a number names: one that is there.
+fn shard_in(settings: &Settings, number: u64) -> Result<u16, Refusal>
+    ensures { result ≡ shard_in settings.now number }
+{
+    match u16::try_from(number) {
+        Ok(shard) if number < settings.shards => Ok(shard),
+        _ => Err(Refusal::InvalidArgument(Field::Shard)),
+    }
+}
+
+/// Where a turn ends, by the number of parts after which it does: 0 is the end, and 1 and 2 come before.
+fn stop_in(parts: u64) -> Result<Stop, Refusal>
+    ensures { result ≡ stop_in parts }
+{
+    match parts {
+        0 => Ok(Stop::AtEnd),
+        1 => Ok(Stop::AfterFirstPart),
+        2 => Ok(Stop::AfterSecondPart),
+        _ => Err(Refusal::InvalidArgument(Field::Stop)),
+    }
+}
+
+#[tactic(auto, unfolding(crate::specs::Turns::timer_turn_of))]
+pub(crate) fn timer_turn(
+    alloc: Global,
+    settings: &Settings,
+    at: Moment,
+    line: &Value,
+) -> Result<TimerTurn, Refusal>
+    ensures { Gives result (timer_turn_of settings.now at (view line.now)) }
+{
+    let shard = shard_in(settings, required(alloc, line, Field::Shard)?)?;
+    Ok(TimerTurn { shard, at })
+}
+
+#[tactic(auto, unfolding(crate::specs::Turns::dispatch_turn_of))]
+pub(crate) fn dispatch_turn(
+    alloc: Global,
+    settings: &Settings,
+    at: Moment,
+    line: &Value,
+) -> Result<DispatchTurn, Refusal>
+    ensures { Gives result (dispatch_turn_of settings.now at (view line.now)) }
+{
+    let shard = shard_in(settings, required(alloc, line, Field::Shard)?)?;
+    let stop = stop_in(or_default(alloc, line, Field::Stop, 0)?)?;
+    Ok(DispatchTurn { shard, stop, at })
+}
