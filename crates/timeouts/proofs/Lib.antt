@@ -1,5 +1,6 @@
 pub mod OrderLemmas
 pub mod SlotLemmas
+pub mod WinnerLemmas
 pub mod LeastLemmas
 pub mod FirstLemmas
 pub mod ClassLemmas
