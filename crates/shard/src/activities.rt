@@ -8,24 +8,21 @@ ghost use Rattle.service_model.specs.declared.journal.Note.TheVariants.{Taken};
 ghost use Rattle.service_model.specs.Outcome.{adds, noted, run_at};
 ghost use Rattle.service_model.specs.RunState.{is_open, used};
 ghost use Rattle.service_model.specs.Tasks.{take_by_kind, pending_row};
-ghost use Rattle.mutable_state.specs.Activities.{row_said};
 ghost use Rattle.mutable_state.specs.Steps.{has_id};
-ghost use Rattle.shard.specs.Attempts.{has_run_of, task_of, task_for, waits_at};
+ghost use Rattle.shard_steps.specs.Attempts.{has_run_of, task_for};
 ghost use Rattle.shard.specs.Fitting.{FitsStep};
 ghost use Rattle.shard.specs.View.{state, runs_in};
 
-use crate::heartbeats::note_facts;
 use crate::plan::Plan;
 use crate::prepare::answered;
 use crate::shard::Shard;
-use mutable_state::{Activity, ActivityPhase};
 use mutable_state_keeper::KeepsRun;
 use service_model::answer::{ActivityTask, Answer};
 use service_model::journal::Note;
 use service_model::request::Hint;
+use shard_steps::{attempt_task, note_facts};
 use std::alloc::AllocError;
-use wf_event::Attributes;
-use wf_event_values::{Id, Moment, RunId};
+use wf_event_values::Moment;
 
 impl<T: KeepsRun> Shard<T> {
     /// The attempt of an activity is taken, where it waits.
@@ -35,7 +32,8 @@ impl<T: KeepsRun> Shard<T> {
         hint: Hint,
     ) -> Result<Plan<T>, AllocError>
         ensures same { state self.new ≡ state self.old }
-        ensures plan { IfOk result (λ plan. FitsStep self.new plan moment (take_by_kind (runs_in self.old) hint of_an_activity)) }
+        ensures plan { IfOk result (λ plan. FitsStep self.new plan moment
+            (take_by_kind (runs_in self.old) hint of_an_activity)) }
     {
         let Some(n) = self.run_of(hint.shard, hint.run) else {
             return Ok(answered(moment, Answer::Stale));
@@ -64,9 +62,12 @@ impl<T: KeepsRun> Shard<T> {
         requires from { 1 ≤ n }
         requires to { n ≤ length self.now.runs }
         requires run { n ≡ hint.run }
-        ensures task { IfOk result (λ task. task ≡ task_for (runs_in self.now) hint (pending_row (run_at (runs_in self.now) hint.run) hint.event)) }
-        ensures there { IfOk result (λ task. IfSome task (λ t. has_id hint.event (used AnActivity (run_at (runs_in self.now) n)) ≡ true)) }
-        ensures open { IfOk result (λ task. IfSome task (λ t. is_open (run_at (runs_in self.now) n) ≡ true)) }
+        ensures task { IfOk result (λ task. task ≡ task_for (runs_in self.now) hint
+            (pending_row (run_at (runs_in self.now) hint.run) hint.event)) }
+        ensures there { IfOk result (λ task. IfSome task
+            (λ t. has_id hint.event (used AnActivity (run_at (runs_in self.now) n)) ≡ true)) }
+        ensures open { IfOk result (λ task. IfSome task
+            (λ t. is_open (run_at (runs_in self.now) n) ≡ true)) }
     {
         let Some(activity) = self.runs[n - 1].pending_activity(self.alloc, hint.event)? else {
             return Ok(None);
@@ -90,44 +91,11 @@ impl<T: KeepsRun> Shard<T> {
         requires there { has_id hint.event (used AnActivity (run_at (runs_in self.old) n)) ≡ true }
         requires open { is_open (run_at (runs_in self.old) n) ≡ true }
         ensures same { state self.new ≡ state self.old }
-        ensures plan { IfOk result (λ plan. FitsStep self.new plan moment (adds hint.run (noted hint.event Taken ∷ []) (an_activity_task task))) }
+        ensures plan { IfOk result (λ plan. FitsStep self.new plan moment
+            (adds hint.run (noted hint.event Taken ∷ []) (an_activity_task task))) }
     {
         let facts = note_facts(self.alloc, hint.event, Note::Taken)?;
         let plan = self.prepare_more(moment, n, facts, Answer::ActivityTask(task))?;
         Ok(plan)
     }
-}
-
-/// The task of an activity's attempt, where that waits as the hint says.
-fn attempt_task(
-    activity: &Activity,
-    hint: Hint,
-    run: RunId,
-    workflow_id: Id,
-) -> Result<Option<ActivityTask>, AllocError>
-    ensures { IfOk result (λ task. task ≡ task_of hint run workflow_id (row_said activity.now)) }
-{
-    let Attributes::ActivityTaskScheduled(scheduled) = &activity.scheduled.attributes else {
-        return Ok(None);
-    };
-    if !waits(activity, hint.attempt) {
-        return Ok(None);
-    }
-    Ok(Some(ActivityTask {
-        activity_id: scheduled.activity_id.clone()?,
-        activity_type: scheduled.activity_type.clone()?,
-        attempt: hint.attempt,
-        details: activity.notes.copy_details()?,
-        input: scheduled.input.clone()?,
-        run,
-        scheduled: hint.event,
-        workflow_id,
-    }))
-}
-
-/// Whether the activity waits to be taken at this attempt.
-fn waits(activity: &Activity, attempt: u32) -> bool
-    ensures { result ≡ waits_at attempt (row_said activity.now) }
-{
-    matches!(activity.notes.phase, ActivityPhase::Queued) && activity.notes.attempt == attempt
 }

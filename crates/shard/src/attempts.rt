@@ -1,30 +1,28 @@
 //! The running attempts that tokens name, and the ends of activities that workers report.
 
 ghost use Rattle.std.specs.Prelude.{◌≡◌, ◌≤◌, Some, length, true, is_some, option_map, IfOk, IfSome};
-ghost use Rattle.service_model.specs.Activities.{attempt_started, cancel_activity, complete_activity, ends_activity, keep_running, running_attempt};
-ghost use Rattle.service_model.specs.Completion.{is_running_phase};
-ghost use Rattle.service_model.specs.Journal.{plain};
+ghost use Rattle.service_model.specs.Activities.{cancel_activity, complete_activity, ends_activity, keep_running, running_attempt};
 ghost use Rattle.service_model.specs.Outcome.{adds, run_at};
 ghost use Rattle.service_model.specs.RunState.{is_open};
 ghost use Rattle.service_model.specs.Tasks.{pending_row};
 ghost use Rattle.mutable_state.specs.Activities.{row_said};
-ghost use Rattle.shard.specs.Attempts.{ended_activity, HasAttempt, has_run_of, runs_at};
+ghost use Rattle.shard.specs.Running.{HasAttempt};
 ghost use Rattle.shard.specs.Fitting.{FitsStep};
 ghost use Rattle.shard.specs.View.{state, runs_in};
+ghost use Rattle.shard_steps.specs.Attempts.{ended_activity};
 
-use crate::more::from_outside;
 use crate::plan::Plan;
 use crate::prepare::refused;
 use crate::shard::Shard;
-use mutable_state::{Activity, ActivityPhase, plain};
-use mutable_state_keeper::{KeepsRun, Run};
+use mutable_state::Activity;
+use mutable_state_keeper::KeepsRun;
 use service_model::answer::Answer;
-use service_model::journal::Fact;
 use service_model::request::{ActivityText, TakenTask};
-use std::alloc::{AllocError, Global};
+use shard_steps::{ended_facts, is_running};
+use std::alloc::AllocError;
 use wf_event::Attributes;
-use wf_event::payloads::{ActivityTaskCanceled, ActivityTaskCompleted, ActivityTaskStarted};
-use wf_event_values::{Field, Items, Moment, Refusal};
+use wf_event::payloads::{ActivityTaskCanceled, ActivityTaskCompleted};
+use wf_event_values::{Field, Moment, Refusal};
 
 impl<T: KeepsRun> Shard<T> {
     /// An activity is completed.
@@ -90,7 +88,8 @@ impl<T: KeepsRun> Shard<T> {
         ensures same { state self.new ≡ state self.old }
         ensures plan { IfOk result (λ plan. FitsStep self.new plan moment
             (adds task.run
-            (ends_activity (run_at (runs_in self.old) task.run) (row_said activity.now) last) answer)) }
+            (ends_activity (run_at (runs_in self.old) task.run) (row_said activity.now) last)
+            answer)) }
     {
         let n = task.run as usize;
         let facts = ended_facts(self.alloc, &self.runs[n - 1], activity, last)?;
@@ -130,47 +129,4 @@ impl<T: KeepsRun> Shard<T> {
         }
         Ok(Some(activity))
     }
-}
-
-/// Whether a worker has the attempt of this number.
-fn is_running(activity: &Activity, attempt: u32) -> bool
-    ensures { result ≡ runs_at attempt (row_said activity.now) }
-{
-    is_taken(activity) && activity.notes.attempt == attempt
-}
-
-/// Whether a worker has an attempt of the activity.
-pub(crate) fn is_taken(activity: &Activity) -> bool
-    ensures { result ≡ is_running_phase (row_said activity.now).phase }
-{
-    matches!(activity.notes.phase, ActivityPhase::Running)
-}
-
-/// The facts of an attempt that ends its activity: its ActivityTaskStarted right before this event.
-pub(crate) fn ended_facts<T: KeepsRun>(
-    alloc: Global,
-    run: &Run<T>,
-    activity: &Activity,
-    last: Attributes,
-) -> Result<Items<Fact>, AllocError>
-    ensures { IfOk result (λ facts.
-        facts ≡ ends_activity run.now.state (row_said activity.now) last) }
-{
-    let mut facts = Vec::new(alloc);
-    facts.push(attempt_started(activity))?;
-    facts.push(plain(last))?;
-    let all = from_outside(alloc, run, facts)?;
-    Ok(all)
-}
-
-/// The start of an attempt, which is written as it ends its activity, with the moment of its
-/// taking.
-pub(crate) fn attempt_started(activity: &Activity) -> Fact
-    ensures { result ≡ attempt_started (row_said activity.now) }
-{
-    plain(Attributes::ActivityTaskStarted(ActivityTaskStarted {
-        scheduled: activity.scheduled.id,
-        attempt: activity.notes.attempt,
-        taken: activity.notes.taken.unwrap_or(Moment::zero()),
-    }))
 }

@@ -2,7 +2,7 @@
 
 ghost use Rattle.std.specs.Prelude.{◌≡◌, IfOk};
 ghost use Rattle.service_model.specs.Outcome.{answered};
-ghost use Rattle.shard.specs.Issuing.{next_waiting, count_waiting};
+ghost use Rattle.shard_steps.specs.Issuing.{next_waiting, count_waiting};
 ghost use Rattle.shard.specs.Fitting.{FitsStep};
 ghost use Rattle.shard.specs.View.{state};
 
@@ -19,7 +19,8 @@ impl<T: KeepsRun> Shard<T> {
     /// The first dispatch that is not counted.
     pub(crate) fn prepare_next_dispatch(&mut self, moment: Moment) -> Result<Plan<T>, AllocError>
         ensures same { state self.new ≡ state self.old }
-        ensures plan { IfOk result (λ plan. FitsStep self.new plan moment (next_waiting self.old.waiting)) }
+        ensures plan { IfOk result (λ plan. FitsStep self.new plan moment
+            (next_waiting self.old.waiting)) }
     {
         self.note_change()?;
         let Some(first) = self.dispatches.first() else {
@@ -40,7 +41,8 @@ impl<T: KeepsRun> Shard<T> {
         number: u64,
     ) -> Result<Plan<T>, AllocError>
         ensures same { state self.new ≡ state self.old }
-        ensures plan { IfOk result (λ plan. FitsStep self.new plan moment (count_waiting self.old.waiting number)) }
+        ensures plan { IfOk result (λ plan. FitsStep self.new plan moment
+            (count_waiting self.old.waiting number)) }
     {
         self.note_change()?;
         let counted = self.dispatches.counted();

@@ -34,7 +34,8 @@ impl<T: KeepsRun> Shard<T> {
     /// The first deadline of the shard, where its moment has come.
     pub(crate) fn due_now(&mut self, moment: Moment) -> Result<Option<Due>, AllocError>
         ensures same { state self.new ≡ state self.old }
-        ensures due { IfOk result (λ due. option_map run_due due ≡ due_now moment (least (all_dues (states self.old.runs)))) }
+        ensures due { IfOk result (λ due. option_map run_due due
+            ≡ due_now moment (least (all_dues (states self.old.runs)))) }
     {
         self.note_change()?;
         Ok(self.deadlines.due(moment))

@@ -4,8 +4,8 @@ ghost use Rattle.std.specs.Prelude.{◌≡◌, ◌∷◌, [], IfOk};
 ghost use Rattle.service_model.specs.Activities.{heartbeat};
 ghost use Rattle.service_model.specs.Outcome.{adds, noted};
 ghost use Rattle.service_model.specs.RunState.{ActivityRow};
-ghost use Rattle.shard.specs.Attempts.{HasAttempt};
 ghost use Rattle.shard.specs.Fitting.{FitsStep};
+ghost use Rattle.shard.specs.Running.{HasAttempt};
 ghost use Rattle.shard.specs.View.{state, runs_in};
 
 use crate::plan::Plan;
@@ -13,14 +13,15 @@ use crate::prepare::refused;
 use crate::shard::Shard;
 use mutable_state_keeper::KeepsRun;
 use service_model::answer::Answer;
-use service_model::journal::{Fact, Note, NoteFact};
+use service_model::journal::Note;
 use service_model::request::{ActivityText, TakenTask};
-use std::alloc::{AllocError, Global};
-use wf_event_values::{Items, Moment, Refusal};
+use shard_steps::note_facts;
+use std::alloc::AllocError;
+use wf_event_values::{Moment, Refusal};
 
 impl<T: KeepsRun> Shard<T> {
-    /// A heartbeat of a running attempt, which keeps its details, and answers whether the activity was
-    /// asked to cancel.
+    /// A heartbeat of a running attempt, which keeps its details, and answers whether the activity
+    /// was asked to cancel.
     #[tactic(auto, unfolding(service_model::specs::Activities::heartbeat))]
     pub(crate) fn prepare_heartbeat(
         &mut self,
@@ -57,17 +58,4 @@ impl<T: KeepsRun> Shard<T> {
         let plan = self.prepare_more(moment, task.run as usize, facts, answer)?;
         Ok(plan)
     }
-}
-
-/// A note on an activity.
-pub(crate) fn note_facts(
-    alloc: Global,
-    activity: u64,
-    note: Note,
-) -> Result<Items<Fact>, AllocError>
-    ensures { IfOk result (λ facts. facts ≡ noted activity note ∷ []) }
-{
-    let mut facts = Vec::new(alloc);
-    facts.push(Fact::Note(NoteFact { activity, note }))?;
-    Ok(Items::from_vec(facts))
 }

@@ -1,19 +1,18 @@
 //! Steps that add facts to a run.
 
 ghost use Rattle.std.specs.Prelude.{◌≡◌, ◌≤◌, IfOk, length};
-ghost use Rattle.service_model.specs.Outcome.{adds, outside, run_at};
+ghost use Rattle.service_model.specs.Outcome.{adds, run_at};
 ghost use Rattle.mutable_state.specs.Steps.{FitStep};
 ghost use Rattle.shard.specs.Fitting.{FitsStep};
 ghost use Rattle.shard.specs.View.{state, runs_in};
 
 use crate::plan::{Change, MoreOf, Plan};
 use crate::shard::Shard;
-use crate::signals::is_none;
-use mutable_state::{Change as MoreFacts, plain};
-use mutable_state_keeper::{KeepsRun, Run};
+use mutable_state::Change as MoreFacts;
+use mutable_state_keeper::KeepsRun;
 use service_model::answer::Answer;
 use service_model::journal::Fact;
-use std::alloc::{AllocError, Global};
+use std::alloc::AllocError;
 use wf_event_values::{Items, Moment};
 
 impl<T: KeepsRun> Shard<T> {
@@ -38,19 +37,4 @@ impl<T: KeepsRun> Shard<T> {
             reply: Ok(answer),
         })
     }
-}
-
-/// Facts from outside, and a workflow task where none is scheduled or started.
-pub(crate) fn from_outside<T: KeepsRun>(
-    alloc: Global,
-    run: &Run<T>,
-    facts: Vec<Fact>,
-) -> Result<Items<Fact>, AllocError>
-    ensures { IfOk result (λ all. all ≡ outside run.now.state facts.items) }
-{
-    let mut facts = facts;
-    if is_none(run.task(alloc)?.phase) {
-        facts.push(plain(run.schedule_task(1)?))?;
-    }
-    Ok(Items::from_vec(facts))
 }

@@ -14,10 +14,14 @@ use std::alloc::AllocError;
 use wf_event_values::{Moment, Refusal};
 
 impl<T: KeepsRun> Shard<T> {
-    /// Makes all that the request's step needs. The shard stands for the same contents, whatever the result.
+    /// Makes all that the request's step needs. The shard stands for the same contents, whatever the
+    /// result.
     pub fn prepare(&mut self, request: &Request) -> Result<Plan<T>, AllocError>
         ensures same { state self.new ≡ state self.old }
-        ensures plan { IfOk result (λ plan. FitsStep self.new plan (max request.now.at self.old.last) (outcome_in self.old.waiting (runs_in self.old) (max request.now.at self.old.last) request.now.operation)) }
+        ensures plan { IfOk result (λ plan. FitsStep self.new plan
+            (max request.now.at self.old.last)
+            (outcome_in self.old.waiting (runs_in self.old)
+            (max request.now.at self.old.last) request.now.operation)) }
     {
         let moment = request.at.later(self.last);
         match &request.operation {
@@ -41,7 +45,11 @@ impl<T: KeepsRun> Shard<T> {
 
 /// A step that changes no run, and answers.
 pub fn answered<T: KeepsRun>(moment: Moment, answer: Answer) -> Plan<T>
-    ensures { result ≡ record { moment = moment; change = Change.Nothing; reply = (answered answer).reply } }
+    ensures { result ≡ record {
+      moment = moment;
+      change = Change.Nothing;
+      reply = (answered answer).reply;
+    } }
 {
     Plan {
         moment,
@@ -52,7 +60,11 @@ pub fn answered<T: KeepsRun>(moment: Moment, answer: Answer) -> Plan<T>
 
 /// A step that changes no run, and refuses.
 pub fn refused<T: KeepsRun>(moment: Moment, refusal: Refusal) -> Plan<T>
-    ensures { result ≡ record { moment = moment; change = Change.Nothing; reply = (refused refusal).reply } }
+    ensures { result ≡ record {
+      moment = moment;
+      change = Change.Nothing;
+      reply = (refused refusal).reply;
+    } }
 {
     Plan {
         moment,

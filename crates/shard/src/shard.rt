@@ -7,15 +7,15 @@ ghost use Rattle.service_model.specs.RunState.{id_of};
 ghost use Rattle.mutable_state.specs.Steps.{after_step, FitStep};
 ghost use Rattle.shard.specs.View.{IsSetup, state, states};
 ghost use Rattle.shard.specs.Fitting.{CountsFirst, FitsChange, issued_for, issued_new, state_after, room_at, state_at};
-ghost use Rattle.shard.specs.Issuing.{one_counted, with_issued};
 ghost use Rattle.shard.specs.Standing.{Grows};
+ghost use Rattle.shard_steps.specs.Issuing.{one_counted, with_issued};
 
-use crate::dispatches::{Dispatches, readied};
 use crate::plan::{Change, MoreOf, NewRun, Plan};
 use indexmap::IndexMap;
 use mutable_state_keeper::{KeepsRun, Run};
 use service_model::answer::Reply;
 use service_model::content::Setup;
+use shard_steps::{Dispatches, readied};
 use std::alloc::{AllocError, Global};
 use std::marker::Model;
 use timeouts::Deadlines;
@@ -32,8 +32,8 @@ pub struct Shard<T: KeepsRun> {
     pub(crate) deadlines: Deadlines,
     /// The tasks that are to be handed to their queues.
     pub(crate) dispatches: Dispatches,
-    /// The place of the run that the last step changed, where its deadline and its dispatches were not
-    /// looked up since: that may take memory, so the next step does it.
+    /// The place of the run that the last step changed, where its deadline and its dispatches were
+    /// not looked up since: that may take memory, so the next step does it.
     pub(crate) changed: Option<usize>,
     pub(crate) last: Moment,
 }
@@ -56,8 +56,9 @@ impl<T: KeepsRun> Drop for Shard<T> {
 impl<T: KeepsRun> Model for Shard<T> {
     ghost use Rattle.std.specs.Prelude.{◌-◌, ◌<◌, ◌^◌, length, min, vec_capacity, vec_len};
     ghost use Rattle.indexmap.specs.IndexMap.{get_by_text, spare};
-    ghost use Rattle.shard.specs.Issuing.{all_waiting};
-    ghost use Rattle.shard.specs.View.{ShardView, HasFirsts, HasShown, IsIndexed, IsSetup, states};
+    ghost use Rattle.shard.specs.View.{ShardView, IsIndexed, IsSetup, states};
+    ghost use Rattle.shard_steps.specs.Issuing.{all_waiting};
+    ghost use Rattle.shard_steps.specs.Kept.{HasFirsts, HasShown};
 
     ghost Value = { ShardView };
 
@@ -66,18 +67,28 @@ impl<T: KeepsRun> Model for Shard<T> {
       runs = a.runs.items;
       changed = a.changed;
       last = a.last;
-      room = min (vec_capacity a.runs - vec_len a.runs) (min (spare a.index) (min a.deadlines.room a.dispatches.room));
+      room = min (vec_capacity a.runs - vec_len a.runs)
+          (min (spare a.index) (min a.deadlines.room a.dispatches.room));
       waiting = all_waiting a.setup a.dispatches a.changed (states a.runs.items);
     } };
 
-    ghost invariant = { λ a. IsSetup a.setup × IsIndexed (get_by_text a.index) a.runs.items × (length a.runs.items < 2 ^ 60) × HasFirsts a.deadlines.slots a.changed (states a.runs.items) × HasShown a.dispatches.shown a.changed (states a.runs.items) };
+    ghost invariant = { λ a. IsSetup a.setup
+        × IsIndexed (get_by_text a.index) a.runs.items
+        × (length a.runs.items < 2 ^ 60)
+        × HasFirsts a.deadlines.slots a.changed (states a.runs.items)
+        × HasShown a.dispatches.shown a.changed (states a.runs.items) };
 }
 
 impl<T: KeepsRun> Shard<T> {
     /// A shard without runs.
     pub fn new(alloc: Global, setup: Setup) -> Shard<T>
         requires { IsSetup setup }
-        ensures { state result ≡ record { setup = setup; runs = []; last = 0; waiting = record { dispatches = []; counted = 0 } } }
+        ensures { state result ≡ record {
+          setup = setup;
+          runs = [];
+          last = 0;
+          waiting = record { dispatches = []; counted = 0 };
+        } }
     {
         Shard {
             alloc,
@@ -127,7 +138,8 @@ impl<T: KeepsRun> Shard<T> {
         requires few { length self.old.runs + 1 < 2 ^ 60 }
         requires named { id_of created.run.state ≡ string_bytes created.key }
         ensures runs { states self.new.runs ≡ states self.old.runs ++ created.run.state ∷ [] }
-        ensures waiting { self.new.waiting ≡ with_issued self.old.waiting (issued_new created.run.state (state self.old)) }
+        ensures waiting { self.new.waiting ≡ with_issued self.old.waiting
+            (issued_new created.run.state (state self.old)) }
         ensures setup { self.new.setup ≡ self.old.setup }
         ensures last { self.new.last ≡ self.old.last }
     {
@@ -145,9 +157,13 @@ impl<T: KeepsRun> Shard<T> {
         requires there { more.index < length self.old.runs }
         requires noted { self.old.changed ≡ None }
         requires room { length more.plan.change.facts ≤ room_at self.old.runs more.index }
-        requires fits { FitStep more.plan.change.moment (state_at (states self.old.runs) more.index) more.plan.change.facts }
-        ensures runs { states self.new.runs ≡ slice_set (states self.old.runs) more.index (after_step more.plan.change.moment more.plan.change.facts (state_at (states self.old.runs) more.index)) }
-        ensures waiting { self.new.waiting ≡ with_issued self.old.waiting (issued_for more (state self.old)) }
+        requires fits { FitStep more.plan.change.moment
+            (state_at (states self.old.runs) more.index) more.plan.change.facts }
+        ensures runs { states self.new.runs ≡ slice_set (states self.old.runs) more.index
+            (after_step more.plan.change.moment more.plan.change.facts
+            (state_at (states self.old.runs) more.index)) }
+        ensures waiting { self.new.waiting ≡ with_issued self.old.waiting
+            (issued_for more (state self.old)) }
         ensures setup { self.new.setup ≡ self.old.setup }
         ensures last { self.new.last ≡ self.old.last }
     {
@@ -162,7 +178,12 @@ impl<T: KeepsRun> Shard<T> {
     /// Counts the first dispatch that waits.
     fn count(&mut self)
         requires { CountsFirst self.old }
-        ensures state { state self.new ≡ record { setup = self.old.setup; runs = states self.old.runs; last = self.old.last; waiting = one_counted self.old.waiting } }
+        ensures state { state self.new ≡ record {
+          setup = self.old.setup;
+          runs = states self.old.runs;
+          last = self.old.last;
+          waiting = one_counted self.old.waiting;
+        } }
     {
         self.dispatches.count_first();
     }

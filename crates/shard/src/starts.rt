@@ -6,23 +6,20 @@ ghost use Rattle.service_model.specs.Service.{at_served_policies, is_terminate_e
 ghost use Rattle.service_model.specs.Outcome.{latest_run};
 ghost use Rattle.service_model.specs.Starts.{decision, start, starts_new, started_fact, first_task};
 ghost use Rattle.shard.specs.View.{state, states, runs_in};
-ghost use Rattle.shard.specs.Fitting.{FitsStep, IsFree, decided, decided_by, started_by, new_run};
+ghost use Rattle.shard.specs.Fitting.{FitsStep, IsFree, decided, decided_by};
 
 use crate::index::shard_of;
 use crate::plan::{Change, NewRun, Plan};
 use crate::prepare::{answered, refused};
 use crate::shard::Shard;
 use id_policy::{Decision, Latest, decide};
-use mutable_state::{Change as MoreFacts, plain};
-use mutable_state_keeper::{KeepsRun, Run};
+use mutable_state_keeper::KeepsRun;
 use service_model::answer::Answer;
-use service_model::journal::Fact;
 use service_model::limits::MOST_MEMBERS;
 use service_model::request::Start;
-use std::alloc::{AllocError, Global};
-use wf_event::Attributes;
-use wf_event::payloads::{WorkflowExecutionStarted, WorkflowTaskScheduled};
-use wf_event_values::{ConflictPolicy, Field, Id, Items, Moment, Refusal, Span};
+use shard_steps::new_run;
+use std::alloc::AllocError;
+use wf_event_values::{ConflictPolicy, Field, Moment, Refusal};
 
 impl<T: KeepsRun> Shard<T> {
     pub(crate) fn prepare_start(
@@ -31,7 +28,8 @@ impl<T: KeepsRun> Shard<T> {
         request: &Start,
     ) -> Result<Plan<T>, AllocError>
         ensures same { state self.new ≡ state self.old }
-        ensures plan { IfOk result (λ plan. FitsStep self.new plan moment (at_served_policies request.now (start (runs_in self.old) request.now))) }
+        ensures plan { IfOk result (λ plan. FitsStep self.new plan moment
+            (at_served_policies request.now (start (runs_in self.old) request.now))) }
     {
         if is_terminate_existing(request.conflict) {
             return Ok(refused(moment, Refusal::InvalidArgument(Field::Conflict)));
@@ -44,7 +42,8 @@ impl<T: KeepsRun> Shard<T> {
     fn prepare_start_here(&mut self, moment: Moment, request: &Start) -> Result<Plan<T>, AllocError>
         requires conflict { is_terminate_existing request.now.conflict ≡ false }
         ensures same { state self.new ≡ state self.old }
-        ensures plan { IfOk result (λ plan. FitsStep self.new plan moment (start (runs_in self.old) request.now)) }
+        ensures plan { IfOk result (λ plan. FitsStep self.new plan moment
+            (start (runs_in self.old) request.now)) }
     {
         if shard_of(&self.setup, &request.workflow_id) != self.setup.shard {
             return Ok(refused(moment, Refusal::InvalidArgument(Field::WorkflowId)));
@@ -59,7 +58,8 @@ impl<T: KeepsRun> Shard<T> {
     fn prepare_decided(&mut self, moment: Moment, request: &Start) -> Result<Plan<T>, AllocError>
         requires conflict { is_terminate_existing request.now.conflict ≡ false }
         ensures same { state self.new ≡ state self.old }
-        ensures plan { IfOk result (λ plan. FitsStep self.new plan moment (decided (runs_in self.old) request.now)) }
+        ensures plan { IfOk result (λ plan. FitsStep self.new plan moment
+            (decided (runs_in self.old) request.now)) }
     {
         match self.latest(&request.workflow_id) {
             Some(n) => self.prepare_decided_by(moment, n, request),
@@ -80,7 +80,8 @@ impl<T: KeepsRun> Shard<T> {
         requires latest { latest_run (states self.old.runs) request.now.workflow_id ≡ Some n }
         requires conflict { is_terminate_existing request.now.conflict ≡ false }
         ensures same { state self.new ≡ state self.old }
-        ensures plan { IfOk result (λ plan. FitsStep self.new plan moment (decided_by (runs_in self.old) request.now (Some n))) }
+        ensures plan { IfOk result (λ plan. FitsStep self.new plan moment
+            (decided_by (runs_in self.old) request.now (Some n))) }
     {
         let run = self.run_id(n);
         match self.decision_by(n, request) {
@@ -110,7 +111,9 @@ impl<T: KeepsRun> Shard<T> {
     fn prepare_new_run(&mut self, moment: Moment, request: &Start) -> Result<Plan<T>, AllocError>
         requires free { IsFree (states self.old.runs) request.now.workflow_id }
         ensures same { state self.new ≡ state self.old }
-        ensures plan { IfOk result (λ plan. FitsStep self.new plan moment (starts_new (runs_in self.old) None (started_fact request.now ∷ first_task request.now.task_queue ∷ []))) }
+        ensures plan { IfOk result (λ plan. FitsStep self.new plan moment
+            (starts_new (runs_in self.old) None
+            (started_fact request.now ∷ first_task request.now.task_queue ∷ []))) }
     {
         let run = new_run(self.alloc, moment, request)?;
         let key = String::from_str(self.alloc, request.workflow_id.as_str())?;
@@ -146,59 +149,4 @@ fn is_terminate_existing(conflict: ConflictPolicy) -> bool
     ensures { result ≡ is_terminate_existing conflict }
 {
     matches!(conflict, ConflictPolicy::TerminateExisting)
-}
-
-/// The run that a start makes, with its first workflow task.
-fn new_run<T: KeepsRun>(alloc: Global, moment: Moment, start: &Start) -> Result<Run<T>, AllocError>
-    ensures { IfOk result (λ run. run.state ≡ new_run moment start.now) }
-{
-    let started = started_by(start)?;
-    let mut run = Run::begin(alloc, moment, started, copied(&start.request_id)?)?;
-    let facts = first_facts(alloc, start)?;
-    let plan = run.prepare(MoreFacts { moment, facts })?;
-    run.commit(plan);
-    Ok(run)
-}
-
-/// What a new run has behind its first event: its first workflow task.
-fn first_facts(alloc: Global, start: &Start) -> Result<Items<Fact>, AllocError>
-    ensures { IfOk result (λ facts. facts ≡ first_task start.now.task_queue ∷ []) }
-{
-    let mut facts = Vec::new(alloc);
-    facts.push(plain(Attributes::WorkflowTaskScheduled(WorkflowTaskScheduled {
-        attempt: 1,
-        task_queue: start.task_queue.clone()?,
-    })))?;
-    Ok(Items::from_vec(facts))
-}
-
-/// What a start's run begins with. A task timeout of 0 is written as the default that is used.
-fn started_by(start: &Start) -> Result<WorkflowExecutionStarted, AllocError>
-    ensures { IfOk result (λ a. a ≡ started_by start.now) }
-{
-    let task_timeout = if start.task_timeout.millis() == 0 {
-        Span::default_task_timeout()
-    } else {
-        start.task_timeout
-    };
-    Ok(WorkflowExecutionStarted {
-        workflow_id: start.workflow_id.clone()?,
-        workflow_type: start.workflow_type.clone()?,
-        task_queue: start.task_queue.clone()?,
-        input: start.input.clone()?,
-        run_timeout: start.run_timeout,
-        task_timeout,
-        continued_from: None,
-        parent: None,
-    })
-}
-
-/// A copy of a request id.
-pub fn copied(id: &Option<Id>) -> Result<Option<Id>, AllocError>
-    ensures { IfOk result (λ copy. copy ≡ id.now) }
-{
-    match id {
-        Some(id) => Ok(Some(id.clone()?)),
-        None => Ok(None),
-    }
 }

@@ -1,8 +1,7 @@
 //! Taking a workflow task, and its end.
 
-ghost use Rattle.std.specs.Prelude.{◌≡◌, ◌≤◌, ◌<◌, ◌+◌, ◌∷◌, [], None, length, map, true, is_some, IfOk, IfSome, OnOk};
+ghost use Rattle.std.specs.Prelude.{◌≡◌, ◌≤◌, ◌<◌, ◌+◌, [], length, map, true, is_some, IfOk, IfSome, OnOk};
 ghost use Rattle.std.specs.List.{list_all};
-ghost use Rattle.wf_event.specs.declared.attributes.Attributes.TheVariants.{WorkflowTaskStarted};
 ghost use Rattle.wf_event_values.specs.declared.policies.Cause.TheVariants.{WorkflowWorkerUnhandledFailure};
 ghost use Rattle.service_model.specs.declared.answer.Answer.TheVariants.{Failed};
 ghost use Rattle.service_model.specs.Completion.{judge_all, failed_task};
@@ -14,21 +13,20 @@ ghost use Rattle.service_model.specs.Service.{at_served_commands, is_served};
 ghost use Rattle.service_model.specs.Tasks.{start_task, take_by_kind, take_workflow, waits_workflow, runs_workflow, complete_workflow_task, complete_judged, fail_workflow_task};
 ghost use Rattle.task_completion.specs.Ends.{IsPlanned, IsCompletion};
 ghost use Rattle.shard.specs.View.{state, states, runs_in};
-ghost use Rattle.shard.specs.Fitting.{FitsStep, state_at, view_at, ended};
+ghost use Rattle.shard.specs.Fitting.{FitsStep, state_at, view_at};
 
 use crate::plan::{Change, MoreOf, Plan};
 use crate::prepare::{answered, refused};
 use crate::shard::Shard;
-use mutable_state::{Change as MoreFacts, plain};
+use mutable_state::Change as MoreFacts;
 use mutable_state_keeper::KeepsRun;
 use service_model::answer::{Answer, WorkflowTask};
-use service_model::journal::Fact;
 use service_model::request::{CompleteWorkflowTask, FailWorkflowTask, Hint, TakenTask};
-use std::alloc::{AllocError, Global};
+use shard_steps::{are_served, ended, started_facts};
+use std::alloc::AllocError;
 use task_completion::{Completion, plan_completion, plan_failure};
-use wf_command::{Command, is_served};
-use wf_event::Attributes;
-use wf_event_values::{Cause, Field, Items, Moment, Refusal, TaskKind, Text};
+use wf_command::Command;
+use wf_event_values::{Cause, Field, Moment, Refusal, TaskKind, Text};
 
 impl<T: KeepsRun> Shard<T> {
     /// A task is taken, where it waits.
@@ -39,7 +37,8 @@ impl<T: KeepsRun> Shard<T> {
         hint: Hint,
     ) -> Result<Plan<T>, AllocError>
         ensures same { state self.new ≡ state self.old }
-        ensures plan { IfOk result (λ plan. FitsStep self.new plan moment (start_task (runs_in self.old) hint)) }
+        ensures plan { IfOk result (λ plan. FitsStep self.new plan moment
+            (start_task (runs_in self.old) hint)) }
     {
         match hint.kind {
             TaskKind::Workflow => self.prepare_take(moment, hint),
@@ -49,7 +48,8 @@ impl<T: KeepsRun> Shard<T> {
 
     fn prepare_take(&mut self, moment: Moment, hint: Hint) -> Result<Plan<T>, AllocError>
         ensures same { state self.new ≡ state self.old }
-        ensures plan { IfOk result (λ plan. FitsStep self.new plan moment (take_workflow (runs_in self.old) hint)) }
+        ensures plan { IfOk result (λ plan. FitsStep self.new plan moment
+            (take_workflow (runs_in self.old) hint)) }
     {
         match self.waiting(hint)? {
             Some(n) => self.prepare_taken(moment, n, hint),
@@ -65,7 +65,8 @@ impl<T: KeepsRun> Shard<T> {
         requires waits { waits_workflow (runs_in self.old) hint ≡ true }
         requires open { is_open (run_at (runs_in self.old) n) ≡ true }
         ensures same { state self.new ≡ state self.old }
-        ensures plan { IfOk result (λ plan. FitsStep self.new plan moment (take_workflow (runs_in self.old) hint)) }
+        ensures plan { IfOk result (λ plan. FitsStep self.new plan moment
+            (take_workflow (runs_in self.old) hint)) }
     {
         let shown = self.runs[n - 1].shown(self.alloc)?;
         let task = WorkflowTask {
@@ -86,9 +87,12 @@ impl<T: KeepsRun> Shard<T> {
 
     /// The ordinal of the run whose workflow task waits to be taken as the hint says.
     fn waiting(&self, hint: Hint) -> Result<Option<usize>, AllocError>
-        ensures waits { IfOk result (λ found. waits_workflow (runs_in self.now) hint ≡ is_some found) }
-        ensures found { IfOk result (λ found. IfSome found (λ n. (n ≡ hint.run) × (1 ≤ n) × (n ≤ length self.now.runs))) }
-        ensures open { IfOk result (λ found. IfSome found (λ n. is_open (run_at (runs_in self.now) n) ≡ true)) }
+        ensures waits { IfOk result (λ found. waits_workflow (runs_in self.now) hint
+            ≡ is_some found) }
+        ensures found { IfOk result (λ found. IfSome found
+            (λ n. (n ≡ hint.run) × (1 ≤ n) × (n ≤ length self.now.runs))) }
+        ensures open { IfOk result (λ found. IfSome found
+            (λ n. is_open (run_at (runs_in self.now) n) ≡ true)) }
     {
         let n = hint.run as usize;
         if hint.shard != self.setup.shard || n < 1 || n > self.runs.len() {
@@ -107,8 +111,10 @@ impl<T: KeepsRun> Shard<T> {
 
     /// The ordinal of the run whose workflow task is running at that attempt.
     fn running(&self, taken: TakenTask) -> Result<Option<usize>, AllocError>
-        ensures runs { IfOk result (λ found. runs_workflow (runs_in self.now) taken ≡ is_some found) }
-        ensures found { IfOk result (λ found. IfSome found (λ n. (n ≡ taken.run) × (1 ≤ n) × (n ≤ length self.now.runs))) }
+        ensures runs { IfOk result (λ found. runs_workflow (runs_in self.now) taken
+            ≡ is_some found) }
+        ensures found { IfOk result (λ found. IfSome found
+            (λ n. (n ≡ taken.run) × (1 ≤ n) × (n ≤ length self.now.runs))) }
     {
         let n = taken.run as usize;
         if taken.shard != self.setup.shard || n < 1 || n > self.runs.len() {
@@ -132,7 +138,9 @@ impl<T: KeepsRun> Shard<T> {
         request: &CompleteWorkflowTask,
     ) -> Result<Plan<T>, AllocError>
         ensures same { state self.new ≡ state self.old }
-        ensures plan { IfOk result (λ plan. FitsStep self.new plan moment (at_served_commands request.now (complete_workflow_task (runs_in self.old) request.now))) }
+        ensures plan { IfOk result (λ plan. FitsStep self.new plan moment
+            (at_served_commands request.now
+            (complete_workflow_task (runs_in self.old) request.now))) }
     {
         if !are_served(request.commands.as_slice()) {
             return Ok(refused(moment, Refusal::InvalidArgument(Field::Type)));
@@ -149,7 +157,8 @@ impl<T: KeepsRun> Shard<T> {
     ) -> Result<Plan<T>, AllocError>
         requires served { list_all is_served request.now.commands ≡ true }
         ensures same { state self.new ≡ state self.old }
-        ensures plan { IfOk result (λ plan. FitsStep self.new plan moment (complete_workflow_task (runs_in self.old) request.now)) }
+        ensures plan { IfOk result (λ plan. FitsStep self.new plan moment
+            (complete_workflow_task (runs_in self.old) request.now)) }
     {
         match self.running(request.task)? {
             Some(n) => self.prepare_completed(moment, n, request),
@@ -170,7 +179,10 @@ impl<T: KeepsRun> Shard<T> {
         requires runs { runs_workflow (runs_in self.old) request.now.task ≡ true }
         requires served { list_all is_served request.now.commands ≡ true }
         ensures same { state self.new ≡ state self.old }
-        ensures plan { IfOk result (λ plan. FitsStep self.new plan moment (complete_judged (runs_in self.old) request.now (judge_all self.old.setup (run_id self.old.setup (next_ordinal (runs_in self.old))) (run_at (runs_in self.old) request.now.task.run) [] request.now.commands))) }
+        ensures plan { IfOk result (λ plan. FitsStep self.new plan moment
+            (complete_judged (runs_in self.old) request.now
+            (judge_all self.old.setup (run_id self.old.setup (next_ordinal (runs_in self.old)))
+            (run_at (runs_in self.old) request.now.task.run) [] request.now.commands))) }
     {
         let commands = request.commands.as_slice();
         let Completion { plan, fault } = self.complete_in(n - 1, commands, moment)?;
@@ -194,7 +206,9 @@ impl<T: KeepsRun> Shard<T> {
         ensures same { state self.new ≡ state self.old }
         ensures there { index < length self.new.runs }
         ensures noted { OnOk result (self.new.changed ≡ None) }
-        ensures plan { IfOk result (λ c. IsCompletion (view_at self.new.runs index) moment (judge_all self.old.setup (run_id self.old.setup (length self.old.runs + 1)) (state_at (states self.old.runs) index) [] commands.now) c) }
+        ensures plan { IfOk result (λ c. IsCompletion (view_at self.new.runs index) moment
+            (judge_all self.old.setup (run_id self.old.setup (length self.old.runs + 1))
+            (state_at (states self.old.runs) index) [] commands.now) c) }
     {
         self.note_change()?;
         let next = self.runs.len() as u64 + 1;
@@ -210,7 +224,8 @@ impl<T: KeepsRun> Shard<T> {
         request: &FailWorkflowTask,
     ) -> Result<Plan<T>, AllocError>
         ensures same { state self.new ≡ state self.old }
-        ensures plan { IfOk result (λ plan. FitsStep self.new plan moment (fail_workflow_task (runs_in self.old) request.now)) }
+        ensures plan { IfOk result (λ plan. FitsStep self.new plan moment
+            (fail_workflow_task (runs_in self.old) request.now)) }
     {
         match self.running(request.task)? {
             Some(n) => self.prepare_failed(moment, n, request),
@@ -230,7 +245,10 @@ impl<T: KeepsRun> Shard<T> {
         requires run { n ≡ request.now.task.run }
         requires runs { runs_workflow (runs_in self.old) request.now.task ≡ true }
         ensures same { state self.new ≡ state self.old }
-        ensures plan { IfOk result (λ plan. FitsStep self.new plan moment (adds request.now.task.run (map plain (failed_task (run_at (runs_in self.old) request.now.task.run) WorkflowWorkerUnhandledFailure request.now.message)) Failed)) }
+        ensures plan { IfOk result (λ plan. FitsStep self.new plan moment
+            (adds request.now.task.run
+            (map plain (failed_task (run_at (runs_in self.old) request.now.task.run)
+            WorkflowWorkerUnhandledFailure request.now.message)) Failed)) }
     {
         let message = request.message.clone()?;
         let plan = self.fail_in(n - 1, message, moment)?;
@@ -253,37 +271,13 @@ impl<T: KeepsRun> Shard<T> {
         ensures same { state self.new ≡ state self.old }
         ensures there { index < length self.new.runs }
         ensures noted { OnOk result (self.new.changed ≡ None) }
-        ensures plan { IfOk result (λ plan. IsPlanned (view_at self.new.runs index) moment (failed_task (state_at (states self.old.runs) index) WorkflowWorkerUnhandledFailure message) plan) }
+        ensures plan { IfOk result (λ plan. IsPlanned (view_at self.new.runs index) moment
+            (failed_task (state_at (states self.old.runs) index)
+            WorkflowWorkerUnhandledFailure message) plan) }
     {
         self.note_change()?;
         let run = &mut self.runs[index];
         let cause = Cause::WorkflowWorkerUnhandledFailure;
         plan_failure(self.alloc, run, cause, message, moment)
     }
-}
-
-/// What the end of a task answers.
-fn ended(fault: Option<Cause>) -> Answer
-    ensures { result ≡ ended fault }
-{
-    match fault {
-        Some(cause) => Answer::TaskFailed(cause),
-        None => Answer::Completed,
-    }
-}
-
-/// What the start of a task adds to its run.
-fn started_facts(alloc: Global, scheduled: u64) -> Result<Items<Fact>, AllocError>
-    ensures { IfOk result (λ facts. facts ≡ plain (WorkflowTaskStarted scheduled) ∷ []) }
-{
-    let mut facts = Vec::new(alloc);
-    facts.push(plain(Attributes::WorkflowTaskStarted(scheduled)))?;
-    Ok(Items::from_vec(facts))
-}
-
-/// Whether the commands are served so far.
-fn are_served(commands: &[Command]) -> bool
-    ensures { result ≡ list_all is_served commands.now }
-{
-    commands.iter().all(is_served)
 }

@@ -1,29 +1,26 @@
-//! The verdicts on attempts that ended without success, and the failures that workers report.
+//! The failures of attempts that workers report, and the verdicts on them.
 
-ghost use Rattle.std.specs.Prelude.{◌≡◌, ◌==◌, ◌+◌, cond, None, Some, option_map, IfOk, IfSome};
-ghost use Rattle.wf_event.specs.declared.attributes.Attributes.TheVariants.{ActivityTaskFailed as a_failure};
-ghost use Rattle.service_model.specs.Activities.{by_verdict, fail_activity, verdict_at};
-ghost use Rattle.service_model.specs.Deadlines.{scheduled_fields};
-ghost use Rattle.service_model.specs.Retry.{verdict};
+ghost use Rattle.std.specs.Prelude.{◌≡◌, IfOk};
+ghost use Rattle.service_model.specs.Activities.{by_verdict, fail_activity};
 ghost use Rattle.mutable_state.specs.Activities.{row_said};
-ghost use Rattle.retry.specs.Verdicts.{ending_of, says};
-ghost use Rattle.shard.specs.Attempts.{HasAttempt, HasNext};
+ghost use Rattle.retry.specs.Verdicts.{says};
 ghost use Rattle.shard.specs.Fitting.{FitsStep};
+ghost use Rattle.shard.specs.Running.{HasAttempt};
 ghost use Rattle.shard.specs.View.{state, runs_in};
+ghost use Rattle.shard_steps.specs.Attempts.{HasNext};
 
 use crate::plan::Plan;
 use crate::prepare::refused;
 use crate::shard::Shard;
 use mutable_state::Activity;
 use mutable_state_keeper::KeepsRun;
-use retry::{Ended, Verdict, verdict_on};
+use retry::{Ended, Verdict};
 use service_model::answer::{Answer, Retrying};
 use service_model::journal::Note;
 use service_model::request::FailActivity;
+use shard_steps::{failure, verdict_of};
 use std::alloc::AllocError;
-use wf_event::payloads::ActivityTaskFailed;
-use wf_event::{Attributes, RetryPolicy};
-use wf_event_values::{Moment, Refusal, RetryState, Span, Text};
+use wf_event_values::{Moment, Refusal};
 
 impl<T: KeepsRun> Shard<T> {
     /// An activity's attempt fails.
@@ -77,78 +74,5 @@ impl<T: KeepsRun> Shard<T> {
                 self.note_attempt(moment, request.task, Note::Ended, answer)
             }
         }
-    }
-}
-
-/// The verdict on the attempt of an activity that ended so at a moment.
-pub(crate) fn verdict_of(activity: &Activity, ended: Ended, moment: Moment) -> Option<Verdict>
-    ensures verdict { option_map says result
-        ≡ option_map (λ a. verdict_at (row_said activity.now) a (ending_of ended.entry) moment)
-        (scheduled_fields activity.now.scheduled.attributes) }
-    ensures next { IfSome result (λ verdict. HasNext activity.now.notes.attempt (says verdict)) }
-{
-    let Attributes::ActivityTaskScheduled(scheduled) = &activity.scheduled.attributes else {
-        return None;
-    };
-    Some(judged(
-        &scheduled.retry,
-        ended,
-        activity.notes.cancel_requested,
-        activity.notes.attempt,
-        moment,
-        close_deadline(activity.scheduled.at, scheduled.schedule_to_close),
-    ))
-}
-
-/// The verdict by a policy. No attempt follows the one of the last number.
-fn judged(
-    policy: &RetryPolicy,
-    ended: Ended,
-    cancel_requested: bool,
-    attempt: u32,
-    at: Moment,
-    deadline: Option<u64>,
-) -> Verdict
-    ensures verdict { says result
-        ≡ verdict policy.now (ending_of ended.entry) cancel_requested attempt at deadline }
-    ensures next { HasNext attempt (says result) }
-{
-    verdict_on(policy, ended, cancel_requested, attempt, at, deadline)
-}
-
-/// The moment after which an activity is not tried again, in milliseconds.
-fn close_deadline(scheduled: Moment, schedule_to_close: Span) -> Option<u64>
-    ensures { result ≡ cond (schedule_to_close == 0) None (Some (scheduled + schedule_to_close)) }
-{
-    if schedule_to_close.millis() == 0 {
-        return None;
-    }
-    Some(scheduled.millis() + schedule_to_close.millis())
-}
-
-/// The end of an activity by a failure that is not retried.
-fn failure(request: &FailActivity, retry: RetryState) -> Result<Attributes, AllocError>
-    ensures { IfOk result (λ last. last ≡ a_failure (record {
-      scheduled = request.now.task.event;
-      message = request.now.message;
-      error_type = request.now.error_type;
-      retry = retry;
-    })) }
-{
-    Ok(Attributes::ActivityTaskFailed(ActivityTaskFailed {
-        scheduled: request.task.event,
-        message: request.message.clone()?,
-        error_type: copied_type(&request.error_type)?,
-        retry,
-    }))
-}
-
-/// A copy of a failure's type.
-fn copied_type(error_type: &Option<Text>) -> Result<Option<Text>, AllocError>
-    ensures { IfOk result (λ copy. copy ≡ error_type.now) }
-{
-    match error_type {
-        Some(error_type) => Ok(Some(error_type.clone()?)),
-        None => Ok(None),
     }
 }

@@ -8,7 +8,7 @@ use Rattle.mutable_state.specs.Activities.{row_said}
 use Rattle.mutable_state.specs.Steps.{has_id}
 use Rattle.mutable_state.specs.View.{RunView}
 use Rattle.shard.specs.View.{runs_in}
-use Rattle.shard.proofs.AttemptLemmas.{pending-there, pending-open, if-some}
+use Rattle.shard_steps.proofs.AttemptLemmas.{pending-there, pending-open, if-some}
 use Rattle.shard.proofs.StartLemmas.{run-there}
 use Rattle.shard.proofs.shard.Shard.attempt_for.Goals as goal
 

@@ -3,9 +3,9 @@ use Rattle.std.specs.Prelude.{is_some}
 use Rattle.service_model.specs.Activities.{keep_running}
 use Rattle.service_model.specs.Outcome.{run_at}
 use Rattle.service_model.specs.Tasks.{pending_row}
-use Rattle.shard.specs.Attempts.{has_run_of}
+use Rattle.shard_steps.specs.Attempts.{has_run_of}
 use Rattle.shard.specs.View.{runs_in}
-use Rattle.shard.proofs.EndingLemmas.{attempt-found}
+use Rattle.shard.proofs.RunningLemmas.{attempt-found}
 use Rattle.shard.proofs.shard.Shard.attempt_running.Goals as goal
 
 pub returns-clause-running : goal.returns-clause-running

@@ -2,7 +2,7 @@ use Rattle.std.proofs.Common.{◌∙◌, ap}
 use Rattle.service_model.specs.TimerTurns.{all_dues, due_now, least}
 use Rattle.timeouts.proofs.FirstLemmas.{due-firsts}
 use Rattle.shard.specs.View.{states}
-use Rattle.shard.proofs.EachLemmas.{firsts-kept}
+use Rattle.shard_steps.proofs.EachLemmas.{firsts-kept}
 use Rattle.shard.proofs.shard.Shard.due_now.Goals as goal
 
 pub returns-clause-due : goal.returns-clause-due

@@ -6,7 +6,7 @@ use Rattle.mutable_state.specs.Activities.{row_said}
 use Rattle.mutable_state.specs.Steps.{FitStep}
 use Rattle.mutable_state.specs.View.{RunView}
 use Rattle.shard.specs.View.{runs_in}
-use Rattle.shard.proofs.EndingLemmas.{ending-fits}
+use Rattle.shard_steps.proofs.EndingLemmas.{ending-fits}
 use Rattle.shard.proofs.StartLemmas.{run-there}
 use Rattle.shard.proofs.shard.Shard.end_activity.Goals as goal
 

@@ -3,7 +3,7 @@ use Rattle.service_model.specs.declared.journal.Fact.{Fact}
 use Rattle.service_model.specs.Outcome.{run_at}
 use Rattle.mutable_state.specs.Steps.{FitStep}
 use Rattle.shard.specs.View.{runs_in}
-use Rattle.shard.proofs.EndingLemmas.{note-fits}
+use Rattle.shard_steps.proofs.EndingLemmas.{note-fits}
 use Rattle.shard.proofs.shard.Shard.note_attempt.Goals as goal
 
 pub prepare_more-requires-clause-fits : goal.prepare_more-requires-clause-fits

@@ -3,10 +3,11 @@ use Rattle.std.specs.Prelude.{slice_get}
 use Rattle.service_model.specs.RunState.{no_run}
 use Rattle.mutable_state.specs.View.{RunView}
 use Rattle.timeouts.specs.declared.due.Due.{Due}
-use Rattle.shard.specs.Issuing.{all_waiting, issued_since}
-use Rattle.shard.specs.View.{HasFirsts, HasShown, state, states}
-use Rattle.shard.proofs.EachLemmas.{each-noted}
-use Rattle.shard.proofs.DispatchLemmas.{get-at, noted-waits}
+use Rattle.shard_steps.specs.Issuing.{all_waiting, issued_since}
+use Rattle.shard_steps.specs.Kept.{HasFirsts, HasShown}
+use Rattle.shard.specs.View.{state, states}
+use Rattle.shard_steps.proofs.EachLemmas.{each-noted}
+use Rattle.shard_steps.proofs.DispatchLemmas.{get-at, noted-waits}
 use Rattle.shard.proofs.IndexLemmas.{length-states, states-at}
 use Rattle.shard.proofs.shard.Shard.note_change.Goals as goal
 

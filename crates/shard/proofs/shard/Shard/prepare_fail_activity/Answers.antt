@@ -9,7 +9,7 @@ use Rattle.service_model.specs.Retry.{FailedAttempt, Verdict}
 use Rattle.mutable_state.specs.Activities.{row_said}
 use Rattle.shard.specs.Fitting.{FitsStep}
 use Rattle.shard.specs.View.{runs_in}
-use Rattle.shard.proofs.EndingLemmas.{failed-by}
+use Rattle.shard_steps.proofs.EndingLemmas.{failed-by}
 use Rattle.shard.proofs.shard.Shard.prepare_fail_activity.Goals as goal
 
 pub returns-clause-plan : goal.returns-clause-plan

@@ -13,7 +13,7 @@ use Rattle.shard.specs.Fitting.{FitsStep}
 use Rattle.shard.specs.View.{runs_in}
 use Rattle.shard.proofs.IndexLemmas.{length-states}
 use Rattle.shard.proofs.StartLemmas.{run-there}
-use Rattle.shard.proofs.TurnLemmas.{fire-fits}
+use Rattle.shard_steps.proofs.TurnLemmas.{fire-fits}
 use Rattle.shard.proofs.shard.Shard.prepare_fired.Goals as goal
 
 pub prepare_more-requires-clause-fits : goal.prepare_more-requires-clause-fits

@@ -3,10 +3,10 @@ use Rattle.std.specs.Prelude.{is_some}
 use Rattle.service_model.specs.declared.answer.Answer.TheVariants.{Stale}
 use Rattle.service_model.specs.Outcome.{Outcome, answered, run_at}
 use Rattle.service_model.specs.Tasks.{take_row, pending_row}
-use Rattle.shard.specs.Attempts.{has_run_of, task_for}
+use Rattle.shard_steps.specs.Attempts.{has_run_of, task_for}
 use Rattle.shard.specs.Fitting.{FitsStep}
 use Rattle.shard.specs.View.{runs_in}
-use Rattle.shard.proofs.AttemptLemmas.{taking, taken-by}
+use Rattle.shard_steps.proofs.AttemptLemmas.{taking, taken-by}
 use Rattle.shard.proofs.StartLemmas.{fits-answered}
 use Rattle.shard.proofs.shard.Shard.take_activity.Goals as goal
 

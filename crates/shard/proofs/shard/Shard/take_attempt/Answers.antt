@@ -6,7 +6,7 @@ use Rattle.service_model.specs.Outcome.{adds, noted, run_at}
 use Rattle.mutable_state.specs.Steps.{FitStep}
 use Rattle.shard.specs.View.{runs_in}
 use Rattle.shard.specs.Fitting.{FitsStep}
-use Rattle.shard.proofs.AttemptLemmas.{taken-fits}
+use Rattle.shard_steps.proofs.AttemptLemmas.{taken-fits}
 use Rattle.shard.proofs.shard.Shard.take_attempt.Goals as goal
 
 pub prepare_more-requires-clause-fits : goal.prepare_more-requires-clause-fits

@@ -20,7 +20,7 @@ use Rattle.mutable_state.specs.Steps.{IsFirst, FitsEvent, FitStep, has_id}
 use Rattle.timeouts.specs.Firsts.{of_run, HasTimer}
 use Rattle.timeouts.specs.Slots.{IsOneOf}
 use Rattle.timeouts.proofs.ClassLemmas.{due-open, due-retry, due-task, due-timer}
-use Rattle.shard.proofs.ActivityTurnLemmas.{attempt-fits, closed-fits, ready-fits}
+use Rattle.shard_steps.proofs.ActivityTurnLemmas.{attempt-fits, closed-fits, ready-fits}
 
 -- the run's own timeout, also while a workflow task is started
 over-fits : (at : ℕ) (s : RunState) (d : RunDue) → IsOneOf d (of_run d.run (dues s)) → FitStep at s (plain WorkflowExecutionTimedOut ∷ [])

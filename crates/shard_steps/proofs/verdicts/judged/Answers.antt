@@ -1,7 +1,7 @@
 use Rattle.std.proofs.Common.{sym, subst, arith}
-use Rattle.shard.specs.Attempts.{HasNext}
-use Rattle.shard.proofs.EndingLemmas.{has-next}
-use Rattle.shard.proofs.verdicts.judged.Goals as goal
+use Rattle.shard_steps.specs.Attempts.{HasNext}
+use Rattle.shard_steps.proofs.EndingLemmas.{has-next}
+use Rattle.shard_steps.proofs.verdicts.judged.Goals as goal
 
 pub returns-clause-next : goal.returns-clause-next
 returns-clause-next c =

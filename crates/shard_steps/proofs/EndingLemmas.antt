@@ -2,7 +2,7 @@
 use Rattle.std.proofs.Common.{◌≡◌, ℕ, ◌+◌, ◌<◌, Bool, true, false, cond, not, ◌&&◌, ◌||◌, ◌==◌, ◌≤◌, List, [], ◌∷◌, ◌++◌, append-nil, length, refl, sym, ap, ◌∙◌, subst, arith, nat_le, Option, Some, None}
 use Rattle.std.proofs.lemmas.Bool.{eqb-true}
 use Rattle.std.proofs.lemmas.Bool.Decides.{nat_tests}
-use Rattle.std.specs.Prelude.{filter, find, map, unwrap_or, option_map, IfSome}
+use Rattle.std.specs.Prelude.{filter, find, map, unwrap_or, option_map}
 use Rattle.wf_event.specs.declared.event.Event.{Event}
 use Rattle.wf_event.specs.declared.attributes.Attributes.{Attributes}
 use Rattle.wf_event.specs.declared.attributes.Attributes.TheVariants.{WorkflowTaskScheduled, ActivityTaskStarted, ActivityTaskCompleted, ActivityTaskFailed, ActivityTaskTimedOut, ActivityTaskCanceled}
@@ -17,22 +17,16 @@ use Rattle.service_model.specs.declared.journal.NewEvent.{NewEvent}
 use Rattle.service_model.specs.declared.journal.Note.{Note}
 use Rattle.service_model.specs.declared.journal.Note.TheVariants.{Taken, Ended, Ready, Beat}
 use Rattle.service_model.specs.declared.request.FailActivity.{FailActivity}
-use Rattle.service_model.specs.declared.request.TakenTask.{TakenTask}
-use Rattle.service_model.specs.Activities.{attempt_started, by_verdict, fail_activity, fail_at, fail_fields, keep_running, running_attempt, verdict_at}
-use Rattle.service_model.specs.Completion.{is_running_phase}
+use Rattle.service_model.specs.Activities.{attempt_started, by_verdict, fail_activity, fail_at, fail_fields, running_attempt, verdict_at}
 use Rattle.service_model.specs.Deadlines.{scheduled_fields}
 use Rattle.service_model.specs.Journal.{plain}
-use Rattle.service_model.specs.Outcome.{Runs, has_run, if_some, run_at, is_no_task, noted, outside}
+use Rattle.service_model.specs.Outcome.{Runs, is_no_task, noted, outside}
 use Rattle.service_model.specs.Pending.{Task, NoTask, IsScheduled, IsStarted, is_settled, is_settling}
 use Rattle.service_model.specs.Retry.{Ending, FailedAttempt, Verdict, GivesUp, RetriesAt, is_non_retryable, is_within, verdict, wait}
 use Rattle.service_model.specs.RunState.{RunState, ActivityRow, used, pending, is_open, held_attributes, queue_of}
 use Rattle.service_model.specs.Tasks.{pending_row}
-use Rattle.mutable_state.specs.declared.activity.Activity.{Activity}
-use Rattle.mutable_state.specs.Activities.{row_said}
 use Rattle.mutable_state.specs.Steps.{IsFirst, IsLater, MayQueue, Place, FitsEvent, FitFrom, FitStep, has_id, with_event, with_new, buffer_of, used_with, row_id, new_row}
-use Rattle.shard.specs.Attempts.{ended_activity, HasAttempt, HasNext, has_run_of, runs_at}
-use Rattle.shard.specs.View.{ShardView, states, runs_in}
-use Rattle.shard.proofs.IndexLemmas.{length-states}
+use Rattle.shard_steps.specs.Attempts.{ended_activity, HasNext}
 
 below : (k : ℕ) → k ≤ 4294967295 → (k == 4294967295) ≡ false → k < 4294967295
 below k few h = grind (arith, nat_tests, few)
@@ -40,7 +34,7 @@ below k few h = grind (arith, nat_tests, few)
 pub is-itself : (n : ℕ) → (n == n) ≡ true
 is-itself n = grind (arith, nat_tests)
 
-are-same : (m n : ℕ) → (m == n) ≡ true → m ≡ n
+pub are-same : (m n : ℕ) → (m == n) ≡ true → m ≡ n
 are-same m n h = grind (arith, nat_tests)
 
 pub or-right : (a b : Bool) → b ≡ true → (a || b) ≡ true
@@ -195,51 +189,6 @@ pub note-fits : (at id : ℕ) (s : RunState) (n : Note) → is_open s ≡ true �
 note-fits at id s n opened there =
     let free = pending-free id (held_attributes s) (used AnActivity s) there in
     (record { open_run = opened; in_use = has-used id (held_attributes s) (used AnActivity s) there; may_queue = may-queue n id s free }, tt)
-
-and-left : (a b : Bool) → (a && b) ≡ true → a ≡ true
-and-left true b h = refl
-and-left false b h = absurd (cc)
-
-and-right : (a b : Bool) → (a && b) ≡ true → b ≡ true
-and-right true b h = h
-and-right false b h = absurd (cc)
-
--- the running attempt that a token names is that of a pending activity
-kept-row : (t : TakenTask) (o : Option ActivityRow) (r : ActivityRow) → keep_running t o ≡ Some r → (o ≡ Some r) × (r.attempt ≡ t.attempt)
-kept-row t None r h = absurd (cc)
-kept-row t (Some x) r h = by_test (runs_at t.attempt x) refl h
-  where
-    by_test : (b : Bool) → runs_at t.attempt x ≡ b → if_some b x ≡ Some r → (◌≡◌ {A = Option ActivityRow} (Some x) (Some r)) × (r.attempt ≡ t.attempt)
-    by_test true is g =
-        let same : x ≡ r = ap (λ o. unwrap_or o x) g in
-        (g, ap (λ (y : ActivityRow). y.attempt) (sym same) ∙ are-same x.attempt t.attempt (and-right (is_running_phase x.phase) (x.attempt == t.attempt) is))
-    by_test false is g = absurd (cc)
-
-at-least : (m n : ℕ) → nat_le m n ≡ true → m ≤ n
-at-least m n h = grind (arith, nat_tests)
-
-pub has-attempt : (v : ShardView) (t : TakenTask) (r : ActivityRow) → running_attempt (runs_in v) t ≡ Some r → is_open (run_at (runs_in v) t.run) ≡ true → HasAttempt v t r
-has-attempt v t r found opened = by_test (has_run_of (runs_in v) t.shard t.run) refl found
-  where
-    by_test : (b : Bool) → has_run_of (runs_in v) t.shard t.run ≡ b → cond b (keep_running t (pending_row (run_at (runs_in v) t.run) t.event)) None ≡ Some r → HasAttempt v t r
-    by_test false is g = absurd (cc)
-    by_test true is g =
-        let has : has_run (runs_in v) t.run ≡ true = and-right (t.shard == v.setup.shard) (has_run (runs_in v) t.run) is in
-        let row = kept-row t (pending_row (run_at (runs_in v) t.run) t.event) r g in
-        let low : nat_le 1 t.run ≡ true = and-left (nat_le 1 t.run) (nat_le t.run (length (states v.runs))) has in
-        let high : nat_le t.run (length (states v.runs)) ≡ true = and-right (nat_le 1 t.run) (nat_le t.run (length (states v.runs))) has in
-        record {
-          found = found;
-          attempt = row.1;
-          from = at-least 1 t.run low;
-          to = subst (λ k. t.run ≤ k) (length-states v.runs) (at-least t.run (length (states v.runs)) high);
-          open_run = opened;
-          pending_one = (pending-named t.event (run_at (runs_in v) t.run) r row.0).1;
-        }
-
-pub attempt-found : (v : ShardView) (t : TakenTask) (found : Option Activity) → option_map row_said found ≡ running_attempt (runs_in v) t → IfSome found (λ a. is_open (run_at (runs_in v) t.run) ≡ true) → IfSome found (λ a. HasAttempt v t (row_said a))
-attempt-found v t None is opened = tt
-attempt-found v t (Some a) is opened = has-attempt v t (row_said a) (sym is) opened
 
 -- the attempt after one that is tried again has a number
 pub has-next : (p : PolicyFields) (ending : Ending) (cancel : Bool) (k moment : ℕ) (deadline : Option ℕ) → k ≤ 4294967295 → HasNext k (verdict p ending cancel k moment deadline)

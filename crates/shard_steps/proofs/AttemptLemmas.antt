@@ -13,7 +13,7 @@ use Rattle.service_model.specs.Pending.{is_settled}
 use Rattle.service_model.specs.RunState.{RunState, ActivityRow, used, is_open, id_of, held_attributes}
 use Rattle.service_model.specs.Tasks.{waits_activity, take_fields, take_row, pending_row}
 use Rattle.mutable_state.specs.Steps.{has_id, FitStep}
-use Rattle.shard.specs.Attempts.{task_by, task_for}
+use Rattle.shard_steps.specs.Attempts.{task_by, task_for}
 
 -- what is done by the task, where there is one
 abbrev pub taking : Hint → Option Task → Outcome

@@ -1,22 +1,17 @@
 -- the attempt of an activity that a hint or a token names
-use Rattle.std.specs.Prelude.{◌≡◌, ℕ, ◌<◌, ◌≤◌, Bool, true, cond, ◌&&◌, ◌==◌, List, Option, None, Some, length}
+use Rattle.std.specs.Prelude.{ℕ, ◌<◌, Bool, cond, ◌&&◌, ◌==◌, List, Option, None, Some}
 use Rattle.wf_event.specs.declared.attributes.Attributes.{Attributes}
 use Rattle.wf_event.specs.declared.attributes.Attributes.TheVariants.{ActivityTaskCompleted, ActivityTaskFailed, ActivityTaskTimedOut, ActivityTaskCanceled}
 use Rattle.wf_event.specs.declared.payloads.ActivityTaskScheduled.{ActivityTaskScheduled as ScheduledAttributes}
-use Rattle.wf_event.specs.Role.{AnActivity}
 use Rattle.wf_event_values.specs.Run.{Run}
 use Rattle.service_model.specs.declared.answer.ActivityTask.{ActivityTask}
 use Rattle.service_model.specs.declared.request.Hint.{Hint}
-use Rattle.service_model.specs.declared.request.TakenTask.{TakenTask}
-use Rattle.service_model.specs.Activities.{running_attempt}
 use Rattle.service_model.specs.Completion.{is_running_phase}
 use Rattle.service_model.specs.Deadlines.{scheduled_fields}
 use Rattle.service_model.specs.Outcome.{Runs, has_run, run_at, run_id}
 use Rattle.service_model.specs.Retry.{Verdict, GivesUp, RetriesAt}
-use Rattle.service_model.specs.RunState.{ActivityRow, id_of, is_open, pending}
+use Rattle.service_model.specs.RunState.{ActivityRow, id_of}
 use Rattle.service_model.specs.Tasks.{is_queued}
-use Rattle.mutable_state.specs.Steps.{has_id}
-use Rattle.shard.specs.View.{ShardView, runs_in}
 
 abbrev pub waits_at : ℕ → ActivityRow → Bool
 waits_at attempt r = is_queued r.phase && (r.attempt == attempt)
@@ -44,15 +39,6 @@ has_run_of R shard run = (shard == R.setup.shard) && has_run R run
 -- whether a worker has the attempt of this number
 abbrev pub runs_at : ℕ → ActivityRow → Bool
 runs_at attempt r = is_running_phase r.phase && (r.attempt == attempt)
-
--- the activity is the one whose running attempt a token names, in an open run of the shard
-pub record HasAttempt (v : ShardView) (t : TakenTask) (r : ActivityRow) : Type 0 where
-  pub found : running_attempt (runs_in v) t ≡ Some r
-  pub attempt : r.attempt ≡ t.attempt
-  pub from : 1 ≤ t.run
-  pub to : t.run ≤ length v.runs
-  pub open_run : is_open (run_at (runs_in v) t.run) ≡ true
-  pub pending_one : has_id t.event (pending AnActivity (run_at (runs_in v) t.run)) ≡ true
 
 -- which activity an event ends
 abbrev pub ended_activity : Attributes → Option ℕ

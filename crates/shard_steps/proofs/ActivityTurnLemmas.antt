@@ -17,7 +17,7 @@ use Rattle.service_model.specs.Tasks.{pending_row}
 use Rattle.service_model.specs.TimerTurns.{activity_over, attempt_fields, attempt_over, attempt_verdict, timed_out}
 use Rattle.mutable_state.specs.Steps.{FitStep, has_id}
 use Rattle.timeouts.specs.Firsts.{HasActivity}
-use Rattle.shard.proofs.EndingLemmas.{ending-fits, is-itself, note-fits, or-right, pending-named}
+use Rattle.shard_steps.proofs.EndingLemmas.{ending-fits, is-itself, note-fits, or-right, pending-named}
 
 -- an activity's time is over
 pub closed-fits : (at : ℕ) (s : RunState) (id : ℕ) (kind : TimeoutKind) (o : Option ActivityRow) → is_open s ≡ true → pending_row s id ≡ o → FitStep at s (activity_over s id kind o)

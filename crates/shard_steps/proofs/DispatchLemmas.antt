@@ -18,9 +18,9 @@ use Rattle.service_model.specs.Pending.{is_settled}
 use Rattle.service_model.specs.RunState.{RunState, no_run, row_of, held_attributes}
 use Rattle.service_model.specs.Tasks.{is_started_task, pending_row}
 use Rattle.mutable_state.specs.Steps.{Place, IsFirst, FitFrom, FitStep, MayQueue, after_step, all_written, noted_of, place_after, step_ended, with_event, with_noted}
-use Rattle.shard.specs.Issuing.{DispatchesView, Waiting, all_waiting, count_waiting, issued_since, next_waiting, queued_dispatch, readied, waiting_in, with_issued}
-use Rattle.shard.specs.View.{HasShown}
-use Rattle.shard.proofs.EachLemmas.{shown-at}
+use Rattle.shard_steps.specs.Issuing.{DispatchesView, Waiting, all_waiting, count_waiting, issued_since, next_waiting, queued_dispatch, readied, waiting_in, with_issued}
+use Rattle.shard_steps.specs.Kept.{HasShown}
+use Rattle.shard_steps.proofs.EachLemmas.{shown-at}
 
 -- at the end of a step no event that is held back settles what none settled before
 pending-at-end : (id : ℕ) (s : RunState) → is_settled AnActivity id (held_attributes s) ≡ false → pending_row (step_ended s) id ≡ row_of (step_ended s) id

@@ -9,8 +9,8 @@ ghost use Rattle.mutable_state.specs.Activities.{row_said};
 ghost use Rattle.retry.specs.Verdicts.{says};
 
 use crate::attempts::{attempt_started, ended_facts, is_taken};
-use crate::heartbeats::note_facts;
-use crate::more::from_outside;
+use crate::notes::note_facts;
+use crate::outside::from_outside;
 use crate::verdicts::verdict_of;
 use mutable_state::{Activity, plain};
 use mutable_state_keeper::{KeepsRun, Run};

@@ -6,7 +6,7 @@ use Rattle.std.specs.Prelude.{slice_get, unwrap_or}
 use Rattle.service_model.specs.RunState.{RunState}
 use Rattle.timeouts.specs.Firsts.{first_due, KeepsFirsts}
 use Rattle.timeouts.specs.declared.due.Due.{Due}
-use Rattle.shard.specs.View.{KeepsEach, HasFirsts, HasShown}
+use Rattle.shard_steps.specs.Kept.{KeepsEach, HasFirsts, HasShown}
 
 same-or-apart : (m n : ℕ) → (m ≡ n) ⊎ (m ≢ n)
 same-or-apart zero zero = inl refl

@@ -1,0 +1,8 @@
+pub mod StartLemmas
+pub mod TaskLemmas
+pub mod AttemptLemmas
+pub mod EndingLemmas
+mod ActivityTurnLemmas
+pub mod TurnLemmas
+pub mod EachLemmas
+pub mod DispatchLemmas

@@ -1,0 +1,5 @@
+pub mod Attempts
+pub mod Issuing
+pub mod Kept
+pub mod Starts
+pub mod Tasks

@@ -1,0 +1,27 @@
+//! What a step of one run adds and answers.
+//!
+//! Given a run, these functions decide what a request or a deadline does to it, and make the facts
+//! and texts of that. Which run a request names, and where it is kept, only `shard` knows.
+#![tactic(auto)]
+
+mod activities;
+mod activity_turns;
+mod attempts;
+mod dispatches;
+mod notes;
+mod outside;
+mod signals;
+mod starts;
+mod tasks;
+mod turns;
+mod verdicts;
+
+pub use activities::attempt_task;
+pub use attempts::{ended_facts, is_running};
+pub use dispatches::{Dispatches, readied};
+pub use notes::note_facts;
+pub use signals::signal_facts;
+pub use starts::new_run;
+pub use tasks::{are_served, ended, started_facts};
+pub use turns::fired_facts;
+pub use verdicts::{failure, verdict_of};

@@ -1,0 +1,33 @@
+//! Facts from outside a worker.
+
+ghost use Rattle.std.specs.Prelude.{◌≡◌, IfOk};
+ghost use Rattle.service_model.specs.Outcome.{outside, is_no_task};
+ghost use Rattle.mutable_state.specs.Tasks.{phase_in};
+
+use mutable_state::{TaskPhase, plain};
+use mutable_state_keeper::{KeepsRun, Run};
+use service_model::journal::Fact;
+use std::alloc::{AllocError, Global};
+use wf_event_values::Items;
+
+/// Facts from outside, and a workflow task where none is scheduled or started.
+pub(crate) fn from_outside<T: KeepsRun>(
+    alloc: Global,
+    run: &Run<T>,
+    facts: Vec<Fact>,
+) -> Result<Items<Fact>, AllocError>
+    ensures { IfOk result (λ all. all ≡ outside run.now.state facts.items) }
+{
+    let mut facts = facts;
+    if is_none(run.task(alloc)?.phase) {
+        facts.push(plain(run.schedule_task(1)?))?;
+    }
+    Ok(Items::from_vec(facts))
+}
+
+/// Whether no workflow task is scheduled or started.
+pub(crate) fn is_none(phase: TaskPhase) -> bool
+    ensures { result ≡ is_no_task (phase_in phase) }
+{
+    matches!(phase, TaskPhase::None)
+}
