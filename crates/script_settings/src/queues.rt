@@ -1,7 +1,7 @@
 //! The names of the task queues, as the command line gives them.
 
-ghost use Rattle.std.specs.Prelude.{◌≡◌, Any, length, IfOk, IfErr, map};
-ghost use Rattle.clap.specs.Words.{found_of, rows_of};
+ghost use Rattle.std.specs.Prelude.{◌≡◌, Any, List, length, IfOk, IfErr, map};
+ghost use Rattle.clap.specs.Words.{Row, found_of, rows_of};
 ghost use Rattle.wf_event_values.specs.Limits.{IsIdLength};
 ghost use Rattle.wf_event_values.specs.declared.refusal.Refusal.TheVariants as refusal;
 ghost use Rattle.script_settings.specs.Queues.{AreSetTo, IsCutAtCommas};
@@ -36,7 +36,9 @@ fn names_of(alloc: Global, parts: &[&str]) -> Result<Items<Id>, Refusal>
 }
 
 /// Want of memory, which is told in clap's words.
-pub(crate) fn memory(error: AllocError) -> Fault {
+fn memory(error: AllocError) -> Fault
+    ensures { (rows : List Row) → IsQueuesFault rows result }
+{
     Fault::Words(Error::from(error))
 }
 
@@ -50,12 +52,18 @@ pub(crate) fn queues(alloc: Global, matches: &ArgMatches<'_>) -> Result<Items<Id
     ensures fault { IfErr result (IsQueuesFault (rows_of (found_of matches.now))) }
 {
     let Some(text) = matches.get_str("queues") else {
-        return main_queue(alloc).map_err(memory);
+        return match main_queue(alloc) {
+            Ok(names) => Ok(names),
+            Err(error) => Err(memory(error)),
+        };
     };
-    let parts = parts_of(alloc, text).map_err(memory)?;
+    let parts = match parts_of(alloc, text) {
+        Ok(parts) => parts,
+        Err(error) => return Err(memory(error)),
+    };
     match names_of(alloc, &parts) {
         Ok(names) => Ok(names),
-        Err(Refusal::NoMemory) => Err(memory(AllocError)),
-        Err(_) => Err(Fault::Queues),
+        Err(Refusal::InvalidArgument(_)) => Err(Fault::Queues),
+        Err(_) => Err(memory(AllocError)),
     }
 }

@@ -23,8 +23,7 @@ const SERVICE: &str = "The service's number, part of each run id: 0 to 2^48 - 1,
 const QUEUES: &str =
     "The names of the task queues, with commas between them: 1 to 64, main by default";
 
-const CAPACITY: &str =
-    "How many hints wait in a task queue at most: 1 to 65536, 1024 by default";
+const CAPACITY: &str = "How many hints wait in a task queue at most: 1 to 65536, 1024 by default";
 
 const FILE: &str = "The file whose lines are served; standard input by default";
 
@@ -84,12 +83,17 @@ pub fn settings_of<'a>(
         Ok(matches) => matches,
         Err(error) => return Err(Fault::Words(error)),
     };
+    let shards = number(&matches, "shards", 1)?;
+    let passes = number(&matches, "passes", 1)?;
+    let service = number(&matches, "service", 1)?;
+    let queues = queues(alloc, &matches)?;
+    let capacity = number(&matches, "capacity", DEFAULT_CAPACITY)?;
     let settings = Settings {
-        shards: number(&matches, "shards", 1)?,
-        passes: number(&matches, "passes", 1)?,
-        service: number(&matches, "service", 1)?,
-        queues: queues(alloc, &matches)?,
-        capacity: number(&matches, "capacity", DEFAULT_CAPACITY)?,
+        shards,
+        passes,
+        service,
+        queues,
+        capacity,
     };
     Ok((settings, matches.get_str("FILE")))
 }

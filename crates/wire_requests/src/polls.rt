@@ -11,12 +11,7 @@ use wf_event_values::{Field, Moment, Refusal, TaskKind};
 use wire_fields::required;
 
 #[tactic(auto, unfolding(crate::specs::Polls::poll_of))]
-pub(crate) fn poll(
-    alloc: Global,
-    kind: TaskKind,
-    at: Moment,
-    line: &Value,
-) -> Result<Poll, Refusal>
+pub(crate) fn poll(alloc: Global, kind: TaskKind, at: Moment, line: &Value) -> Result<Poll, Refusal>
     ensures { Gives result (poll_of kind at (view line.now)) }
 {
     let task_queue = required(alloc, line, Field::TaskQueue)?;
