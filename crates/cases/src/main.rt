@@ -19,6 +19,7 @@ use std::io;
 use std::process::ExitCode;
 use std::rt::{Env, Files};
 use std::sync::Wait;
+use std::thread::Threads;
 
 /// How many cases there are, and how many of them failed.
 #[derive(Clone, Copy)]
@@ -28,7 +29,7 @@ struct Tally {
 }
 
 /// Runs a case in every form in which it can be run, and prints what became of it. Whether it passed.
-fn passes<R: Files + Print + AllocGlobal + Wait>(
+fn passes<R: Files + Print + AllocGlobal + Threads + Wait + Sync>(
     rt: &R,
     file: &str,
     case: &Case,
@@ -53,7 +54,7 @@ fn passes<R: Files + Print + AllocGlobal + Wait>(
 }
 
 /// Runs the cases of a file.
-fn run_file<R: Files + Print + AllocGlobal + Wait>(
+fn run_file<R: Files + Print + AllocGlobal + Threads + Wait + Sync>(
     rt: &R,
     file: &str,
     tally: &mut Tally,
@@ -76,7 +77,7 @@ fn run_file<R: Files + Print + AllocGlobal + Wait>(
 }
 
 /// Runs the cases of all files that the arguments name. Whether there were some, and all passed.
-fn run<R: Env + Files + Print + AllocGlobal + Wait>(rt: &R) -> io::Result<bool> {
+fn run<R: Env + Files + Print + AllocGlobal + Threads + Wait + Sync>(rt: &R) -> io::Result<bool> {
     let mut tally = Tally {
         cases: 0,
         failed: 0,

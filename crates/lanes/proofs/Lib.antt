@@ -1,3 +1,4 @@
+pub mod BegunLemmas
 pub mod FaultLemmas
 pub mod LaneLemmas
 pub mod PrintLemmas

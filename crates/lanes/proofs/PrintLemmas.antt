@@ -24,11 +24,11 @@ some-answers Barrier = refl
 some-answers (Refused e) = refl
 some-answers (InLane lane) = tt
 
-some_replies : List Place → List (Option Reply)
+pub some_replies : List Place → List (Option Reply)
 some_replies [] = []
 some_replies (p ∷ ps) = some_reply p ∷ some_replies ps
 
-all-some : (ps : List Place) → AllAnswer ps (some_replies ps)
+pub all-some : (ps : List Place) → AllAnswer ps (some_replies ps)
 unfolding some_replies
 all-some [] = tt
 all-some (p ∷ ps) = (some-answers p, all-some ps)

@@ -1,14 +1,15 @@
 -- what a script over lanes has told of its lines
-use Rattle.std.specs.Prelude.{◌≡◌, ℕ, ◌+◌, List, [], ◌++◌, length, map, Bool, true, false, ◌||◌, Option, Some, Result, Ok, Err}
+use Rattle.std.specs.Prelude.{◌≡◌, ◌⊎◌, ℕ, ◌+◌, List, [], ◌++◌, length, map, Bool, true, false, ◌||◌, Option, Some, Result, Ok, Err}
 use Rattle.std.specs.List.{list_any}
 use Rattle.std.specs.Io.KnownBytes.{Appends, Consumes, IsAtEnd}
+use Rattle.wire_counted.specs.Written.{AppendsBeginning}
 use Rattle.wf_event_values.specs.declared.refusal.Refusal.{Refusal}
 use Rattle.service_model.specs.declared.settings.Settings.{Settings}
 use Rattle.service_model.specs.Outcome.{Reply}
 use Rattle.wire_requests.specs.declared.calls.Asked.{Asked}
 use Rattle.wire_requests.specs.declared.calls.Asked.TheVariants.{Barrier as a_barrier, Call as in_a_lane}
 use Rattle.script.specs.Asked.{asked}
-use Rattle.script.specs.Lines.{Line, all_lines}
+use Rattle.script.specs.Lines.{Line, all_lines, whole_lines}
 use Rattle.script.specs.Pending.{ended, left}
 use Rattle.script.specs.Serving.{is_refusal}
 use Rattle.script.specs.Output.{numbered_from}
@@ -77,3 +78,25 @@ pub record Ran (K : Settings) (unread held unread' held' : Option (List ℕ)) (r
   pub read : Consumes unread unread' text
   pub at_end : IsAtEnd unread'
   pub told : Ended K text held held' refused
+
+-- a beginning of what would be told of these lines was printed
+pub record Beginning (K : Settings) (lines : List Line) (held held' : Option (List ℕ)) : Type 0 where
+  pub replies : List (Option Reply)
+  pub answer : AllAnswer (places_of K lines) replies
+  pub written : AppendsBeginning held held' (numbered_from 1 replies)
+
+-- some input was read, and a beginning of replies to its whole lines was written
+pub record Broke (K : Settings) (unread held unread' held' : Option (List ℕ)) : Type 0 where
+  pub text : List ℕ
+  pub read : Consumes unread unread' text
+  pub begun : Beginning K (whole_lines text) held held'
+
+-- the input was read to its end, and a beginning of replies to its lines was written
+pub record BrokeAtEnd (K : Settings) (unread held unread' held' : Option (List ℕ)) : Type 0 where
+  pub text : List ℕ
+  pub read : Consumes unread unread' text
+  pub at_end : IsAtEnd unread'
+  pub begun : Beginning K (all_lines text) held held'
+
+abbrev pub Halted : Settings → (unread held unread' held' : Option (List ℕ)) → Type 0
+Halted K unread held unread' held' = Broke K unread held unread' held' ⊎ BrokeAtEnd K unread held unread' held'

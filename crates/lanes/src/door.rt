@@ -1,9 +1,8 @@
 //! What the lanes' calls go through.
 
 ghost use Rattle.std.specs.Prelude.{◌≡◌, IfOk};
-ghost use Rattle.service.specs.Services.{IsPassOf, ServedOnAtLast, known_by, settings_of};
-ghost use Rattle.service.specs.Contents.{refusal_of_step, slot_of_step};
-ghost use Rattle.service_model.specs.Calls.{request_of};
+ghost use Rattle.service.specs.Services.{IsPassOf};
+ghost use Rattle.service.specs.Calls.{CallServed};
 
 use service::{Pass, Service};
 use service_model::answer::Reply;
@@ -38,19 +37,15 @@ pub trait Door {
 }
 
 impl Door for Service {
-    ghost use Rattle.service.specs.Services.{IsPassOf, ServedOnAtLast, settings_of};
-    ghost use Rattle.service.specs.Contents.{refusal_of_step, slot_of_step};
-    ghost use Rattle.service_model.specs.Calls.{request_of};
+    ghost use Rattle.service.specs.Services.{IsPassOf};
+    ghost use Rattle.service.specs.Calls.{CallServed};
 
     ghost admits = { λ x p. IsPassOf p x };
 
-    ghost serves = { λ x p p' c r. ServedOnAtLast x p p' (refusal_of_step (settings_of x) c) (slot_of_step (settings_of x) c) (request_of c) r };
+    ghost serves = { λ x p p' c r. CallServed x p p' c r };
 
     fn call<R: Wait>(&self, rt: &R, pass: &mut Pass, call: Call) -> Result<Reply, AllocError> {
-        match self.serve_step(rt, pass, call) {
-            Ok(reply) => Ok(reply),
-            Err((error, _request)) => Err(error),
-        }
+        self.serve_call(rt, pass, call)
     }
 
     fn meet(&self, one: &mut Pass, other: &mut Pass) {

@@ -3,4 +3,7 @@ pub mod LineLemmas
 pub mod OutputLemmas
 pub mod EndLemmas
 pub mod OnePassLemmas
+pub mod QueueLemmas
+pub mod CallLemmas
+mod OpenLemmas
 mod RangeLemmas

@@ -3,4 +3,4 @@ use Rattle.script.specs.declared.script.Script.{Script}
 use Rattle.script.specs.Cursor.{Cursor}
 
 abbrev pub cursor_of : Script → Cursor
-cursor_of s = record { settings = s.service.0; contents = s.service.1; number = s.number; refused = s.refused }
+cursor_of s = record { settings = s.service.0; world = s.service.1; number = s.number; refused = s.refused }

@@ -1,32 +1,32 @@
 -- Where a script stands between two lines.
 use Rattle.std.specs.Prelude.{ℕ, ◌+◌, ◌||◌, List, [], ◌∷◌, ◌++◌, Bool, false}
 use Rattle.script.specs.Lines.{Line}
-use Rattle.script.specs.Serving.{Contents, contents_after, is_refusal, reply_to, text_of}
-use Rattle.service.specs.Contents.{opening_contents}
+use Rattle.script.specs.Serving.{is_refusal, reply_to, text_of, world_after}
+use Rattle.script.specs.World.{World, opening_world}
 use Rattle.service_model.specs.declared.settings.Settings.{Settings}
 
--- the shards' contents, the next line's number, and whether a reply was a refusal
+-- the world, the next line's number, and whether a reply was a refusal
 pub record Cursor : Type 0 where
   pub settings : Settings
-  pub contents : Contents
+  pub world : World
   pub number : ℕ
   pub refused : Bool
 
 abbrev pub at_opening : Settings → Cursor
-at_opening K = record { settings = K; contents = opening_contents K; number = 1; refused = false }
+at_opening K = record { settings = K; world = opening_world K; number = 1; refused = false }
 
 -- behind one line more
 unfoldable pub after_line : Cursor → Line → Cursor
 after_line c line = record {
   settings = c.settings;
-  contents = contents_after c.settings c.contents line;
+  world = world_after c.settings c.world line;
   number = c.number + 1;
-  refused = c.refused || is_refusal (reply_to c.settings c.contents line);
+  refused = c.refused || is_refusal (reply_to c.settings c.world line);
 }
 
 -- the reply line of the next line, if it has one
 unfoldable pub line_text : Cursor → Line → List ℕ
-line_text c line = text_of c.number (reply_to c.settings c.contents line)
+line_text c line = text_of c.number (reply_to c.settings c.world line)
 
 abbrev pub after_lines : Cursor → List Line → Cursor
 after_lines c [] = c

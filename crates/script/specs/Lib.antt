@@ -1,6 +1,7 @@
 pub mod Lines
 pub mod Pending
 pub mod Asked
+pub mod World
 pub mod Serving
 pub mod OnePass
 pub mod Output

@@ -1,17 +1,21 @@
 -- a service with one pass: what the pass has seen is all that was done
-use Rattle.std.specs.Prelude.{◌≡◌, ℕ, List, map}
+use Rattle.std.specs.Prelude.{◌≡◌, ℕ, ◌*◌, ◌<◌, List, [], length, map}
 use Rattle.std.specs.List.{range_with_len}
 use Rattle.service_model.specs.declared.content.Content.{Content}
 use Rattle.service_model.specs.declared.request.Request.{Request}
 use Rattle.service_model.specs.declared.settings.Settings.{Settings}
 use Rattle.service_model.specs.Service.{after, opening}
 use Rattle.gate.specs.declared.view.View.{View}
-use Rattle.gate.specs.Passes.{number, seen, mine}
+use Rattle.gate.specs.Passes.{base, mine, number, passes, seen}
 use Rattle.gate.specs.Records.{replay}
+use Rattle.matching.specs.declared.view.View.{View as HintView}
+use Rattle.matching.specs.Alone.{IsAlone, waiting_of}
+use Rattle.matching.specs.Named.{at}
 use Rattle.service.specs.declared.service.Service.{Service}
 use Rattle.service.specs.declared.service.Pass.{Pass}
 use Rattle.service.specs.Contents.{setup_of}
-use Rattle.service.specs.Services.{IsPassOf, known_by, settings_of}
+use Rattle.service.specs.Services.{IsPassOf, hints_by, known_by, settings_of}
+use Rattle.script.specs.World.{World}
 
 -- a shard's content after the record that was seen of it
 abbrev pub content_seen : Settings → View Request Content → ℕ → Content
@@ -21,10 +25,26 @@ content_seen K v shard = replay after (opening (setup_of K shard)) (seen v shard
 abbrev pub contents_seen : Settings → View Request Content → List Content
 contents_seen K v = map (content_seen K v) (range_with_len 0 K.shards)
 
--- the pass is the service's only one, and has seen its own steps alone
-pub record IsOnePass (K : Settings) (x : Service) (p : Pass) : Type 0 where
+-- the world as the only pass knows it: in each queue wait the hints that it pushed and did not pop
+abbrev pub world_seen : Settings → View Request Content → List HintView → World
+world_seen K v hs = record { contents = contents_seen K v; waiting = map waiting_of hs }
+
+-- what the only pass knows of the shards: it has seen its own steps alone
+pub record KnowsAll (v : View Request Content) : Type 0 where
+  pub first : number v ≡ 0
+  pub one : passes v ≡ 1
+  pub bases : (s : ℕ) → base v s ≡ []
+  pub alone : (s : ℕ) → seen v s ≡ mine v s
+
+-- what it knows of the queues: it is alone at each
+pub record KnowsQueues (K : Settings) (hs : List HintView) : Type 0 where
+  pub count : length hs ≡ 2 * length K.queues
+  pub alone : (s : ℕ) → s < length hs → IsAlone (at hs s)
+  pub capacity : (s : ℕ) → s < length hs → (at hs s).capacity ≡ K.capacity
+  pub shards : (s : ℕ) → s < length hs → (at hs s).shards ≡ K.shards
+
+-- the pass is the service's only one
+pub record IsOnePass (x : Service) (p : Pass) : Type 0 where
   pub own : IsPassOf p x
-  pub settings : settings_of x ≡ K
-  pub one : K.passes ≡ 1
-  pub first : number (known_by p) ≡ 0
-  pub alone : (s : ℕ) → seen (known_by p) s ≡ mine (known_by p) s
+  pub all : KnowsAll (known_by p)
+  pub queues : KnowsQueues (settings_of x) (hints_by p)

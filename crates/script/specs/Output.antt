@@ -3,14 +3,14 @@ use Rattle.std.specs.Prelude.{ℕ, ◌+◌, List, [], ◌∷◌, ◌++◌, Bool,
 use Rattle.std.specs.List.{list_any}
 use Rattle.service_model.specs.Outcome.{Reply}
 use Rattle.script.specs.Lines.{Line}
-use Rattle.script.specs.Serving.{Contents, contents_after, is_refusal, reply_to, text_of}
-use Rattle.service.specs.Contents.{opening_contents}
+use Rattle.script.specs.Serving.{is_refusal, reply_to, text_of, world_after}
+use Rattle.script.specs.World.{World, opening_world}
 use Rattle.service_model.specs.declared.settings.Settings.{Settings}
 
 -- the replies to lines that are served one after another, where they have one
-abbrev pub replies_from : Settings → Contents → List Line → List (Option Reply)
-replies_from K S [] = []
-replies_from K S (line ∷ lines) = reply_to K S line ∷ replies_from K (contents_after K S line) lines
+abbrev pub replies_from : Settings → World → List Line → List (Option Reply)
+replies_from K W [] = []
+replies_from K W (line ∷ lines) = reply_to K W line ∷ replies_from K (world_after K W line) lines
 
 -- the texts of replies to lines that are numbered from this one on
 abbrev pub numbered_from : ℕ → List (Option Reply) → List ℕ
@@ -19,7 +19,7 @@ numbered_from number (reply ∷ replies) = text_of number reply ++ numbered_from
 
 -- the replies to the lines of a script
 abbrev pub replies_to : Settings → List Line → List (Option Reply)
-replies_to K lines = replies_from K (opening_contents K) lines
+replies_to K lines = replies_from K (opening_world K) lines
 
 -- what a script of these lines prints
 abbrev pub output : Settings → List Line → List ℕ

@@ -2,7 +2,7 @@
 //!
 //! `run_one` serves the lines of a reader one after another, and writes one reply line for each.
 //! What it prints is the definition `output`: the replies of the sequential service to the lines
-//! of the text, each on the shard of its workflow ID, under the lines' numbers.
+//! of the text, one after another, under the lines' numbers.
 #![tactic(auto)]
 
 mod fault;
@@ -16,3 +16,4 @@ pub use fault::ScriptFault;
 pub use line::{LINE_LIMIT, Line};
 pub use reading::asked;
 pub use run::{Outcome, run_one};
+pub use serving::opening_fault;

@@ -1,4 +1,5 @@
 pub mod Asks
+pub mod Calls
 pub mod Contents
 pub mod Ends
 pub mod Helds

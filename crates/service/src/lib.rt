@@ -10,6 +10,7 @@
 #![tactic(auto)]
 
 mod activities;
+mod any_call;
 mod calls;
 mod close;
 mod dispatch_turns;

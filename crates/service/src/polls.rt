@@ -61,7 +61,7 @@ impl Service {
         self.poll(rt, pass, queue, TaskKind::Activity, at)
     }
 
-    fn poll<R: Wait>(
+    pub(crate) fn poll<R: Wait>(
         &self,
         rt: &R,
         pass: &mut Pass,

@@ -1,4 +1,4 @@
-//! `wfserve [--shards N] [--service K] [FILE]`: a workflow service over lines of JSON, run over the
+//! `wfserve [OPTIONS] [FILE]`: a workflow service over lines of JSON, run over the
 //! process's own files, arguments and standard streams.
 #![tactic(auto)]
 

@@ -1,0 +1,120 @@
+-- The sequential service as a whole: its shards, and the hints that wait in its task queues. A step is its shard's; a poll and a dispatch turn are made of steps and of what they take from a queue or put into it.
+use Rattle.std.specs.Prelude.{ℕ, ◌*◌, List, [], ◌∷◌, ◌++◌, length, nat_lt, if◌then◌else◌, replicate, slice_index_or, slice_set, Option, None, Some, Result, Ok, Err}
+use Rattle.wf_event_values.specs.declared.policies.TaskKind.{TaskKind}
+use Rattle.wf_event_values.specs.declared.refusal.Refusal.{Refusal}
+use Rattle.wf_event_values.specs.declared.refusal.Refusal.TheVariants.{QueueFull, UnknownTaskQueue}
+use Rattle.service_model.specs.declared.answer.Answer.TheVariants as answered
+use Rattle.service_model.specs.declared.answer.NumberedDispatch.{NumberedDispatch}
+use Rattle.service_model.specs.declared.call.Call.{Call}
+use Rattle.service_model.specs.declared.call.Call.TheVariants.{Step, Poll, DispatchTurn}
+use Rattle.service_model.specs.declared.call.DispatchTurn.{DispatchTurn as ADispatchTurn}
+use Rattle.service_model.specs.declared.call.Poll.{Poll as APoll}
+use Rattle.service_model.specs.declared.call.StepCall.{StepCall}
+use Rattle.service_model.specs.declared.call.Stop.{Stop}
+use Rattle.service_model.specs.declared.call.Stop.TheVariants.{AtEnd, AfterFirstPart, AfterSecondPart}
+use Rattle.service_model.specs.declared.content.Content.{Content}
+use Rattle.service_model.specs.declared.request.Hint.{Hint}
+use Rattle.service_model.specs.declared.request.Request.{Request}
+use Rattle.service_model.specs.declared.settings.Settings.{Settings}
+use Rattle.service_model.specs.Calls.{request_of}
+use Rattle.service_model.specs.Counts.{dispatch_of}
+use Rattle.service_model.specs.Outcome.{Reply}
+use Rattle.service_model.specs.Service.{after, answer, opening}
+use Rattle.matching.specs.Named.{place_in, slot_of}
+use Rattle.service.specs.Asks.{to_dispatched, to_next_dispatch, to_start_task}
+use Rattle.service.specs.Contents.{opening_contents, refusal_of_step, setup_of, shard_refusal, slot_of_step}
+
+pub record World : Type 0 where
+  -- the shards' contents, by the shards' numbers
+  pub contents : List Content
+  -- the hints that wait in each queue: of the name at place k those of workflow tasks stand at 2 k, those of activities at 2 k + 1
+  pub waiting : List (List Hint)
+
+-- what a call comes to: its reply, and the world that it leaves
+pub record Came : Type 0 where
+  pub reply : Reply
+  pub world : World
+
+-- no hint waits at opening
+abbrev pub opening_world : Settings → World
+opening_world K = record { contents = opening_contents K; waiting = replicate (2 * length K.queues) [] }
+
+-- a shard's content
+abbrev pub content_at : Settings → List Content → ℕ → Content
+content_at K contents shard = slice_index_or contents shard (opening (setup_of K shard))
+
+-- a step on a shard
+abbrev pub stepped : Settings → World → ℕ → Request → Came
+stepped K W shard q =
+    let S = content_at K W.contents shard in
+    record { reply = answer S q; world = record W { contents = slice_set W.contents shard (after S q) } }
+
+-- what is refused before any shard is entered leaves the world as it was
+abbrev pub unless : Option Refusal → World → Came → Came
+unless None W came = came
+unless (Some refusal) W came = record { reply = Err refusal; world = W }
+
+-- a call that is one step
+abbrev pub step : Settings → World → StepCall → Came
+step K W c = unless (refusal_of_step K c) W (stepped K W (slot_of_step K c) (request_of c))
+
+-- the hints that wait in the queue of a slot
+abbrev pub waiting_at : World → ℕ → List Hint
+waiting_at W slot = slice_index_or W.waiting slot []
+
+abbrev pub with_waiting : World → ℕ → List Hint → World
+with_waiting W slot hints = record W { waiting = slice_set W.waiting slot hints }
+
+-- a poll of the queue of a slot, in which these hints wait: the first one leaves it, and its task is taken on the shard that it names
+abbrev pub polled : Settings → World → ℕ → ℕ → List Hint → Came
+polled K W slot at [] = record { reply = Ok answered.Empty; world = W }
+polled K W slot at (hint ∷ rest) = stepped K (with_waiting W slot rest) hint.shard (to_start_task at hint)
+
+-- a poll of the queue of a place, if there is one
+abbrev pub poll_at : Settings → World → Option ℕ → TaskKind → ℕ → Came
+poll_at K W None kind at = record { reply = Err UnknownTaskQueue; world = W }
+poll_at K W (Some place) kind at = polled K W (slot_of place kind) at (waiting_at W (slot_of place kind))
+
+abbrev pub poll : Settings → World → APoll → Came
+poll K W q = poll_at K W (place_in K.queues q.task_queue) q.kind q.at
+
+-- a hint behind all that wait in the queue of a slot, where there is room
+abbrev pub pushed_at : Settings → World → ℕ → Hint → Result World Refusal
+pushed_at K W slot hint =
+    let hints = waiting_at W slot in
+    if nat_lt (length hints) K.capacity then Ok (with_waiting W slot (hints ++ hint ∷ [])) else Err QueueFull
+
+-- a push to the queue of a place, if there is one
+abbrev pub pushed : Settings → World → Option ℕ → Hint → Result World Refusal
+pushed K W None hint = Err UnknownTaskQueue
+pushed K W (Some place) hint = pushed_at K W (slot_of place hint.kind) hint
+
+-- a refused push ends a dispatch turn
+abbrev pub behind : World → Result World Refusal → (World → Came) → Came
+behind W (Err refusal) rest = record { reply = Err refusal; world = W }
+behind W (Ok W') rest = rest W'
+
+-- the second part of a dispatch turn pushes the hint, and the third counts the dispatch; the turn may be told to end before
+abbrev pub handed : Settings → ADispatchTurn → Stop → NumberedDispatch → World → Came
+handed K t AfterFirstPart d W = record { reply = Ok (answered.Taken d.number); world = W }
+handed K t AfterSecondPart d W =
+    behind W (pushed K W (place_in K.queues d.dispatch.queue) d.dispatch.hint) (λ W'. record { reply = Ok (answered.Pushed d.number); world = W' })
+handed K t AtEnd d W =
+    behind W (pushed K W (place_in K.queues d.dispatch.queue) d.dispatch.hint) (λ W'. record { reply = Ok (answered.Dispatched d.number); world = (stepped K W' t.shard (to_dispatched t.at d.number)).world })
+
+-- what follows the first part: where its reply has no dispatch, that is the turn's
+abbrev pub after_next : Settings → ADispatchTurn → Reply → Option NumberedDispatch → World → Came
+after_next K t reply None W = record { reply = reply; world = W }
+after_next K t reply (Some d) W = handed K t t.stop d W
+
+-- the first part of a dispatch turn reads the shard's next dispatch
+abbrev pub turn : Settings → World → ADispatchTurn → Came
+turn K W t =
+    unless (shard_refusal K t.shard) W
+    (let next = stepped K W t.shard (to_next_dispatch t.at) in after_next K t next.reply (dispatch_of next.reply) next.world)
+
+-- what a call comes to
+unfoldable pub served : Settings → World → Call → Came
+served K W (Step c) = step K W c
+served K W (Poll q) = poll K W q
+served K W (DispatchTurn t) = turn K W t

@@ -1,0 +1,119 @@
+//! A call of any kind.
+
+ghost use Rattle.std.specs.Prelude.{◌≡◌, IfOk, OnErr};
+ghost use Rattle.gate.specs.Passes.{number};
+ghost use Rattle.service_model.specs.declared.call.Call.TheVariants as a_call;
+ghost use Rattle.service.specs.Calls.{CallKept, CallServed, reply_of_poll, reply_of_turn};
+
+use crate::dispatch_turns::Turned;
+use crate::service::{Pass, Service};
+use service_model::answer::{Answer, Reply};
+use service_model::call::{Call, DispatchTurn, Poll, StepCall};
+use std::alloc::AllocError;
+use std::sync::Wait;
+
+impl Service {
+    ghost use Rattle.service.specs.Services.{IsPassOf, known_by};
+
+    /// Serves a call of any kind: a step as [`Service::serve_step`] does, a poll as
+    /// [`Service::poll_workflow_task`] or [`Service::poll_activity_task`], a dispatch turn as
+    /// [`Service::dispatch_turn`]. A poll that finds no hint is answered `Empty`. It may wait for ever.
+    ///
+    /// # Errors
+    /// Where a growth was refused. A step has done nothing then, a poll has popped a hint and made no
+    /// step, and a dispatch turn keeps the parts that were done. The call by its own name hands back
+    /// what it was given or popped.
+    pub fn serve_call<R: Wait>(
+        &self,
+        rt: &R,
+        pass: &mut Pass,
+        call: Call,
+    ) -> Result<Reply, AllocError>
+        requires { IsPassOf pass.old self.now }
+        ensures own { IsPassOf pass.new self.now }
+        ensures named { number (known_by pass.new) ≡ number (known_by pass.old) }
+        ensures ok { IfOk result (λ r. CallServed self.now pass.old pass.new call r) }
+        ensures err { OnErr result (CallKept self.now pass.old pass.new call) }
+    {
+        match call {
+            Call::Step(step) => self.step_replied(rt, pass, step),
+            Call::Poll(poll) => self.poll_replied(rt, pass, poll),
+            Call::DispatchTurn(turn) => self.turn_replied(rt, pass, turn),
+        }
+    }
+
+    fn step_replied<R: Wait>(
+        &self,
+        rt: &R,
+        pass: &mut Pass,
+        step: StepCall,
+    ) -> Result<Reply, AllocError>
+        requires { IsPassOf pass.old self.now }
+        ensures own { IsPassOf pass.new self.now }
+        ensures named { number (known_by pass.new) ≡ number (known_by pass.old) }
+        ensures ok { IfOk result (λ r. CallServed self.now pass.old pass.new (a_call.Step step) r) }
+        ensures err { OnErr result (CallKept self.now pass.old pass.new (a_call.Step step)) }
+    {
+        match self.serve_step(rt, pass, step) {
+            Ok(reply) => Ok(reply),
+            Err((error, _request)) => Err(error),
+        }
+    }
+
+    fn poll_replied<R: Wait>(
+        &self,
+        rt: &R,
+        pass: &mut Pass,
+        poll: Poll,
+    ) -> Result<Reply, AllocError>
+        requires { IsPassOf pass.old self.now }
+        ensures own { IsPassOf pass.new self.now }
+        ensures named { number (known_by pass.new) ≡ number (known_by pass.old) }
+        ensures ok { IfOk result (λ r. CallServed self.now pass.old pass.new (a_call.Poll poll) r) }
+        ensures err { OnErr result (CallKept self.now pass.old pass.new (a_call.Poll poll)) }
+    {
+        match self.poll(rt, pass, &poll.task_queue, poll.kind, poll.at) {
+            Ok(polled) => Ok(reply_of_poll(polled)),
+            Err((error, _hint)) => Err(error),
+        }
+    }
+
+    fn turn_replied<R: Wait>(
+        &self,
+        rt: &R,
+        pass: &mut Pass,
+        turn: DispatchTurn,
+    ) -> Result<Reply, AllocError>
+        requires { IsPassOf pass.old self.now }
+        ensures own { IsPassOf pass.new self.now }
+        ensures named { number (known_by pass.new) ≡ number (known_by pass.old) }
+        ensures ok { IfOk result (λ r. CallServed self.now pass.old pass.new (a_call.DispatchTurn turn) r) }
+        ensures err { OnErr result (CallKept self.now pass.old pass.new (a_call.DispatchTurn turn)) }
+    {
+        let turned = self.dispatch_turn(rt, pass, turn.shard, turn.stop, turn.at)?;
+        Ok(reply_of_turn(turned))
+    }
+}
+
+/// The reply of a poll: where no hint waited, the task queue was empty.
+fn reply_of_poll(polled: Option<Reply>) -> Reply
+    ensures { result ≡ reply_of_poll polled }
+{
+    match polled {
+        Some(reply) => reply,
+        None => Ok(Answer::Empty),
+    }
+}
+
+/// The reply of a dispatch turn.
+fn reply_of_turn(turned: Turned) -> Reply
+    ensures { result ≡ reply_of_turn turned }
+{
+    match turned {
+        Turned::First(reply) => reply,
+        Turned::Taken(number) => Ok(Answer::Taken(number)),
+        Turned::Unpushed(refusal) => Err(refusal),
+        Turned::Pushed(number) => Ok(Answer::Pushed(number)),
+        Turned::Dispatched(number) => Ok(Answer::Dispatched(number)),
+    }
+}
