@@ -103,7 +103,15 @@ fn holds_one<R: Abort + AllocGlobal + Threads + Wait + Sync>(rt: &R, held: u16) 
     };
     let mut reader = Counted::new(SCRIPT);
     let mut writer = Counted::new(Vec::new(rt.alloc()));
-    match run_lanes(rt, rt.alloc(), &settings, &door, passes, &mut reader, &mut writer) {
+    match run_lanes(
+        rt,
+        rt.alloc(),
+        &settings,
+        &door,
+        passes,
+        &mut reader,
+        &mut writer,
+    ) {
         Ok(outcome) => assert!(rt; !outcome.refused),
         Err(_) => panic!(rt; "a fault"),
     }

@@ -62,7 +62,11 @@ impl Service {
     ///
     /// # Errors
     /// As [`Service::try_serve`], with the request of the step that the call makes.
-    pub fn try_serve_step(&self, pass: &mut Pass, call: StepCall) -> Result<Reply, (Refused, Request)>
+    pub fn try_serve_step(
+        &self,
+        pass: &mut Pass,
+        call: StepCall,
+    ) -> Result<Reply, (Refused, Request)>
         requires { IsPassOf pass.old self.now }
         ensures { IsTriedStep self.now pass.old pass.new call result }
     {

@@ -1,8 +1,10 @@
-use Rattle.std.proofs.Common.{[], arith}
+use Rattle.std.proofs.Common.{[], arith, inl, inr}
 use Rattle.std.proofs.lemmas.Result.{err_from_is_err_and}
 use Rattle.wire_counted.proofs.Known.{Consumes-none}
 use Rattle.lanes.proofs.FaultLemmas.{device-fault, device-later}
 use Rattle.lanes.proofs.LaneLemmas.{own-of}
+use Rattle.script.proofs.Steps.{on_any_err}
+use Rattle.lanes.proofs.BegunLemmas.{nothing-read}
 use Rattle.lanes.proofs.run.run_lanes.Goals as goal
 
 pub loop-init : goal.loop-init
@@ -42,3 +44,22 @@ loop-preserved g c = record {
   reads = omega (arith, c.loop.invariant.reads, c.turn.ensures.read_grows);
   writes = omega (arith, c.loop.invariant.writes, c.turn.ensures.write_grows);
 }
+
+pub returns-in_err-script-clause-halted : goal.returns-in_err-script-clause-halted
+returns-in_err-script-clause-halted g c = on_any_err c.from_residual.result _ (nothing-read _ _ _)
+
+pub returns-in_err-buffer-clause-halted : goal.returns-in_err-buffer-clause-halted
+returns-in_err-buffer-clause-halted g c = on_any_err c.from_residual-in_err-buffer.result _ (nothing-read _ _ _)
+
+pub returns-in_err-turn-clause-halted : goal.returns-in_err-turn-clause-halted
+returns-in_err-turn-clause-halted g c = on_any_err c.from_residual-in_err-turn.result _ (inl (c.in_err-turn.ensures.broke _ _ c.loop.invariant.progress))
+
+pub returns-in_err-finish-clause-halted : goal.returns-in_err-finish-clause-halted
+returns-in_err-finish-clause-halted g c =
+    let p = c.in_ok-turn.ensures.progress _ _ c.loop.invariant.progress in
+    on_any_err c.from_residual-in_err-finish.result _ (inr (record {
+      text = p.text;
+      read = p.read;
+      at_end = c.in_ok-turn.ensures.end c.if-branch.true;
+      begun = c.in_err-finish.ensures.begun p.text _ p.told;
+    }))

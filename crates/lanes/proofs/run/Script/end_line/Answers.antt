@@ -1,6 +1,8 @@
 use Rattle.std.proofs.Common.{rules}
 use Rattle.lanes.proofs.LaneLemmas.{own-same}
 use Rattle.lanes.proofs.ToldLemmas.{told-closed}
+use Rattle.script.proofs.Steps.{on_any_err}
+use Rattle.lanes.proofs.BegunLemmas.{begins-line, begins-phase}
 use Rattle.lanes.proofs.run.Script.end_line.Goals as goal
 
 pub returns-in_default-clause-own : goal.returns-in_default-clause-own
@@ -14,3 +16,9 @@ close-requires-after_bounds g c = let own = own-same (g.D.Door.admits c.args.doo
 
 pub returns-clause-told : goal.returns-clause-told
 returns-clause-told g c = λ lines held h. told-closed _ _ _ _ _ _ _ c.in_ok-close.ensures.closed (c.in-Ok.ensures.told lines held _ h)
+
+pub returns-in_default-clause-begun : goal.returns-in_default-clause-begun
+returns-in_default-clause-begun g c = λ lines held h. begins-line _ lines _ _ held _ h
+
+pub returns-in_err-close-clause-begun : goal.returns-in_err-close-clause-begun
+returns-in_err-close-clause-begun g c = on_any_err c.from_residual.result _ (λ lines held h. begins-phase _ _ c.add_line.new.self held _ _ (c.in-Ok.ensures.told lines held _ h) c.in_err-close.ensures.begun)
