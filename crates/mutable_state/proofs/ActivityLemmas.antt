@@ -6,6 +6,7 @@ use Rattle.wf_event.specs.declared.event.Event.{Event}
 use Rattle.wf_event.specs.declared.attributes.Attributes.{Attributes}
 use Rattle.wf_event.specs.Role.{Role, Closes, role, is_closing_role, is_outside_role, AnActivity, opens, settles, closing_status}
 use Rattle.wf_event_values.specs.declared.policies.Status.{Status}
+use Rattle.service_model.specs.declared.journal.CancelRequest.{CancelRequest}
 use Rattle.service_model.specs.Pending.{Task, class_number, is_settled}
 use Rattle.service_model.specs.RunState.{ActivityRow, is_open_status}
 use Rattle.service_model.specs.Tasks.{pending_row, is_started_task}
@@ -52,9 +53,9 @@ find-row id es (o ∷ os) h = by_class (is_of AnActivity o) refl (event_at o.ope
         let other : is_activity id o ≡ false = ap (λ t. t && (o.opener.event == id)) (eq-back (class_number (class_in o.opener.class)) (class_number AnActivity) ∙ is) in
         subst Goal (sym gone) (again ∙ ap (λ b. option_and_then (row_at es) (cond b (Some o) (find (is_activity id) os))) (sym other))
 
-pub pending-activity : (b : Buffer) (request : Option (List ℕ)) (status : Status) (t : WorkflowTask) (keys : List (List ℕ)) (os : List Open) (id : ℕ) → AgreesWith b os →
-    kept_activity b.events os id ≡ pending_row (state_in b request status t keys os) id
-pending-activity b request status t keys os id h =
+pub pending-activity : (b : Buffer) (request : Option (List ℕ)) (cancel : Option CancelRequest) (status : Status) (t : WorkflowTask) (keys : List (List ℕ)) (os : List Open) (id : ℕ) → AgreesWith b os →
+    kept_activity b.events os id ≡ pending_row (state_in b request cancel status t keys os) id
+pending-activity b request cancel status t keys os id h =
     by_find (find (is_activity id) os) refl
     ∙ ap (cond (is_settled AnActivity id (carried b.held)) None) (sym (find-row id b.events os h.there))
   where
@@ -102,8 +103,8 @@ rows-after t a status n os opened closed = rows-closing t a n os (closing-is a �
     by_status (Some k) h = ap not h
 
 -- a run that has closed has no activity
-pub none-closed : (b : Buffer) (request : Option (List ℕ)) (status : Status) (t : WorkflowTask) (keys : List (List ℕ)) (os : List Open) → os ≡ [] → (state_in b request status t keys os).activities ≡ []
-none-closed b request status t keys os h = ap (λ l. rows_in l b.events) h
+pub none-closed : (b : Buffer) (request : Option (List ℕ)) (cancel : Option CancelRequest) (status : Status) (t : WorkflowTask) (keys : List (List ℕ)) (os : List Open) → os ≡ [] → (state_in b request cancel status t keys os).activities ≡ []
+none-closed b request cancel status t keys os h = ap (λ l. rows_in l b.events) h
 
 -- what is noted of the activities in use
 noted-rows : (es : List Event) (os : List Open) → filter_map (activity_at es) os ≡ map noted_activity (rows_in os es)
@@ -114,5 +115,5 @@ noted-rows es (o ∷ os) = by_row (row_at es o) (noted-rows es os)
     by_row None again = again
     by_row (Some r) again = ap (λ l. noted_activity r ∷ l) again
 
-pub noted-are : (b : Buffer) (request : Option (List ℕ)) (status : Status) (t : WorkflowTask) (keys : List (List ℕ)) (os : List Open) → filter_map (activity_at b.events) os ≡ noted_activities (state_in b request status t keys os)
-noted-are b request status t keys os = noted-rows b.events os
+pub noted-are : (b : Buffer) (request : Option (List ℕ)) (cancel : Option CancelRequest) (status : Status) (t : WorkflowTask) (keys : List (List ℕ)) (os : List Open) → filter_map (activity_at b.events) os ≡ noted_activities (state_in b request cancel status t keys os)
+noted-are b request cancel status t keys os = noted-rows b.events os

@@ -10,6 +10,7 @@ use Rattle.wf_event.specs.declared.attributes.Attributes.TheVariants.{WorkflowEx
 use Rattle.wf_event.specs.declared.payloads.WorkflowExecutionStarted.{WorkflowExecutionStarted as StartedAttributes}
 use Rattle.wf_event_values.specs.declared.policies.DeadlineClass.TheVariants.{RunTimeout, WorkflowTask as TaskTimeout}
 use Rattle.wf_event.specs.Role.{AnActivity, ATimer}
+use Rattle.service_model.specs.declared.journal.CancelRequest.{CancelRequest}
 use Rattle.service_model.specs.Deadlines.{Due, dues, due_after, run_timeout_dues, workflow_task_dues, task_timeout, activity_dues, timer_dues, pending_rows}
 use Rattle.service_model.specs.RunState.{RunState, ActivityRow, Beginning, LastTask, beginning_by, is_open, last_task, pending}
 use Rattle.wf_event_values.specs.declared.policies.Status.{Status}
@@ -129,11 +130,11 @@ rows-read es (o ∷ os) = by_test (is_unmarked o) (is_of AnActivity o) refl (eve
     by_test true false is r at again = again ∙ ap (λ q. flat_map activity_dues (row q)) (sym (ap (λ t. cond t (event_at o.opener.event es) None) is))
     by_test false t is r at again = again
 
-pub kept-activity-dues : (b : Buffer) (request : Option (List ℕ)) (status : Status) (t : WorkflowTask) (keys : List (List ℕ)) (os : List Open) → AgreesWith b os → flat_map (kept_activity_dues b.events) os ≡ pending_activity_dues (state_in b request status t keys os)
-kept-activity-dues b request status t keys os h = rows-read b.events os ∙ ap (flat_map activity_dues) (rows-unmarked b.held os b.events h.marks)
+pub kept-activity-dues : (b : Buffer) (request : Option (List ℕ)) (cancel : Option CancelRequest) (status : Status) (t : WorkflowTask) (keys : List (List ℕ)) (os : List Open) → AgreesWith b os → flat_map (kept_activity_dues b.events) os ≡ pending_activity_dues (state_in b request cancel status t keys os)
+kept-activity-dues b request cancel status t keys os h = rows-read b.events os ∙ ap (flat_map activity_dues) (rows-unmarked b.held os b.events h.marks)
 
-pub kept-dues : (b : Buffer) (request : Option (List ℕ)) (status : Status) (t : WorkflowTask) (keys : List (List ℕ)) (os : List Open) → AgreesWith b os → flat_map (kept_dues b.events) os ≡ pending_timer_dues (state_in b request status t keys os)
-kept-dues b request status t keys os h = kept-read b.events os ∙ ap (flat_map timer_dues) (used-unmarked ATimer b.held os b.events h.marks)
+pub kept-dues : (b : Buffer) (request : Option (List ℕ)) (cancel : Option CancelRequest) (status : Status) (t : WorkflowTask) (keys : List (List ℕ)) (os : List Open) → AgreesWith b os → flat_map (kept_dues b.events) os ≡ pending_timer_dues (state_in b request cancel status t keys os)
+kept-dues b request cancel status t keys os h = kept-read b.events os ∙ ap (flat_map timer_dues) (used-unmarked ATimer b.held os b.events h.marks)
 
 -- a run that has closed has no deadline
 pub dues-closed : (s : RunState) → is_open s ≡ false → dues s ≡ []

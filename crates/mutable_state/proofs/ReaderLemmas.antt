@@ -8,6 +8,7 @@ use Rattle.std.proofs.lemmas.List.Elements.{filter_map-append}
 use Rattle.wf_event.specs.declared.event.Event.{Event}
 use Rattle.wf_event.specs.Role.{Class}
 use Rattle.wf_event_values.specs.declared.policies.Status.{Status}
+use Rattle.service_model.specs.declared.journal.CancelRequest.{CancelRequest}
 use Rattle.service_model.specs.declared.journal.NewEvent.{NewEvent}
 use Rattle.service_model.specs.Pending.{is_settled}
 use Rattle.buffered.specs.Buffers.{Buffer}
@@ -44,18 +45,18 @@ rows-in c b (o ∷ os) marks = by_test (is_of c o) refl (event_at o.opener.event
     by_test false is r at again = again
 
 -- what is in use of a class, as the run answers it
-pub rows-are : (c : Class) (b : Buffer) (request : Option (List ℕ)) (status : Status) (t : WorkflowTask) (keys : List (List ℕ)) (os : List Open) → AgreesWith b os → filter_map (used_at c b.events) os ≡ used_rows c (state_in b request status t keys os)
-rows-are c b request status t keys os agrees =
-    let s = state_in b request status t keys os in
-    rows-in c b os agrees.marks ∙ ap (map (used_row c s)) (sym (used-state b request status t keys os c))
+pub rows-are : (c : Class) (b : Buffer) (request : Option (List ℕ)) (cancel : Option CancelRequest) (status : Status) (t : WorkflowTask) (keys : List (List ℕ)) (os : List Open) → AgreesWith b os → filter_map (used_at c b.events) os ≡ used_rows c (state_in b request cancel status t keys os)
+rows-are c b request cancel status t keys os agrees =
+    let s = state_in b request cancel status t keys os in
+    rows-in c b os agrees.marks ∙ ap (map (used_row c s)) (sym (used-state b request cancel status t keys os c))
 
 pub firings-are : (held : List NewEvent) → map (λ (e : NewEvent). fired_timer e.attributes) held ≡ map fired_timer (map (λ (e : NewEvent). e.attributes) held)
 firings-are [] = refl
 firings-are (e ∷ held) = ap (λ l. fired_timer e.attributes ∷ l) (firings-are held)
 
-pub is-grounded : (b : Buffer) (request : Option (List ℕ)) (status : Status) (t : WorkflowTask) (keys : List (List ℕ)) (os : List Open) → AgreesWith b os → AllByRecursion IsFromOutside b.held → IsGrounded (state_in b request status t keys os)
-is-grounded b request status t keys os agrees outside = record {
-  ids = λ c. subst (IdsTo (length b.events)) (sym (used-state b request status t keys os c)) (all-used c (length b.events) os b.events agrees.ids);
+pub is-grounded : (b : Buffer) (request : Option (List ℕ)) (cancel : Option CancelRequest) (status : Status) (t : WorkflowTask) (keys : List (List ℕ)) (os : List Open) → AgreesWith b os → AllByRecursion IsFromOutside b.held → IsGrounded (state_in b request cancel status t keys os)
+is-grounded b request cancel status t keys os agrees outside = record {
+  ids = λ c. subst (IdsTo (length b.events)) (sym (used-state b request cancel status t keys os c)) (all-used c (length b.events) os b.events agrees.ids);
   settled = agrees.grounded;
   outside = outside;
 }

@@ -51,6 +51,9 @@ token-below K t h = let there : nat_lt t.shard K.shards ≡ true = first-test _ 
 pub shard-below : (K : Settings) (o : Operation) → 1 ≤ K.shards → refusal_of K o ≡ None → shard_of K o < K.shards
 shard-below K (operation.Start q) some none = mod_below (hash_of q.workflow_id) K.shards (omega (arith, some))
 shard-below K (operation.Signal q) some none = mod_below (hash_of q.workflow_id) K.shards (omega (arith, some))
+shard-below K (operation.SignalWithStart q) some none = mod_below (hash_of q.start.workflow_id) K.shards (omega (arith, some))
+shard-below K (operation.RequestCancel q) some none = mod_below (hash_of q.workflow_id) K.shards (omega (arith, some))
+shard-below K (operation.Terminate q) some none = mod_below (hash_of q.workflow_id) K.shards (omega (arith, some))
 shard-below K (operation.StartTask h) some none = let there : nat_lt h.shard K.shards ≡ true = unrefused _ _ _ none in grind (arith, nat_tests)
 shard-below K (operation.CompleteWorkflowTask q) some none = token-below K q.task (unrefused _ _ _ none)
 shard-below K (operation.FailWorkflowTask q) some none = token-below K q.task (unrefused _ _ _ none)

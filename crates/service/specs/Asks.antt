@@ -4,6 +4,9 @@ use Rattle.service_model.specs.declared.request.Operation.TheVariants as operati
 use Rattle.service_model.specs.declared.request.Request.{Request}
 use Rattle.service_model.specs.declared.request.Start.{Start}
 use Rattle.service_model.specs.declared.request.Signal.{Signal}
+use Rattle.service_model.specs.declared.request.SignalWithStart.{SignalWithStart}
+use Rattle.service_model.specs.declared.request.RequestCancel.{RequestCancel}
+use Rattle.service_model.specs.declared.request.Terminate.{Terminate}
 use Rattle.service_model.specs.declared.request.Read.{Read}
 use Rattle.service_model.specs.declared.request.Hint.{Hint}
 use Rattle.service_model.specs.declared.request.CompleteWorkflowTask.{CompleteWorkflowTask}
@@ -16,6 +19,15 @@ to_start at q = record { at = at; operation = operation.Start q }
 
 abbrev pub to_signal : ℕ → Signal → Request
 to_signal at q = record { at = at; operation = operation.Signal q }
+
+abbrev pub to_signal_with_start : ℕ → SignalWithStart → Request
+to_signal_with_start at q = record { at = at; operation = operation.SignalWithStart q }
+
+abbrev pub to_request_cancel : ℕ → RequestCancel → Request
+to_request_cancel at q = record { at = at; operation = operation.RequestCancel q }
+
+abbrev pub to_terminate : ℕ → Terminate → Request
+to_terminate at q = record { at = at; operation = operation.Terminate q }
 
 abbrev pub to_start_task : ℕ → Hint → Request
 to_start_task at h = record { at = at; operation = operation.StartTask h }

@@ -45,6 +45,9 @@ completion_refusal K q = if is_token K q.task then (if nat_le (length q.commands
 abbrev pub refusal_of : Settings → Operation → Option Refusal
 refusal_of K (operation.Start q) = None
 refusal_of K (operation.Signal q) = None
+refusal_of K (operation.SignalWithStart q) = None
+refusal_of K (operation.RequestCancel q) = None
+refusal_of K (operation.Terminate q) = None
 refusal_of K (operation.StartTask h) = shard_refusal K h.shard
 refusal_of K (operation.CompleteWorkflowTask q) = completion_refusal K q
 refusal_of K (operation.FailWorkflowTask q) = token_refusal K q.task
@@ -66,6 +69,9 @@ shard_of_id K id = hash_of id % K.shards
 abbrev pub shard_of : Settings → Operation → ℕ
 shard_of K (operation.Start q) = shard_of_id K q.workflow_id
 shard_of K (operation.Signal q) = shard_of_id K q.workflow_id
+shard_of K (operation.SignalWithStart q) = shard_of_id K q.start.workflow_id
+shard_of K (operation.RequestCancel q) = shard_of_id K q.workflow_id
+shard_of K (operation.Terminate q) = shard_of_id K q.workflow_id
 shard_of K (operation.StartTask h) = h.shard
 shard_of K (operation.CompleteWorkflowTask q) = q.task.shard
 shard_of K (operation.FailWorkflowTask q) = q.task.shard

@@ -22,6 +22,7 @@ mod route;
 mod service;
 mod tasks;
 mod turns;
+mod workflows;
 
 pub use dispatch_turns::Turned;
 pub use gate::{Record, Refused};

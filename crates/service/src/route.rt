@@ -29,6 +29,9 @@ impl Service {
             Operation::FailActivity(asked) => token_refusal(&self.settings, &asked.task),
             Operation::Start(_)
             | Operation::Signal(_)
+            | Operation::SignalWithStart(_)
+            | Operation::RequestCancel(_)
+            | Operation::Terminate(_)
             | Operation::History(_)
             | Operation::Describe(_) => None,
             Operation::TimerTurn | Operation::NextDispatch | Operation::Dispatched(_) => {
@@ -45,6 +48,11 @@ impl Service {
         match &request.operation {
             Operation::Start(start) => shard_of_id(&self.settings, &start.workflow_id),
             Operation::Signal(signal) => shard_of_id(&self.settings, &signal.workflow_id),
+            Operation::SignalWithStart(both) => {
+                shard_of_id(&self.settings, &both.start.workflow_id)
+            }
+            Operation::RequestCancel(cancel) => { shard_of_id(&self.settings, &cancel.workflow_id) }
+            Operation::Terminate(end) => shard_of_id(&self.settings, &end.workflow_id),
             Operation::History(read) | Operation::Describe(read) => {
                 shard_of_id(&self.settings, &read.workflow_id)
             }

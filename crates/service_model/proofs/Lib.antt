@@ -1,4 +1,5 @@
 pub mod ListLemmas
+pub mod LatestLemmas
 pub mod DispatchLemmas
 mod OrderLemmas
 mod RowWords

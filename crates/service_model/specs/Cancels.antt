@@ -8,7 +8,7 @@ use Rattle.service_model.specs.declared.answer.Answer.TheVariants.{Repeated, Can
 use Rattle.service_model.specs.declared.request.RequestCancel.{RequestCancel}
 use Rattle.service_model.specs.declared.request.Terminate.{Terminate}
 use Rattle.service_model.specs.Journal.{plain}
-use Rattle.service_model.specs.RunState.{CancelRequest}
+use Rattle.service_model.specs.declared.journal.CancelRequest.{CancelRequest}
 use Rattle.service_model.specs.Outcome.{Outcome, Runs, answered, refused, adds, on_shard, run_at, open_run, outside, made_by}
 
 -- an absent request id is the same as an absent one

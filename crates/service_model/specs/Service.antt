@@ -107,6 +107,9 @@ at_served_commands q rest = cond (list_all is_served q.commands) rest (refused (
 unfoldable pub outcome_of : Content → ℕ → Operation → Outcome
 outcome_of S m (served.Start q) = at_served_policies q (outcome S m (ToStart q))
 outcome_of S m (served.Signal q) = outcome S m (ToSignal q)
+outcome_of S m (served.SignalWithStart q) = outcome S m (ToSignalWithStart q)
+outcome_of S m (served.RequestCancel q) = outcome S m (ToRequestCancel q)
+outcome_of S m (served.Terminate q) = outcome S m (ToTerminate q)
 outcome_of S m (served.StartTask h) = outcome S m (ToStartTask h)
 outcome_of S m (served.CompleteWorkflowTask q) = at_served_commands q (outcome S m (ToCompleteWorkflowTask q))
 outcome_of S m (served.FailWorkflowTask q) = outcome S m (ToFailWorkflowTask q)

@@ -216,6 +216,9 @@ impl Drop for Acknowledge {
 pub enum Operation {
     Start(Start),
     Signal(Signal),
+    SignalWithStart(SignalWithStart),
+    RequestCancel(RequestCancel),
+    Terminate(Terminate),
     StartTask(Hint),
     CompleteWorkflowTask(CompleteWorkflowTask),
     FailWorkflowTask(FailWorkflowTask),
@@ -239,6 +242,9 @@ impl Drop for Operation {
         match self {
             Operation::Start(_) => {}
             Operation::Signal(_) => {}
+            Operation::SignalWithStart(_) => {}
+            Operation::RequestCancel(_) => {}
+            Operation::Terminate(_) => {}
             Operation::StartTask(_) => {}
             Operation::CompleteWorkflowTask(_) => {}
             Operation::FailWorkflowTask(_) => {}

@@ -25,7 +25,7 @@ type Shard = shard::Shard<mutable_state::Run>;
 const COUNT: u64 = 480;
 
 /// How many kinds of reply there are.
-const KINDS: usize = 38;
+const KINDS: usize = 43;
 
 /// Service 1's shard, with the queue `main`.
 fn setup(alloc: Global, shard: u16, shards: u16) -> Result<Setup, Refusal>
@@ -54,7 +54,7 @@ fn serve(shard: &mut Shard, request: &Request) -> Result<Reply, AllocError>
 
 /// Which kind of reply it is, if it is one that these requests get.
 fn kind(reply: &Reply) -> Option<usize>
-    ensures { IfSome result (λ k. k < 38) }
+    ensures { IfSome result (λ k. k < 43) }
 {
     match reply {
         Ok(Answer::Started(_)) => Some(0),
@@ -88,13 +88,18 @@ fn kind(reply: &Reply) -> Option<usize>
         Ok(Answer::Counted(Acknowledged::Already)) => Some(35),
         Ok(Answer::Counted(Acknowledged::Acknowledged)) => Some(36),
         Ok(Answer::Counted(Acknowledged::OutOfOrder)) => Some(37),
+        Ok(Answer::SignaledRun(_)) => Some(38),
+        Ok(Answer::RepeatedRun(_)) => Some(39),
+        Ok(Answer::CancelRequested) => Some(40),
+        Ok(Answer::Terminated) => Some(41),
+        Err(Refusal::CancellationAlreadyRequested) => Some(42),
         _ => None,
     }
 }
 
 /// Which kind of reply it is that a deadline of this class fired.
 fn fired_kind(class: DeadlineClass) -> Option<usize>
-    ensures { IfSome result (λ k. k < 38) }
+    ensures { IfSome result (λ k. k < 43) }
 {
     match class {
         DeadlineClass::RunTimeout => Some(18),

@@ -8,7 +8,7 @@ use crate::draws::Draws;
 use crate::known::{Known, Next};
 use service_model::request::{
     ActivityText, CompleteWorkflowTask, FailActivity, FailWorkflowTask, Operation, Read, Request,
-    Signal, Start,
+    RequestCancel, Signal, SignalWithStart, Start, Terminate,
 };
 use std::alloc::Global;
 use wf_command::Command;
@@ -63,7 +63,7 @@ fn operation(alloc: Global, draws: &mut Draws, known: &Known) -> Result<Operatio
 }
 
 fn any_operation(alloc: Global, draws: &mut Draws, known: &Known) -> Result<Operation, Refusal> {
-    match draws.below(33) {
+    match draws.below(38) {
         0..=2 => Ok(Operation::Start(start(alloc, draws)?)),
         3..=5 => Ok(Operation::Signal(signal(alloc, draws)?)),
         6..=8 => Ok(Operation::StartTask(known.hint(draws))),
@@ -77,6 +77,9 @@ fn any_operation(alloc: Global, draws: &mut Draws, known: &Known) -> Result<Oper
         22..=26 => report(alloc, draws, known),
         27..=28 => Ok(Operation::NextDispatch),
         29..=31 => Ok(Operation::Dispatched(known.dispatch(draws))),
+        32..=33 => Ok(Operation::SignalWithStart(signal_with_start(alloc, draws)?)),
+        34..=35 => Ok(Operation::RequestCancel(request_cancel(alloc, draws)?)),
+        36 => Ok(Operation::Terminate(terminate(alloc, draws)?)),
         _ => Ok(Operation::Describe(read(alloc, draws)?)),
     }
 }
@@ -201,6 +204,30 @@ fn signal(alloc: Global, draws: &mut Draws) -> Result<Signal, Refusal> {
         name: Text::new(alloc, Field::Name, "paid")?,
         input: input(alloc, draws)?,
         request_id: request_id(alloc, draws)?,
+    })
+}
+
+fn signal_with_start(alloc: Global, draws: &mut Draws) -> Result<SignalWithStart, Refusal> {
+    Ok(SignalWithStart {
+        start: start(alloc, draws)?,
+        name: Text::new(alloc, Field::Name, "paid")?,
+        signal_input: input(alloc, draws)?,
+    })
+}
+
+fn request_cancel(alloc: Global, draws: &mut Draws) -> Result<RequestCancel, Refusal> {
+    Ok(RequestCancel {
+        workflow_id: workflow_id(alloc, draws)?,
+        run: run(draws),
+        request_id: request_id(alloc, draws)?,
+    })
+}
+
+fn terminate(alloc: Global, draws: &mut Draws) -> Result<Terminate, Refusal> {
+    Ok(Terminate {
+        workflow_id: workflow_id(alloc, draws)?,
+        run: run(draws),
+        reason: input(alloc, draws)?,
     })
 }
 

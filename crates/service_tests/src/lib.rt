@@ -18,3 +18,5 @@ mod queues;
 mod refusals;
 #[cfg(test)]
 mod threads;
+#[cfg(test)]
+mod workflows;

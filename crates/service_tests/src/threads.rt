@@ -35,6 +35,9 @@ fn workflow_of(request: &Request) -> &str {
     match &request.operation {
         Operation::Start(asked) => asked.workflow_id.as_str(),
         Operation::Signal(asked) => asked.workflow_id.as_str(),
+        Operation::SignalWithStart(asked) => asked.start.workflow_id.as_str(),
+        Operation::RequestCancel(asked) => asked.workflow_id.as_str(),
+        Operation::Terminate(asked) => asked.workflow_id.as_str(),
         Operation::History(asked) | Operation::Describe(asked) => asked.workflow_id.as_str(),
         Operation::StartTask(_)
         | Operation::CompleteWorkflowTask(_)

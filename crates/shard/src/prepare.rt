@@ -27,6 +27,9 @@ impl<T: KeepsRun> Shard<T> {
         match &request.operation {
             Operation::Start(start) => self.prepare_start(moment, start),
             Operation::Signal(signal) => self.prepare_signal(moment, signal),
+            Operation::SignalWithStart(both) => self.prepare_signal_with_start(moment, both),
+            Operation::RequestCancel(cancel) => self.prepare_request_cancel(moment, cancel),
+            Operation::Terminate(end) => self.prepare_terminate(moment, end),
             Operation::History(read) => self.prepare_history(moment, read),
             Operation::Describe(read) => self.prepare_describe(moment, read),
             Operation::StartTask(hint) => self.prepare_start_task(moment, *hint),

@@ -3,12 +3,12 @@
 ghost use Rattle.std.specs.Prelude.{◌≡◌, ◌≤◌, ◌<◌, length, IfOk, OnOk, None, Some, true};
 ghost use Rattle.service_model.specs.Outcome.{run_at};
 ghost use Rattle.service_model.specs.RunState.{is_open};
-ghost use Rattle.service_model.specs.Signals.{signal, signal_at};
+ghost use Rattle.service_model.specs.Signals.{signal, signal_at, signal_fact, signals};
 ghost use Rattle.shard.specs.View.{state, runs_in};
 ghost use Rattle.shard.specs.Fitting.{FitsStep, room_at};
 
 use crate::index::shard_of;
-use crate::plan::{Change, MoreOf, Plan};
+use crate::plan::Plan;
 use crate::prepare::{answered, refused};
 use crate::shard::Shard;
 use mutable_state::Change as MoreFacts;
@@ -17,7 +17,14 @@ use service_model::answer::Answer;
 use service_model::request::Signal;
 use shard_steps::signal_facts;
 use std::alloc::AllocError;
-use wf_event_values::{Field, Moment, Refusal};
+use wf_event_values::{Field, Id, Moment, Refusal, Text};
+
+/// What a signal is answered: the first one of a request id, and a later one.
+#[derive(Drop)]
+pub(crate) struct SignalAnswers {
+    pub(crate) first: Answer,
+    pub(crate) again: Answer,
+}
 
 impl<T: KeepsRun> Shard<T> {
     #[tactic(auto, unfolding(service_model::specs::Signals::signal))]
@@ -34,13 +41,12 @@ impl<T: KeepsRun> Shard<T> {
             return Ok(refused(moment, Refusal::InvalidArgument(Field::WorkflowId)));
         }
         match self.named_open(&request.workflow_id, request.run) {
-            Some(n) => self.prepare_signal_of(moment, n, request),
+            Some(n) => self.prepare_signal_here(moment, n, request),
             None => Ok(refused(moment, Refusal::NotFound)),
         }
     }
 
-    /// A signal of the open run with that ordinal.
-    fn prepare_signal_of(
+    fn prepare_signal_here(
         &mut self,
         moment: Moment,
         n: usize,
@@ -53,16 +59,45 @@ impl<T: KeepsRun> Shard<T> {
         ensures plan { IfOk result (λ plan. FitsStep self.new plan moment
             (signal_at (runs_in self.old) request.now (Some n))) }
     {
-        if self.runs[n - 1].was_signaled(&request.request_id) {
-            return Ok(answered(moment, Answer::Repeated));
-        }
-        let facts = signal_facts(self.alloc, &self.runs[n - 1], request)?;
-        let plan = self.prepare_in(n - 1, MoreFacts { moment, facts })?;
-        Ok(Plan {
+        let answers = SignalAnswers {
+            first: Answer::Signaled,
+            again: Answer::Repeated,
+        };
+        let request_id = &request.request_id;
+        self.prepare_signal_of(
             moment,
-            change: Change::Added(MoreOf { index: n - 1, plan }),
-            reply: Ok(Answer::Signaled),
-        })
+            n,
+            request_id,
+            &request.name,
+            &request.input,
+            answers,
+        )
+    }
+
+    /// A signal of the open run with that ordinal.
+    pub(crate) fn prepare_signal_of(
+        &mut self,
+        moment: Moment,
+        n: usize,
+        request_id: &Option<Id>,
+        name: &Text,
+        input: &Text,
+        answers: SignalAnswers,
+    ) -> Result<Plan<T>, AllocError>
+        requires from { 1 ≤ n }
+        requires to { n ≤ length self.old.runs }
+        requires open { is_open (run_at (runs_in self.old) n) ≡ true }
+        ensures same { state self.new ≡ state self.old }
+        ensures plan { IfOk result (λ plan. FitsStep self.new plan moment
+            (signals (runs_in self.old) n request_id.now
+            (signal_fact request_id.now name.now input.now) answers.first answers.again)) }
+    {
+        let SignalAnswers { first, again } = answers;
+        if self.runs[n - 1].was_signaled(request_id) {
+            return Ok(answered(moment, again));
+        }
+        let facts = signal_facts(self.alloc, &self.runs[n - 1], request_id, name, input)?;
+        self.prepare_more(moment, n, facts, first)
     }
 
     /// Makes room for a step's facts in the run at a place.

@@ -3,10 +3,12 @@
 ghost use Rattle.std.specs.Prelude.{◌≡◌, ◌+◌, ◌<◌, ◌≤◌, ◌^◌, length, OnOk, IfOk, Some, None, ◌∷◌, [], false};
 ghost use Rattle.id_policy.specs.Decisions.{says};
 ghost use Rattle.service_model.specs.Service.{at_served_policies, is_terminate_existing};
-ghost use Rattle.service_model.specs.Outcome.{latest_run};
-ghost use Rattle.service_model.specs.Starts.{decision, start, starts_new, started_fact, first_task};
+ghost use Rattle.service_model.specs.IdPolicy.{decide, is_same_request};
+ghost use Rattle.service_model.specs.Outcome.{latest_run, run_at};
+ghost use Rattle.service_model.specs.Starts.{start, start_request, starts_new, started_fact, first_task};
 ghost use Rattle.shard.specs.View.{state, states, runs_in};
 ghost use Rattle.shard.specs.Fitting.{FitsStep, IsFree, decided, decided_by};
+ghost use Rattle.shard_steps.specs.Starts.{first_facts, MayBegin};
 
 use crate::index::shard_of;
 use crate::plan::{Change, NewRun, Plan};
@@ -17,7 +19,7 @@ use mutable_state_keeper::KeepsRun;
 use service_model::answer::Answer;
 use service_model::limits::MOST_MEMBERS;
 use service_model::request::Start;
-use shard_steps::new_run;
+use shard_steps::{Beginning, beginning_of, new_run};
 use std::alloc::AllocError;
 use wf_event_values::{ConflictPolicy, Field, Moment, Refusal};
 
@@ -63,7 +65,7 @@ impl<T: KeepsRun> Shard<T> {
     {
         match self.latest(&request.workflow_id) {
             Some(n) => self.prepare_decided_by(moment, n, request),
-            None => self.prepare_new_run(moment, request),
+            None => self.prepare_started(moment, request),
         }
     }
 
@@ -84,8 +86,8 @@ impl<T: KeepsRun> Shard<T> {
             (decided_by (runs_in self.old) request.now (Some n))) }
     {
         let run = self.run_id(n);
-        match self.decision_by(n, request) {
-            Decision::New => self.prepare_new_run(moment, request),
+        match self.decision_by(n, request, request.conflict) {
+            Decision::New => self.prepare_started(moment, request),
             Decision::Same | Decision::Existing => Ok(answered(moment, Answer::Existing(run))),
             Decision::TerminateThenNew => unreachable!(),
             Decision::Refused => Ok(refused(moment, Refusal::AlreadyStarted(run))),
@@ -93,10 +95,17 @@ impl<T: KeepsRun> Shard<T> {
     }
 
     /// What the policies decide where the workflow ID's latest run has that ordinal.
-    fn decision_by(&self, n: usize, request: &Start) -> Decision
+    pub(crate) fn decision_by(
+        &self,
+        n: usize,
+        request: &Start,
+        conflict: ConflictPolicy,
+    ) -> Decision
         requires from { 1 ≤ n }
         requires to { n ≤ length self.now.runs }
-        ensures { says result ≡ decision (runs_in self.now) request.now (Some n) }
+        ensures { says result ≡ decide (Some (run_at (runs_in self.now) n).status)
+            (is_same_request request.now.request_id (start_request (run_at (runs_in self.now) n)))
+            request.now.reuse conflict }
     {
         let run = &self.runs[n - 1];
         let latest = Latest {
@@ -104,19 +113,36 @@ impl<T: KeepsRun> Shard<T> {
             request_id: run.start_request(),
         };
         let given = request.request_id.as_ref();
-        decide(Some(&latest), request.reuse, request.conflict, given)
+        decide(Some(&latest), request.reuse, conflict, given)
     }
 
     /// The run of a start that nothing stands in the way of.
-    fn prepare_new_run(&mut self, moment: Moment, request: &Start) -> Result<Plan<T>, AllocError>
-        requires free { IsFree (states self.old.runs) request.now.workflow_id }
+    fn prepare_started(&mut self, moment: Moment, request: &Start) -> Result<Plan<T>, AllocError>
+        requires { IsFree (states self.old.runs) request.now.workflow_id }
         ensures same { state self.new ≡ state self.old }
         ensures plan { IfOk result (λ plan. FitsStep self.new plan moment
             (starts_new (runs_in self.old) None
             (started_fact request.now ∷ first_task request.now.task_queue ∷ []))) }
     {
-        let run = new_run(self.alloc, moment, request)?;
-        let key = String::from_str(self.alloc, request.workflow_id.as_str())?;
+        let beginning = beginning_of(self.alloc, request)?;
+        self.prepare_new_run(moment, beginning)
+    }
+
+    /// A run that begins so, where nothing stands in its way.
+    pub(crate) fn prepare_new_run(
+        &mut self,
+        moment: Moment,
+        beginning: Beginning,
+    ) -> Result<Plan<T>, AllocError>
+        requires begins { MayBegin moment beginning }
+        requires free { IsFree (states self.old.runs) beginning.started.workflow_id }
+        ensures same { state self.new ≡ state self.old }
+        ensures plan { IfOk result (λ plan. FitsStep self.new plan moment
+            (starts_new (runs_in self.old) None (first_facts beginning))) }
+    {
+        let id = beginning.started.workflow_id.as_str();
+        let key = String::from_str(self.alloc, id)?;
+        let run = new_run(self.alloc, moment, beginning)?;
         self.reserve_run()?;
         let ordinal = self.runs.len() + 1;
         Ok(Plan {

@@ -109,13 +109,13 @@ started-pending at s a = by_task s.task
 last-comes : (p : Place) (s : RunState) (last : Attributes) (id : ℕ) (more : List Fact) → is_open s ≡ true → has_id id (pending AnActivity s) ≡ true → ended_activity last ≡ Some id → FitsEvent p s None last more
 unfolding role opens settles
 last-comes p s (ActivityTaskCompleted a) id more opened there ends =
-    record { open_run = opened; fits_role = tt; begins_none = refl; may_settle = ap (λ n. has_id n (pending AnActivity s)) (ap (λ o. unwrap_or o 0) ends) ∙ there; may_ask = refl; cancels_none = refl; first_signal = refl }
+    record { open_run = opened; fits_role = tt; begins_none = refl; may_settle = ap (λ n. has_id n (pending AnActivity s)) (ap (λ o. unwrap_or o 0) ends) ∙ there; may_ask = refl; first_signal = refl }
 last-comes p s (ActivityTaskFailed a) id more opened there ends =
-    record { open_run = opened; fits_role = tt; begins_none = refl; may_settle = ap (λ n. has_id n (pending AnActivity s)) (ap (λ o. unwrap_or o 0) ends) ∙ there; may_ask = refl; cancels_none = refl; first_signal = refl }
+    record { open_run = opened; fits_role = tt; begins_none = refl; may_settle = ap (λ n. has_id n (pending AnActivity s)) (ap (λ o. unwrap_or o 0) ends) ∙ there; may_ask = refl; first_signal = refl }
 last-comes p s (ActivityTaskTimedOut a) id more opened there ends =
-    record { open_run = opened; fits_role = tt; begins_none = refl; may_settle = ap (λ n. has_id n (pending AnActivity s)) (ap (λ o. unwrap_or o 0) ends) ∙ there; may_ask = refl; cancels_none = refl; first_signal = refl }
+    record { open_run = opened; fits_role = tt; begins_none = refl; may_settle = ap (λ n. has_id n (pending AnActivity s)) (ap (λ o. unwrap_or o 0) ends) ∙ there; may_ask = refl; first_signal = refl }
 last-comes p s (ActivityTaskCanceled a) id more opened there ends =
-    record { open_run = opened; fits_role = tt; begins_none = refl; may_settle = ap (λ n. has_id n (pending AnActivity s)) (ap (λ o. unwrap_or o 0) ends) ∙ there; may_ask = refl; cancels_none = refl; first_signal = refl }
+    record { open_run = opened; fits_role = tt; begins_none = refl; may_settle = ap (λ n. has_id n (pending AnActivity s)) (ap (λ o. unwrap_or o 0) ends) ∙ there; may_ask = refl; first_signal = refl }
 last-comes p s _ id more opened there ends = absurd (cc)
 
 -- after it the run is open, and its workflow task stands where it stood
@@ -132,7 +132,7 @@ last-fits : (p : Place) (at : ℕ) (s : RunState) (last : Attributes) (id : ℕ)
 unfolding role opens settles
 last-fits p at s last id w NoTask is opened there ends =
     let after = open-after at s last id ends in
-    (last-comes p s last id (plain (WorkflowTaskScheduled w) ∷ []) opened there ends, (record { open_run = after.0 ∙ opened; fits_role = (after.1 ∙ is, refl); begins_none = refl; may_settle = tt; may_ask = refl; cancels_none = refl; first_signal = refl }, tt))
+    (last-comes p s last id (plain (WorkflowTaskScheduled w) ∷ []) opened there ends, (record { open_run = after.0 ∙ opened; fits_role = (after.1 ∙ is, refl); begins_none = refl; may_settle = tt; may_ask = refl; first_signal = refl }, tt))
 last-fits p at s last id w IsScheduled is opened there ends = (last-comes p s last id [] opened there ends, tt)
 last-fits p at s last id w IsStarted is opened there ends = (last-comes p s last id [] opened there ends, tt)
 
@@ -143,7 +143,7 @@ ending-fits at s r last id false opened there ends = last-fits IsFirst at s last
 ending-fits at s r last id true opened there ends =
     let fields : StartedFields = record { scheduled = r.opened.id; attempt = r.attempt; taken = unwrap_or r.taken 0 } in
     let later : has_id id (pending AnActivity (with_event at None (ActivityTaskStarted fields) s)) ≡ true = ap (λ es. has_id id es) (started-pending at s fields) ∙ there in (
-      record { open_run = opened; fits_role = tt; begins_none = refl; may_settle = tt; may_ask = refl; cancels_none = refl; first_signal = refl },
+      record { open_run = opened; fits_role = tt; begins_none = refl; may_settle = tt; may_ask = refl; first_signal = refl },
       last-fits IsLater at (with_event at None (ActivityTaskStarted fields) s) last id (record { attempt = 1; task_queue = queue_of s }) s.task refl opened later ends,
     )
 

@@ -1,50 +1,53 @@
--- what a start decides by the workflow ID's latest run, and the facts of starts and signals
-use Rattle.std.proofs.Common.{◌≡◌, ◌≢◌, ℕ, Bool, true, false, [], ◌∷◌, refl, cond, Option, Some, List}
+-- what a start decides by the workflow ID's latest run, and the facts of starts, signals, requests to cancel and terminations
+use Rattle.std.proofs.Common.{◌≡◌, ◌≢◌, ℕ, Bool, true, false, [], ◌∷◌, refl, cond, Option, Some, None, List}
+use Rattle.wf_event_values.specs.declared.policies.CancelSource.TheVariants.{Client}
 use Rattle.wf_event_values.specs.declared.policies.ConflictPolicy.{ConflictPolicy}
 use Rattle.wf_event_values.specs.declared.policies.ConflictPolicy.TheVariants.{Fail, UseExisting, TerminateExisting}
 use Rattle.wf_event_values.specs.declared.policies.Status.{Status}
 use Rattle.wf_event_values.specs.declared.policies.Status.TheVariants.{Running, Completed, Failed, Canceled, Terminated, ContinuedAsNew, TimedOut}
 use Rattle.wf_event_values.specs.declared.policies.ReusePolicy.{ReusePolicy}
 use Rattle.wf_event_values.specs.declared.policies.ReusePolicy.TheVariants.{AllowDuplicate, AllowDuplicateFailedOnly, RejectDuplicate}
-use Rattle.wf_event.specs.declared.attributes.Attributes.TheVariants.{WorkflowExecutionSignaled}
+use Rattle.wf_event.specs.declared.attributes.Attributes.TheVariants.{WorkflowExecutionSignaled, WorkflowExecutionCancelRequested, WorkflowExecutionTerminated}
 use Rattle.wf_event.specs.declared.payloads.WorkflowExecutionStarted.{WorkflowExecutionStarted as StartedAttributes}
 use Rattle.wf_event.specs.Role.{role, opens, settles, closing_status}
 use Rattle.service_model.specs.declared.journal.Fact.{Fact}
+use Rattle.service_model.specs.declared.request.SignalWithStart.{SignalWithStart}
 use Rattle.service_model.specs.declared.request.Start.{Start}
 use Rattle.service_model.specs.IdPolicy.{decide, New, Same, Refused, TerminateThenNew, is_failed, on_open, on_closed, on_status, is_same_request}
 use Rattle.service_model.specs.Journal.{plain}
-use Rattle.service_model.specs.Outcome.{Runs, outside, is_no_task, schedule_task, run_at}
+use Rattle.service_model.specs.Outcome.{Runs, made_by, outside, is_no_task, schedule_task, run_at}
 use Rattle.service_model.specs.Pending.{Task, NoTask, IsScheduled, IsStarted}
 use Rattle.service_model.specs.RunState.{RunState, is_open, is_open_status}
 use Rattle.service_model.specs.Service.{is_terminate_existing}
 use Rattle.service_model.specs.Signals.{was_signaled, signal_fact}
 use Rattle.service_model.specs.Starts.{decision, start_request, first_task}
-use Rattle.mutable_state.specs.Steps.{begun, Place, IsFirst, FitsEvent, FitFrom, FitStep}
+use Rattle.mutable_state.specs.Steps.{IsFirst, FitsEvent, FitStep}
+use Rattle.shard_steps.specs.Starts.{signaled_beginning, MayBegin}
 
+on_closed-ends : (r : ReusePolicy) (s : Status) → on_closed r s ≢ TerminateThenNew
+on_closed-ends AllowDuplicate s e = absurd (cc)
+on_closed-ends AllowDuplicateFailedOnly s e = by_test (is_failed s) e
+  where
+    by_test : (b : Bool) → cond b New Refused ≢ TerminateThenNew
+    by_test true e = absurd (cc)
+    by_test false e = absurd (cc)
+on_closed-ends RejectDuplicate s e = absurd (cc)
+
+-- at the policies that are served no run is terminated
 on_open-served : (c : ConflictPolicy) → is_terminate_existing c ≡ false → on_open c ≢ TerminateThenNew
 on_open-served Fail h e = absurd (cc)
 on_open-served UseExisting h e = absurd (cc)
 on_open-served TerminateExisting h e = absurd (cc)
 
-on_closed-served : (r : ReusePolicy) (s : Status) → on_closed r s ≢ TerminateThenNew
-on_closed-served AllowDuplicate s e = absurd (cc)
-on_closed-served AllowDuplicateFailedOnly s e = by_test (is_failed s) e
-  where
-    by_test : (b : Bool) → cond b New Refused ≢ TerminateThenNew
-    by_test true e = absurd (cc)
-    by_test false e = absurd (cc)
-on_closed-served RejectDuplicate s e = absurd (cc)
-
 on_status-served : (r : ReusePolicy) (c : ConflictPolicy) (s : Status) → is_terminate_existing c ≡ false → on_status r c s ≢ TerminateThenNew
 on_status-served r c Running h e = on_open-served c h e
-on_status-served r c Completed h e = on_closed-served r Completed e
-on_status-served r c Failed h e = on_closed-served r Failed e
-on_status-served r c Canceled h e = on_closed-served r Canceled e
-on_status-served r c Terminated h e = on_closed-served r Terminated e
-on_status-served r c ContinuedAsNew h e = on_closed-served r ContinuedAsNew e
-on_status-served r c TimedOut h e = on_closed-served r TimedOut e
+on_status-served r c Completed h e = on_closed-ends r Completed e
+on_status-served r c Failed h e = on_closed-ends r Failed e
+on_status-served r c Canceled h e = on_closed-ends r Canceled e
+on_status-served r c Terminated h e = on_closed-ends r Terminated e
+on_status-served r c ContinuedAsNew h e = on_closed-ends r ContinuedAsNew e
+on_status-served r c TimedOut h e = on_closed-ends r TimedOut e
 
--- at the policies that are served no run is terminated
 pub decides-served : (R : Runs) (q : Start) (n : ℕ) → is_terminate_existing q.conflict ≡ false → decision R q (Some n) ≢ TerminateThenNew
 unfolding decide
 decides-served R q n h e = by_test (is_same_request q.request_id (start_request (run_at R n))) e
@@ -73,10 +76,25 @@ decides-new R q n e = by_test (is_same_request q.request_id (start_request (run_
     by_test false ContinuedAsNew e = refl
     by_test false TimedOut e = refl
 
--- the facts of a new run may come
-pub first-fits : (p : Place) (at : ℕ) (request : Option (List ℕ)) (a : StartedAttributes) (queue : List ℕ) → FitFrom p at (begun at request a) (first_task queue ∷ [])
+-- the first workflow task of a run may come
+pub first-fits : (at : ℕ) (request : Option (List ℕ)) (a : StartedAttributes) (queue : List ℕ) → MayBegin at (record { started = a; request_id = request; facts = first_task queue ∷ [] })
 unfolding role opens settles
-first-fits p at request a queue = (record { open_run = refl; fits_role = (refl, refl); begins_none = refl; may_settle = tt; may_ask = refl; cancels_none = refl; first_signal = refl }, tt)
+first-fits at request a queue = record {
+  fits = λ p. (record { open_run = refl; fits_role = (refl, refl); begins_none = refl; may_settle = tt; may_ask = refl; first_signal = refl }, tt);
+  queues_none = refl;
+}
+
+no-signal : (request : Option (List ℕ)) → was_signaled [] request ≡ false
+no-signal None = refl
+no-signal (Some r) = refl
+
+-- a signal, and then the first workflow task
+pub signaled-fits : (at : ℕ) (q : SignalWithStart) → MayBegin at (signaled_beginning q)
+unfolding role opens settles closing_status
+signaled-fits at q = record {
+  fits = λ p. (record { open_run = refl; fits_role = tt; begins_none = refl; may_settle = tt; may_ask = refl; first_signal = no-signal q.start.request_id }, (record { open_run = refl; fits_role = (refl, refl); begins_none = refl; may_settle = tt; may_ask = refl; first_signal = refl }, tt));
+  queues_none = refl;
+}
 
 -- the facts of a signal that no other one bore may come
 pub signal-fits : (at : ℕ) (s : RunState) (request : Option (List ℕ)) (name input : List ℕ) → is_open s ≡ true → was_signaled s.signal_requests request ≡ false → FitStep at s (outside s (signal_fact request name input ∷ []))
@@ -84,9 +102,27 @@ unfolding role opens settles closing_status
 signal-fits at s request name input opened first = by_task s.task refl
   where
     now : (more : List Fact) → FitsEvent IsFirst s request (WorkflowExecutionSignaled (record { name = name; input = input })) more
-    now more = record { open_run = opened; fits_role = tt; begins_none = refl; may_settle = tt; may_ask = refl; cancels_none = refl; first_signal = first }
+    now more = record { open_run = opened; fits_role = tt; begins_none = refl; may_settle = tt; may_ask = refl; first_signal = first }
 
     by_task : (t : Task) → s.task ≡ t → FitStep at s (signal_fact request name input ∷ cond (is_no_task t) (plain (schedule_task s 1) ∷ []) [])
-    by_task NoTask is = (now (plain (schedule_task s 1) ∷ []), (record { open_run = opened; fits_role = (is, refl); begins_none = refl; may_settle = tt; may_ask = refl; cancels_none = refl; first_signal = refl }, tt))
+    by_task NoTask is = (now (plain (schedule_task s 1) ∷ []), (record { open_run = opened; fits_role = (is, refl); begins_none = refl; may_settle = tt; may_ask = refl; first_signal = refl }, tt))
     by_task IsScheduled is = (now [], tt)
     by_task IsStarted is = (now [], tt)
+
+-- the facts of a request to cancel
+pub cancel-fits : (at : ℕ) (s : RunState) (request : Option (List ℕ)) → is_open s ≡ true → FitStep at s (outside s (made_by request (WorkflowExecutionCancelRequested Client) ∷ []))
+unfolding role opens settles closing_status
+cancel-fits at s request opened = by_task s.task refl
+  where
+    now : (more : List Fact) → FitsEvent IsFirst s request (WorkflowExecutionCancelRequested Client) more
+    now more = record { open_run = opened; fits_role = tt; begins_none = refl; may_settle = tt; may_ask = refl; first_signal = refl }
+
+    by_task : (t : Task) → s.task ≡ t → FitStep at s (made_by request (WorkflowExecutionCancelRequested Client) ∷ cond (is_no_task t) (plain (schedule_task s 1) ∷ []) [])
+    by_task NoTask is = (now (plain (schedule_task s 1) ∷ []), (record { open_run = opened; fits_role = (is, refl); begins_none = refl; may_settle = tt; may_ask = refl; first_signal = refl }, tt))
+    by_task IsScheduled is = (now [], tt)
+    by_task IsStarted is = (now [], tt)
+
+-- and of a termination, behind which the run has closed
+pub terminate-fits : (at : ℕ) (s : RunState) (reason : List ℕ) → is_open s ≡ true → FitStep at s (plain (WorkflowExecutionTerminated reason) ∷ [])
+unfolding role opens settles closing_status
+terminate-fits at s reason opened = (record { open_run = opened; fits_role = (tt, refl); begins_none = refl; may_settle = tt; may_ask = refl; first_signal = refl }, tt)

@@ -49,7 +49,7 @@ open-scheduled false t closed scheduled = absurd (let clash : NoTask ≡ IsSched
 -- the start of a scheduled task may come
 pub take-fits : (at scheduled : ℕ) (s : RunState) → is_open s ≡ true → s.task ≡ IsScheduled → FitStep at s (plain (WorkflowTaskStarted scheduled) ∷ [])
 unfolding role opens settles
-take-fits at scheduled s opened task = (record { open_run = opened; fits_role = (task, tt, refl); begins_none = refl; may_settle = tt; may_ask = refl; cancels_none = refl; first_signal = refl }, tt)
+take-fits at scheduled s opened task = (record { open_run = opened; fits_role = (task, tt, refl); begins_none = refl; may_settle = tt; may_ask = refl; first_signal = refl }, tt)
 
 continues-none : (c : Command) → is_served c ≡ true → continue_part c ≡ None
 continues-none (ScheduleActivityTask a) h = refl

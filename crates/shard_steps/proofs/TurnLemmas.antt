@@ -25,15 +25,15 @@ use Rattle.shard_steps.proofs.ActivityTurnLemmas.{attempt-fits, closed-fits, rea
 -- the run's own timeout, also while a workflow task is started
 over-fits : (at : ℕ) (s : RunState) (d : RunDue) → IsOneOf d (of_run d.run (dues s)) → FitStep at s (plain WorkflowExecutionTimedOut ∷ [])
 unfolding role opens settles
-over-fits at s d is = (record { open_run = due-open s d.run d is; fits_role = (tt, refl); begins_none = refl; may_settle = tt; may_ask = refl; cancels_none = refl; first_signal = refl }, tt)
+over-fits at s d is = (record { open_run = due-open s d.run d is; fits_role = (tt, refl); begins_none = refl; may_settle = tt; may_ask = refl; first_signal = refl }, tt)
 
 -- the timeout of a started workflow task, and its next attempt
 task-fits : (at : ℕ) (s : RunState) (d : RunDue) → d.at.class ≡ WorkflowTask → IsOneOf d (of_run d.run (dues s)) → FitStep at s (fire s at d.at.event WorkflowTask)
 unfolding role opens settles fire closing_status
 task-fits at s d class is =
     let opened = due-open s d.run d is in (
-      record { open_run = opened; fits_role = (due-task s d.run d class is, tt); begins_none = refl; may_settle = tt; may_ask = refl; cancels_none = refl; first_signal = refl },
-      (record { open_run = opened; fits_role = (refl, refl); begins_none = refl; may_settle = tt; may_ask = refl; cancels_none = refl; first_signal = refl }, tt),
+      record { open_run = opened; fits_role = (due-task s d.run d class is, tt); begins_none = refl; may_settle = tt; may_ask = refl; first_signal = refl },
+      (record { open_run = opened; fits_role = (refl, refl); begins_none = refl; may_settle = tt; may_ask = refl; first_signal = refl }, tt),
     )
 
 has-at : (es : List Event) (k : ℕ) (e : Event) → slice_get es k ≡ Some e → has_id e.id es ≡ true
@@ -63,10 +63,10 @@ timer-fits at s d class is = by_task s.task refl
     pending_one = ap (λ n. has_id n (pending ATimer s)) (sym has.named) ∙ has-at (pending ATimer s) has.place has.event has.there
 
     now : (more : List Fact) → FitsEvent IsFirst s None (TimerFired (record { timer_id = timer_name s d.at.event; started = d.at.event })) more
-    now more = record { open_run = opened; fits_role = tt; begins_none = refl; may_settle = pending_one; may_ask = refl; cancels_none = refl; first_signal = refl }
+    now more = record { open_run = opened; fits_role = tt; begins_none = refl; may_settle = pending_one; may_ask = refl; first_signal = refl }
 
     by_task : (t : Task) → s.task ≡ t → FitStep at s (plain (TimerFired (record { timer_id = timer_name s d.at.event; started = d.at.event })) ∷ cond (is_no_task t) (plain (schedule_task s 1) ∷ []) [])
-    by_task NoTask same = (now (plain (schedule_task s 1) ∷ []), (record { open_run = opened; fits_role = (same, refl); begins_none = refl; may_settle = tt; may_ask = refl; cancels_none = refl; first_signal = refl }, tt))
+    by_task NoTask same = (now (plain (schedule_task s 1) ∷ []), (record { open_run = opened; fits_role = (same, refl); begins_none = refl; may_settle = tt; may_ask = refl; first_signal = refl }, tt))
     by_task IsScheduled same = (now [], tt)
     by_task IsStarted same = (now [], tt)
 

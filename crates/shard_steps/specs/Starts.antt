@@ -1,16 +1,39 @@
--- the run that a start makes
-use Rattle.std.specs.Prelude.{ℕ, ◌∷◌, [], None}
+-- how the runs begin that steps make
+use Rattle.std.specs.Prelude.{◌≡◌, ℕ, List, ◌∷◌, [], None}
+use Rattle.wf_event.specs.declared.attributes.Attributes.TheVariants.{WorkflowExecutionStarted}
 use Rattle.wf_event.specs.declared.payloads.WorkflowExecutionStarted.{WorkflowExecutionStarted as StartedAttributes}
+use Rattle.service_model.specs.declared.journal.Fact.{Fact}
+use Rattle.service_model.specs.declared.request.SignalWithStart.{SignalWithStart}
 use Rattle.service_model.specs.declared.request.Start.{Start}
-use Rattle.service_model.specs.Outcome.{used_task_timeout}
+use Rattle.service_model.specs.Outcome.{made_by, used_task_timeout}
 use Rattle.service_model.specs.RunState.{RunState}
+use Rattle.service_model.specs.Signals.{signal_fact}
 use Rattle.service_model.specs.Starts.{first_task}
-use Rattle.mutable_state.specs.Steps.{begun, after_step}
+use Rattle.mutable_state.specs.Steps.{begun, after_step, Place, FitFrom}
+use Rattle.shard_steps.specs.Issuing.{readied}
+use Rattle.shard_steps.specs.declared.starts.Beginning.{Beginning}
 
 -- what a start writes first in a new run
 abbrev pub started_by : Start → StartedAttributes
 started_by q = record { workflow_id = q.workflow_id; workflow_type = q.workflow_type; task_queue = q.task_queue; input = q.input; run_timeout = q.run_timeout; task_timeout = used_task_timeout q.task_timeout; continued_from = None; parent = None }
 
--- the state of the run that a start makes
-abbrev pub new_run : ℕ → Start → RunState
-new_run at q = after_step at (first_task q.task_queue ∷ []) (begun at q.request_id (started_by q))
+-- how the run of a start begins
+abbrev pub beginning_of : Start → Beginning
+beginning_of q = record { started = started_by q; request_id = q.request_id; facts = first_task q.task_queue ∷ [] }
+
+-- the same of a run that is signaled
+abbrev pub signaled_beginning : SignalWithStart → Beginning
+signaled_beginning q = record { started = started_by q.start; request_id = q.start.request_id; facts = signal_fact q.start.request_id q.name q.signal_input ∷ first_task q.start.task_queue ∷ [] }
+
+-- all that the first step adds to a run that begins so
+abbrev pub first_facts : Beginning → List Fact
+first_facts b = made_by b.request_id (WorkflowExecutionStarted b.started) ∷ b.facts
+
+-- the state of a run that began so
+abbrev pub new_run : ℕ → Beginning → RunState
+new_run at b = after_step at b.facts (begun at b.request_id b.started)
+
+-- what follows the first event may come, and queues no attempt
+pub record MayBegin (at : ℕ) (b : Beginning) : Type 0 where
+  pub fits : (p : Place) → FitFrom p at (begun at b.request_id b.started) b.facts
+  pub queues_none : readied b.facts ≡ None

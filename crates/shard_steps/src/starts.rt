@@ -1,73 +1,109 @@
-//! The run that a start makes.
+//! The runs that steps make.
 
-ghost use Rattle.std.specs.Prelude.{◌≡◌, ◌∷◌, [], IfOk};
+ghost use Rattle.std.specs.Prelude.{◌≡◌, IfOk};
+ghost use Rattle.service_model.specs.Outcome.{used_task_timeout};
 ghost use Rattle.service_model.specs.Starts.{first_task};
-ghost use Rattle.shard_steps.specs.Starts.{started_by, new_run};
+ghost use Rattle.shard_steps.specs.Starts.{started_by, beginning_of, signaled_beginning, new_run, MayBegin};
 
+use crate::signals::signal_fact;
 use mutable_state::{Change, plain};
 use mutable_state_keeper::{KeepsRun, Run};
-use service_model::journal::Fact;
-use service_model::request::Start;
+use service_model::journal::{Fact, copied};
+use service_model::request::{SignalWithStart, Start};
 use std::alloc::{AllocError, Global};
 use wf_event::Attributes;
 use wf_event::payloads::{WorkflowExecutionStarted, WorkflowTaskScheduled};
 use wf_event_values::{Id, Items, Moment, Span};
 
-/// The run that a start makes, with its first workflow task.
+/// How a run begins: its first event, the request id of its start, and what else its first step adds.
+#[derive(Drop)]
+pub struct Beginning {
+    pub started: WorkflowExecutionStarted,
+    pub request_id: Option<Id>,
+    pub facts: Items<Fact>,
+}
+
+/// A run that begins so.
 pub fn new_run<T: KeepsRun>(
     alloc: Global,
     moment: Moment,
-    start: &Start,
+    beginning: Beginning,
 ) -> Result<Run<T>, AllocError>
-    ensures { IfOk result (λ run. run.state ≡ new_run moment start.now) }
+    requires { MayBegin moment beginning }
+    ensures { IfOk result (λ run. run.state ≡ new_run moment beginning) }
 {
-    let started = started_by(start)?;
-    let mut run = Run::begin(alloc, moment, started, copied(&start.request_id)?)?;
-    let facts = first_facts(alloc, start)?;
+    let Beginning {
+        started,
+        request_id,
+        facts,
+    } = beginning;
+    let mut run = Run::begin(alloc, moment, started, request_id)?;
     let plan = run.prepare(Change { moment, facts })?;
     run.commit(plan);
     Ok(run)
 }
 
-/// What a new run has behind its first event: its first workflow task.
-fn first_facts(alloc: Global, start: &Start) -> Result<Items<Fact>, AllocError>
-    ensures { IfOk result (λ facts. facts ≡ first_task start.now.task_queue ∷ []) }
+/// How the run of a start begins: with its first workflow task.
+pub fn beginning_of(alloc: Global, start: &Start) -> Result<Beginning, AllocError>
+    ensures { IfOk result (λ b. b ≡ beginning_of start.now) }
 {
     let mut facts = Vec::new(alloc);
-    facts.push(plain(Attributes::WorkflowTaskScheduled(WorkflowTaskScheduled {
-        attempt: 1,
-        task_queue: start.task_queue.clone()?,
-    })))?;
-    Ok(Items::from_vec(facts))
+    facts.push(first_task(&start.task_queue)?)?;
+    Ok(Beginning {
+        started: started_by(start)?,
+        request_id: copied(&start.request_id)?,
+        facts: Items::from_vec(facts),
+    })
 }
 
-/// What a start's run begins with. A task timeout of 0 is written as the default that is used.
+/// How the run of a start begins that is signaled before its first workflow task.
+pub fn signaled_beginning(alloc: Global, both: &SignalWithStart) -> Result<Beginning, AllocError>
+    ensures { IfOk result (λ b. b ≡ signaled_beginning both.now) }
+{
+    let start = &both.start;
+    let mut facts = Vec::new(alloc);
+    facts.push(signal_fact(&start.request_id, &both.name, &both.signal_input)?)?;
+    facts.push(first_task(&start.task_queue)?)?;
+    Ok(Beginning {
+        started: started_by(start)?,
+        request_id: copied(&start.request_id)?,
+        facts: Items::from_vec(facts),
+    })
+}
+
+/// The first workflow task of a run in the queue.
+fn first_task(queue: &Id) -> Result<Fact, AllocError>
+    ensures { IfOk result (λ fact. fact ≡ first_task queue.now) }
+{
+    Ok(plain(Attributes::WorkflowTaskScheduled(WorkflowTaskScheduled {
+        attempt: 1,
+        task_queue: queue.clone()?,
+    })))
+}
+
+/// What a start's run begins with.
 fn started_by(start: &Start) -> Result<WorkflowExecutionStarted, AllocError>
     ensures { IfOk result (λ a. a ≡ started_by start.now) }
 {
-    let task_timeout = if start.task_timeout.millis() == 0 {
-        Span::default_task_timeout()
-    } else {
-        start.task_timeout
-    };
     Ok(WorkflowExecutionStarted {
         workflow_id: start.workflow_id.clone()?,
         workflow_type: start.workflow_type.clone()?,
         task_queue: start.task_queue.clone()?,
         input: start.input.clone()?,
         run_timeout: start.run_timeout,
-        task_timeout,
+        task_timeout: used_task_timeout(start.task_timeout),
         continued_from: None,
         parent: None,
     })
 }
 
-/// A copy of a request id.
-pub(crate) fn copied(id: &Option<Id>) -> Result<Option<Id>, AllocError>
-    ensures { IfOk result (λ copy. copy ≡ id.now) }
+/// A task timeout of 0 is written as the default that is used.
+fn used_task_timeout(given: Span) -> Span
+    ensures { result ≡ used_task_timeout given }
 {
-    match id {
-        Some(id) => Ok(Some(id.clone()?)),
-        None => Ok(None),
+    if given.millis() == 0 {
+        Span::default_task_timeout()
+    } else {
+        given
     }
 }

@@ -26,7 +26,7 @@ use Rattle.service_model.specs.Service.{is_served}
 use Rattle.service_model.specs.Tasks.{is_started_task}
 use Rattle.service_model.specs.Completion.{Judged, judge, judge_all, judge_fields_good, go_on, goes_on, after_check, fault_if, gives, cancel_timer, in_use_so_far, in_use_named, has_name, is_full, is_settled_so_far, was_asked_to_cancel, is_attempt_running, cancels_at_once, cancel_facts, is_some_held, is_cancel_of_activity, completed_task}
 use Rattle.buffered.specs.Buffers.{pushed, flushed, fires}
-use Rattle.mutable_state.specs.Steps.{buffer_of, carried, unheld_by, with_new, with_event, unsettled, used_with, left_by, opened_by, event_id, itself, has_id, MaySettle, may_ask, is_start, is_cancel_request, Place, IsFirst, IsBehindEnd, place_after, FitsRole, FitsEvent, FitFrom, FitStep}
+use Rattle.mutable_state.specs.Steps.{buffer_of, carried, unheld_by, with_new, with_event, unsettled, used_with, left_by, opened_by, event_id, itself, has_id, MaySettle, may_ask, is_start, Place, IsFirst, IsBehindEnd, place_after, FitsRole, FitsEvent, FitFrom, FitStep}
 use Rattle.mutable_state.specs.Readers.{IsGrounded}
 use Rattle.mutable_state.proofs.JournalLemmas.{used-more}
 use Rattle.mutable_state.proofs.OpenLemmas.{any-push, filter-map, left-is, nat-same, same-as}
@@ -71,7 +71,6 @@ record IsPlain (a : Attributes) : Type 0 where
   turns : task_of (role a) ≡ None
   status : closing_status a ≡ None
   starts : is_start a ≡ false
-  cancels : is_cancel_request a ≡ false
   signals : signal_request_by None a ≡ None
   fits : (p : Place) (t : RunState) (more : List Fact) → is_started_task t.task ≡ false → FitsRole p (role a) t more
 
@@ -139,7 +138,6 @@ fits-plain s F a t more now is may asks = record {
   begins_none = is.starts;
   may_settle = may;
   may_ask = asks;
-  cancels_none = is.cancels;
   first_signal = ap (was_signaled t.signal_requests) is.signals;
 }
 
@@ -147,27 +145,27 @@ fits-plain s F a t more now is may asks = record {
 
 plain-marker : (name details : List ℕ) → IsPlain (MarkerRecorded (record { name = name; details = details }))
 unfolding role closing_status
-plain-marker name details = record { stays = refl; schedules = refl; turns = refl; status = refl; starts = refl; cancels = refl; signals = refl; fits = λ p t more h. h }
+plain-marker name details = record { stays = refl; schedules = refl; turns = refl; status = refl; starts = refl; signals = refl; fits = λ p t more h. h }
 
 plain-timer : (name : List ℕ) (duration : ℕ) → IsPlain (TimerStarted (record { timer_id = name; duration = duration }))
 unfolding role closing_status
-plain-timer name duration = record { stays = refl; schedules = refl; turns = refl; status = refl; starts = refl; cancels = refl; signals = refl; fits = λ p t more h. h }
+plain-timer name duration = record { stays = refl; schedules = refl; turns = refl; status = refl; starts = refl; signals = refl; fits = λ p t more h. h }
 
 plain-cancel : (name : List ℕ) (started : ℕ) → IsPlain (TimerCanceled (record { timer_id = name; started = started }))
 unfolding role closing_status
-plain-cancel name started = record { stays = refl; schedules = refl; turns = refl; status = refl; starts = refl; cancels = refl; signals = refl; fits = λ p t more h. h }
+plain-cancel name started = record { stays = refl; schedules = refl; turns = refl; status = refl; starts = refl; signals = refl; fits = λ p t more h. h }
 
 plain-scheduled : (c : ScheduleActivity) → IsPlain (scheduled_by c)
 unfolding role closing_status
-plain-scheduled c = record { stays = refl; schedules = refl; turns = refl; status = refl; starts = refl; cancels = refl; signals = refl; fits = λ p t more h. h }
+plain-scheduled c = record { stays = refl; schedules = refl; turns = refl; status = refl; starts = refl; signals = refl; fits = λ p t more h. h }
 
 plain-asked : (id : ℕ) → IsPlain (ActivityTaskCancelRequested id)
 unfolding role closing_status
-plain-asked id = record { stays = refl; schedules = refl; turns = refl; status = refl; starts = refl; cancels = refl; signals = refl; fits = λ p t more h. h }
+plain-asked id = record { stays = refl; schedules = refl; turns = refl; status = refl; starts = refl; signals = refl; fits = λ p t more h. h }
 
 plain-ended : (id : ℕ) (details : List ℕ) → IsPlain (ActivityTaskCanceled (record { scheduled = id; details = details }))
 unfolding role closing_status
-plain-ended id details = record { stays = refl; schedules = refl; turns = refl; status = refl; starts = refl; cancels = refl; signals = refl; fits = λ p t more h. tt }
+plain-ended id details = record { stays = refl; schedules = refl; turns = refl; status = refl; starts = refl; signals = refl; fits = λ p t more h. tt }
 
 -- whether an event closes the run as a command does
 abbrev closes_by_command : Attributes → Bool
@@ -178,9 +176,9 @@ closes_by_command _ = false
 
 fits-close : (s : RunState) (F : List Attributes) (a : Attributes) (t : RunState) → Now s F t → closes_by_command a ≡ true → FitsEvent IsBehindEnd t None a []
 unfolding role settles
-fits-close s F (WorkflowExecutionCompleted r) t now h = record { open_run = now.open_run; fits_role = (ap is_started_task now.none, refl); begins_none = refl; may_settle = tt; may_ask = refl; cancels_none = refl; first_signal = refl }
-fits-close s F (WorkflowExecutionFailed m) t now h = record { open_run = now.open_run; fits_role = (ap is_started_task now.none, refl); begins_none = refl; may_settle = tt; may_ask = refl; cancels_none = refl; first_signal = refl }
-fits-close s F (WorkflowExecutionCanceled d) t now h = record { open_run = now.open_run; fits_role = (ap is_started_task now.none, refl); begins_none = refl; may_settle = tt; may_ask = refl; cancels_none = refl; first_signal = refl }
+fits-close s F (WorkflowExecutionCompleted r) t now h = record { open_run = now.open_run; fits_role = (ap is_started_task now.none, refl); begins_none = refl; may_settle = tt; may_ask = refl; first_signal = refl }
+fits-close s F (WorkflowExecutionFailed m) t now h = record { open_run = now.open_run; fits_role = (ap is_started_task now.none, refl); begins_none = refl; may_settle = tt; may_ask = refl; first_signal = refl }
+fits-close s F (WorkflowExecutionCanceled d) t now h = record { open_run = now.open_run; fits_role = (ap is_started_task now.none, refl); begins_none = refl; may_settle = tt; may_ask = refl; first_signal = refl }
 fits-close s F _ t now h = absurd (cc)
 
 close-closes : (a : Attributes) → closes_by_command a ≡ true → is_closing_role (role a) ≡ true
@@ -192,7 +190,7 @@ close-closes _ h = absurd (cc)
 
 pub fits-schedule : (attempt : ℕ) (whose t : RunState) (p : Place) → is_open t ≡ true → t.task ≡ NoTask → FitsEvent p t None (schedule_task whose attempt) []
 unfolding role settles
-fits-schedule attempt whose t p opened none = record { open_run = opened; fits_role = (none, refl); begins_none = refl; may_settle = tt; may_ask = refl; cancels_none = refl; first_signal = refl }
+fits-schedule attempt whose t p opened none = record { open_run = opened; fits_role = (none, refl); begins_none = refl; may_settle = tt; may_ask = refl; first_signal = refl }
 
 stays-behind : (r : Role) → place_after r IsBehindEnd ≡ IsBehindEnd
 stays-behind TaskEnds = refl
@@ -395,7 +393,7 @@ goes at setup next s G g (command ∷ cs) F t now served h =
 -- the end of a started task
 end-fits : (scheduled started : ℕ) (more : List Fact) (s : RunState) → is_open s ≡ true → s.task ≡ IsStarted → FitsEvent IsFirst s None (WorkflowTaskCompleted (record { scheduled = scheduled; started = started })) more
 unfolding role settles
-end-fits scheduled started more s opened task = record { open_run = opened; fits_role = (task, tt); begins_none = refl; may_settle = tt; may_ask = refl; cancels_none = refl; first_signal = refl }
+end-fits scheduled started more s opened task = record { open_run = opened; fits_role = (task, tt); begins_none = refl; may_settle = tt; may_ask = refl; first_signal = refl }
 
 now-first : (at scheduled started : ℕ) (s : RunState) → IsGrounded s → is_open s ≡ true → s.task ≡ IsStarted → Now s [] (with_event at None (WorkflowTaskCompleted (record { scheduled = scheduled; started = started })) s)
 unfolding role opens settles closing_status in_use_so_far

@@ -1,6 +1,8 @@
 pub mod Activities
 pub mod ActivityCommands
 pub mod Commands
+pub mod Starts
+pub mod Ends
 pub mod Operations
 pub mod Ops
 pub mod Polls

@@ -1,17 +1,13 @@
 -- the fields of each operation: their faults are looked for in the order in which they stand here
-use Rattle.std.specs.Prelude.{ℕ, [], Result, Ok, Err}
+use Rattle.std.specs.Prelude.{ℕ, true, [], Result, Ok, Err}
 use Rattle.serde_json.specs.Data.{Data}
 use Rattle.wf_event_values.specs.declared.refusal.Refusal.{Refusal}
 use Rattle.wf_event_values.specs.declared.refusal.Refusal.TheVariants.{InvalidArgument}
 use Rattle.wf_event_values.specs.declared.field.Field.TheVariants as field
-use Rattle.wf_event_values.specs.declared.policies.ReusePolicy.TheVariants.{AllowDuplicate}
 use Rattle.wf_event_values.specs.declared.policies.TaskKind.TheVariants.{Workflow, Activity}
-use Rattle.wf_event_values.specs.declared.policies.ConflictPolicy.{ConflictPolicy}
-use Rattle.wf_event_values.specs.declared.policies.ConflictPolicy.TheVariants.{Fail, TerminateExisting}
 use Rattle.service_model.specs.declared.call.Call.{Call}
 use Rattle.service_model.specs.declared.call.Call.TheVariants as call
 use Rattle.service_model.specs.declared.call.StepCall.TheVariants as step
-use Rattle.service_model.specs.declared.request.Start.{Start}
 use Rattle.service_model.specs.declared.request.Signal.{Signal}
 use Rattle.service_model.specs.declared.request.CompleteWorkflowTask.{CompleteWorkflowTask}
 use Rattle.service_model.specs.declared.request.FailWorkflowTask.{FailWorkflowTask}
@@ -20,44 +16,17 @@ use Rattle.service_model.specs.declared.request.Operation.{Operation}
 use Rattle.service_model.specs.declared.request.Operation.TheVariants as operation
 use Rattle.service_model.specs.declared.settings.Settings.{Settings}
 use Rattle.wire_fields.specs.Steps.{◌>>=◌}
-use Rattle.wire_fields.specs.Kinds.{text_of, id_of, span_of, run_of, token_of, reuse_of, conflict_of}
+use Rattle.wire_fields.specs.Kinds.{text_of, id_of, run_of, token_of}
 use Rattle.wire_fields.specs.Fields.{required, or_default, optional}
 use Rattle.wire_requests.specs.Activities.{activity_text_of, fail_activity_of}
 use Rattle.wire_requests.specs.Commands.{commands_of}
+use Rattle.wire_requests.specs.Ends.{request_cancel_of, terminate_of}
 use Rattle.wire_requests.specs.Polls.{poll_of}
+use Rattle.wire_requests.specs.Starts.{start_of, signal_with_start_of}
 use Rattle.wire_requests.specs.Tasks.{workflow_task_in}
 use Rattle.wire_requests.specs.Turns.{dispatch_turn_of, timer_turn_of}
 use Rattle.wire_requests.specs.declared.op.Op.{Op}
 use Rattle.wire_requests.specs.declared.op.Op.TheVariants as op
-
--- the conflict policies that are served: each but the one that terminates a run
-abbrev pub allowed_conflict : ConflictPolicy → Result ConflictPolicy Refusal
-allowed_conflict TerminateExisting = Err (InvalidArgument field.Conflict)
-allowed_conflict policy = Ok policy
-
--- start
-unfoldable pub start_of : Data → Result Start Refusal
-start_of line = do
-  workflow_id ← required id_of field.WorkflowId line
-  workflow_type ← required text_of field.WorkflowType line
-  task_queue ← required id_of field.TaskQueue line
-  input ← or_default text_of [] field.Input line
-  request_id ← optional id_of field.RequestId line
-  reuse ← or_default reuse_of AllowDuplicate field.Reuse line
-  conflict ← or_default conflict_of Fail field.Conflict line >>= allowed_conflict
-  run_timeout ← or_default span_of 0 field.RunTimeout line
-  task_timeout ← or_default span_of 0 field.TaskTimeout line
-  Ok (record {
-    workflow_id = workflow_id;
-    workflow_type = workflow_type;
-    task_queue = task_queue;
-    input = input;
-    request_id = request_id;
-    reuse = reuse;
-    conflict = conflict;
-    run_timeout = run_timeout;
-    task_timeout = task_timeout;
-  })
 
 -- signal
 unfoldable pub signal_of : Data → Result Signal Refusal
@@ -96,8 +65,11 @@ asks at operation = Ok (call.Step (step.Request (record { at = at; operation = o
 
 -- what a line of this operation asks for, at the line's moment
 abbrev pub call_of : Settings → Op → ℕ → Data → Result Call Refusal
-call_of settings op.Start at line = start_of line >>= (λ x. asks at (operation.Start x))
+call_of settings op.Start at line = start_of true line >>= (λ x. asks at (operation.Start x))
 call_of settings op.Signal at line = signal_of line >>= (λ x. asks at (operation.Signal x))
+call_of settings op.SignalWithStart at line = signal_with_start_of line >>= (λ x. asks at (operation.SignalWithStart x))
+call_of settings op.RequestCancel at line = request_cancel_of line >>= (λ x. asks at (operation.RequestCancel x))
+call_of settings op.Terminate at line = terminate_of line >>= (λ x. asks at (operation.Terminate x))
 call_of settings op.CompleteWorkflowTask at line = complete_workflow_task_of settings line >>= (λ x. asks at (operation.CompleteWorkflowTask x))
 call_of settings op.FailWorkflowTask at line = fail_workflow_task_of settings line >>= (λ x. asks at (operation.FailWorkflowTask x))
 call_of settings op.CompleteActivity at line = activity_text_of settings field.Result line >>= (λ x. asks at (operation.CompleteActivity x))

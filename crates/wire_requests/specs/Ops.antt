@@ -8,12 +8,15 @@ use Rattle.wf_event_values.specs.declared.refusal.Refusal.TheVariants.{InvalidAr
 use Rattle.wire_fields.specs.Kinds.{string_of, named}
 use Rattle.wire_fields.specs.Steps.{◌>>=◌}
 use Rattle.wire_requests.specs.declared.op.Op.{Op}
-use Rattle.wire_requests.specs.declared.op.Op.TheVariants.{Start, Signal, CompleteWorkflowTask, FailWorkflowTask, CompleteActivity, FailActivity, CancelActivity, Heartbeat, History, Describe, TimerTurn, PollWorkflowTask, PollActivityTask, DispatchTurn}
+use Rattle.wire_requests.specs.declared.op.Op.TheVariants.{Start, Signal, SignalWithStart, RequestCancel, Terminate, CompleteWorkflowTask, FailWorkflowTask, CompleteActivity, FailActivity, CancelActivity, Heartbeat, History, Describe, TimerTurn, PollWorkflowTask, PollActivityTask, DispatchTurn}
 
 -- the name of an operation
 abbrev pub op_name : Op → List ℕ
 op_name Start = codes "start"
 op_name Signal = codes "signal"
+op_name SignalWithStart = codes "signal_with_start"
+op_name RequestCancel = codes "request_cancel"
+op_name Terminate = codes "terminate"
 op_name CompleteWorkflowTask = codes "complete_workflow_task"
 op_name FailWorkflowTask = codes "fail_workflow_task"
 op_name CompleteActivity = codes "complete_activity"
@@ -29,7 +32,7 @@ op_name DispatchTurn = codes "dispatch_turn"
 
 -- the operation that has this name
 abbrev pub op_named : List ℕ → Option Op
-op_named = named op_name (Start ∷ Signal ∷ CompleteWorkflowTask ∷ FailWorkflowTask ∷ CompleteActivity ∷ FailActivity ∷ CancelActivity ∷ Heartbeat ∷ History ∷ Describe ∷ TimerTurn ∷ PollWorkflowTask ∷ PollActivityTask ∷ DispatchTurn ∷ [])
+op_named = named op_name (Start ∷ Signal ∷ SignalWithStart ∷ RequestCancel ∷ Terminate ∷ CompleteWorkflowTask ∷ FailWorkflowTask ∷ CompleteActivity ∷ FailActivity ∷ CancelActivity ∷ Heartbeat ∷ History ∷ Describe ∷ TimerTurn ∷ PollWorkflowTask ∷ PollActivityTask ∷ DispatchTurn ∷ [])
 
 abbrev pub op_of : Field → Data → Result Op Refusal
 op_of field d = string_of field d >>= (λ text. ok_or (op_named text) (InvalidArgument field))

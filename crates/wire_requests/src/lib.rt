@@ -5,10 +5,12 @@ mod activities;
 mod activity_commands;
 mod calls;
 mod commands;
+mod ends;
 mod op;
 mod operations;
 mod polls;
 mod retry_policy;
+mod starts;
 mod tasks;
 mod turns;
 

@@ -13,6 +13,9 @@ use wire_fields::FieldValue;
 pub(crate) enum Op {
     Start,
     Signal,
+    SignalWithStart,
+    RequestCancel,
+    Terminate,
     CompleteWorkflowTask,
     FailWorkflowTask,
     CompleteActivity,
@@ -33,6 +36,9 @@ fn op_named(name: &str) -> Option<Op>
     match name {
         "start" => Some(Op::Start),
         "signal" => Some(Op::Signal),
+        "signal_with_start" => Some(Op::SignalWithStart),
+        "request_cancel" => Some(Op::RequestCancel),
+        "terminate" => Some(Op::Terminate),
         "complete_workflow_task" => Some(Op::CompleteWorkflowTask),
         "fail_workflow_task" => Some(Op::FailWorkflowTask),
         "complete_activity" => Some(Op::CompleteActivity),

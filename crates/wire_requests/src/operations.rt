@@ -3,60 +3,25 @@
 ghost use Rattle.std.specs.Prelude.{◌≡◌, [], Ok, Err};
 ghost use Rattle.serde_json.specs.View.{view};
 ghost use Rattle.wf_event_values.specs.Gives.{Gives};
-ghost use Rattle.wire_requests.specs.Operations.{start_of, signal_of, complete_workflow_task_of, fail_workflow_task_of, read_of, asks, call_of, allowed_conflict};
+ghost use Rattle.wire_requests.specs.Operations.{signal_of, complete_workflow_task_of, fail_workflow_task_of, read_of, asks, call_of};
 
 use crate::activities::{activity_text, fail_activity};
 use crate::commands::Commands;
+use crate::ends::{request_cancel, terminate};
 use crate::op::Op;
 use crate::polls::poll;
+use crate::starts::{signal_with_start, start};
 use crate::tasks::workflow_task_in;
 use crate::turns::{dispatch_turn, timer_turn};
 use serde_json::Value;
 use service_model::call::{Call, StepCall};
 use service_model::request::{
-    CompleteWorkflowTask, FailWorkflowTask, Operation, Read, Request, Signal, Start,
+    CompleteWorkflowTask, FailWorkflowTask, Operation, Read, Request, Signal,
 };
 use service_model::settings::Settings;
 use std::alloc::Global;
-use wf_event_values::{ConflictPolicy, Field, Moment, Refusal, ReusePolicy, Span, TaskKind, Text};
+use wf_event_values::{Field, Moment, Refusal, TaskKind, Text};
 use wire_fields::{optional, or_default, required};
-
-/// A conflict policy that is served: each but the one that terminates a run.
-fn allowed_conflict(conflict: ConflictPolicy) -> Result<ConflictPolicy, Refusal>
-    ensures { result ≡ allowed_conflict conflict }
-{
-    match conflict {
-        ConflictPolicy::TerminateExisting => Err(Refusal::InvalidArgument(Field::Conflict)),
-        _ => Ok(conflict),
-    }
-}
-
-#[tactic(auto, unfolding(crate::specs::Operations::start_of))]
-fn start(alloc: Global, line: &Value) -> Result<Start, Refusal>
-    ensures { Gives result (start_of (view line.now)) }
-{
-    let workflow_id = required(alloc, line, Field::WorkflowId)?;
-    let workflow_type = required(alloc, line, Field::WorkflowType)?;
-    let task_queue = required(alloc, line, Field::TaskQueue)?;
-    let input = or_default(alloc, line, Field::Input, Text::empty(alloc))?;
-    let request_id = optional(alloc, line, Field::RequestId)?;
-    let reuse = or_default(alloc, line, Field::Reuse, ReusePolicy::AllowDuplicate)?;
-    let conflict = or_default(alloc, line, Field::Conflict, ConflictPolicy::Fail)?;
-    let conflict = allowed_conflict(conflict)?;
-    let run_timeout = or_default(alloc, line, Field::RunTimeout, Span::none())?;
-    let task_timeout = or_default(alloc, line, Field::TaskTimeout, Span::none())?;
-    Ok(Start {
-        workflow_id,
-        workflow_type,
-        task_queue,
-        input,
-        request_id,
-        reuse,
-        conflict,
-        run_timeout,
-        task_timeout,
-    })
-}
 
 #[tactic(auto, unfolding(crate::specs::Operations::signal_of))]
 fn signal(alloc: Global, line: &Value) -> Result<Signal, Refusal>
@@ -134,8 +99,17 @@ pub(crate) fn call_of(
     ensures { Gives result (call_of settings.now op at (view line.now)) }
 {
     match op {
-        Op::Start => Ok(asks(at, Operation::Start(start(alloc, line)?))),
+        Op::Start => Ok(asks(at, Operation::Start(start(alloc, true, line)?))),
         Op::Signal => Ok(asks(at, Operation::Signal(signal(alloc, line)?))),
+        Op::SignalWithStart => {
+            let both = signal_with_start(alloc, line)?;
+            Ok(asks(at, Operation::SignalWithStart(both)))
+        }
+        Op::RequestCancel => {
+            let cancel = request_cancel(alloc, line)?;
+            Ok(asks(at, Operation::RequestCancel(cancel)))
+        }
+        Op::Terminate => Ok(asks(at, Operation::Terminate(terminate(alloc, line)?))),
         Op::CompleteWorkflowTask => {
             let completion = complete_workflow_task(alloc, settings, line)?;
             Ok(asks(at, Operation::CompleteWorkflowTask(completion)))

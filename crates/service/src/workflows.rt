@@ -1,0 +1,122 @@
+//! The calls that signal a run or start it, ask it to cancel, and terminate it: each makes the request
+//! of its arguments and serves it.
+
+ghost use Rattle.service.specs.Asks.{to_signal_with_start, to_request_cancel, to_terminate};
+
+use crate::calls::request;
+use crate::service::{Pass, Service};
+use gate::Refused;
+use service_model::answer::Reply;
+use service_model::request::{Operation, Request, RequestCancel, SignalWithStart, Terminate};
+use std::alloc::AllocError;
+use std::sync::Wait;
+use wf_event_values::Moment;
+
+impl Service {
+    ghost use Rattle.service.specs.Services.{IsPassOf, IsServedBy, IsTried};
+
+    /// Signals the workflow ID's open run, or starts a run that is signaled, where the reuse policy
+    /// allows it (Temporal, SignalWithStartWorkflowExecution). It never waits.
+    ///
+    /// # Errors
+    /// As [`Service::try_serve`].
+    pub fn try_signal_with_start(
+        &self,
+        pass: &mut Pass,
+        asked: SignalWithStart,
+        at: Moment,
+    ) -> Result<Reply, (Refused, Request)>
+        requires { IsPassOf pass.old self.now }
+        ensures { IsTried self.now pass.old pass.new (to_signal_with_start at asked) result }
+    {
+        self.try_serve(pass, request(at, Operation::SignalWithStart(asked)))
+    }
+
+    /// Signals the workflow ID's open run, or starts a run that is signaled, where the reuse policy
+    /// allows it (Temporal, SignalWithStartWorkflowExecution). It may wait for ever.
+    ///
+    /// # Errors
+    /// As [`Service::serve`].
+    pub fn signal_with_start<R: Wait>(
+        &self,
+        rt: &R,
+        pass: &mut Pass,
+        asked: SignalWithStart,
+        at: Moment,
+    ) -> Result<Reply, (AllocError, Request)>
+        requires { IsPassOf pass.old self.now }
+        ensures { IsServedBy self.now pass.old pass.new (to_signal_with_start at asked) result }
+    {
+        self.serve(rt, pass, request(at, Operation::SignalWithStart(asked)))
+    }
+
+    /// Asks the workflow ID's open run, the named one or the latest, to cancel (Temporal,
+    /// RequestCancelWorkflowExecution). It never waits.
+    ///
+    /// # Errors
+    /// As [`Service::try_serve`].
+    pub fn try_request_cancel(
+        &self,
+        pass: &mut Pass,
+        asked: RequestCancel,
+        at: Moment,
+    ) -> Result<Reply, (Refused, Request)>
+        requires { IsPassOf pass.old self.now }
+        ensures { IsTried self.now pass.old pass.new (to_request_cancel at asked) result }
+    {
+        self.try_serve(pass, request(at, Operation::RequestCancel(asked)))
+    }
+
+    /// Asks the workflow ID's open run, the named one or the latest, to cancel (Temporal,
+    /// RequestCancelWorkflowExecution). It may wait for ever.
+    ///
+    /// # Errors
+    /// As [`Service::serve`].
+    pub fn request_cancel<R: Wait>(
+        &self,
+        rt: &R,
+        pass: &mut Pass,
+        asked: RequestCancel,
+        at: Moment,
+    ) -> Result<Reply, (AllocError, Request)>
+        requires { IsPassOf pass.old self.now }
+        ensures { IsServedBy self.now pass.old pass.new (to_request_cancel at asked) result }
+    {
+        self.serve(rt, pass, request(at, Operation::RequestCancel(asked)))
+    }
+
+    /// Terminates the workflow ID's open run, the named one or the latest (Temporal,
+    /// TerminateWorkflowExecution). It never waits.
+    ///
+    /// # Errors
+    /// As [`Service::try_serve`].
+    pub fn try_terminate(
+        &self,
+        pass: &mut Pass,
+        asked: Terminate,
+        at: Moment,
+    ) -> Result<Reply, (Refused, Request)>
+        requires { IsPassOf pass.old self.now }
+        ensures { IsTried self.now pass.old pass.new (to_terminate at asked) result }
+    {
+        self.try_serve(pass, request(at, Operation::Terminate(asked)))
+    }
+
+    /// Terminates the workflow ID's open run, the named one or the latest (Temporal,
+    /// TerminateWorkflowExecution). It may wait for ever.
+    ///
+    /// # Errors
+    /// As [`Service::serve`].
+    pub fn terminate<R: Wait>(
+        &self,
+        rt: &R,
+        pass: &mut Pass,
+        asked: Terminate,
+        at: Moment,
+    ) -> Result<Reply, (AllocError, Request)>
+        requires { IsPassOf pass.old self.now }
+        ensures { IsServedBy self.now pass.old pass.new (to_terminate at asked) result }
+    {
+        self.serve(rt, pass, request(at, Operation::Terminate(asked)))
+    }
+}

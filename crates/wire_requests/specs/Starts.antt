@@ -1,0 +1,56 @@
+-- the fields of a start: their faults are looked for in the order in which they stand here
+use Rattle.std.specs.Prelude.{Bool, true, false, [], Result, Ok, Err}
+use Rattle.serde_json.specs.Data.{Data}
+use Rattle.wf_event_values.specs.declared.refusal.Refusal.{Refusal}
+use Rattle.wf_event_values.specs.declared.refusal.Refusal.TheVariants.{InvalidArgument}
+use Rattle.wf_event_values.specs.declared.field.Field.TheVariants as field
+use Rattle.wf_event_values.specs.declared.policies.ReusePolicy.TheVariants.{AllowDuplicate}
+use Rattle.wf_event_values.specs.declared.policies.ConflictPolicy.{ConflictPolicy}
+use Rattle.wf_event_values.specs.declared.policies.ConflictPolicy.TheVariants.{Fail, TerminateExisting}
+use Rattle.service_model.specs.declared.request.SignalWithStart.{SignalWithStart}
+use Rattle.service_model.specs.declared.request.Start.{Start}
+use Rattle.wire_fields.specs.Steps.{◌>>=◌}
+use Rattle.wire_fields.specs.Kinds.{text_of, id_of, span_of, reuse_of, conflict_of}
+use Rattle.wire_fields.specs.Fields.{required, or_default, optional}
+
+-- the conflict policies that are served: each but the one that terminates a run
+abbrev pub allowed_conflict : ConflictPolicy → Result ConflictPolicy Refusal
+allowed_conflict TerminateExisting = Err (InvalidArgument field.Conflict)
+allowed_conflict policy = Ok policy
+
+-- the conflict policy, of a line that has one
+abbrev pub conflict_in : Bool → Data → Result ConflictPolicy Refusal
+conflict_in true line = or_default conflict_of Fail field.Conflict line >>= allowed_conflict
+conflict_in false line = Ok Fail
+
+-- start, and the same fields of a line that has no conflict policy
+unfoldable pub start_of : Bool → Data → Result Start Refusal
+start_of has_conflict line = do
+  workflow_id ← required id_of field.WorkflowId line
+  workflow_type ← required text_of field.WorkflowType line
+  task_queue ← required id_of field.TaskQueue line
+  input ← or_default text_of [] field.Input line
+  request_id ← optional id_of field.RequestId line
+  reuse ← or_default reuse_of AllowDuplicate field.Reuse line
+  conflict ← conflict_in has_conflict line
+  run_timeout ← or_default span_of 0 field.RunTimeout line
+  task_timeout ← or_default span_of 0 field.TaskTimeout line
+  Ok (record {
+    workflow_id = workflow_id;
+    workflow_type = workflow_type;
+    task_queue = task_queue;
+    input = input;
+    request_id = request_id;
+    reuse = reuse;
+    conflict = conflict;
+    run_timeout = run_timeout;
+    task_timeout = task_timeout;
+  })
+
+-- signal_with_start: the fields of a start without a conflict policy, and those of the signal
+unfoldable pub signal_with_start_of : Data → Result SignalWithStart Refusal
+signal_with_start_of line = do
+  start ← start_of false line
+  name ← required text_of field.Name line
+  signal_input ← or_default text_of [] field.SignalInput line
+  Ok (record { start = start; name = name; signal_input = signal_input })

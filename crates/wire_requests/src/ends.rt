@@ -1,0 +1,39 @@
+//! Lines that ask a run to cancel, and that terminate it.
+
+ghost use Rattle.serde_json.specs.View.{view};
+ghost use Rattle.wf_event_values.specs.Gives.{Gives};
+ghost use Rattle.wire_requests.specs.Ends.{request_cancel_of, terminate_of};
+
+use serde_json::Value;
+use service_model::request::{RequestCancel, Terminate};
+use std::alloc::Global;
+use wf_event_values::{Field, Refusal, Text};
+use wire_fields::{optional, or_default, required};
+
+#[tactic(auto, unfolding(crate::specs::Ends::request_cancel_of))]
+pub(crate) fn request_cancel(alloc: Global, line: &Value) -> Result<RequestCancel, Refusal>
+    ensures { Gives result (request_cancel_of (view line.now)) }
+{
+    let workflow_id = required(alloc, line, Field::WorkflowId)?;
+    let run = optional(alloc, line, Field::Run)?;
+    let request_id = optional(alloc, line, Field::RequestId)?;
+    Ok(RequestCancel {
+        workflow_id,
+        run,
+        request_id,
+    })
+}
+
+#[tactic(auto, unfolding(crate::specs::Ends::terminate_of))]
+pub(crate) fn terminate(alloc: Global, line: &Value) -> Result<Terminate, Refusal>
+    ensures { Gives result (terminate_of (view line.now)) }
+{
+    let workflow_id = required(alloc, line, Field::WorkflowId)?;
+    let run = optional(alloc, line, Field::Run)?;
+    let reason = or_default(alloc, line, Field::Reason, Text::empty(alloc))?;
+    Ok(Terminate {
+        workflow_id,
+        run,
+        reason,
+    })
+}
