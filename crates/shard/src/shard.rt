@@ -4,10 +4,11 @@ ghost use Rattle.std.specs.Prelude.{◌≡◌, ◌+◌, ◌<◌, ◌≤◌, ◌^
 ghost use Rattle.std.specs.String.{string_bytes};
 ghost use Rattle.service_model.specs.Outcome.{Outcome};
 ghost use Rattle.service_model.specs.RunState.{id_of};
+ghost use Rattle.service_model.specs.Service.{opening};
 ghost use Rattle.mutable_state.specs.Steps.{after_step, FitStep};
 ghost use Rattle.shard.specs.View.{IsSetup, state, states};
 ghost use Rattle.shard.specs.Fitting.{CountsFirst, FitsChange, issued_for, issued_new, state_after, room_at, state_at};
-ghost use Rattle.shard.specs.Standing.{Grows};
+ghost use Rattle.shard.specs.Standing.{Grows, StandsFor};
 ghost use Rattle.shard_steps.specs.Issuing.{one_counted, with_issued};
 
 use crate::plan::{Change, MoreOf, NewRun, Plan};
@@ -83,12 +84,15 @@ impl<T: KeepsRun> Shard<T> {
     /// A shard without runs.
     pub fn new(alloc: Global, setup: Setup) -> Shard<T>
         requires { IsSetup setup }
-        ensures { state result ≡ record {
+        ensures state { state result ≡ record {
           setup = setup;
           runs = [];
           last = 0;
           waiting = record { dispatches = []; counted = 0 };
         } }
+
+        // It stands for the content that every shard opens with.
+        ensures stands { StandsFor result (opening setup) }
     {
         Shard {
             alloc,
