@@ -53,7 +53,8 @@ impl NotedActivity {
 impl Run {
     /// The pending activity that this event scheduled.
     pub fn pending_activity(&self, id: u64) -> Result<Option<Activity>, AllocError>
-        ensures found { IfOk result (λ found. option_map row_said found ≡ pending_row self.now.state id) }
+        ensures found { IfOk result (λ found. option_map row_said found
+            ≡ pending_row self.now.state id) }
         ensures closed { OnOk result (HasNoActivityClosed self.now.state) }
     {
         let found = kept_activity(self.in_use.rows(), &self.history, id)?;
@@ -96,9 +97,11 @@ fn activity_at(row: &Open, history: &History) -> Option<NotedActivity>
     Some(NotedActivity::of(event, &row.notes))
 }
 
-/// The activity that this event scheduled, where it is kept and no event that settles it is held back.
+/// The activity that this event scheduled, where it is kept and no event that settles it is held
+/// back.
 fn kept_activity(rows: &[Open], history: &History, id: u64) -> Result<Option<Activity>, AllocError>
-    ensures { IfOk result (λ found. option_map row_said found ≡ kept_activity history.now.lists.events rows.now id) }
+    ensures { IfOk result (λ found. option_map row_said found
+        ≡ kept_activity history.now.lists.events rows.now id) }
 {
     let Some(row) = find_activity(rows, id) else {
         return Ok(None);

@@ -11,7 +11,8 @@ use std::alloc::{AllocError, Global};
 use wf_event::{Attributes, Event};
 use wf_event_values::TaskKind;
 
-/// The dispatch of the task that an event schedules in the run with this ordinal, if it schedules one.
+/// The dispatch of the task that an event schedules in the run with this ordinal, if it schedules
+/// one.
 pub fn task_dispatch(setup: &Setup, run: u64, event: &Event) -> Result<Option<Dispatch>, AllocError>
     ensures { IfOk result (λ found. found ≡ task_dispatch setup.now run event.now) }
 {
@@ -58,7 +59,8 @@ pub fn attempt_dispatch(
     }))
 }
 
-/// The dispatches of the tasks that these events schedule, but for so many first ones, in the run with this ordinal.
+/// The dispatches of the tasks that these events schedule, but for so many first ones, in the run
+/// with this ordinal.
 pub fn dispatches_behind(
     alloc: Global,
     setup: &Setup,
@@ -66,7 +68,8 @@ pub fn dispatches_behind(
     events: &[Event],
     first: usize,
 ) -> Result<Vec<Dispatch>, AllocError>
-    ensures { IfOk result (λ found. found.items ≡ filter_map (task_dispatch setup.now run) (drop first events.now)) }
+    ensures { IfOk result (λ found. found.items
+        ≡ filter_map (task_dispatch setup.now run) (drop first events.now)) }
 {
     let later = &events[first.min(events.len())..];
     dispatches_of(alloc, setup, run, later)
@@ -79,7 +82,8 @@ fn dispatches_of(
     run: u64,
     events: &[Event],
 ) -> Result<Vec<Dispatch>, AllocError>
-    ensures { IfOk result (λ found. found.items ≡ filter_map (task_dispatch setup.now run) events.now) }
+    ensures { IfOk result (λ found. found.items
+        ≡ filter_map (task_dispatch setup.now run) events.now) }
 {
     let mut found = Vec::new(alloc);
     for event in events {

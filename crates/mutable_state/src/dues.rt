@@ -38,7 +38,8 @@ impl Run {
 
     /// The first deadline of its pending activities.
     fn first_activity_due(&self, ordinal: u64) -> Option<Due>
-        ensures { option_map run_due result ≡ first_of ordinal (pending_activity_dues self.now.state) }
+        ensures { option_map run_due result ≡ first_of ordinal
+            (pending_activity_dues self.now.state) }
     {
         first_kept_activity_due(self.in_use.rows(), &self.history, ordinal)
     }
@@ -54,7 +55,8 @@ impl Run {
 /// The first deadline of the activities that are kept and pending.
 #[tactic(auto, unfolding(service_model::specs::TimerTurns::least))]
 fn first_kept_activity_due(rows: &[Open], history: &History, ordinal: u64) -> Option<Due>
-    ensures { option_map run_due result ≡ first_of ordinal (flat_map (kept_activity_dues history.now.lists.events) rows.now) }
+    ensures { option_map run_due result ≡ first_of ordinal
+        (flat_map (kept_activity_dues history.now.lists.events) rows.now) }
 {
     let mut first = None;
     for row in rows {
@@ -66,7 +68,8 @@ fn first_kept_activity_due(rows: &[Open], history: &History, ordinal: u64) -> Op
 /// The first deadline of what is kept, where it is a pending activity.
 #[tactic(auto, unfolding(service_model::specs::TimerTurns::least))]
 fn kept_activity_due(row: &Open, history: &History, ordinal: u64) -> Option<Due>
-    ensures { option_map run_due result ≡ first_of ordinal (kept_activity_dues history.now.lists.events row.now) }
+    ensures { option_map run_due result ≡ first_of ordinal
+        (kept_activity_dues history.now.lists.events row.now) }
 {
     if !row.is_pending_of(Class::Activity) {
         return None;
@@ -80,7 +83,8 @@ fn kept_activity_due(row: &Open, history: &History, ordinal: u64) -> Option<Due>
 /// The first deadline of the activity that an event scheduled, on which there are these notes.
 #[tactic(auto, unfolding(service_model::specs::TimerTurns::least))]
 pub fn activity_due(event: &Event, notes: &Notes, ordinal: u64) -> Option<Due>
-    ensures { option_map run_due result ≡ first_of ordinal (activity_dues (kept_row notes.now event.now)) }
+    ensures { option_map run_due result ≡ first_of ordinal
+        (activity_dues (kept_row notes.now event.now)) }
 {
     let Attributes::ActivityTaskScheduled(activity) = &event.attributes else {
         return None;
@@ -103,7 +107,8 @@ fn phase_due(
     notes: &Notes,
     ordinal: u64,
 ) -> Option<Due>
-    ensures { option_map run_due result ≡ first_of ordinal (by_phase (kept_row notes.now event.now) activity.now (phase_said notes.now.phase)) }
+    ensures { option_map run_due result ≡ first_of ordinal
+        (by_phase (kept_row notes.now event.now) activity.now (phase_said notes.now.phase)) }
 {
     match notes.phase {
         ActivityPhase::Queued => queued_due(event, activity, notes, ordinal),
@@ -119,7 +124,8 @@ fn queued_due(
     notes: &Notes,
     ordinal: u64,
 ) -> Option<Due>
-    ensures { option_map run_due result ≡ first_of ordinal (by_phase (kept_row notes.now event.now) activity.now IsQueued) }
+    ensures { option_map run_due result ≡ first_of ordinal
+        (by_phase (kept_row notes.now event.now) activity.now IsQueued) }
 {
     let since = notes.ready.unwrap_or(event.at);
     due_after(
@@ -138,7 +144,8 @@ fn running_due(
     notes: &Notes,
     ordinal: u64,
 ) -> Option<Due>
-    ensures { option_map run_due result ≡ first_of ordinal (by_phase (kept_row notes.now event.now) activity.now IsRunning) }
+    ensures { option_map run_due result ≡ first_of ordinal
+        (by_phase (kept_row notes.now event.now) activity.now IsRunning) }
 {
     let beat = due_after(
         notes.sign_of_life.unwrap_or(event.at),
@@ -165,7 +172,8 @@ fn waiting_due(
     notes: &Notes,
     ordinal: u64,
 ) -> Option<Due>
-    ensures { option_map run_due result ≡ first_of ordinal (by_phase (kept_row notes.now event.now) activity.now IsWaiting) }
+    ensures { option_map run_due result ≡ first_of ordinal
+        (by_phase (kept_row notes.now event.now) activity.now IsWaiting) }
 {
     let wait = wait_after(&activity.retry, notes.attempt.saturating_sub(1));
     let since = notes.ended.unwrap_or(event.at);
@@ -203,7 +211,8 @@ pub fn started_timer(event: Option<&Event>) -> Option<&Id>
 /// The first deadline of the timers that are kept and pending.
 #[tactic(auto, unfolding(service_model::specs::TimerTurns::least))]
 fn first_kept_due(rows: &[Open], history: &History, ordinal: u64) -> Option<Due>
-    ensures { option_map run_due result ≡ first_of ordinal (flat_map (kept_dues history.now.lists.events) rows.now) }
+    ensures { option_map run_due result ≡ first_of ordinal
+        (flat_map (kept_dues history.now.lists.events) rows.now) }
 {
     let mut first = None;
     for row in rows {
@@ -215,7 +224,8 @@ fn first_kept_due(rows: &[Open], history: &History, ordinal: u64) -> Option<Due>
 /// The deadline of what is kept, where it is a pending timer.
 #[tactic(auto, unfolding(service_model::specs::TimerTurns::least))]
 fn kept_due(row: &Open, history: &History, ordinal: u64) -> Option<Due>
-    ensures { option_map run_due result ≡ first_of ordinal (kept_dues history.now.lists.events row.now) }
+    ensures { option_map run_due result ≡ first_of ordinal
+        (kept_dues history.now.lists.events row.now) }
 {
     if !row.is_pending_of(Class::Timer) {
         return None;
