@@ -1,6 +1,8 @@
 -- what holds of the passes of all lanes
-use Rattle.std.proofs.Common.{◌≡◌, ◌<◌, List, All, map, length, get_or, sym, ap, ◌∙◌, subst, arith}
+use Rattle.std.proofs.Common.{◌≡◌, ◌<◌, ℕ, List, All, Some, map, length, get_or, sym, ap, ◌∙◌, subst, arith}
+use Rattle.std.specs.Prelude.{slice_get}
 use Rattle.std.proofs.lemmas.List.{get_or-map, length-map}
+use Rattle.std.proofs.lemmas.Option.{slice_get-get_or}
 use Rattle.service.specs.declared.service.Pass.{Pass}
 use Rattle.lanes.specs.declared.lane.Lane.{Lane}
 
@@ -18,3 +20,7 @@ pub own-of : (P : Pass → Type 0) (ps : List Pass) (ys : List Lane) → map (λ
 own-of P ps ys is all k d below =
     let count : length ys ≡ length ps = sym (length-map ys (λ (l : Lane). l.pass)) ∙ ap length is in
     subst P (ap (λ l. get_or l k d.pass) (sym is) ∙ get_or-map (λ (l : Lane). l.pass) ys k d d.pass below) (all k d.pass (omega (arith, count, below)))
+
+-- it holds of all members, where it holds of each that stands at some place
+pub all-there : {A : Type 0} (P : A → Type 0) (xs : List A) → ((k : ℕ) (x : A) → slice_get xs k ≡ Some x → P x) → All P xs
+all-there P xs each k d below = each k (get_or xs k d) (slice_get-get_or xs k d below)

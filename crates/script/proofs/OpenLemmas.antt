@@ -3,6 +3,7 @@ use Rattle.std.proofs.Common.{◌≡◌, ℕ, ◌+◌, ◌*◌, ◌<◌, List, [
 use Rattle.std.specs.Prelude.{map, slice_get}
 use Rattle.std.specs.List.{range_with_len}
 use Rattle.std.proofs.lemmas.List.{length-map}
+use Rattle.std.proofs.lemmas.Option.{slice_get-get_or}
 use Rattle.service_model.specs.declared.content.Content.{Content}
 use Rattle.service_model.specs.declared.request.Hint.{Hint}
 use Rattle.service_model.specs.declared.settings.Settings.{Settings}
@@ -51,15 +52,9 @@ contents-fresh x p own new = all-fresh 0 x.settings.shards
 
 -- ---- what it knows of the queues
 
--- what an index below the length finds
-found-at : {A : Type 0} (xs : List A) (s : ℕ) (d : A) → s < length xs → slice_get xs s ≡ Some (slice_index_or xs s d)
-found-at [] s d below = absurd (omega arith)
-found-at (x ∷ xs) zero d below = refl
-found-at (x ∷ xs) (suc s) d below = found-at xs s d (omega arith)
-
 fresh-at : (K : Settings) (p : Pass) (s : ℕ) → AreFresh K 0 p → s < length (hints_by p) → at (hints_by p) s ≡ fresh K.passes K.shards K.capacity 0
 fresh-at K p s new below =
-    let (r, there, is) = get-map one.known_by p.hints.passes.items s (at (hints_by p) s) (found-at (hints_by p) s nobody below) in
+    let (r, there, is) = get-map one.known_by p.hints.passes.items s (at (hints_by p) s) (slice_get-get_or (hints_by p) s nobody below) in
     is ∙ new s r there
 
 fresh-queues : (x : Service) (p : Pass) → IsPassOf p x → x.settings.passes ≡ 1 → AreFresh x.settings 0 p → KnowsQueues x.settings (hints_by p)

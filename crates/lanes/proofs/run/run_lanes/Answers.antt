@@ -2,7 +2,7 @@ use Rattle.std.proofs.Common.{[], arith, inl, inr}
 use Rattle.std.proofs.lemmas.Result.{err_from_is_err_and}
 use Rattle.wire_counted.proofs.Known.{Consumes-none}
 use Rattle.lanes.proofs.FaultLemmas.{device-fault, device-later}
-use Rattle.lanes.proofs.LaneLemmas.{own-of}
+use Rattle.lanes.proofs.LaneLemmas.{all-there, own-of}
 use Rattle.script.proofs.Steps.{on_any_err}
 use Rattle.lanes.proofs.BegunLemmas.{nothing-read}
 use Rattle.lanes.proofs.run.run_lanes.Goals as goal
@@ -10,7 +10,7 @@ use Rattle.lanes.proofs.run.run_lanes.Goals as goal
 pub loop-init : goal.loop-init
 loop-init g c = record {
   room = omega (arith, c.in_ok-buffer.ensures.len);
-  own = own-of (g.D.Door.admits c.args.door.now) c.args.passes.items c.in_ok-script.script.lanes.items c.in_ok-script.ensures.passes c.requires;
+  own = own-of (g.D.Door.admits c.args.door.now) c.args.passes.items c.in_ok-script.script.lanes.items c.in_ok-script.ensures.passes (all-there (g.D.Door.admits c.args.door.now) c.args.passes.items c.requires);
   progress = record { text = []; read = Consumes-none _; told = c.in_ok-script.ensures.told _ _ };
   reads = omega arith;
   writes = omega arith;
