@@ -61,7 +61,10 @@ fn assert_calls_that_may_wait<R: Abort + AllocGlobal + Wait>(
     assert_eq!(rt; shown(started), "started");
     let asked = service.request_cancel(rt, pass, cancel(rt), at);
     assert_eq!(rt; shown(asked), "cancel_requested");
-    assert_eq!(rt; shown(service.terminate(rt, pass, end(rt), at)), "terminated");
+    assert_eq!(rt;
+        shown(service.terminate(rt, pass, end(rt), at)),
+        "terminated"
+    );
 }
 
 fn assert_calls_that_never_wait<R: Abort + AllocGlobal>(rt: &R, service: &Service, pass: &mut Pass)
@@ -72,7 +75,10 @@ fn assert_calls_that_never_wait<R: Abort + AllocGlobal>(rt: &R, service: &Servic
     assert_eq!(rt; shown(started), "started");
     let asked = service.try_request_cancel(pass, cancel(rt), at);
     assert_eq!(rt; shown(asked), "cancel_requested");
-    assert_eq!(rt; shown(service.try_terminate(pass, end(rt), at)), "terminated");
+    assert_eq!(rt;
+        shown(service.try_terminate(pass, end(rt), at)),
+        "terminated"
+    );
 }
 
 #[test]
