@@ -150,7 +150,7 @@ fn compare<R: Abort + AllocGlobal>(
 #[test]
 fn one_shard(rt: HostRuntime) -> Result<(), Fail> {
     let mut seen = [0_u64; KINDS];
-    for seed in 1..11_u64 {
+    for seed in 1..21_u64 {
         compare(&rt, 0, 1, seed, &mut seen).map_err(|refusal| refusal.name())?;
     }
     for (kind, count) in seen.iter().enumerate() {
@@ -164,7 +164,7 @@ fn one_shard(rt: HostRuntime) -> Result<(), Fail> {
 #[test]
 fn second_of_two(rt: HostRuntime) -> Result<(), Fail> {
     let mut seen = [0_u64; KINDS];
-    for seed in 1..9_u64 {
+    for seed in 1..17_u64 {
         compare(&rt, 1, 2, seed, &mut seen).map_err(|refusal| refusal.name())?;
     }
     assert!(rt; seen[8] > 0);

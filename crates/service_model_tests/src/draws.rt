@@ -6,11 +6,21 @@ ghost use Rattle.std.specs.Prelude.{◌<◌};
 #[derive(Drop)]
 pub(crate) struct Draws {
     state: u64,
+    ends: bool,
 }
 
 impl Draws {
     pub(crate) fn new(seed: u64) -> Draws {
-        Draws { state: seed }
+        Draws {
+            state: seed,
+            ends: seed > 10,
+        }
+    }
+
+    /// Whether runs are asked to cancel, terminated, and started by signals. With seeds to 10 they are not,
+    /// since runs that end early seldom come to the rarer ends of activities.
+    pub(crate) fn has_ends(&self) -> bool {
+        self.ends
     }
 
     /// The next number, which is below the limit.

@@ -63,7 +63,8 @@ fn operation(alloc: Global, draws: &mut Draws, known: &Known) -> Result<Operatio
 }
 
 fn any_operation(alloc: Global, draws: &mut Draws, known: &Known) -> Result<Operation, Refusal> {
-    match draws.below(38) {
+    let kinds = if draws.has_ends() { 38 } else { 33 };
+    match draws.below(kinds) {
         0..=2 => Ok(Operation::Start(start(alloc, draws)?)),
         3..=5 => Ok(Operation::Signal(signal(alloc, draws)?)),
         6..=8 => Ok(Operation::StartTask(known.hint(draws))),
@@ -77,9 +78,9 @@ fn any_operation(alloc: Global, draws: &mut Draws, known: &Known) -> Result<Oper
         22..=26 => report(alloc, draws, known),
         27..=28 => Ok(Operation::NextDispatch),
         29..=31 => Ok(Operation::Dispatched(known.dispatch(draws))),
-        32..=33 => Ok(Operation::SignalWithStart(signal_with_start(alloc, draws)?)),
-        34..=35 => Ok(Operation::RequestCancel(request_cancel(alloc, draws)?)),
-        36 => Ok(Operation::Terminate(terminate(alloc, draws)?)),
+        33..=34 => Ok(Operation::SignalWithStart(signal_with_start(alloc, draws)?)),
+        35..=36 => Ok(Operation::RequestCancel(request_cancel(alloc, draws)?)),
+        37 => Ok(Operation::Terminate(terminate(alloc, draws)?)),
         _ => Ok(Operation::Describe(read(alloc, draws)?)),
     }
 }
