@@ -172,6 +172,7 @@ abbrev closes_by_command : Attributes → Bool
 closes_by_command (WorkflowExecutionCompleted r) = true
 closes_by_command (WorkflowExecutionFailed m) = true
 closes_by_command (WorkflowExecutionCanceled d) = true
+closes_by_command (WorkflowExecutionContinuedAsNew c) = true
 closes_by_command _ = false
 
 fits-close : (s : RunState) (F : List Attributes) (a : Attributes) (t : RunState) → Now s F t → closes_by_command a ≡ true → FitsEvent IsBehindEnd t None a []
@@ -179,6 +180,7 @@ unfolding role settles
 fits-close s F (WorkflowExecutionCompleted r) t now h = record { open_run = now.open_run; fits_role = (ap is_started_task now.none, refl); begins_none = refl; may_settle = tt; may_ask = refl; first_signal = refl }
 fits-close s F (WorkflowExecutionFailed m) t now h = record { open_run = now.open_run; fits_role = (ap is_started_task now.none, refl); begins_none = refl; may_settle = tt; may_ask = refl; first_signal = refl }
 fits-close s F (WorkflowExecutionCanceled d) t now h = record { open_run = now.open_run; fits_role = (ap is_started_task now.none, refl); begins_none = refl; may_settle = tt; may_ask = refl; first_signal = refl }
+fits-close s F (WorkflowExecutionContinuedAsNew c) t now h = record { open_run = now.open_run; fits_role = (ap is_started_task now.none, refl); begins_none = refl; may_settle = tt; may_ask = refl; first_signal = refl }
 fits-close s F _ t now h = absurd (cc)
 
 close-closes : (a : Attributes) → closes_by_command a ≡ true → is_closing_role (role a) ≡ true
@@ -186,6 +188,7 @@ unfolding role
 close-closes (WorkflowExecutionCompleted r) h = refl
 close-closes (WorkflowExecutionFailed m) h = refl
 close-closes (WorkflowExecutionCanceled d) h = refl
+close-closes (WorkflowExecutionContinuedAsNew c) h = refl
 close-closes _ h = absurd (cc)
 
 pub fits-schedule : (attempt : ℕ) (whose t : RunState) (p : Place) → is_open t ≡ true → t.task ≡ NoTask → FitsEvent p t None (schedule_task whose attempt) []

@@ -7,6 +7,7 @@ ghost use Rattle.service_model.specs.Completion.{has_members};
 ghost use Rattle.service_model.specs.Pending.{is_cancel_request_of};
 ghost use Rattle.task_completion.specs.Judging.{event_named, HasGoodPolicy, is_asked, activity_scheduled, activity_asked, cancel_asked, timer_started, timer_canceled, recorded, closed, continued, by_kind, judged_now, Leaves};
 
+use crate::follows::{continued_as_new, queue_after};
 use crate::rows::{
     count_pending, event_named, has_pending_row, has_row, is_firing_of, is_running, was_asked,
 };
@@ -19,28 +20,21 @@ use wf_command::command::{ContinueAsNew, RecordMarker, ScheduleActivityTask, Sta
 use wf_command::{Command, check};
 use wf_event::Attributes;
 use wf_event::payloads::{
-    ActivityTaskCanceled, MarkerRecorded, TimerEnd, TimerStarted, WorkflowExecutionContinuedAsNew,
-    WorkflowExecutionStarted,
+    ActivityTaskCanceled, MarkerRecorded, TimerEnd, TimerStarted, WorkflowExecutionStarted,
 };
 use wf_event_values::{Cause, Id, RunId, Text};
 
 /// The most activities that may be pending in a run.
 const MOST_PENDING: usize = 2000;
 
-/// What a run that continues as new hands on.
-#[derive(Clone, Copy)]
-pub struct Follows<'a> {
-    /// The run that would follow.
-    pub next: RunId,
-    /// How this one began.
-    pub started: &'a WorkflowExecutionStarted,
-}
-
 /// The facts of the commands so far, and what is in use and held back behind them.
 pub struct SoFar<'a> {
     alloc: Global,
     setup: &'a Setup,
-    follows: Follows<'a>,
+    /// The run that would follow this one.
+    next: RunId,
+    /// How this one began.
+    started: &'a WorkflowExecutionStarted,
     facts: Vec<Attributes>,
     /// Whether one of them closes the run.
     is_closed: bool,
@@ -59,7 +53,8 @@ impl<'a> Drop for SoFar<'a> {
         let SoFar {
             alloc: _,
             setup: _,
-            follows: _,
+            next: _,
+            started: _,
             facts: _,
             is_closed: _,
             first: _,
@@ -78,8 +73,8 @@ impl<'a> Model for SoFar<'a> {
 
     ghost view = { λ k. record {
       setup = k.setup.now;
-      next = k.follows.next;
-      began = k.follows.started.now;
+      next = k.next;
+      began = k.started.now;
       facts = k.facts.items;
       is_closed = k.is_closed;
       first = k.first;
@@ -95,7 +90,8 @@ impl<'a> SoFar<'a> {
     pub fn new(
         alloc: Global,
         setup: &'a Setup,
-        follows: Follows<'a>,
+        next: RunId,
+        started: &'a WorkflowExecutionStarted,
         first: u64,
         timers: Vec<Used<'a>>,
         activities: Vec<Used<'a>>,
@@ -103,8 +99,8 @@ impl<'a> SoFar<'a> {
         held: Vec<Option<u64>>,
     ) -> SoFar<'a>
         ensures setup { result.setup ≡ setup.now }
-        ensures next { result.next ≡ follows.next }
-        ensures began { result.began ≡ follows.started.now }
+        ensures next { result.next ≡ next }
+        ensures began { result.began ≡ started.now }
         ensures facts { result.facts ≡ [] }
         ensures open_run { result.is_closed ≡ false }
         ensures first { result.first ≡ first }
@@ -116,7 +112,8 @@ impl<'a> SoFar<'a> {
         SoFar {
             alloc,
             setup,
-            follows,
+            next,
+            started,
             facts: Vec::new(alloc),
             is_closed: false,
             first,
@@ -300,19 +297,11 @@ impl<'a> SoFar<'a> {
     ) -> Result<Result<(), Cause>, AllocError>
         ensures { IfOk result (Leaves self.new (continued command.now self.old)) }
     {
-        let Follows { next, started } = self.follows;
-        let queue = command.task_queue.as_ref().unwrap_or(&started.task_queue);
-        if !self.setup.knows_queue(queue) {
+        if !self.setup.knows_queue(queue_after(command, self.started)) {
             return Ok(Err(Cause::BadContinueAsNewAttributes));
         }
-        let workflow_type = command.workflow_type.as_ref().unwrap_or(&started.workflow_type);
-        let event = WorkflowExecutionContinuedAsNew {
-            new_run: next,
-            workflow_type: workflow_type.clone()?,
-            task_queue: queue.clone()?,
-            input: command.input.clone()?,
-        };
-        self.close(Attributes::WorkflowExecutionContinuedAsNew(event))
+        let event = continued_as_new(command, self.started, self.next)?;
+        self.close(event)
     }
 
     /// Whether an event is still held back.
@@ -335,7 +324,8 @@ impl<'a> SoFar<'a> {
         let SoFar {
             alloc: _,
             setup: _,
-            follows: _,
+            next: _,
+            started: _,
             facts,
             is_closed: _,
             first: _,
