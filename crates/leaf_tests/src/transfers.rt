@@ -3,9 +3,9 @@
 ghost use Rattle.std.specs.Prelude.{◌<◌, length};
 
 use service_model::answer::Acknowledged;
-use service_model::transfer::{ChildStartFailed, Transfer, TransferContent};
+use service_model::transfer::{ChildStartFailed, Delivery, Transfer, TransferContent};
 use std::test::Fail;
-use transfer::{Delivery, Inbox, Outbox};
+use transfer::{Inbox, Outbox};
 use wf_event_values::RunId;
 
 fn content(initiated: u64) -> TransferContent {

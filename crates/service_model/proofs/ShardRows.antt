@@ -8,7 +8,7 @@ use Rattle.service_model.specs.declared.answer.Answer.TheVariants as says
 use Rattle.service_model.specs.declared.transfer.TransferContent.TheVariants as transfer
 use Rattle.wf_event_values.specs.declared.policies.ReusePolicy.TheVariants.{AllowDuplicate}
 use Rattle.wf_event_values.specs.declared.policies.ParentClosePolicy.TheVariants.{Terminate}
-use Rattle.wf_event_values.specs.declared.policies.Status.TheVariants.{Terminated}
+use Rattle.service_model.specs.declared.transfer.ChildStatus.TheVariants.{Terminated}
 use Rattle.service_model.specs.Service.{ToTerminate, ToShowTransfer, answer_to, after_asking, opening, journal_at, Asked, ToDeliver, ToAcknowledge}
 use Rattle.service_model.specs.Shown.{shown}
 use Rattle.service_model.specs.declared.content.Content.{Content}

@@ -11,7 +11,8 @@ use Rattle.wf_event_values.specs.declared.policies.ReusePolicy.TheVariants.{Allo
 use Rattle.wf_event_values.specs.declared.policies.ParentClosePolicy.TheVariants.{Terminate}
 use Rattle.wf_event_values.specs.declared.policies.TaskKind.TheVariants.{Workflow}
 use Rattle.wf_event_values.specs.declared.policies.Cause.TheVariants.{ExternalWorkflowExecutionNotFound}
-use Rattle.wf_event_values.specs.declared.policies.Status.TheVariants.{Running, Completed}
+use Rattle.wf_event_values.specs.declared.policies.Status.TheVariants.{Running}
+use Rattle.service_model.specs.declared.transfer.ChildStatus.TheVariants.{Completed}
 use Rattle.service_model.specs.Service.{ToShowTransfer, ToShowDispatch, ToCountDispatch}
 use Rattle.wf_event.specs.Role.{role, opens, settles, closing_status}
 use Rattle.service_model.specs.Windows.{placed, first_closing}

@@ -4,6 +4,7 @@ use Rattle.wf_event_values.specs.declared.field.Field.TheVariants as field
 use Rattle.wf_event_values.specs.declared.refusal.Refusal.TheVariants.{InvalidArgument}
 use Rattle.service_model.specs.declared.answer.Answer.{Answer}
 use Rattle.service_model.specs.declared.answer.Answer.TheVariants.{Transfer as ATransfer, NoTransfer, Counted, Dispatch as ADispatch, NoDispatch}
+use Rattle.service_model.specs.declared.answer.Acknowledged.{Acknowledged as Acknowledgement}
 use Rattle.service_model.specs.declared.answer.Acknowledged.TheVariants.{Acknowledged, Already, OutOfOrder as NotInOrder}
 use Rattle.service_model.specs.declared.answer.NumberedDispatch.{NumberedDispatch}
 use Rattle.service_model.specs.declared.content.Setup.{Setup}
@@ -32,11 +33,18 @@ next_transfer setup all to =
 abbrev pub counted : Counting → Answer → Outcome
 counted c a = let o = answered a in record o { counting = c }
 
--- how a count goes on: by one, where that one was issued
+-- what an acknowledgement of a number is, where so many were issued and so many of them are acknowledged
+abbrev pub acknowledgement_of : ℕ → ℕ → ℕ → Acknowledgement
+acknowledgement_of issued so_far number = cond (nat_le number so_far) Already (cond ((number == so_far + 1) && nat_le number issued) Acknowledged NotInOrder)
+
+-- it moves the count on by one, where that one was issued
+abbrev pub by_acknowledgement : Counting → Acknowledgement → Outcome
+by_acknowledgement c Acknowledged = counted c (Counted Acknowledged)
+by_acknowledgement c a = answered (Counted a)
+
+-- how a count goes on
 abbrev pub acknowledges : ℕ → ℕ → ℕ → Counting → Outcome
-acknowledges issued so_far number c =
-    cond (nat_le number so_far) (answered (Counted Already))
-    (cond ((number == so_far + 1) && nat_le number issued) (counted c (Counted Acknowledged)) (answered (Counted NotInOrder)))
+acknowledges issued so_far number c = by_acknowledgement c (acknowledgement_of issued so_far number)
 
 -- a transfer is acknowledged
 unfoldable pub acknowledge : Setup → List Outgoing → Acknowledge → Outcome

@@ -11,8 +11,10 @@ use Rattle.wf_event_values.specs.declared.policies.Cause.TheVariants.{WorkflowAl
 use Rattle.wf_event_values.specs.declared.policies.ConflictPolicy.TheVariants.{Fail}
 use Rattle.wf_event_values.specs.declared.policies.ParentClosePolicy.{ParentClosePolicy}
 use Rattle.wf_event_values.specs.declared.policies.ParentClosePolicy.TheVariants.{Terminate as ToTerminate, RequestCancel as ToCancel}
-use Rattle.wf_event_values.specs.declared.policies.Status.{Status}
-use Rattle.wf_event_values.specs.declared.policies.Status.TheVariants.{Completed, Failed, Canceled, TimedOut}
+use Rattle.service_model.specs.declared.transfer.ChildStatus.{ChildStatus}
+use Rattle.service_model.specs.declared.transfer.ChildStatus.TheVariants.{Completed, Failed, Canceled, TimedOut, Terminated}
+use Rattle.service_model.specs.declared.transfer.Delivery.{Delivery}
+use Rattle.service_model.specs.declared.transfer.Delivery.TheVariants.{Accepted as IsNext, AlreadyDelivered as Already, OutOfOrder as NotInOrder}
 use Rattle.wf_event_values.specs.declared.refusal.Refusal.TheVariants.{InvalidArgument}
 use Rattle.wf_event.specs.Role.{Class, AChild, ASignal, ACancel}
 use Rattle.service_model.specs.declared.answer.Answer.TheVariants.{Accepted, AlreadyDelivered, OutOfOrder}
@@ -89,12 +91,12 @@ start_child R t c =
     (accepts t None None (record { to = c.parent_run.shard; content = ChildStartFailed (record { parent_run = c.parent_run; initiated = c.initiated }) } ∷ []))
 
 -- the event of a child that closed with that status
-abbrev pub child_closed_event : ChildClosedContent → Status → Attributes
+abbrev pub child_closed_event : ChildClosedContent → ChildStatus → Attributes
 child_closed_event c Completed = ChildWorkflowExecutionCompleted (record { initiated = c.initiated; run = c.run; text = c.text })
 child_closed_event c Failed = ChildWorkflowExecutionFailed (record { initiated = c.initiated; run = c.run; text = c.text })
 child_closed_event c Canceled = ChildWorkflowExecutionCanceled (record { initiated = c.initiated; run = c.run; text = c.text })
 child_closed_event c TimedOut = ChildWorkflowExecutionTimedOut (record { initiated = c.initiated; run = c.run })
-child_closed_event c _ = ChildWorkflowExecutionTerminated (record { initiated = c.initiated; run = c.run })
+child_closed_event c Terminated = ChildWorkflowExecutionTerminated (record { initiated = c.initiated; run = c.run })
 
 abbrev pub is_child_of : Run → ℕ → Option Parent → Bool
 is_child_of r e None = false
@@ -166,10 +168,19 @@ comes_from setup t (SignalExternal c) = (c.from_run.service == setup.service) &&
 comes_from setup t (CancelExternal c) = (c.from_run.service == setup.service) && (c.from_run.shard == t.from)
 comes_from setup t _ = true
 
--- a transfer is delivered: it has an effect only under the number one above the accepted one
+-- what is said of a number, where so many of its source are accepted
+abbrev pub delivery_of : ℕ → ℕ → Delivery
+delivery_of so_far number = cond (nat_le number so_far) Already (cond (number == so_far + 1) IsNext NotInOrder)
+
+-- it has an effect only under the number one above the accepted one
+abbrev pub by_delivery : Runs → Transfer → Delivery → Outcome
+by_delivery R t Already = answered (AlreadyDelivered t.number)
+by_delivery R t IsNext = effect R t t.content
+by_delivery R t NotInOrder = answered (OutOfOrder t.number)
+
+-- a transfer is delivered
 unfoldable pub deliver : Runs → List ℕ → Transfer → Outcome
 deliver R accepted t =
     cond (not (nat_lt t.from R.setup.shards && comes_from R.setup t t.content)) (refused (InvalidArgument field.From))
     (cond (not (is_for_shard R.setup t.content)) (refused (InvalidArgument field.WorkflowId))
-    (cond (nat_le t.number (accepted_from accepted t.from)) (answered (AlreadyDelivered t.number))
-    (cond (t.number == accepted_from accepted t.from + 1) (effect R t t.content) (answered (OutOfOrder t.number)))))
+    (by_delivery R t (delivery_of (accepted_from accepted t.from) t.number)))

@@ -2,14 +2,15 @@
 use Rattle.std.specs.Prelude.{ℕ, Bool, true, false, cond, not, List, ◌++◌, [], drop, filter_map, length, Option, None, Some, option_map, option_and_then}
 use Rattle.wf_event.specs.declared.event.Event.{Event}
 use Rattle.wf_event.specs.declared.attributes.Attributes.{Attributes}
-use Rattle.wf_event.specs.declared.attributes.Attributes.TheVariants.{WorkflowTaskScheduled, ActivityTaskScheduled, StartChildWorkflowExecutionInitiated, SignalExternalWorkflowExecutionInitiated, RequestCancelExternalWorkflowExecutionInitiated, WorkflowExecutionCompleted, WorkflowExecutionFailed, WorkflowExecutionCanceled, WorkflowExecutionContinuedAsNew}
+use Rattle.wf_event.specs.declared.attributes.Attributes.TheVariants.{WorkflowTaskScheduled, ActivityTaskScheduled, StartChildWorkflowExecutionInitiated, SignalExternalWorkflowExecutionInitiated, RequestCancelExternalWorkflowExecutionInitiated, WorkflowExecutionCompleted, WorkflowExecutionFailed, WorkflowExecutionCanceled, WorkflowExecutionTimedOut, WorkflowExecutionTerminated}
 use Rattle.wf_event.specs.declared.payloads.ActivityTaskScheduled.{ActivityTaskScheduled as ScheduledAttributes}
 use Rattle.wf_event.specs.declared.payloads.Parent.{Parent}
-use Rattle.wf_event_values.specs.declared.policies.Status.{Status}
+use Rattle.service_model.specs.declared.transfer.ChildStatus.{ChildStatus}
+use Rattle.service_model.specs.declared.transfer.ChildStatus.TheVariants.{Completed, Failed, Canceled, TimedOut, Terminated}
 use Rattle.wf_event_values.specs.declared.policies.ParentClosePolicy.{ParentClosePolicy}
 use Rattle.wf_event_values.specs.declared.policies.ParentClosePolicy.TheVariants.{Abandon}
 use Rattle.wf_event_values.specs.declared.policies.TaskKind.TheVariants.{Workflow, Activity}
-use Rattle.wf_event.specs.Role.{role, is_closing_role, AChild, closing_status}
+use Rattle.wf_event.specs.Role.{role, is_closing_role, AChild}
 use Rattle.service_model.specs.declared.content.Dispatch.{Dispatch}
 use Rattle.service_model.specs.declared.content.Setup.{Setup}
 use Rattle.service_model.specs.declared.journal.Fact.{Fact}
@@ -61,55 +62,60 @@ abbrev pub dispatches_of : Setup → ℕ → RunState → RunState → List Fact
 dispatches_of setup run before after' facts =
     filter_map (task_dispatch setup run) (new_events before after') ++ filter_map (ready_dispatch setup run after') facts
 
+-- the request that a command's event of this id sends, by what it carries
+abbrev pub request_by : Setup → ℕ → ℕ → Attributes → Option Sent
+request_by setup run id (StartChildWorkflowExecutionInitiated a) = Some (record { to = shard_of setup a.workflow_id; content = StartChild (record { parent_run = run_id setup run; initiated = id; workflow_id = a.workflow_id; workflow_type = a.workflow_type; task_queue = a.task_queue; input = a.input; reuse = a.reuse; run_timeout = a.run_timeout; task_timeout = a.task_timeout }) })
+request_by setup run id (SignalExternalWorkflowExecutionInitiated a) = Some (record { to = shard_of setup a.workflow_id; content = SignalExternal (record { from_run = run_id setup run; initiated = id; workflow_id = a.workflow_id; run = a.run; name = a.name; input = a.input }) })
+request_by setup run id (RequestCancelExternalWorkflowExecutionInitiated a) = Some (record { to = shard_of setup a.workflow_id; content = CancelExternal (record { from_run = run_id setup run; initiated = id; workflow_id = a.workflow_id; run = a.run }) })
+request_by setup run id _ = None
+
 -- the request that a command's event sends
 abbrev pub request_transfer : Setup → ℕ → Event → Option Sent
-request_transfer setup run e = by_kind e.attributes
-  where
-    by_kind : Attributes → Option Sent
-    by_kind (StartChildWorkflowExecutionInitiated a) = Some (record { to = shard_of setup a.workflow_id; content = StartChild (record { parent_run = run_id setup run; initiated = e.id; workflow_id = a.workflow_id; workflow_type = a.workflow_type; task_queue = a.task_queue; input = a.input; reuse = a.reuse; run_timeout = a.run_timeout; task_timeout = a.task_timeout }) })
-    by_kind (SignalExternalWorkflowExecutionInitiated a) = Some (record { to = shard_of setup a.workflow_id; content = SignalExternal (record { from_run = run_id setup run; initiated = e.id; workflow_id = a.workflow_id; run = a.run; name = a.name; input = a.input }) })
-    by_kind (RequestCancelExternalWorkflowExecutionInitiated a) = Some (record { to = shard_of setup a.workflow_id; content = CancelExternal (record { from_run = run_id setup run; initiated = e.id; workflow_id = a.workflow_id; run = a.run }) })
-    by_kind _ = None
+request_transfer setup run e = request_by setup run e.id e.attributes
 
 abbrev pub is_abandon : ParentClosePolicy → Bool
 is_abandon Abandon = true
 is_abandon _ = false
 
+-- what a closing parent asks of a child that the event of this id asked for, by what that carries
+abbrev pub close_by : Setup → ℕ → ℕ → Attributes → Option Sent
+close_by setup run id (StartChildWorkflowExecutionInitiated a) = if_some (not (is_abandon a.parent_close)) (record { to = shard_of setup a.workflow_id; content = CloseChild (record { parent_run = run_id setup run; initiated = id; workflow_id = a.workflow_id; policy = a.parent_close }) })
+close_by setup run id _ = None
+
 -- what a closing parent asks of a pending child
 abbrev pub close_transfer : Setup → ℕ → Event → Option Sent
-close_transfer setup run e = by_kind e.attributes
-  where
-    by_kind : Attributes → Option Sent
-    by_kind (StartChildWorkflowExecutionInitiated a) = if_some (not (is_abandon a.parent_close)) (record { to = shard_of setup a.workflow_id; content = CloseChild (record { parent_run = run_id setup run; initiated = e.id; workflow_id = a.workflow_id; policy = a.parent_close }) })
-    by_kind _ = None
+close_transfer setup run e = close_by setup run e.id e.attributes
 
--- the result, message or details of a closing event
-abbrev pub closing_text : Attributes → List ℕ
-closing_text (WorkflowExecutionCompleted t) = t
-closing_text (WorkflowExecutionFailed t) = t
-closing_text (WorkflowExecutionCanceled t) = t
-closing_text _ = []
-
-abbrev pub is_continued : Attributes → Bool
-is_continued (WorkflowExecutionContinuedAsNew a) = true
-is_continued _ = false
+-- how a child closed, and the result, message or details that it leaves; nothing where it continues as new
+abbrev pub child_end : Attributes → Option (ChildStatus × List ℕ)
+child_end (WorkflowExecutionCompleted result) = Some (Completed, result)
+child_end (WorkflowExecutionFailed message) = Some (Failed, message)
+child_end (WorkflowExecutionCanceled details) = Some (Canceled, details)
+child_end WorkflowExecutionTimedOut = Some (TimedOut, [])
+child_end (WorkflowExecutionTerminated reason) = Some (Terminated, [])
+child_end _ = None
 
 -- what a closing run tells its parent, unless it continues as new
 abbrev pub closed_transfer : Setup → ℕ → Option Parent → Event → Option Sent
 closed_transfer setup run None e = None
-closed_transfer setup run (Some p) e = by_status (closing_status e.attributes) (is_continued e.attributes)
-  where
-    by_status : Option Status → Bool → Option Sent
-    by_status (Some s) false = Some (record { to = p.run.shard; content = ChildClosed (record { parent_run = p.run; initiated = p.event; run = run_id setup run; status = s; text = closing_text e.attributes }) })
-    by_status _ _ = None
+closed_transfer setup run (Some p) e =
+    option_map (λ (c : ChildStatus × List ℕ). record { to = p.run.shard; content = ChildClosed (record { parent_run = p.run; initiated = p.event; run = run_id setup run; status = c.0; text = c.1 }) }) (child_end e.attributes)
 
 -- facts but for the closing events
 abbrev pub is_open_fact : Fact → Bool
 is_open_fact (an_event f) = not (is_closing_role (role f.attributes))
 is_open_fact (a_note n) = true
 
--- the transfers that a step issues for one run: those of its commands, and where it closes, to its pending children and its parent; open_after is the run but for its closing event
+-- the transfers that the commands of a step send, by the events that it wrote
+abbrev pub requests_of : Setup → ℕ → List Event → List Sent
+requests_of setup run events = filter_map (request_transfer setup run) events
+
+-- those that a closing run sends, to its pending children and then to its parent, by its state but for its closing event and by the events that the step wrote
+abbrev pub closings_of : Setup → ℕ → RunState → List Event → List Sent
+closings_of setup run s events = filter_map (close_transfer setup run) (pending AChild s) ++ filter_map (closed_transfer setup run (parent_of s)) events
+
+-- the transfers that a step issues for one run: those of its commands, and those of its closing, where it closes; open_after is the run but for its closing event
 abbrev pub transfers_of : Setup → ℕ → RunState → RunState → RunState → List Sent
 transfers_of setup run before open_after after' =
-    filter_map (request_transfer setup run) (new_events before after')
-    ++ cond (is_open after') [] (filter_map (close_transfer setup run) (pending AChild open_after) ++ filter_map (closed_transfer setup run (parent_of before)) (new_events before after'))
+    let events = new_events before after' in
+    requests_of setup run events ++ cond (is_open after') [] (closings_of setup run open_after events)

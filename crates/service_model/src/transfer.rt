@@ -2,7 +2,7 @@
 
 ghost use Rattle.std.specs.Prelude.{◌≡◌};
 
-use wf_event_values::{Id, ParentClosePolicy, ReusePolicy, RunId, Span, Status, Text};
+use wf_event_values::{Id, ParentClosePolicy, ReusePolicy, RunId, Span, Text};
 
 /// Starts a child.
 pub struct StartChildTransfer {
@@ -65,12 +65,22 @@ impl Drop for ChildStartFailed {
     }
 }
 
+/// How a child closed. One that continues as new tells its parent nothing: the run that follows it does.
+#[derive(Clone, Copy)]
+pub enum ChildStatus {
+    Completed,
+    Failed,
+    Canceled,
+    TimedOut,
+    Terminated,
+}
+
 /// A child closed.
 pub struct ChildClosed {
     pub parent_run: RunId,
     pub initiated: u64,
     pub run: RunId,
-    pub status: Status,
+    pub status: ChildStatus,
     pub text: Text,
 }
 
@@ -198,6 +208,17 @@ impl Drop for TransferContent {
             TransferContent::ExternalDone(_) => {}
         }
     }
+}
+
+/// What a shard says of a transfer that is delivered to it.
+#[derive(Clone, Copy)]
+pub enum Delivery {
+    /// It is the next one of its source: it takes effect now.
+    Accepted,
+    /// It took effect before.
+    AlreadyDelivered,
+    /// One before it has not been delivered yet.
+    OutOfOrder,
 }
 
 /// A transfer under its number between two shards.

@@ -1,50 +1,15 @@
 -- the outbox's and the inbox's words beside those of the sequential service's content
-use Rattle.std.proofs.Common.{◌≡◌, ℕ, zero, suc, ◌+◌, ◌-◌, ◌<◌, Bool, true, false, cond, ◌&&◌, List, [], ◌∷◌, ◌++◌, map, filter, refl, sym, ap, ◌∙◌, arith, append-nil, append_assoc}
-use Rattle.std.specs.Prelude.{nat_le, ◌==◌, slice_set, slice_index_or}
+use Rattle.std.proofs.Common.{◌≡◌, ℕ, zero, suc, ◌+◌, ◌-◌, ◌<◌, true, false, cond, List, [], ◌∷◌, ◌++◌, map, filter, refl, sym, ap, ◌∙◌, arith, append-nil, append_assoc}
+use Rattle.std.specs.Prelude.{◌==◌, slice_set, slice_index_or}
 use Rattle.std.proofs.lemmas.Option.{unwrap_or-slice_get}
 use Rattle.std.proofs.lemmas.List.{set-get_or}
 use Rattle.std.proofs.lemmas.Bool.Decides.{nat_tests}
-use Rattle.service_model.specs.declared.answer.Answer.TheVariants.{Counted}
-use Rattle.service_model.specs.declared.answer.Acknowledged.{Acknowledged}
 use Rattle.service_model.specs.declared.answer.Acknowledged.TheVariants.{Acknowledged as IsNext, Already, OutOfOrder as NotInOrder}
 use Rattle.service_model.specs.declared.content.Outgoing.{Outgoing}
-use Rattle.service_model.specs.Outcome.{Outcome, Counting, Sent, answered}
-use Rattle.service_model.specs.Counts.{counted as counts, acknowledges}
+use Rattle.service_model.specs.Outcome.{Sent}
 use Rattle.service_model.specs.Deliveries.{accepted_from}
 use Rattle.service_model.specs.Service.{with_sent, with_all_sent, one_more_acknowledged}
-use Rattle.transfer.specs.Logs.{judged}
 use Rattle.transfer.specs.Outboxes.{issued_to, acknowledged_to, nothing}
-use Rattle.transfer.specs.Inboxes.{delivery_of}
-use Rattle.transfer.specs.declared.inbox.Delivery.{Delivery}
-use Rattle.transfer.specs.declared.inbox.Delivery.TheVariants.{Accepted, AlreadyDelivered, OutOfOrder}
-
--- what a step does by what an acknowledgement is
-abbrev pub by_judgement : Counting → Acknowledged → Outcome
-by_judgement c IsNext = counts c (Counted IsNext)
-by_judgement c Already = answered (Counted Already)
-by_judgement c NotInOrder = answered (Counted NotInOrder)
-
-pub acknowledges-judged : (issued so_far number : ℕ) (c : Counting) → acknowledges issued so_far number c ≡ by_judgement c (judged issued so_far number)
-acknowledges-judged issued so_far number c = by_tests (nat_le number so_far) ((number == so_far + 1) && nat_le number issued)
-  where
-    by_tests : (a b : Bool) → cond a (answered (Counted Already)) (cond b (counts c (Counted IsNext)) (answered (Counted NotInOrder))) ≡ by_judgement c (cond a Already (cond b IsNext NotInOrder))
-    by_tests true b = refl
-    by_tests false true = refl
-    by_tests false false = refl
-
--- one of three by what a delivery is
-abbrev pub by_delivery : {A : Type 0} → A → A → A → Delivery → A
-by_delivery before now later AlreadyDelivered = before
-by_delivery before now later Accepted = now
-by_delivery before now later OutOfOrder = later
-
-pub deliveries-tests : {A : Type 0} (so_far number : ℕ) (before now later : A) → cond (nat_le number so_far) before (cond (number == so_far + 1) now later) ≡ by_delivery before now later (delivery_of so_far number)
-deliveries-tests {A} so_far number before now later = by_tests (nat_le number so_far) (number == so_far + 1)
-  where
-    by_tests : (a b : Bool) → cond a before (cond b now later) ≡ by_delivery before now later (cond a AlreadyDelivered (cond b Accepted OutOfOrder))
-    by_tests true b = refl
-    by_tests false true = refl
-    by_tests false false = refl
 
 -- the number accepted from a source, as an entry of the list
 pub accepted_from-entry : (all : List ℕ) (from : ℕ) → accepted_from all from ≡ slice_index_or all from 0

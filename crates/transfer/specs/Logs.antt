@@ -1,18 +1,13 @@
 -- what was issued in order, and how much of it is acknowledged
-use Rattle.std.specs.Prelude.{ℕ, ◌+◌, ◌&&◌, ◌==◌, nat_le, List, if◌then◌else◌}
+use Rattle.std.specs.Prelude.{ℕ, ◌+◌, List}
 use Rattle.service_model.specs.declared.answer.Acknowledged.{Acknowledged}
-use Rattle.service_model.specs.declared.answer.Acknowledged.TheVariants.{Acknowledged as IsNext, Already, OutOfOrder}
+use Rattle.service_model.specs.declared.answer.Acknowledged.TheVariants.{Acknowledged as IsNext}
 
 -- what was issued under the numbers 1, 2, 3, .., how many of them are acknowledged, and how many more have room
 pub record Log (T : Type 0) : Type 0 where
   pub issued : List T
   pub acknowledged : ℕ
   pub room : ℕ
-
--- what an acknowledgement of a number is, where so many were issued and so many of them are acknowledged
-abbrev pub judged : ℕ → ℕ → ℕ → Acknowledged
-judged issued so_far number =
-    if nat_le number so_far then Already else if (number == so_far + 1) && nat_le number issued then IsNext else OutOfOrder
 
 -- how many are acknowledged then
 abbrev pub counted : Acknowledged → ℕ → ℕ

@@ -1,23 +1,13 @@
 //! The transfers that a shard accepted.
 
 ghost use Rattle.std.specs.Prelude.{◌≡◌, ◌+◌, ◌<◌, ◌^◌, length, replicate, slice_set, IfOk};
-ghost use Rattle.service_model.specs.Deliveries.{accepted_from};
-ghost use Rattle.transfer.specs.Inboxes.{delivery_of, accepted_then};
+ghost use Rattle.service_model.specs.Deliveries.{accepted_from, delivery_of};
+ghost use Rattle.service_model.specs.declared.transfer.Delivery.TheVariants.{Accepted as IsNext};
+ghost use Rattle.transfer.specs.Inboxes.{accepted_then};
 
-use service_model::transfer::Transfer;
+use service_model::transfer::{Delivery, Transfer};
 use std::alloc::{AllocError, Global};
 use std::marker::Model;
-
-/// What a shard says of a transfer that is delivered to it.
-#[derive(Clone, Copy)]
-pub enum Delivery {
-    /// It is the next one of its source: it takes effect now.
-    Accepted,
-    /// It took effect before.
-    AlreadyDelivered,
-    /// One before it has not been delivered yet.
-    OutOfOrder,
-}
 
 /// How many transfers a shard accepted from each source, by the source's number.
 pub struct Inbox {
@@ -52,7 +42,7 @@ impl Inbox {
     pub fn judge(&self, transfer: &Transfer) -> Delivery
         requires { transfer.now.from < length self.now }
         ensures value { result ≡ delivery_of (accepted_from self.now transfer.now.from) transfer.now.number }
-        ensures countable { result ≡ Delivery.Accepted → accepted_from self.now transfer.now.from + 1 < 2 ^ 64 }
+        ensures countable { result ≡ IsNext → accepted_from self.now transfer.now.from + 1 < 2 ^ 64 }
     {
         let accepted = self.accepted[usize::from(transfer.from)];
         if transfer.number <= accepted {

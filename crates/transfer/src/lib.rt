@@ -7,6 +7,6 @@ mod inbox;
 mod issue_log;
 mod outbox;
 
-pub use inbox::{Delivery, Inbox};
+pub use inbox::Inbox;
 pub use issue_log::IssueLog;
 pub use outbox::Outbox;

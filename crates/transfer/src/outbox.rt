@@ -1,8 +1,7 @@
 //! The transfers that a shard issued.
 
 ghost use Rattle.std.specs.Prelude.{◌≡◌, ℕ, ◌+◌, ◌<◌, ◌≤◌, ◌==◌, length, slice_get, option_map, replicate, IfOk, OnOk, IfSome, if◌then◌else◌};
-ghost use Rattle.service_model.specs.Counts.{outgoing_to};
-ghost use Rattle.transfer.specs.Logs.{judged};
+ghost use Rattle.service_model.specs.Counts.{outgoing_to, acknowledgement_of};
 ghost use Rattle.transfer.specs.Outboxes.{outgoing, room_to, issued_to, acknowledged_to, nothing};
 
 use crate::issue_log::IssueLog;
@@ -84,7 +83,7 @@ impl Outbox {
     pub fn judge(&self, to: u16, number: u64) -> Acknowledged
         requires { to < length self.now }
         ensures { let o = outgoing_to (outgoing self.now) to in
-            result ≡ judged (length o.issued) o.acknowledged number }
+            result ≡ acknowledgement_of (length o.issued) o.acknowledged number }
     {
         let log = &self.logs[usize::from(to)];
         log.judge(number)
@@ -94,7 +93,7 @@ impl Outbox {
     pub fn acknowledge(&mut self, to: u16, number: u64) -> Acknowledged
         requires { to < length self.old }
         ensures value { let o = outgoing_to (outgoing self.old) to in
-            result ≡ judged (length o.issued) o.acknowledged number }
+            result ≡ acknowledgement_of (length o.issued) o.acknowledged number }
         ensures shards { length self.new ≡ length self.old }
         ensures counted { outgoing self.new ≡ acknowledged_to (outgoing self.old) to result }
         ensures room { (shard : ℕ) → room_to self.old shard ≤ room_to self.new shard }
