@@ -14,6 +14,7 @@ use Rattle.wf_command.specs.declared.command.Command.{Command}
 use Rattle.wf_command.specs.declared.command.Command.TheVariants.{ScheduleActivityTask, RequestCancelActivityTask, StartTimer, CancelTimer, RecordMarker, CompleteWorkflowExecution, FailWorkflowExecution, CancelWorkflowExecution, ContinueAsNewWorkflowExecution, StartChildWorkflowExecution, SignalExternalWorkflowExecution, RequestCancelExternalWorkflowExecution}
 use Rattle.wf_command.specs.Check.{attributes_fault}
 use Rattle.service_model.specs.declared.content.Setup.{Setup}
+use Rattle.service_model.specs.Limits.{most_pending}
 use Rattle.service_model.specs.Shown.{is_cancel}
 use Rattle.service_model.specs.Pending.{is_opening, is_settled, is_cancel_request_of, Phase, IsRunning}
 use Rattle.service_model.specs.RunState.{RunState, ActivityRow, used, row_of, held_attributes, queue_of, type_of, last_task}
@@ -65,7 +66,7 @@ in_use_named c name s F = find (λ e. has_name name e.attributes) (in_use_so_far
 
 -- the most that may be pending of a class
 abbrev pub is_full : Class → RunState → List Attributes → Bool
-is_full c s F = nat_le 2000 (length (pending_so_far c s F))
+is_full c s F = nat_le most_pending (length (pending_so_far c s F))
 
 -- what a command gives: its facts, or its fault
 abbrev pub Judged : Type 0

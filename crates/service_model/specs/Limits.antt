@@ -19,3 +19,7 @@ service_numbers = 2 ^ 48
 
 abbrev pub most_commands : ℕ
 most_commands = 10000
+
+-- of each class in a run
+abbrev pub most_pending : ℕ
+most_pending = 2000

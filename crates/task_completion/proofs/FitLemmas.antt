@@ -1,17 +1,20 @@
 -- the facts of commands that are judged without a fault may come
 use Rattle.std.proofs.Common.{◌≡◌, ℕ, ◌+◌, ◌≤◌, Bool, true, false, not, cond, ◌&&◌, ◌||◌, ◌==◌, List, [], ◌∷◌, ◌++◌, length, refl, sym, ap, ◌∙◌, subst, arith, Option, Some, None, append_assoc, append-nil, length-append}
 use Rattle.std.specs.Prelude.{filter, map, is_some, unwrap_or, Result, Ok, Err}
-use Rattle.std.specs.List.{list_any, list_all}
+use Rattle.std.specs.List.{list_any}
 use Rattle.wf_event.specs.declared.event.Event.{Event}
 use Rattle.wf_event.specs.declared.attributes.Attributes.{Attributes}
 use Rattle.wf_event.specs.declared.attributes.Attributes.TheVariants.{WorkflowExecutionCompleted, WorkflowExecutionFailed, WorkflowExecutionCanceled, WorkflowExecutionContinuedAsNew, WorkflowTaskCompleted, MarkerRecorded, ActivityTaskCancelRequested, ActivityTaskCanceled, TimerStarted, TimerCanceled}
-use Rattle.wf_event.specs.Role.{Role, TaskSchedules, TaskStarts, TaskEnds, Closes, TimerFires, TimerCancels, ComesFromOutside, Follows, role, is_closing_role, Class, AnActivity, ATimer, opens, Settled, settles, closing_status}
+use Rattle.wf_event.specs.Role.{Role, TaskSchedules, TaskStarts, TaskEnds, Closes, TimerFires, TimerCancels, ComesFromOutside, Follows, role, is_closing_role, Class, AnActivity, ATimer, AChild, ASignal, ACancel, opens, Settled, settles, closing_status}
 use Rattle.wf_event_values.specs.Run.{Run}
 use Rattle.wf_event_values.specs.declared.policies.Cause.{Cause}
-use Rattle.wf_event_values.specs.declared.policies.Cause.TheVariants.{UnhandledCommand, CommandAfterClose, BadScheduleActivityAttributes, ScheduleActivityDuplicateId, PendingActivitiesLimitExceeded, BadRequestCancelActivityAttributes, StartTimerDuplicateId, BadContinueAsNewAttributes}
+use Rattle.wf_event_values.specs.declared.policies.Cause.TheVariants.{UnhandledCommand, CommandAfterClose, BadScheduleActivityAttributes, ScheduleActivityDuplicateId, PendingActivitiesLimitExceeded, BadRequestCancelActivityAttributes, StartTimerDuplicateId, BadContinueAsNewAttributes, BadStartChildExecutionAttributes, PendingChildWorkflowsLimitExceeded, PendingSignalsLimitExceeded, PendingRequestCancelLimitExceeded}
 use Rattle.wf_command.specs.declared.command.Command.{Command}
-use Rattle.wf_command.specs.declared.command.Command.TheVariants.{ScheduleActivityTask, RequestCancelActivityTask, StartTimer, CancelTimer, RecordMarker, CompleteWorkflowExecution, FailWorkflowExecution, CancelWorkflowExecution, ContinueAsNewWorkflowExecution}
+use Rattle.wf_command.specs.declared.command.Command.TheVariants.{ScheduleActivityTask, RequestCancelActivityTask, StartTimer, CancelTimer, RecordMarker, CompleteWorkflowExecution, FailWorkflowExecution, CancelWorkflowExecution, ContinueAsNewWorkflowExecution, StartChildWorkflowExecution, SignalExternalWorkflowExecution, RequestCancelExternalWorkflowExecution}
 use Rattle.wf_command.specs.declared.command.ScheduleActivityTask.{ScheduleActivityTask as ScheduleActivity}
+use Rattle.wf_command.specs.declared.command.StartChild.{StartChild}
+use Rattle.wf_command.specs.declared.command.SignalExternal.{SignalExternal}
+use Rattle.wf_command.specs.declared.command.RequestCancelExternal.{RequestCancelExternal}
 use Rattle.wf_command.specs.Check.{attributes_fault}
 use Rattle.service_model.specs.declared.content.Setup.{Setup}
 use Rattle.service_model.specs.declared.journal.Fact.{Fact}
@@ -22,7 +25,6 @@ use Rattle.service_model.specs.Pending.{NoTask, IsStarted, task_of, is_opening, 
 use Rattle.service_model.specs.RunState.{RunState, signal_request_by, used, pending, held_attributes, is_open, is_open_status, queue_of, type_of, last_task}
 use Rattle.service_model.specs.Signals.{was_signaled}
 use Rattle.service_model.specs.Outcome.{knows_queue, schedule_task}
-use Rattle.service_model.specs.Service.{is_served}
 use Rattle.service_model.specs.Tasks.{is_started_task}
 use Rattle.service_model.specs.Completion.{Judged, judge, judge_all, judge_fields_good, go_on, goes_on, after_check, fault_if, gives, cancel_timer, in_use_so_far, in_use_named, has_name, is_full, is_settled_so_far, was_asked_to_cancel, is_attempt_running, cancels_at_once, cancel_facts, is_some_held, is_cancel_of_activity, completed_task}
 use Rattle.buffered.specs.Buffers.{pushed, flushed, fires}
@@ -30,7 +32,9 @@ use Rattle.mutable_state.specs.Steps.{buffer_of, carried, unheld_by, with_new, w
 use Rattle.mutable_state.specs.Readers.{IsGrounded}
 use Rattle.mutable_state.proofs.JournalLemmas.{used-more}
 use Rattle.mutable_state.proofs.OpenLemmas.{any-push, filter-map, left-is, nat-same, same-as}
+use Rattle.buffered.specs.Courses.{cancels_timer}
 use Rattle.task_completion.specs.Judging.{IsSoFar, scheduled_by}
+use Rattle.task_completion.specs.Outward.{child_asked, external_signal, external_cancel}
 use Rattle.task_completion.proofs.SoFarLemmas.{next_event, Comes, uses-more, so-far-more, so-far-none, settled-more, left-settled, comes-pending, comes-quiet, comes-cancel, id-low, found-in, used-ids, length-push, all-in-use}
 
 -- a run in the course of a completion, behind the task's end and the facts so far
@@ -158,6 +162,18 @@ plain-cancel name started = record { stays = refl; schedules = refl; turns = ref
 plain-scheduled : (c : ScheduleActivity) → IsPlain (scheduled_by c)
 unfolding role closing_status
 plain-scheduled c = record { stays = refl; schedules = refl; turns = refl; status = refl; starts = refl; signals = refl; fits = λ p t more h. h }
+
+plain-child : (c : StartChild) → IsPlain (child_asked c)
+unfolding role closing_status
+plain-child c = record { stays = refl; schedules = refl; turns = refl; status = refl; starts = refl; signals = refl; fits = λ p t more h. h }
+
+plain-signal : (c : SignalExternal) → IsPlain (external_signal c)
+unfolding role closing_status
+plain-signal c = record { stays = refl; schedules = refl; turns = refl; status = refl; starts = refl; signals = refl; fits = λ p t more h. h }
+
+plain-request : (c : RequestCancelExternal) → IsPlain (external_cancel c)
+unfolding role closing_status
+plain-request c = record { stays = refl; schedules = refl; turns = refl; status = refl; starts = refl; signals = refl; fits = λ p t more h. h }
 
 plain-asked : (id : ℕ) → IsPlain (ActivityTaskCancelRequested id)
 unfolding role closing_status
@@ -338,16 +354,24 @@ goes-request at setup next s G F t cs id g now again free h =
     unsettled_one true y k = absurd (cc)
     unsettled_one false y k = refl
 
+-- something is asked of another workflow
+goes-asked-outward : (at : ℕ) (setup : Setup) (next : Run) (s : RunState) (G F : List Attributes) (t : RunState) (cs : List Command) (d : Class) (limit : Cause) (a : Attributes) → IsGrounded s → Now s F t →
+    ((F' : List Attributes) (t' : RunState) → Now s F' t' → judge_all setup next s F' cs ≡ Ok G → Goes at s G F' t') →
+    IsPlain a → settles a ≡ None → cancels_timer (role a) ≡ false → may_ask a t ≡ true → MaySettle (role a) (settles a) t → go_on (fault_if (is_full d s F) limit (gives a)) (λ facts. judge_all setup next s (F ++ facts) cs) ≡ Ok G → Goes at s G F t
+goes-asked-outward at setup next s G F t cs d limit a g now again is none stays asks may h =
+    let room = no-fault (is_full d s F) limit (gives a) (λ facts. judge_all setup next s (F ++ facts) cs) G h in
+    goes-plain at s G F a t now is may asks (again (F ++ a ∷ []) (with_event at None a t) (now-more at s F a t g now is (comes-quiet s F a stays none)) room.1)
+
 -- one command, and the rest
 goes-one : (at : ℕ) (setup : Setup) (next : Run) (s : RunState) (G F : List Attributes) (t : RunState) (cs : List Command) → IsGrounded s → Now s F t →
     ((F' : List Attributes) (t' : RunState) → Now s F' t' → judge_all setup next s F' cs ≡ Ok G → Goes at s G F' t') →
-    (command : Command) → is_served command ≡ true → go_on (after_check (attributes_fault command) (judge_fields_good setup next s F command)) (λ facts. judge_all setup next s (F ++ facts) cs) ≡ Ok G → Goes at s G F t
+    (command : Command) → go_on (after_check (attributes_fault command) (judge_fields_good setup next s F command)) (λ facts. judge_all setup next s (F ++ facts) cs) ≡ Ok G → Goes at s G F t
 unfolding judge_fields_good role settles
-goes-one at setup next s G F t cs g now again (RecordMarker m) served h =
+goes-one at setup next s G F t cs g now again (RecordMarker m) h =
     let a = MarkerRecorded (record { name = m.name; details = m.details }) in
     let is = plain-marker m.name m.details in
     goes-plain at s G F a t now is tt refl (again (F ++ a ∷ []) (with_event at None a t) (now-more at s F a t g now is (comes-quiet s F a refl refl)) h)
-goes-one at setup next s G F t cs g now again (ScheduleActivityTask c) served h =
+goes-one at setup next s G F t cs g now again (ScheduleActivityTask c) h =
     let a = scheduled_by c in
     let is = plain-scheduled c in
     let more : List Attributes → Judged = λ facts. judge_all setup next s (F ++ facts) cs in
@@ -358,44 +382,45 @@ goes-one at setup next s G F t cs g now again (ScheduleActivityTask c) served h 
     let unused = no-fault (is_some (in_use_named AnActivity c.activity_id s F)) ScheduleActivityDuplicateId few more G known.1 in
     let room = no-fault (is_full AnActivity s F) PendingActivitiesLimitExceeded (gives a) more G unused.1 in
     goes-plain at s G F a t now is tt refl (again (F ++ a ∷ []) (with_event at None a t) (now-more at s F a t g now is (comes-quiet s F a refl refl)) room.1)
-goes-one at setup next s G F t cs g now again (RequestCancelActivityTask id) served h =
+goes-one at setup next s G F t cs g now again (RequestCancelActivityTask id) h =
     let free = no-fault (not (list_any (λ (e : Event). e.id == id) (in_use_so_far AnActivity s F)) || was_asked_to_cancel id s F) BadRequestCancelActivityAttributes (Ok (cancel_facts id (cancels_at_once id s F))) (λ facts. judge_all setup next s (F ++ facts) cs) G h in
     goes-request at setup next s G F t cs id g now again free.0 free.1
-goes-one at setup next s G F t cs g now again (StartTimer c) served h =
+goes-one at setup next s G F t cs g now again (StartTimer c) h =
     let a = TimerStarted (record { timer_id = c.timer_id; duration = c.duration }) in
     let is = plain-timer c.timer_id c.duration in
     let more : List Attributes → Judged = λ facts. judge_all setup next s (F ++ facts) cs in
     let good = no-check (attributes_fault (StartTimer c)) (fault_if (is_some (in_use_named ATimer c.timer_id s F)) StartTimerDuplicateId (gives a)) more G h in
     let free = no-fault (is_some (in_use_named ATimer c.timer_id s F)) StartTimerDuplicateId (gives a) more G good in
     goes-plain at s G F a t now is tt refl (again (F ++ a ∷ []) (with_event at None a t) (now-more at s F a t g now is (comes-quiet s F a refl refl)) free.1)
-goes-one at setup next s G F t cs g now again (CancelTimer name) served h = goes-cancel at setup next s G F t cs name g now again (in_use_named ATimer name s F) refl h
-goes-one at setup next s G F t cs g now again (CompleteWorkflowExecution r) served h =
+goes-one at setup next s G F t cs g now again (CancelTimer name) h = goes-cancel at setup next s G F t cs name g now again (in_use_named ATimer name s F) refl h
+goes-one at setup next s G F t cs g now again (CompleteWorkflowExecution r) h =
     goes-close at setup next s G F (WorkflowExecutionCompleted r) t cs now refl (no-fault (is_some_held s F) UnhandledCommand (gives (WorkflowExecutionCompleted r)) (λ facts. judge_all setup next s (F ++ facts) cs) G h).1
-goes-one at setup next s G F t cs g now again (FailWorkflowExecution m) served h =
+goes-one at setup next s G F t cs g now again (FailWorkflowExecution m) h =
     goes-close at setup next s G F (WorkflowExecutionFailed m) t cs now refl (no-fault (is_some_held s F) UnhandledCommand (gives (WorkflowExecutionFailed m)) (λ facts. judge_all setup next s (F ++ facts) cs) G h).1
-goes-one at setup next s G F t cs g now again (CancelWorkflowExecution d) served h =
+goes-one at setup next s G F t cs g now again (CancelWorkflowExecution d) h =
     goes-close at setup next s G F (WorkflowExecutionCanceled d) t cs now refl (no-fault (is_some_held s F) UnhandledCommand (gives (WorkflowExecutionCanceled d)) (λ facts. judge_all setup next s (F ++ facts) cs) G h).1
-goes-one at setup next s G F t cs g now again (ContinueAsNewWorkflowExecution c) served h =
+goes-one at setup next s G F t cs g now again (ContinueAsNewWorkflowExecution c) h =
     let a = WorkflowExecutionContinuedAsNew (record { new_run = next; workflow_type = unwrap_or c.workflow_type (type_of s); task_queue = unwrap_or c.task_queue (queue_of s); input = c.input }) in
     let more : List Attributes → Judged = λ facts. judge_all setup next s (F ++ facts) cs in
     let known = no-fault (not (knows_queue setup (unwrap_or c.task_queue (queue_of s)))) BadContinueAsNewAttributes (fault_if (is_some_held s F) UnhandledCommand (gives a)) more G h in
     goes-close at setup next s G F a t cs now refl (no-fault (is_some_held s F) UnhandledCommand (gives a) more G known.1).1
-goes-one at setup next s G F t cs g now again _ served h = absurd (cc)
+goes-one at setup next s G F t cs g now again (StartChildWorkflowExecution c) h =
+    let more : List Attributes → Judged = λ facts. judge_all setup next s (F ++ facts) cs in
+    let few : Judged = fault_if (is_full AChild s F) PendingChildWorkflowsLimitExceeded (gives (child_asked c)) in
+    let known = no-fault (not (knows_queue setup c.task_queue)) BadStartChildExecutionAttributes few more G h in
+    goes-asked-outward at setup next s G F t cs AChild PendingChildWorkflowsLimitExceeded (child_asked c) g now again (plain-child c) refl refl refl tt known.1
+goes-one at setup next s G F t cs g now again (SignalExternalWorkflowExecution c) h = goes-asked-outward at setup next s G F t cs ASignal PendingSignalsLimitExceeded (external_signal c) g now again (plain-signal c) refl refl refl tt h
+goes-one at setup next s G F t cs g now again (RequestCancelExternalWorkflowExecution c) h = goes-asked-outward at setup next s G F t cs ACancel PendingRequestCancelLimitExceeded (external_cancel c) g now again (plain-request c) refl refl refl tt h
 
 goes-none : (at : ℕ) (s : RunState) (F : List Attributes) (t : RunState) → Now s F t → (b : Bool) → goes_on s F ≡ b → Goes at s F F t
 goes-none at s F t now true is = ([], sym (append-nil F), subst (λ b. FitFrom IsBehindEnd at t (map plain (cond b (schedule_task s 1 ∷ []) []))) (sym is) (fits-schedule 1 s t IsBehindEnd now.open_run now.none, tt))
 goes-none at s F t now false is = ([], sym (append-nil F), subst (λ b. FitFrom IsBehindEnd at t (map plain (cond b (schedule_task s 1 ∷ []) []))) (sym is) tt)
 
-both : (x y : Bool) → (x && y) ≡ true → (x ≡ true) × (y ≡ true)
-both true y h = (refl, h)
-both false y h = absurd (cc)
-
-goes : (at : ℕ) (setup : Setup) (next : Run) (s : RunState) (G : List Attributes) → IsGrounded s → (commands : List Command) (F : List Attributes) (t : RunState) → Now s F t → list_all is_served commands ≡ true → judge_all setup next s F commands ≡ Ok G → Goes at s G F t
+goes : (at : ℕ) (setup : Setup) (next : Run) (s : RunState) (G : List Attributes) → IsGrounded s → (commands : List Command) (F : List Attributes) (t : RunState) → Now s F t → judge_all setup next s F commands ≡ Ok G → Goes at s G F t
 unfolding judge_all judge
-goes at setup next s G g [] F t now served h = let is : F ≡ G = cc in subst (λ H. Goes at s H F t) is (goes-none at s F t now (goes_on s F) refl)
-goes at setup next s G g (command ∷ cs) F t now served h =
-    let here = both (is_served command) (list_all is_served cs) served in
-    goes-one at setup next s G F t cs g now (λ F' t' n e. goes at setup next s G g cs F' t' n here.1 e) command here.0
+goes at setup next s G g [] F t now h = let is : F ≡ G = cc in subst (λ H. Goes at s H F t) is (goes-none at s F t now (goes_on s F) refl)
+goes at setup next s G g (command ∷ cs) F t now h =
+    goes-one at setup next s G F t cs g now (λ F' t' n e. goes at setup next s G g cs F' t' n e) command
     (ap (λ b. go_on (fault_if b CommandAfterClose (after_check (attributes_fault command) (judge_fields_good setup next s F command))) (λ facts. judge_all setup next s (F ++ facts) cs)) (sym now.still_open) ∙ h)
 
 -- the end of a started task
@@ -418,12 +443,12 @@ now-first at scheduled started s g opened task =
     }
 
 -- what a completion adds to its run may come
-pub completed-fits : (at : ℕ) (setup : Setup) (next : Run) (s : RunState) (commands : List Command) (F : List Attributes) → IsGrounded s → is_open s ≡ true → s.task ≡ IsStarted → list_all is_served commands ≡ true → judge_all setup next s [] commands ≡ Ok F →
+pub completed-fits : (at : ℕ) (setup : Setup) (next : Run) (s : RunState) (commands : List Command) (F : List Attributes) → IsGrounded s → is_open s ≡ true → s.task ≡ IsStarted → judge_all setup next s [] commands ≡ Ok F →
     FitStep at s (map plain (completed_task s F))
 unfolding role completed_task
-completed-fits at setup next s commands F g opened task served h =
+completed-fits at setup next s commands F g opened task h =
     let t = last_task s in
-    let (rest, all, fit) = goes at setup next s F g commands [] (with_event at None (WorkflowTaskCompleted (record { scheduled = t.scheduled; started = t.started })) s) (now-first at t.scheduled t.started s g opened task) served h in
+    let (rest, all, fit) = goes at setup next s F g commands [] (with_event at None (WorkflowTaskCompleted (record { scheduled = t.scheduled; started = t.started })) s) (now-first at t.scheduled t.started s g opened task) h in
     let tail = F ++ cond (goes_on s F) (schedule_task s 1 ∷ []) [] in (
       end-fits t.scheduled t.started (map plain tail) s opened task,
       subst (λ l. FitFrom IsBehindEnd at (with_event at None (WorkflowTaskCompleted (record { scheduled = t.scheduled; started = t.started })) s) (map plain (l ++ cond (goes_on s F) (schedule_task s 1 ∷ []) []))) (sym all) fit,

@@ -52,7 +52,7 @@ pub record Comes (s : RunState) (F : List Attributes) (a : Attributes) : Type 0 
   pub aims : (c : Class) (id : ℕ) → is_settling c id (settles a) ≡ true → id ≤ length s.shown + 1 + length F
 
 -- what an event gets as its id is not settled
-unseen : (c : Class) (id : ℕ) (s : RunState) (F : List Attributes) → IsGrounded s → IsSoFar s F → length s.shown + 2 + length F ≤ id → is_settled_so_far c id s F ≡ false
+pub unseen : (c : Class) (id : ℕ) (s : RunState) (F : List Attributes) → IsGrounded s → IsSoFar s F → length s.shown + 2 + length F ≤ id → is_settled_so_far c id s F ≡ false
 unseen c id s F g h over = not-found _ (λ k. or-either (is_settled c id (held_attributes s)) (is_settled c id F) ⊥
     (λ x. let low = g.settled c id x in omega (arith, low, over)) (λ x. let low = h.settled c id x in omega (arith, low, over)) k)
 

@@ -5,27 +5,33 @@ ghost use Rattle.std.specs.List.{list_any};
 ghost use Rattle.wf_event.specs.RetryPolicies.{good_policy};
 ghost use Rattle.service_model.specs.Completion.{has_members};
 ghost use Rattle.service_model.specs.Pending.{is_cancel_request_of};
-ghost use Rattle.task_completion.specs.Judging.{event_named, HasGoodPolicy, is_asked, activity_scheduled, activity_asked, cancel_asked, timer_started, timer_canceled, recorded, closed, continued, by_kind, judged_now, Leaves};
+ghost use Rattle.wf_event.specs.Role.{ASignal, ACancel};
+ghost use Rattle.wf_event_values.specs.declared.policies.Cause.TheVariants.{PendingSignalsLimitExceeded, PendingRequestCancelLimitExceeded};
+ghost use Rattle.wf_command.specs.declared.command.Command.TheVariants as a_command;
+ghost use Rattle.task_completion.specs.Outward.{external_signal, external_cancel};
+ghost use Rattle.task_completion.specs.Judging.{asked, event_named, HasGoodPolicy, is_asked, activity_scheduled, activity_asked, cancel_asked, timer_started, timer_canceled, recorded, closed, continued, by_kind, judged_now, Leaves};
 
 use crate::follows::{continued_as_new, queue_after};
+use crate::outward::{Outward, child_asked, external_cancel, external_signal};
 use crate::rows::{
     count_pending, event_named, has_pending_row, has_row, is_firing_of, is_running, was_asked,
 };
 use crate::scheduled::scheduled;
 use mutable_state::{NotedActivity, Used};
 use service_model::content::Setup;
+use service_model::limits::MOST_PENDING;
 use std::alloc::{AllocError, Global};
 use std::marker::Model;
-use wf_command::command::{ContinueAsNew, RecordMarker, ScheduleActivityTask, StartTimer};
+use wf_command::command::{
+    ContinueAsNew, RecordMarker, RequestCancelExternal, ScheduleActivityTask, SignalExternal,
+    StartChild, StartTimer,
+};
 use wf_command::{Command, check};
 use wf_event::Attributes;
 use wf_event::payloads::{
     ActivityTaskCanceled, MarkerRecorded, TimerEnd, TimerStarted, WorkflowExecutionStarted,
 };
 use wf_event_values::{Cause, Id, RunId, Text};
-
-/// The most activities that may be pending in a run.
-const MOST_PENDING: usize = 2000;
 
 /// The facts of the commands so far, and what is in use and held back behind them.
 pub struct SoFar<'a> {
@@ -46,6 +52,7 @@ pub struct SoFar<'a> {
     notes: Vec<NotedActivity>,
     /// Of each event that is still held back the timer that it fires.
     held: Vec<Option<u64>>,
+    outward: Outward,
 }
 
 impl<'a> Drop for SoFar<'a> {
@@ -62,6 +69,7 @@ impl<'a> Drop for SoFar<'a> {
             activities: _,
             notes: _,
             held: _,
+            outward: _,
         } = self;
     }
 }
@@ -82,6 +90,7 @@ impl<'a> Model for SoFar<'a> {
       activities = k.activities.items;
       notes = k.notes.items;
       held = k.held.items;
+      outward = k.outward;
     } };
 }
 
@@ -97,6 +106,7 @@ impl<'a> SoFar<'a> {
         activities: Vec<Used<'a>>,
         notes: Vec<NotedActivity>,
         held: Vec<Option<u64>>,
+        outward: Outward,
     ) -> SoFar<'a>
         ensures setup { result.setup ≡ setup.now }
         ensures next { result.next ≡ next }
@@ -108,6 +118,7 @@ impl<'a> SoFar<'a> {
         ensures activities { result.activities ≡ activities.entry.items }
         ensures notes { result.notes ≡ notes.items }
         ensures held { result.held ≡ held.items }
+        ensures outward { result.outward ≡ outward }
     {
         SoFar {
             alloc,
@@ -121,6 +132,7 @@ impl<'a> SoFar<'a> {
             activities,
             notes,
             held,
+            outward,
         }
     }
 
@@ -137,7 +149,7 @@ impl<'a> SoFar<'a> {
         self.judge_checked(command)
     }
 
-    /// Judges a command whose own fields have no fault. Those of other types are not served so far.
+    /// Judges a command whose own fields have no fault.
     fn judge_checked(&mut self, command: &'a Command) -> Result<Result<(), Cause>, AllocError>
         requires { HasGoodPolicy command.now }
         ensures { IfOk result (Leaves self.new (by_kind self.old command.now)) }
@@ -160,7 +172,11 @@ impl<'a> SoFar<'a> {
                 self.close(Attributes::WorkflowExecutionCanceled(details.clone()?))
             }
             Command::ContinueAsNewWorkflowExecution(command) => self.continue_as_new(command),
-            _ => Ok(Err(Cause::UnhandledCommand)),
+            Command::StartChildWorkflowExecution(command) => self.start_child(command),
+            Command::SignalExternalWorkflowExecution(command) => self.signal_external(command),
+            Command::RequestCancelExternalWorkflowExecution(command) => {
+                self.request_cancel_external(command)
+            }
         }
     }
 
@@ -187,7 +203,7 @@ impl<'a> SoFar<'a> {
         if event_named(self.activities.as_slice(), &activity.activity_id).is_some() {
             return Ok(Err(Cause::ScheduleActivityDuplicateId));
         }
-        if MOST_PENDING <= count_pending(self.activities.as_slice()) {
+        if MOST_PENDING <= count_pending(self.activities.as_slice()) as u64 {
             return Ok(Err(Cause::PendingActivitiesLimitExceeded));
         }
         let event = self.next_event()?;
@@ -304,6 +320,48 @@ impl<'a> SoFar<'a> {
         self.close(event)
     }
 
+    fn start_child(&mut self, command: &StartChild) -> Result<Result<(), Cause>, AllocError>
+        ensures { IfOk result (Leaves self.new
+            (by_kind self.old (a_command.StartChildWorkflowExecution command.now))) }
+    {
+        if !self.setup.knows_queue(&command.task_queue) {
+            return Ok(Err(Cause::BadStartChildExecutionAttributes));
+        }
+        if MOST_PENDING <= self.outward.children {
+            return Ok(Err(Cause::PendingChildWorkflowsLimitExceeded));
+        }
+        self.facts.push(child_asked(command)?)?;
+        self.outward.children += 1;
+        Ok(Ok(()))
+    }
+
+    fn signal_external(&mut self, command: &SignalExternal) -> Result<Result<(), Cause>, AllocError>
+        ensures { IfOk result (Leaves self.new (asked ASignal
+            PendingSignalsLimitExceeded (external_signal command.now) self.old)) }
+    {
+        if MOST_PENDING <= self.outward.signals {
+            return Ok(Err(Cause::PendingSignalsLimitExceeded));
+        }
+        self.facts.push(external_signal(command)?)?;
+        self.outward.signals += 1;
+        Ok(Ok(()))
+    }
+
+    fn request_cancel_external(
+        &mut self,
+        command: &RequestCancelExternal,
+    ) -> Result<Result<(), Cause>, AllocError>
+        ensures { IfOk result (Leaves self.new (asked ACancel
+            PendingRequestCancelLimitExceeded (external_cancel command.now) self.old)) }
+    {
+        if MOST_PENDING <= self.outward.cancels {
+            return Ok(Err(Cause::PendingRequestCancelLimitExceeded));
+        }
+        self.facts.push(external_cancel(command)?)?;
+        self.outward.cancels += 1;
+        Ok(Ok(()))
+    }
+
     /// Whether an event is still held back.
     pub fn is_some_held(&self) -> bool
         ensures { result ≡ has_members self.now.held }
@@ -333,6 +391,7 @@ impl<'a> SoFar<'a> {
             activities: _,
             notes: _,
             held: _,
+            outward: _,
         } = self;
         facts
     }

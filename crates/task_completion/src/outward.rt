@@ -1,0 +1,67 @@
+//! What commands ask of other workflows: that children start, that others are signaled or asked to cancel.
+
+ghost use Rattle.std.specs.Prelude.{◌≡◌, IfOk};
+ghost use Rattle.task_completion.specs.Outward.{child_asked, external_signal, external_cancel};
+
+use service_model::limits::used_task_timeout;
+use std::alloc::AllocError;
+use wf_command::command::{RequestCancelExternal, SignalExternal, StartChild};
+use wf_event::Attributes;
+use wf_event::payloads::{
+    RequestCancelExternalWorkflowExecutionInitiated, SignalExternalWorkflowExecutionInitiated,
+    StartChildWorkflowExecutionInitiated,
+};
+
+/// How much is pending of what a run asked of other workflows.
+#[derive(Clone, Copy)]
+pub struct Outward {
+    pub children: u64,
+    pub signals: u64,
+    pub cancels: u64,
+}
+
+/// The event of a child that is to start.
+pub(crate) fn child_asked(command: &StartChild) -> Result<Attributes, AllocError>
+    ensures { IfOk result (λ a. a ≡ child_asked command.now) }
+{
+    Ok(Attributes::StartChildWorkflowExecutionInitiated(StartChildWorkflowExecutionInitiated {
+        workflow_id: command.workflow_id.clone()?,
+        workflow_type: command.workflow_type.clone()?,
+        task_queue: command.task_queue.clone()?,
+        input: command.input.clone()?,
+        reuse: command.reuse,
+        parent_close: command.parent_close,
+        run_timeout: command.run_timeout,
+        task_timeout: used_task_timeout(command.task_timeout),
+    }))
+}
+
+/// The event of a signal to another workflow.
+pub(crate) fn external_signal(command: &SignalExternal) -> Result<Attributes, AllocError>
+    ensures { IfOk result (λ a. a ≡ external_signal command.now) }
+{
+    let workflow_id = command.workflow_id.clone()?;
+    let name = command.name.clone()?;
+    let input = command.input.clone()?;
+    Ok(Attributes::SignalExternalWorkflowExecutionInitiated(
+        SignalExternalWorkflowExecutionInitiated {
+            workflow_id,
+            run: command.run,
+            name,
+            input,
+        },
+    ))
+}
+
+/// The event of a request to another workflow to cancel.
+pub(crate) fn external_cancel(command: &RequestCancelExternal) -> Result<Attributes, AllocError>
+    ensures { IfOk result (λ a. a ≡ external_cancel command.now) }
+{
+    let workflow_id = command.workflow_id.clone()?;
+    Ok(Attributes::RequestCancelExternalWorkflowExecutionInitiated(
+        RequestCancelExternalWorkflowExecutionInitiated {
+            workflow_id,
+            run: command.run,
+        },
+    ))
+}
