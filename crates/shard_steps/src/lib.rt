@@ -7,6 +7,7 @@
 mod activities;
 mod activity_turns;
 mod attempts;
+mod changed;
 mod dispatches;
 mod ends;
 mod notes;
@@ -19,6 +20,7 @@ mod verdicts;
 
 pub use activities::attempt_task;
 pub use attempts::{ended_facts, is_running};
+pub use changed::Changed;
 pub use dispatches::{Dispatches, readied};
 pub use ends::{cancel_facts, is_repeated, terminated_facts};
 pub use notes::note_facts;
