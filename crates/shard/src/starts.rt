@@ -7,11 +7,12 @@ ghost use Rattle.service_model.specs.IdPolicy.{decide, is_same_request};
 ghost use Rattle.service_model.specs.Outcome.{latest_run, run_at};
 ghost use Rattle.service_model.specs.Starts.{start, start_request, starts_new, started_fact, first_task};
 ghost use Rattle.shard.specs.View.{state, states, runs_in};
-ghost use Rattle.shard.specs.Fitting.{FitsStep, IsFree, decided, decided_by};
+ghost use Rattle.shard.specs.Fitting.{FitsStep, IsFree, IsMade, decided, decided_by};
+ghost use Rattle.shard_steps.specs.Kept.{IsNoted};
 ghost use Rattle.shard_steps.specs.Starts.{first_facts, MayBegin};
 
 use crate::index::shard_of;
-use crate::plan::{Change, NewRun, Plan};
+use crate::plan::{Change, Count, NewRun, Plan};
 use crate::prepare::{answered, refused};
 use crate::shard::Shard;
 use id_policy::{Decision, Latest, decide};
@@ -140,23 +141,44 @@ impl<T: KeepsRun> Shard<T> {
         ensures plan { IfOk result (λ plan. FitsStep self.new plan moment
             (starts_new (runs_in self.old) None (first_facts beginning))) }
     {
+        let made = self.prepare_made(moment, beginning)?;
+        let ordinal = self.runs.len() + 1;
+        Ok(Plan {
+            moment,
+            change: Change {
+                added: None,
+                created: Some(made),
+                count: Count::Nothing,
+            },
+            reply: Ok(Answer::Started(self.run_id(ordinal))),
+        })
+    }
+
+    /// A run that begins so, with room for it.
+    pub(crate) fn prepare_made(
+        &mut self,
+        moment: Moment,
+        beginning: Beginning,
+    ) -> Result<NewRun<T>, AllocError>
+        requires { MayBegin moment beginning }
+        ensures same { state self.new ≡ state self.old }
+        ensures runs { self.new.runs ≡ self.old.runs }
+        ensures noted { OnOk result (IsNoted self.new.changed) }
+        ensures made { IfOk result (λ made. IsMade self.new moment made beginning) }
+    {
         let id = beginning.started.workflow_id.as_str();
         let key = String::from_str(self.alloc, id)?;
         let run = new_run(self.alloc, moment, beginning)?;
         self.reserve_run()?;
-        let ordinal = self.runs.len() + 1;
-        Ok(Plan {
-            moment,
-            change: Change::Created(NewRun { run, key }),
-            reply: Ok(Answer::Started(self.run_id(ordinal))),
-        })
+        Ok(NewRun { run, key })
     }
 
     /// Makes room for one more run.
     fn reserve_run(&mut self) -> Result<(), AllocError>
         ensures same { state self.new ≡ state self.old }
+        ensures runs { self.new.runs ≡ self.old.runs }
         ensures room { OnOk result (0 < self.new.room) }
-        ensures noted { OnOk result (self.new.changed ≡ None) }
+        ensures noted { OnOk result (IsNoted self.new.changed) }
         ensures few { OnOk result (length self.new.runs + 1 < 2 ^ 60) }
     {
         if self.runs.len() >= MOST_MEMBERS {
