@@ -28,8 +28,8 @@ invariant_of-self-2 g c =
       c.self.invariant.0,
       c.self.invariant.1,
       c.self.invariant.2,
-      subst (λ o. P _ o) (sym grown) (subst (λ l. P l None) (sym c.set.ensures.slots) (made-noted c.self.inside.deadlines.slots n runs s c.in_ok-due.due there c.in_ok-due.ensures firsts)),
-      subst (λ o. Q _ o) (sym grown) (subst (λ l. Q l None) (sym c.in_ok-issue.ensures.shown) (made-noted c.self.inside.dispatches.shown n runs s c.in_ok-shown.shown there c.in_ok-shown.ensures.count counts)),
+      subst (λ o. P c.set.new.self.slots o) (sym grown) (subst (λ l. P l None) (sym c.set.ensures.slots) (made-noted c.self.inside.deadlines.slots n runs s c.in_ok-due.due there c.in_ok-due.ensures firsts)),
+      subst (λ o. Q c.issue.new.self.shown o) (sym grown) (subst (λ l. Q l None) (sym c.in_ok-issue.ensures.shown) (made-noted c.self.inside.dispatches.shown n runs s c.in_ok-shown.shown there c.in_ok-shown.ensures.count counts)),
     )
 
 pub returns-clause-same : goal.returns-clause-same
