@@ -1,8 +1,6 @@
 -- one shard of the sequential service: what each request is answered, and the content that it leaves
 use Rattle.std.specs.Prelude.{Bool, true, false, ℕ, ◌+◌, ◌-◌, max, cond, ◌==◌, List, [], ◌∷◌, ◌++◌, length, map, filter, Option, None, Some, replicate, slice_index_or, slice_set}
 use Rattle.wf_event_values.specs.declared.field.Field.TheVariants as field
-use Rattle.wf_event_values.specs.declared.policies.ConflictPolicy.{ConflictPolicy}
-use Rattle.wf_event_values.specs.declared.policies.ConflictPolicy.TheVariants.{TerminateExisting}
 use Rattle.wf_event_values.specs.declared.refusal.Refusal.TheVariants.{InvalidArgument}
 use Rattle.std.specs.List.{list_all, fold}
 pub use Rattle.wf_command.specs.Served.{is_served}
@@ -91,21 +89,13 @@ outcome S m (ToAcknowledge q) = acknowledge S.setup S.outgoing q
 outcome S m ToShowDispatch = next_dispatch S.dispatches S.dispatched
 outcome S m (ToCountDispatch number) = dispatched S.dispatches S.dispatched number
 
-abbrev pub is_terminate_existing : ConflictPolicy → Bool
-is_terminate_existing TerminateExisting = true
-is_terminate_existing _ = false
-
--- a start that would terminate a run isn't served yet, and is refused by name
-abbrev pub at_served_policies : Start → Outcome → Outcome
-at_served_policies q rest = cond (is_terminate_existing q.conflict) (refused (InvalidArgument field.Conflict)) rest
-
 -- completions are served with commands of these types so far, and others are refused
 abbrev pub at_served_commands : CompleteWorkflowTask → Outcome → Outcome
 at_served_commands q rest = cond (list_all is_served q.commands) rest (refused (InvalidArgument field.Type))
 
 -- what an operation does, at the step's moment
 unfoldable pub outcome_of : Content → ℕ → Operation → Outcome
-outcome_of S m (served.Start q) = at_served_policies q (outcome S m (ToStart q))
+outcome_of S m (served.Start q) = outcome S m (ToStart q)
 outcome_of S m (served.Signal q) = outcome S m (ToSignal q)
 outcome_of S m (served.SignalWithStart q) = outcome S m (ToSignalWithStart q)
 outcome_of S m (served.RequestCancel q) = outcome S m (ToRequestCancel q)

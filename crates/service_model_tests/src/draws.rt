@@ -17,7 +17,7 @@ impl Draws {
         }
     }
 
-    /// Whether runs are asked to cancel, terminated, and started by signals. With seeds to 10 they are not,
+    /// Whether runs are asked to cancel, terminated, continued as new, and started by signals. With seeds to 10 they are not,
     /// since runs that end early seldom come to the rarer ends of activities.
     pub(crate) fn has_ends(&self) -> bool {
         self.ends

@@ -10,3 +10,5 @@ mod draws;
 mod known;
 #[cfg(test)]
 mod requests;
+#[cfg(test)]
+mod tally;

@@ -12,7 +12,9 @@ use service_model::request::{
 };
 use std::alloc::Global;
 use wf_command::Command;
-use wf_command::command::{RecordMarker, RequestCancelExternal, ScheduleActivityTask, StartTimer};
+use wf_command::command::{
+    ContinueAsNew, RecordMarker, RequestCancelExternal, ScheduleActivityTask, StartTimer,
+};
 use wf_event::payloads::PolicyFields;
 use wf_event_values::{
     ConflictPolicy, Field, Id, Items, Moment, Refusal, ReusePolicy, RunId, Span, Text,
@@ -131,7 +133,8 @@ fn completion(
 /// A marker, a timer or an activity most of the time, seldom a command that isn't served, and else one
 /// that closes.
 fn command(alloc: Global, draws: &mut Draws, asked: u64) -> Result<Command, Refusal> {
-    match draws.below(26) {
+    let kinds = if draws.has_ends() { 28 } else { 26 };
+    match draws.below(kinds) {
         0..=1 => Ok(Command::RecordMarker(RecordMarker {
             name: Text::new(alloc, Field::Name, "mark")?,
             details: input(alloc, draws)?,
@@ -146,11 +149,43 @@ fn command(alloc: Global, draws: &mut Draws, asked: u64) -> Result<Command, Refu
         22 => Ok(Command::CompleteWorkflowExecution(input(alloc, draws)?)),
         23 => Ok(Command::FailWorkflowExecution(input(alloc, draws)?)),
         24 => Ok(Command::CancelWorkflowExecution(input(alloc, draws)?)),
+        26..=27 => Ok(Command::ContinueAsNewWorkflowExecution(continue_as_new(alloc, draws)?)),
         _ => Ok(Command::RequestCancelExternalWorkflowExecution(RequestCancelExternal {
             workflow_id: workflow_id(alloc, draws)?,
             run: run(draws),
         })),
     }
+}
+
+/// A run to follow, which takes over most of what the last one was given.
+fn continue_as_new(alloc: Global, draws: &mut Draws) -> Result<ContinueAsNew, Refusal> {
+    let task_queue = if draws.one_in(4) {
+        Some(queue(alloc, draws)?)
+    } else {
+        None
+    };
+    let workflow_type = if draws.one_in(4) {
+        Some(Text::new(alloc, Field::WorkflowType, "invoice")?)
+    } else {
+        None
+    };
+    Ok(ContinueAsNew {
+        workflow_type,
+        task_queue,
+        input: input(alloc, draws)?,
+        run_timeout: some_span(draws, 1000)?,
+        task_timeout: some_span(draws, 200)?,
+    })
+}
+
+/// A duration below the limit, absent half of the time.
+fn some_span(draws: &mut Draws, limit: u64) -> Result<Option<Span>, Refusal>
+    requires { 0 < limit }
+{
+    if draws.one_in(2) {
+        return Ok(None);
+    }
+    Ok(Some(span(draws, limit)?))
 }
 
 /// An activity, seldom one with no limit to close.
@@ -189,7 +224,7 @@ fn start(alloc: Global, draws: &mut Draws) -> Result<Start, Refusal> {
             ReusePolicy::AllowDuplicate
         },
         conflict: match draws.below(16) {
-            0 => ConflictPolicy::TerminateExisting,
+            0 if draws.has_ends() => ConflictPolicy::TerminateExisting,
             1 => ConflictPolicy::UseExisting,
             _ => ConflictPolicy::Fail,
         },

@@ -4,13 +4,13 @@ use Rattle.std.specs.Prelude.{filter, map, is_some, unwrap_or, Result, Ok, Err}
 use Rattle.std.specs.List.{list_any, list_all}
 use Rattle.wf_event.specs.declared.event.Event.{Event}
 use Rattle.wf_event.specs.declared.attributes.Attributes.{Attributes}
-use Rattle.wf_event.specs.declared.attributes.Attributes.TheVariants.{WorkflowExecutionCompleted, WorkflowExecutionFailed, WorkflowExecutionCanceled, WorkflowTaskCompleted, MarkerRecorded, ActivityTaskCancelRequested, ActivityTaskCanceled, TimerStarted, TimerCanceled}
+use Rattle.wf_event.specs.declared.attributes.Attributes.TheVariants.{WorkflowExecutionCompleted, WorkflowExecutionFailed, WorkflowExecutionCanceled, WorkflowExecutionContinuedAsNew, WorkflowTaskCompleted, MarkerRecorded, ActivityTaskCancelRequested, ActivityTaskCanceled, TimerStarted, TimerCanceled}
 use Rattle.wf_event.specs.Role.{Role, TaskSchedules, TaskStarts, TaskEnds, Closes, TimerFires, TimerCancels, ComesFromOutside, Follows, role, is_closing_role, Class, AnActivity, ATimer, opens, Settled, settles, closing_status}
 use Rattle.wf_event_values.specs.Run.{Run}
 use Rattle.wf_event_values.specs.declared.policies.Cause.{Cause}
-use Rattle.wf_event_values.specs.declared.policies.Cause.TheVariants.{UnhandledCommand, CommandAfterClose, BadScheduleActivityAttributes, ScheduleActivityDuplicateId, PendingActivitiesLimitExceeded, BadRequestCancelActivityAttributes, StartTimerDuplicateId}
+use Rattle.wf_event_values.specs.declared.policies.Cause.TheVariants.{UnhandledCommand, CommandAfterClose, BadScheduleActivityAttributes, ScheduleActivityDuplicateId, PendingActivitiesLimitExceeded, BadRequestCancelActivityAttributes, StartTimerDuplicateId, BadContinueAsNewAttributes}
 use Rattle.wf_command.specs.declared.command.Command.{Command}
-use Rattle.wf_command.specs.declared.command.Command.TheVariants.{ScheduleActivityTask, RequestCancelActivityTask, StartTimer, CancelTimer, RecordMarker, CompleteWorkflowExecution, FailWorkflowExecution, CancelWorkflowExecution}
+use Rattle.wf_command.specs.declared.command.Command.TheVariants.{ScheduleActivityTask, RequestCancelActivityTask, StartTimer, CancelTimer, RecordMarker, CompleteWorkflowExecution, FailWorkflowExecution, CancelWorkflowExecution, ContinueAsNewWorkflowExecution}
 use Rattle.wf_command.specs.declared.command.ScheduleActivityTask.{ScheduleActivityTask as ScheduleActivity}
 use Rattle.wf_command.specs.Check.{attributes_fault}
 use Rattle.service_model.specs.declared.content.Setup.{Setup}
@@ -19,7 +19,7 @@ use Rattle.service_model.specs.declared.journal.NewEvent.{NewEvent}
 use Rattle.service_model.specs.Journal.{plain}
 use Rattle.service_model.specs.Shown.{schedules_task}
 use Rattle.service_model.specs.Pending.{NoTask, IsStarted, task_of, is_opening, is_settling, is_settled}
-use Rattle.service_model.specs.RunState.{RunState, signal_request_by, used, pending, held_attributes, is_open, is_open_status, last_task}
+use Rattle.service_model.specs.RunState.{RunState, signal_request_by, used, pending, held_attributes, is_open, is_open_status, queue_of, type_of, last_task}
 use Rattle.service_model.specs.Signals.{was_signaled}
 use Rattle.service_model.specs.Outcome.{knows_queue, schedule_task}
 use Rattle.service_model.specs.Service.{is_served}
@@ -172,6 +172,7 @@ abbrev closes_by_command : Attributes → Bool
 closes_by_command (WorkflowExecutionCompleted r) = true
 closes_by_command (WorkflowExecutionFailed m) = true
 closes_by_command (WorkflowExecutionCanceled d) = true
+closes_by_command (WorkflowExecutionContinuedAsNew c) = true
 closes_by_command _ = false
 
 fits-close : (s : RunState) (F : List Attributes) (a : Attributes) (t : RunState) → Now s F t → closes_by_command a ≡ true → FitsEvent IsBehindEnd t None a []
@@ -179,6 +180,7 @@ unfolding role settles
 fits-close s F (WorkflowExecutionCompleted r) t now h = record { open_run = now.open_run; fits_role = (ap is_started_task now.none, refl); begins_none = refl; may_settle = tt; may_ask = refl; first_signal = refl }
 fits-close s F (WorkflowExecutionFailed m) t now h = record { open_run = now.open_run; fits_role = (ap is_started_task now.none, refl); begins_none = refl; may_settle = tt; may_ask = refl; first_signal = refl }
 fits-close s F (WorkflowExecutionCanceled d) t now h = record { open_run = now.open_run; fits_role = (ap is_started_task now.none, refl); begins_none = refl; may_settle = tt; may_ask = refl; first_signal = refl }
+fits-close s F (WorkflowExecutionContinuedAsNew c) t now h = record { open_run = now.open_run; fits_role = (ap is_started_task now.none, refl); begins_none = refl; may_settle = tt; may_ask = refl; first_signal = refl }
 fits-close s F _ t now h = absurd (cc)
 
 close-closes : (a : Attributes) → closes_by_command a ≡ true → is_closing_role (role a) ≡ true
@@ -186,6 +188,7 @@ unfolding role
 close-closes (WorkflowExecutionCompleted r) h = refl
 close-closes (WorkflowExecutionFailed m) h = refl
 close-closes (WorkflowExecutionCanceled d) h = refl
+close-closes (WorkflowExecutionContinuedAsNew c) h = refl
 close-closes _ h = absurd (cc)
 
 pub fits-schedule : (attempt : ℕ) (whose t : RunState) (p : Place) → is_open t ≡ true → t.task ≡ NoTask → FitsEvent p t None (schedule_task whose attempt) []
@@ -372,6 +375,11 @@ goes-one at setup next s G F t cs g now again (FailWorkflowExecution m) served h
     goes-close at setup next s G F (WorkflowExecutionFailed m) t cs now refl (no-fault (is_some_held s F) UnhandledCommand (gives (WorkflowExecutionFailed m)) (λ facts. judge_all setup next s (F ++ facts) cs) G h).1
 goes-one at setup next s G F t cs g now again (CancelWorkflowExecution d) served h =
     goes-close at setup next s G F (WorkflowExecutionCanceled d) t cs now refl (no-fault (is_some_held s F) UnhandledCommand (gives (WorkflowExecutionCanceled d)) (λ facts. judge_all setup next s (F ++ facts) cs) G h).1
+goes-one at setup next s G F t cs g now again (ContinueAsNewWorkflowExecution c) served h =
+    let a = WorkflowExecutionContinuedAsNew (record { new_run = next; workflow_type = unwrap_or c.workflow_type (type_of s); task_queue = unwrap_or c.task_queue (queue_of s); input = c.input }) in
+    let more : List Attributes → Judged = λ facts. judge_all setup next s (F ++ facts) cs in
+    let known = no-fault (not (knows_queue setup (unwrap_or c.task_queue (queue_of s)))) BadContinueAsNewAttributes (fault_if (is_some_held s F) UnhandledCommand (gives a)) more G h in
+    goes-close at setup next s G F a t cs now refl (no-fault (is_some_held s F) UnhandledCommand (gives a) more G known.1).1
 goes-one at setup next s G F t cs g now again _ served h = absurd (cc)
 
 goes-none : (at : ℕ) (s : RunState) (F : List Attributes) (t : RunState) → Now s F t → (b : Bool) → goes_on s F ≡ b → Goes at s F F t

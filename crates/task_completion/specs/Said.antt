@@ -12,9 +12,9 @@ abbrev pub said : Result JudgedSaid Cause → Judged
 said (Ok j) = Ok j.facts.items
 said (Err cause) = Err cause
 
--- it is what the definition gives of these commands, whichever run would follow
-abbrev pub IsJudged : Setup → RunState → List Command → Result JudgedSaid Cause → Type 0
-IsJudged setup s commands judged = (next : Run) → said judged ≡ judge_all setup next s [] commands
+-- it is what the definition gives of these commands, where this run would follow
+abbrev pub IsJudged : Setup → Run → RunState → List Command → Result JudgedSaid Cause → Type 0
+IsJudged setup next s commands judged = said judged ≡ judge_all setup next s [] commands
 
 -- whether another workflow task follows
 abbrev pub GoesOn : RunState → JudgedSaid → Type 0

@@ -5,8 +5,9 @@ ghost use Rattle.std.specs.List.{list_any};
 ghost use Rattle.wf_event.specs.RetryPolicies.{good_policy};
 ghost use Rattle.service_model.specs.Completion.{has_members};
 ghost use Rattle.service_model.specs.Pending.{is_cancel_request_of};
-ghost use Rattle.task_completion.specs.Judging.{event_named, HasGoodPolicy, is_asked, activity_scheduled, activity_asked, cancel_asked, timer_started, timer_canceled, recorded, closed, by_kind, judged_now, Leaves};
+ghost use Rattle.task_completion.specs.Judging.{event_named, HasGoodPolicy, is_asked, activity_scheduled, activity_asked, cancel_asked, timer_started, timer_canceled, recorded, closed, continued, by_kind, judged_now, Leaves};
 
+use crate::follows::{continued_as_new, queue_after};
 use crate::rows::{
     count_pending, event_named, has_pending_row, has_row, is_firing_of, is_running, was_asked,
 };
@@ -15,11 +16,13 @@ use mutable_state::{NotedActivity, Used};
 use service_model::content::Setup;
 use std::alloc::{AllocError, Global};
 use std::marker::Model;
-use wf_command::command::{RecordMarker, ScheduleActivityTask, StartTimer};
+use wf_command::command::{ContinueAsNew, RecordMarker, ScheduleActivityTask, StartTimer};
 use wf_command::{Command, check};
 use wf_event::Attributes;
-use wf_event::payloads::{ActivityTaskCanceled, MarkerRecorded, TimerEnd, TimerStarted};
-use wf_event_values::{Cause, Id, Text};
+use wf_event::payloads::{
+    ActivityTaskCanceled, MarkerRecorded, TimerEnd, TimerStarted, WorkflowExecutionStarted,
+};
+use wf_event_values::{Cause, Id, RunId, Text};
 
 /// The most activities that may be pending in a run.
 const MOST_PENDING: usize = 2000;
@@ -28,6 +31,10 @@ const MOST_PENDING: usize = 2000;
 pub struct SoFar<'a> {
     alloc: Global,
     setup: &'a Setup,
+    /// The run that would follow this one.
+    next: RunId,
+    /// How this one began.
+    started: &'a WorkflowExecutionStarted,
     facts: Vec<Attributes>,
     /// Whether one of them closes the run.
     is_closed: bool,
@@ -46,6 +53,8 @@ impl<'a> Drop for SoFar<'a> {
         let SoFar {
             alloc: _,
             setup: _,
+            next: _,
+            started: _,
             facts: _,
             is_closed: _,
             first: _,
@@ -64,6 +73,8 @@ impl<'a> Model for SoFar<'a> {
 
     ghost view = { λ k. record {
       setup = k.setup.now;
+      next = k.next;
+      began = k.started.now;
       facts = k.facts.items;
       is_closed = k.is_closed;
       first = k.first;
@@ -79,6 +90,8 @@ impl<'a> SoFar<'a> {
     pub fn new(
         alloc: Global,
         setup: &'a Setup,
+        next: RunId,
+        started: &'a WorkflowExecutionStarted,
         first: u64,
         timers: Vec<Used<'a>>,
         activities: Vec<Used<'a>>,
@@ -86,6 +99,8 @@ impl<'a> SoFar<'a> {
         held: Vec<Option<u64>>,
     ) -> SoFar<'a>
         ensures setup { result.setup ≡ setup.now }
+        ensures next { result.next ≡ next }
+        ensures began { result.began ≡ started.now }
         ensures facts { result.facts ≡ [] }
         ensures open_run { result.is_closed ≡ false }
         ensures first { result.first ≡ first }
@@ -97,6 +112,8 @@ impl<'a> SoFar<'a> {
         SoFar {
             alloc,
             setup,
+            next,
+            started,
             facts: Vec::new(alloc),
             is_closed: false,
             first,
@@ -142,6 +159,7 @@ impl<'a> SoFar<'a> {
             Command::CancelWorkflowExecution(details) => {
                 self.close(Attributes::WorkflowExecutionCanceled(details.clone()?))
             }
+            Command::ContinueAsNewWorkflowExecution(command) => self.continue_as_new(command),
             _ => Ok(Err(Cause::UnhandledCommand)),
         }
     }
@@ -272,6 +290,20 @@ impl<'a> SoFar<'a> {
         Ok(Ok(()))
     }
 
+    /// Closes the run, which another one follows. What the command leaves out is as it was in this one.
+    fn continue_as_new(
+        &mut self,
+        command: &'a ContinueAsNew,
+    ) -> Result<Result<(), Cause>, AllocError>
+        ensures { IfOk result (Leaves self.new (continued command.now self.old)) }
+    {
+        if !self.setup.knows_queue(queue_after(command, self.started)) {
+            return Ok(Err(Cause::BadContinueAsNewAttributes));
+        }
+        let event = continued_as_new(command, self.started, self.next)?;
+        self.close(event)
+    }
+
     /// Whether an event is still held back.
     pub fn is_some_held(&self) -> bool
         ensures { result ≡ has_members self.now.held }
@@ -292,6 +324,8 @@ impl<'a> SoFar<'a> {
         let SoFar {
             alloc: _,
             setup: _,
+            next: _,
+            started: _,
             facts,
             is_closed: _,
             first: _,

@@ -26,6 +26,7 @@ pub fn is_served(command: &Command) -> bool
             | Command::CompleteWorkflowExecution(_)
             | Command::FailWorkflowExecution(_)
             | Command::CancelWorkflowExecution(_)
+            | Command::ContinueAsNewWorkflowExecution(_)
     )
 }
 

@@ -1,5 +1,5 @@
 -- what a line asks for
-use Rattle.std.specs.Prelude.{ℕ, List, Bool, true, false, ◌&&◌, nat_lt, codes, if◌then◌else◌, option_and_then, Option, None, Some, Result, Ok, Err}
+use Rattle.std.specs.Prelude.{ℕ, List, Bool, false, ◌&&◌, nat_lt, codes, if◌then◌else◌, option_and_then, Option, None, Some, Result, Ok, Err}
 use Rattle.serde_json.specs.Data.{Data, object}
 use Rattle.serde_json.specs.Find.{get, as_bool}
 use Rattle.serde_json.specs.Read.{read}

@@ -8,15 +8,16 @@ use Rattle.wf_event_values.specs.declared.refusal.Refusal.{Refusal}
 use Rattle.wf_event_values.specs.declared.refusal.Refusal.TheVariants.{InvalidArgument}
 use Rattle.wf_command.specs.declared.command.Command.{Command}
 use Rattle.wf_command.specs.declared.command.Command.TheVariants as command
+use Rattle.wf_command.specs.declared.command.ContinueAsNew.{ContinueAsNew as Continue}
 use Rattle.wf_command.specs.declared.command.RecordMarker.{RecordMarker as Marker}
 use Rattle.wf_command.specs.declared.command.StartTimer.{StartTimer as Timer}
 use Rattle.service_model.specs.Limits.{most_commands}
 use Rattle.wire_fields.specs.Steps.{◌>>=◌, for_each}
 use Rattle.wire_fields.specs.Kinds.{string_of, text_of, id_of, number_of, span_of, named, elements_of}
-use Rattle.wire_fields.specs.Fields.{required, or_default}
+use Rattle.wire_fields.specs.Fields.{required, or_default, optional}
 use Rattle.wire_requests.specs.ActivityCommands.{activity_of}
 use Rattle.wire_requests.specs.declared.commands.CommandType.{CommandType}
-use Rattle.wire_requests.specs.declared.commands.CommandType.TheVariants.{ScheduleActivityTask, RequestCancelActivityTask, StartTimer, CancelTimer, RecordMarker, CompleteWorkflowExecution, FailWorkflowExecution, CancelWorkflowExecution}
+use Rattle.wire_requests.specs.declared.commands.CommandType.TheVariants.{ScheduleActivityTask, RequestCancelActivityTask, StartTimer, CancelTimer, RecordMarker, CompleteWorkflowExecution, FailWorkflowExecution, CancelWorkflowExecution, ContinueAsNewWorkflowExecution}
 
 -- the name of a type of command
 abbrev pub type_name : CommandType → List ℕ
@@ -28,10 +29,11 @@ type_name RecordMarker = codes "RecordMarker"
 type_name CompleteWorkflowExecution = codes "CompleteWorkflowExecution"
 type_name FailWorkflowExecution = codes "FailWorkflowExecution"
 type_name CancelWorkflowExecution = codes "CancelWorkflowExecution"
+type_name ContinueAsNewWorkflowExecution = codes "ContinueAsNewWorkflowExecution"
 
 -- the type that has this name, of those that are served so far
 abbrev pub type_named : List ℕ → Option CommandType
-type_named = named type_name (ScheduleActivityTask ∷ RequestCancelActivityTask ∷ StartTimer ∷ CancelTimer ∷ RecordMarker ∷ CompleteWorkflowExecution ∷ FailWorkflowExecution ∷ CancelWorkflowExecution ∷ [])
+type_named = named type_name (ScheduleActivityTask ∷ RequestCancelActivityTask ∷ StartTimer ∷ CancelTimer ∷ RecordMarker ∷ CompleteWorkflowExecution ∷ FailWorkflowExecution ∷ CancelWorkflowExecution ∷ ContinueAsNewWorkflowExecution ∷ [])
 
 abbrev pub type_of : Field → Data → Result CommandType Refusal
 type_of field d = string_of field d >>= (λ text. ok_or (type_named text) (InvalidArgument field))
@@ -50,6 +52,16 @@ marker_of d = do
   details ← or_default text_of [] field.Details d
   Ok (record { name = name; details = details })
 
+-- ContinueAsNewWorkflowExecution
+unfoldable pub continue_of : Data → Result Continue Refusal
+continue_of d = do
+  workflow_type ← optional text_of field.WorkflowType d
+  task_queue ← optional id_of field.TaskQueue d
+  input ← or_default text_of [] field.Input d
+  run_timeout ← optional span_of field.RunTimeout d
+  task_timeout ← optional span_of field.TaskTimeout d
+  Ok (record { workflow_type = workflow_type; task_queue = task_queue; input = input; run_timeout = run_timeout; task_timeout = task_timeout })
+
 -- the fields of each type of command: their faults are looked for in the order in which they stand here
 abbrev pub fields_of : CommandType → Data → Result Command Refusal
 fields_of ScheduleActivityTask d = activity_of d >>= (λ x. Ok (command.ScheduleActivityTask x))
@@ -60,6 +72,7 @@ fields_of RecordMarker d = marker_of d >>= (λ x. Ok (command.RecordMarker x))
 fields_of CompleteWorkflowExecution d = or_default text_of [] field.Result d >>= (λ x. Ok (command.CompleteWorkflowExecution x))
 fields_of FailWorkflowExecution d = or_default text_of [] field.Message d >>= (λ x. Ok (command.FailWorkflowExecution x))
 fields_of CancelWorkflowExecution d = or_default text_of [] field.Details d >>= (λ x. Ok (command.CancelWorkflowExecution x))
+fields_of ContinueAsNewWorkflowExecution d = continue_of d >>= (λ x. Ok (command.ContinueAsNewWorkflowExecution x))
 
 -- a command: its type, and the fields of that type
 unfoldable pub command_of : Data → Result Command Refusal

@@ -1,8 +1,7 @@
 -- the fields of each operation: their faults are looked for in the order in which they stand here
-use Rattle.std.specs.Prelude.{ℕ, true, [], Result, Ok, Err}
+use Rattle.std.specs.Prelude.{ℕ, true, [], Result, Ok}
 use Rattle.serde_json.specs.Data.{Data}
 use Rattle.wf_event_values.specs.declared.refusal.Refusal.{Refusal}
-use Rattle.wf_event_values.specs.declared.refusal.Refusal.TheVariants.{InvalidArgument}
 use Rattle.wf_event_values.specs.declared.field.Field.TheVariants as field
 use Rattle.wf_event_values.specs.declared.policies.TaskKind.TheVariants.{Workflow, Activity}
 use Rattle.service_model.specs.declared.call.Call.{Call}

@@ -1,26 +1,20 @@
 -- the fields of a start: their faults are looked for in the order in which they stand here
-use Rattle.std.specs.Prelude.{Bool, true, false, [], Result, Ok, Err}
+use Rattle.std.specs.Prelude.{Bool, true, false, [], Result, Ok}
 use Rattle.serde_json.specs.Data.{Data}
 use Rattle.wf_event_values.specs.declared.refusal.Refusal.{Refusal}
-use Rattle.wf_event_values.specs.declared.refusal.Refusal.TheVariants.{InvalidArgument}
 use Rattle.wf_event_values.specs.declared.field.Field.TheVariants as field
 use Rattle.wf_event_values.specs.declared.policies.ReusePolicy.TheVariants.{AllowDuplicate}
 use Rattle.wf_event_values.specs.declared.policies.ConflictPolicy.{ConflictPolicy}
-use Rattle.wf_event_values.specs.declared.policies.ConflictPolicy.TheVariants.{Fail, TerminateExisting}
+use Rattle.wf_event_values.specs.declared.policies.ConflictPolicy.TheVariants.{Fail}
 use Rattle.service_model.specs.declared.request.SignalWithStart.{SignalWithStart}
 use Rattle.service_model.specs.declared.request.Start.{Start}
 use Rattle.wire_fields.specs.Steps.{◌>>=◌}
 use Rattle.wire_fields.specs.Kinds.{text_of, id_of, span_of, reuse_of, conflict_of}
 use Rattle.wire_fields.specs.Fields.{required, or_default, optional}
 
--- the conflict policies that are served: each but the one that terminates a run
-abbrev pub allowed_conflict : ConflictPolicy → Result ConflictPolicy Refusal
-allowed_conflict TerminateExisting = Err (InvalidArgument field.Conflict)
-allowed_conflict policy = Ok policy
-
 -- the conflict policy, of a line that has one
 abbrev pub conflict_in : Bool → Data → Result ConflictPolicy Refusal
-conflict_in true line = or_default conflict_of Fail field.Conflict line >>= allowed_conflict
+conflict_in true line = or_default conflict_of Fail field.Conflict line
 conflict_in false line = Ok Fail
 
 -- start, and the same fields of a line that has no conflict policy

@@ -6,7 +6,7 @@ ghost use Rattle.wf_event_values.specs.Gives.{Gives};
 ghost use Rattle.wire_fields.specs.Steps.{for_each};
 ghost use Rattle.wire_fields.specs.Kinds.{text_of};
 ghost use Rattle.wire_fields.specs.Fields.{or_default};
-ghost use Rattle.wire_requests.specs.Commands.{type_named, type_of, timer_of, marker_of, fields_of, command_of, commands_of};
+ghost use Rattle.wire_requests.specs.Commands.{type_named, type_of, timer_of, marker_of, continue_of, fields_of, command_of, commands_of};
 
 use crate::activity_commands::activity;
 use serde_json::Value;
@@ -14,9 +14,9 @@ use service_model::limits::MOST_COMMANDS;
 use std::alloc::Global;
 use std::marker::Model;
 use wf_command::Command;
-use wf_command::command::{RecordMarker, StartTimer};
+use wf_command::command::{ContinueAsNew, RecordMarker, StartTimer};
 use wf_event_values::{Field, Items, Refusal, Span, Text};
-use wire_fields::{FieldValue, elements, or_default, required};
+use wire_fields::{FieldValue, elements, optional, or_default, required};
 
 /// The types of command that are served so far.
 #[derive(Clone, Copy)]
@@ -29,6 +29,7 @@ enum CommandType {
     CompleteWorkflowExecution,
     FailWorkflowExecution,
     CancelWorkflowExecution,
+    ContinueAsNewWorkflowExecution,
 }
 
 fn type_named(name: &str) -> Option<CommandType>
@@ -43,6 +44,7 @@ fn type_named(name: &str) -> Option<CommandType>
         "CompleteWorkflowExecution" => Some(CommandType::CompleteWorkflowExecution),
         "FailWorkflowExecution" => Some(CommandType::FailWorkflowExecution),
         "CancelWorkflowExecution" => Some(CommandType::CancelWorkflowExecution),
+        "ContinueAsNewWorkflowExecution" => Some(CommandType::ContinueAsNewWorkflowExecution),
         _ => None,
     }
 }
@@ -84,6 +86,25 @@ fn marker(alloc: Global, object: &Value) -> Result<RecordMarker, Refusal>
     Ok(RecordMarker { name, details })
 }
 
+/// A run to follow this one. What is absent is as it was, but for the input, which is empty then.
+#[tactic(auto, unfolding(crate::specs::Commands::continue_of))]
+fn continue_as_new(alloc: Global, object: &Value) -> Result<ContinueAsNew, Refusal>
+    ensures { Gives result (continue_of (view object.now)) }
+{
+    let workflow_type = optional(alloc, object, Field::WorkflowType)?;
+    let task_queue = optional(alloc, object, Field::TaskQueue)?;
+    let input = text(alloc, object, Field::Input)?;
+    let run_timeout = optional(alloc, object, Field::RunTimeout)?;
+    let task_timeout = optional(alloc, object, Field::TaskTimeout)?;
+    Ok(ContinueAsNew {
+        workflow_type,
+        task_queue,
+        input,
+        run_timeout,
+        task_timeout,
+    })
+}
+
 /// The command of that type whose fields an object has.
 fn fields(alloc: Global, of: CommandType, object: &Value) -> Result<Command, Refusal>
     ensures { Gives result (fields_of of (view object.now)) }
@@ -113,6 +134,9 @@ fn fields(alloc: Global, of: CommandType, object: &Value) -> Result<Command, Ref
         CommandType::CancelWorkflowExecution => {
             let details = text(alloc, object, Field::Details)?;
             Ok(Command::CancelWorkflowExecution(details))
+        }
+        CommandType::ContinueAsNewWorkflowExecution => {
+            Ok(Command::ContinueAsNewWorkflowExecution(continue_as_new(alloc, object)?))
         }
     }
 }

@@ -3,7 +3,7 @@
 ghost use Rattle.std.specs.Prelude.{◌≡◌};
 ghost use Rattle.serde_json.specs.View.{view};
 ghost use Rattle.wf_event_values.specs.Gives.{Gives};
-ghost use Rattle.wire_requests.specs.Starts.{allowed_conflict, conflict_in, start_of, signal_with_start_of};
+ghost use Rattle.wire_requests.specs.Starts.{conflict_in, start_of, signal_with_start_of};
 
 use serde_json::Value;
 use service_model::request::{SignalWithStart, Start};
@@ -18,18 +18,7 @@ fn conflict_in(alloc: Global, has_conflict: bool, line: &Value) -> Result<Confli
     if !has_conflict {
         return Ok(ConflictPolicy::Fail);
     }
-    let conflict = or_default(alloc, line, Field::Conflict, ConflictPolicy::Fail)?;
-    allowed_conflict(conflict)
-}
-
-/// A conflict policy that is served: each but the one that terminates a run.
-fn allowed_conflict(conflict: ConflictPolicy) -> Result<ConflictPolicy, Refusal>
-    ensures { result ≡ allowed_conflict conflict }
-{
-    match conflict {
-        ConflictPolicy::TerminateExisting => Err(Refusal::InvalidArgument(Field::Conflict)),
-        _ => Ok(conflict),
-    }
+    or_default(alloc, line, Field::Conflict, ConflictPolicy::Fail)
 }
 
 /// The fields of a start.

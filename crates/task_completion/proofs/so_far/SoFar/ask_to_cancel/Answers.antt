@@ -11,7 +11,7 @@ pub returns : goal.returns
 returns c =
     let a = c.self.inside in
     let id = c.args.scheduled in
-    let k : Kept = record { setup = a.setup.now; facts = a.facts.items; is_closed = a.is_closed; first = a.first; timers = a.timers.items; activities = a.activities.items; notes = a.notes.items; held = a.held.items } in
+    let k : Kept = record { setup = a.setup.now; next = a.next; began = a.started.now; facts = a.facts.items; is_closed = a.is_closed; first = a.first; timers = a.timers.items; activities = a.activities.items; notes = a.notes.items; held = a.held.items } in
     let asked : c.push.new.self.items ≡ a.facts.items ++ ActivityTaskCancelRequested id ∷ [] = c.in_ok-push.ensures.items in
     let facts : c.push-2.new.self.items ≡ a.facts.items ++ cancel_facts id true =
     c.in_ok-push-2.ensures.items
@@ -19,7 +19,7 @@ returns c =
     ∙ ap (λ l. l ++ ActivityTaskCanceled (record { scheduled = id; details = [] }) ∷ []) asked
     ∙ append_assoc a.facts.items (ActivityTaskCancelRequested id ∷ []) (ActivityTaskCanceled (record { scheduled = id; details = [] }) ∷ []) in
     let activities : c.retain.new.self.items ≡ filter (λ (r : UsedRow). not (r.event == id)) a.activities.items = filter_same _ (λ (r : UsedRow). not (r.event == id)) _ (λ x b q h. search rules) _ _ c.retain.ensures.filtered in
-    let made : List Attributes → List UsedRow → Kept = λ fs rs. record { setup = a.setup.now; facts = fs; is_closed = a.is_closed; first = a.first; timers = a.timers.items; activities = rs; notes = a.notes.items; held = a.held.items } in
+    let made : List Attributes → List UsedRow → Kept = λ fs rs. record { setup = a.setup.now; next = a.next; began = a.started.now; facts = fs; is_closed = a.is_closed; first = a.first; timers = a.timers.items; activities = rs; notes = a.notes.items; held = a.held.items } in
     ap (λ fs. made fs c.retain.new.self.items) facts
     ∙ ap (made (a.facts.items ++ cancel_facts id true)) activities
     ∙ ap (λ b. cancel_asked id b k) (sym c.if-not-at_once.false)

@@ -1,0 +1,252 @@
+//! How often each kind of reply was compared, and each kind of event in a history.
+
+use service_model::answer::{Acknowledged, Answer, History, Reply};
+use std::alloc::{AllocError, Global};
+use wf_event_values::{DeadlineClass, Field, Refusal};
+
+/// All kinds of reply that drawn requests get.
+pub(crate) const REPLIES: [&str; 42] = [
+    "started",
+    "existing",
+    "signaled",
+    "repeated",
+    "signaled run",
+    "repeated run",
+    "cancel requested",
+    "terminated",
+    "history",
+    "described",
+    "workflow task",
+    "stale",
+    "completed",
+    "task failed",
+    "failed",
+    "activity task",
+    "activity completed",
+    "retrying",
+    "activity failed",
+    "activity canceled",
+    "heartbeat",
+    "nothing due",
+    "fired run timeout",
+    "fired workflow task",
+    "fired user timer",
+    "fired schedule to close",
+    "fired schedule to start",
+    "fired heartbeat",
+    "fired start to close",
+    "fired retry ready",
+    "dispatch",
+    "no dispatch",
+    "counted",
+    "already counted",
+    "counted out of order",
+    "already started",
+    "not found",
+    "unknown task queue",
+    "cancellation already requested",
+    "another shard's workflow",
+    "type not served",
+    "bad token",
+];
+
+/// All kinds of event that drawn histories have.
+pub(crate) const EVENTS: [&str; 25] = [
+    "WorkflowExecutionStarted",
+    "WorkflowExecutionCompleted",
+    "WorkflowExecutionFailed",
+    "WorkflowExecutionTimedOut",
+    "WorkflowExecutionCanceled",
+    "WorkflowExecutionTerminated",
+    "WorkflowExecutionContinuedAsNew",
+    "WorkflowExecutionCancelRequested",
+    "WorkflowExecutionSignaled",
+    "WorkflowTaskScheduled",
+    "WorkflowTaskStarted",
+    "WorkflowTaskCompleted",
+    "WorkflowTaskTimedOut",
+    "WorkflowTaskFailed",
+    "ActivityTaskScheduled",
+    "ActivityTaskStarted",
+    "ActivityTaskCompleted",
+    "ActivityTaskFailed",
+    "ActivityTaskTimedOut",
+    "ActivityTaskCancelRequested",
+    "ActivityTaskCanceled",
+    "TimerStarted",
+    "TimerFired",
+    "TimerCanceled",
+    "MarkerRecorded",
+];
+
+/// How often something came.
+#[derive(Drop)]
+struct Count {
+    name: &'static str,
+    times: u64,
+}
+
+/// How many events of a run were counted.
+#[derive(Drop)]
+struct Shown {
+    run: u64,
+    events: u64,
+}
+
+/// How often each kind of reply and of event came.
+#[derive(Drop)]
+pub(crate) struct Tally {
+    replies: Vec<Count>,
+    events: Vec<Count>,
+    shown: Vec<Shown>,
+}
+
+impl Tally {
+    pub(crate) fn new(alloc: Global) -> Tally {
+        Tally {
+            replies: Vec::new(alloc),
+            events: Vec::new(alloc),
+            shown: Vec::new(alloc),
+        }
+    }
+
+    /// Another shard is compared, whose runs were not seen so far.
+    pub(crate) fn turn_to_another_shard(&mut self) {
+        self.shown.clear();
+    }
+
+    /// Counts a reply, and the events that it shows for the first time. False where it is none that is
+    /// awaited.
+    pub(crate) fn add(&mut self, reply: &Reply) -> Result<bool, AllocError> {
+        let Some(name) = name_of(reply) else {
+            return Ok(false);
+        };
+        count(&mut self.replies, name)?;
+        if let Ok(Answer::History(history)) = reply {
+            self.add_events(history)?;
+        }
+        Ok(true)
+    }
+
+    fn add_events(&mut self, history: &History) -> Result<(), AllocError> {
+        let length = history.events.as_slice().len() as u64;
+        let before = show(&mut self.shown, history.run.ordinal(), length)?;
+        for event in history.events.as_slice() {
+            if event.id > before {
+                count(&mut self.events, event.kind().name())?;
+            }
+        }
+        Ok(())
+    }
+
+    /// How often a kind of reply came.
+    pub(crate) fn replies(&self, name: &str) -> u64 {
+        times(self.replies.as_slice(), name)
+    }
+
+    /// How often a kind of event came.
+    pub(crate) fn events(&self, name: &str) -> u64 {
+        times(self.events.as_slice(), name)
+    }
+}
+
+fn count(counts: &mut Vec<Count>, name: &'static str) -> Result<(), AllocError> {
+    for count in counts.iter_mut() {
+        if count.name == name {
+            count.times = count.times.saturating_add(1);
+            return Ok(());
+        }
+    }
+    counts.push(Count { name, times: 1 })?;
+    Ok(())
+}
+
+fn times(counts: &[Count], name: &str) -> u64 {
+    for count in counts {
+        if count.name == name {
+            return count.times;
+        }
+    }
+    0
+}
+
+/// Notes that so many events of a run were shown. It answers how many had been shown before.
+fn show(shown: &mut Vec<Shown>, run: u64, events: u64) -> Result<u64, AllocError> {
+    for known in shown.iter_mut() {
+        if known.run == run {
+            let before = known.events;
+            known.events = events;
+            return Ok(before);
+        }
+    }
+    shown.push(Shown { run, events })?;
+    Ok(0)
+}
+
+/// Which kind of reply it is, if it is one that these requests get.
+fn name_of(reply: &Reply) -> Option<&'static str> {
+    match reply {
+        Ok(answer) => answer_name(answer),
+        Err(refusal) => refusal_name(refusal),
+    }
+}
+
+fn answer_name(answer: &Answer) -> Option<&'static str> {
+    match answer {
+        Answer::Started(_) => Some("started"),
+        Answer::Existing(_) => Some("existing"),
+        Answer::Signaled => Some("signaled"),
+        Answer::Repeated => Some("repeated"),
+        Answer::SignaledRun(_) => Some("signaled run"),
+        Answer::RepeatedRun(_) => Some("repeated run"),
+        Answer::CancelRequested => Some("cancel requested"),
+        Answer::Terminated => Some("terminated"),
+        Answer::History(_) => Some("history"),
+        Answer::Described(_) => Some("described"),
+        Answer::WorkflowTask(_) => Some("workflow task"),
+        Answer::Stale => Some("stale"),
+        Answer::Completed => Some("completed"),
+        Answer::TaskFailed(_) => Some("task failed"),
+        Answer::Failed => Some("failed"),
+        Answer::ActivityTask(_) => Some("activity task"),
+        Answer::ActivityCompleted => Some("activity completed"),
+        Answer::Retrying(_) => Some("retrying"),
+        Answer::ActivityFailed(_) => Some("activity failed"),
+        Answer::ActivityCanceled => Some("activity canceled"),
+        Answer::Heartbeat(_) => Some("heartbeat"),
+        Answer::NothingDue => Some("nothing due"),
+        Answer::Fired(fired) => Some(fired_name(fired.class)),
+        Answer::Dispatch(_) => Some("dispatch"),
+        Answer::NoDispatch => Some("no dispatch"),
+        Answer::Counted(Acknowledged::Acknowledged) => Some("counted"),
+        Answer::Counted(Acknowledged::Already) => Some("already counted"),
+        Answer::Counted(Acknowledged::OutOfOrder) => Some("counted out of order"),
+        _ => None,
+    }
+}
+
+fn refusal_name(refusal: &Refusal) -> Option<&'static str> {
+    match refusal {
+        Refusal::AlreadyStarted(_) => Some("already started"),
+        Refusal::NotFound => Some("not found"),
+        Refusal::UnknownTaskQueue => Some("unknown task queue"),
+        Refusal::CancellationAlreadyRequested => Some("cancellation already requested"),
+        Refusal::InvalidArgument(Field::WorkflowId) => Some("another shard's workflow"),
+        Refusal::InvalidArgument(Field::Type) => Some("type not served"),
+        Refusal::InvalidArgument(Field::Token) => Some("bad token"),
+        _ => None,
+    }
+}
+
+fn fired_name(class: DeadlineClass) -> &'static str {
+    match class {
+        DeadlineClass::RunTimeout => "fired run timeout",
+        DeadlineClass::WorkflowTask => "fired workflow task",
+        DeadlineClass::UserTimer => "fired user timer",
+        DeadlineClass::ScheduleToClose => "fired schedule to close",
+        DeadlineClass::ScheduleToStart => "fired schedule to start",
+        DeadlineClass::Heartbeat => "fired heartbeat",
+        DeadlineClass::StartToClose => "fired start to close",
+        DeadlineClass::RetryReady => "fired retry ready",
+    }
+}
