@@ -13,6 +13,7 @@ use Rattle.service_model.proofs.ListLemmas.{get-map, map-get}
 use Rattle.service_model.specs.Tasks.{is_started_task}
 use Rattle.mutable_state.specs.Steps.{after_step, all_written, FitStep}
 use Rattle.mutable_state.proofs.GrowthLemmas.{beginning-stays}
+use Rattle.shard_steps.proofs.DispatchLemmas.{get-at}
 use Rattle.shard.specs.View.{ShardView, states}
 use Rattle.shard.specs.Fitting.{FitsAdded, FitsChange, IsFree, IsFreeFor, grown, runs_added, runs_created, state_at}
 use Rattle.shard.specs.Open.{HasClosed, IsOneOpen}
@@ -108,6 +109,41 @@ all-closed runs id m s one free there same = by_latest (latest_from 1 id runs) (
 
 pub free-closed : (runs : List RunState) (id : List ℕ) → IsFree runs id → IsOneOpen runs → HasClosed runs id
 free-closed runs id free one = record { each = λ m s there same. all-closed runs id m s one free there same }
+
+-- the latest run of an ID has this ID
+pub latest-named : (runs : List RunState) (id : List ℕ) (n : ℕ) → latest_run runs id ≡ Some n → id_of (state_at runs (n - 1)) ≡ id
+unfolding latest_run latest_from
+latest-named runs id n is =
+    let (i, t, place, at, named, all) = (is-latest 1 id runs).some n is in
+    let here : i ≡ n - 1 = omega (arith, place) in
+    ap id_of (ap (state_at runs) (sym here) ∙ state-there runs i t at) ∙ named
+
+set-there : {A : Type 0} (xs : List A) (i : ℕ) (x : A) → i < length xs → slice_get (slice_set xs i x) i ≡ Some x
+set-there [] i x h = absurd (omega arith)
+set-there (y ∷ xs) zero x h = refl
+set-there (y ∷ xs) (suc i) x h = set-there xs i x (omega arith)
+
+which : (m n : ℕ) → (m ≡ n) ⊎ ((m < n) ⊎ (n < m))
+which zero zero = inl refl
+which zero (suc n) = inr (inl (omega arith))
+which (suc m) zero = inr (inr (omega arith))
+which (suc m) (suc n) = ⊎_elim (λ e. inl (ap suc e)) (λ h. inr (⊎_elim (λ l. inl (omega (arith, l))) (λ l. inr (omega (arith, l))) h)) (which m n)
+
+-- where the open run of an ID is closed, all of its runs have closed
+pub closed-alone : (runs : List RunState) (i : ℕ) (x : RunState) → i < length runs → is_open (state_at runs i) ≡ true → is_open x ≡ false → IsOneOpen runs → HasClosed (slice_set runs i x) (id_of (state_at runs i))
+closed-alone runs i x low opened over one = record {
+  each = λ m s at same. ⊎_elim
+      (λ (e : m ≡ i). ap is_open (same-some s x (sym at ∙ ap (λ k. slice_get (slice_set runs i x) k) e ∙ set-there runs i x low)) ∙ over)
+      (λ (apart : (m < i) ⊎ (i < m)).
+      let (t, there, how) = get-set runs i x s m at in
+      let is : s ≡ t = ⊎_elim (λ (e : (m ≡ i) × (s ≡ x)). absurd (⊎_elim (λ (l : m < i). let c = e.0 in omega (arith, l, c)) (λ (l : i < m). let c = e.0 in omega (arith, l, c)) apart)) (λ (e : s ≡ t). e) how in
+      let named : id_of t ≡ id_of (state_at runs i) = ap id_of (sym is) ∙ same in
+      let here : slice_get runs i ≡ Some (state_at runs i) = get-at runs i low in
+      ap is_open is ∙ ⊎_elim
+      (λ (l : m < i). one.earlier m i t (state_at runs i) l there here named)
+      (λ (l : i < m). absurd (let clash = sym opened ∙ one.earlier i m (state_at runs i) t l here there (sym named) in cc)) apart)
+      (which m i);
+}
 
 -- a closed run stays closed, and each run keeps its ID
 stays-closed : (at : ℕ) (facts : List Fact) (s : RunState) → FitStep at s facts → is_open s ≡ false → is_open (after_step at facts s) ≡ false

@@ -171,7 +171,8 @@ impl<T: KeepsRun> Shard<T> {
         }
     }
 
-    /// The end of the started task of the run with that ordinal.
+    /// The end of the started task of the run with that ordinal, and the run that follows where it
+    /// continues as new: both, or neither.
     fn prepare_completed(
         &mut self,
         moment: Moment,
@@ -191,11 +192,12 @@ impl<T: KeepsRun> Shard<T> {
     {
         let commands = request.commands.as_slice();
         let Completion { plan, fault } = self.complete_in(n - 1, commands, moment)?;
+        let created = self.prepare_follower(moment, n, fault, commands)?;
         Ok(Plan {
             moment,
             change: Change {
                 added: Some(MoreOf { index: n - 1, plan }),
-                created: None,
+                created,
                 count: Count::Nothing,
             },
             reply: Ok(ended(fault)),
@@ -220,7 +222,7 @@ impl<T: KeepsRun> Shard<T> {
             (state_at (states self.old.runs) index) [] commands.now) c) }
     {
         self.note_change()?;
-        let next = self.runs.len() as u64 + 1;
+        let next = self.run_id(self.runs.len() + 1);
         let run = &mut self.runs[index];
         plan_completion(self.alloc, run, &self.setup, next, commands, moment)
     }
