@@ -8,10 +8,11 @@ use Rattle.service_model.specs.RunState.{RunState, state_of}
 use Rattle.service_model.specs.Service.{after, moment_of, outcome_of}
 use Rattle.service_model.proofs.ListLemmas.{get-map, map-get}
 use Rattle.shard.specs.View.{ShardView, state, states}
-use Rattle.shard.specs.Fitting.{state_after, runs_after}
+use Rattle.shard.specs.Fitting.{state_after, runs_added, runs_created}
+use Rattle.shard.specs.Open.{IsOneOpen}
 use Rattle.shard.specs.Standing.{IsReady}
 use Rattle.shard.specs.declared.plan.Plan.{Plan}
-use Rattle.shard.proofs.OpenLemmas.{IsOneOpen, of-journals, to-journals, one-open-after}
+use Rattle.shard.proofs.OpenLemmas.{of-journals, to-journals, one-open-after}
 use Rattle.shard.proofs.StepLemmas.{grows-after, stands-after, stays-after}
 
 -- each run that was there shows first what it showed before
@@ -30,6 +31,6 @@ keeps-after v w S q plan ready did =
       one = λ h.
           let P : List RunState → Type 0 = λ l. IsOneOpen l in
           let were : IsOneOpen (states v.runs) = subst P (sym before) (of-journals S h) in
-          let did_runs : states w.runs ≡ runs_after plan.change (states v.runs) = ap (λ s. s.runs) did in
+          let did_runs : states w.runs ≡ runs_created plan.change.created (runs_added plan.change.added (states v.runs)) = ap (λ s. s.runs) did in
           to-journals (after S q) (subst P later (subst P (sym did_runs) (one-open-after v moment plan.change (outcome_of S moment q.operation) ready.fits.change were)));
     }

@@ -7,22 +7,21 @@ use Rattle.service_model.specs.declared.content.Content.{Content}
 use Rattle.service_model.specs.declared.journal.Fact.{Fact}
 use Rattle.service_model.specs.Growth.{HasOneOpen}
 use Rattle.service_model.specs.Journal.{first_some}
-use Rattle.service_model.specs.Outcome.{Outcome, latest_run}
+use Rattle.service_model.specs.Outcome.{Outcome, Added, latest_run}
 use Rattle.service_model.specs.RunState.{RunState, Beginning, id_of, is_open, state_of}
 use Rattle.service_model.proofs.ListLemmas.{get-map, map-get}
 use Rattle.service_model.specs.Tasks.{is_started_task}
-use Rattle.mutable_state.specs.declared.change.Change.{Change as MoreFacts}
 use Rattle.mutable_state.specs.Steps.{after_step, all_written, FitStep}
 use Rattle.mutable_state.proofs.GrowthLemmas.{beginning-stays}
+use Rattle.shard_steps.proofs.DispatchLemmas.{get-at}
 use Rattle.shard.specs.View.{ShardView, states}
-use Rattle.shard.specs.Fitting.{FitsChange, runs_after, state_at, IsFree}
+use Rattle.shard.specs.Fitting.{FitsAdded, FitsChange, IsFree, IsFreeFor, grown, runs_added, runs_created, state_at}
+use Rattle.shard.specs.Open.{HasClosed, IsOneOpen}
 use Rattle.shard.specs.declared.plan.Change.{Change}
-use Rattle.shard.specs.declared.plan.Change.TheVariants as change
+use Rattle.shard.specs.declared.plan.MoreOf.{MoreOf}
+use Rattle.shard.specs.declared.plan.NewRun.{NewRun}
 use Rattle.shard.proofs.IndexLemmas.{latest_from}
-use Rattle.shard.proofs.StepLemmas.{id-of-begun, no-facts}
-
-pub record IsOneOpen (runs : List RunState) : Type 0 where
-  pub earlier : (m n : ℕ) (s t : RunState) → m < n → slice_get runs m ≡ Some s → slice_get runs n ≡ Some t → id_of s ≡ id_of t → is_open s ≡ false
+use Rattle.shard.proofs.StepLemmas.{no-facts}
 
 same-some : {A : Type 0} (x y : A) → Some x ≡ Some y → x ≡ y
 same-some x y e = cc
@@ -108,6 +107,44 @@ all-closed runs id m s one free there same = by_latest (latest_from 1 id runs) (
         at_or_below (suc a) zero l = absurd (omega (arith, l))
         at_or_below (suc a) (suc b) l = ⊎_elim (λ e. inl (ap suc e)) (λ h. inr (omega (arith, h))) (at_or_below a b (omega (arith, l)))
 
+pub free-closed : (runs : List RunState) (id : List ℕ) → IsFree runs id → IsOneOpen runs → HasClosed runs id
+free-closed runs id free one = record { each = λ m s there same. all-closed runs id m s one free there same }
+
+-- the latest run of an ID has this ID
+pub latest-named : (runs : List RunState) (id : List ℕ) (n : ℕ) → latest_run runs id ≡ Some n → id_of (state_at runs (n - 1)) ≡ id
+unfolding latest_run latest_from
+latest-named runs id n is =
+    let (i, t, place, at, named, all) = (is-latest 1 id runs).some n is in
+    let here : i ≡ n - 1 = omega (arith, place) in
+    ap id_of (ap (state_at runs) (sym here) ∙ state-there runs i t at) ∙ named
+
+set-there : {A : Type 0} (xs : List A) (i : ℕ) (x : A) → i < length xs → slice_get (slice_set xs i x) i ≡ Some x
+set-there [] i x h = absurd (omega arith)
+set-there (y ∷ xs) zero x h = refl
+set-there (y ∷ xs) (suc i) x h = set-there xs i x (omega arith)
+
+which : (m n : ℕ) → (m ≡ n) ⊎ ((m < n) ⊎ (n < m))
+which zero zero = inl refl
+which zero (suc n) = inr (inl (omega arith))
+which (suc m) zero = inr (inr (omega arith))
+which (suc m) (suc n) = ⊎_elim (λ e. inl (ap suc e)) (λ h. inr (⊎_elim (λ l. inl (omega (arith, l))) (λ l. inr (omega (arith, l))) h)) (which m n)
+
+-- where the open run of an ID is closed, all of its runs have closed
+pub closed-alone : (runs : List RunState) (i : ℕ) (x : RunState) → i < length runs → is_open (state_at runs i) ≡ true → is_open x ≡ false → IsOneOpen runs → HasClosed (slice_set runs i x) (id_of (state_at runs i))
+closed-alone runs i x low opened over one = record {
+  each = λ m s at same. ⊎_elim
+      (λ (e : m ≡ i). ap is_open (same-some s x (sym at ∙ ap (λ k. slice_get (slice_set runs i x) k) e ∙ set-there runs i x low)) ∙ over)
+      (λ (apart : (m < i) ⊎ (i < m)).
+      let (t, there, how) = get-set runs i x s m at in
+      let is : s ≡ t = ⊎_elim (λ (e : (m ≡ i) × (s ≡ x)). absurd (⊎_elim (λ (l : m < i). let c = e.0 in omega (arith, l, c)) (λ (l : i < m). let c = e.0 in omega (arith, l, c)) apart)) (λ (e : s ≡ t). e) how in
+      let named : id_of t ≡ id_of (state_at runs i) = ap id_of (sym is) ∙ same in
+      let here : slice_get runs i ≡ Some (state_at runs i) = get-at runs i low in
+      ap is_open is ∙ ⊎_elim
+      (λ (l : m < i). one.earlier m i t (state_at runs i) l there here named)
+      (λ (l : i < m). absurd (let clash = sym opened ∙ one.earlier i m (state_at runs i) t l here there (sym named) in cc)) apart)
+      (which m i);
+}
+
 -- a closed run stays closed, and each run keeps its ID
 stays-closed : (at : ℕ) (facts : List Fact) (s : RunState) → FitStep at s facts → is_open s ≡ false → is_open (after_step at facts s) ≡ false
 stays-closed at facts s fits over = ap (λ fs. is_open (after_step at fs s)) (no-facts at s facts over fits) ∙ by_task (is_started_task s.task)
@@ -122,40 +159,41 @@ keeps-id at facts s = ap (λ (o : Option Beginning). unwrap_or (option_map (λ (
 kept : (old : List RunState) (i : ℕ) (x : RunState) (n : ℕ) (t t' : RunState) → id_of x ≡ id_of (state_at old i) → slice_get old n ≡ Some t' → ((n ≡ i) × (t ≡ x)) ⊎ (t ≡ t') → id_of t ≡ id_of t'
 kept old i x n t t' same there how = ⊎_elim (λ (e : (n ≡ i) × (t ≡ x)). ap id_of e.1 ∙ same ∙ ap id_of (ap (state_at old) (sym e.0) ∙ state-there old n t' there)) (λ (e : t ≡ t'). ap id_of e) how
 
--- a step leaves at most one open run of each ID
-pub one-open-after : {T : Type 0} (v : ShardView) (at : ℕ) (c : Change T) (o : Outcome) → FitsChange v at c o → IsOneOpen (states v.runs) → IsOneOpen (runs_after c (states v.runs))
-one-open-after v at change.Nothing o fits one = one
-one-open-after v at change.Counted o fits one = one
-one-open-after v at (change.Created new) o fits one =
-    let (request, a, more, added, created, is) = fits in
-    let named : id_of new.run.state ≡ a.workflow_id = ap id_of is.made ∙ id-of-begun at more request a in
-    record {
-      earlier = λ m n s t l at_m at_n same. ⊎_elim
-          (λ (e : slice_get (states v.runs) n ≡ Some t). one.earlier m n s t l (still m s at_m (let b = get-below (states v.runs) n t e in omega (arith, b, l))) e same)
-          (λ (e : (n ≡ length (states v.runs)) × (t ≡ new.run.state)). all-closed (states v.runs) a.workflow_id m s one is.free (still m s at_m (omega (arith, e.0, l))) (same ∙ ap id_of e.1 ∙ named))
-          (get-pushed (states v.runs) new.run.state t n at_n);
-    }
-  where
-    still : (m : ℕ) (s : RunState) → slice_get (states v.runs ++ new.run.state ∷ []) m ≡ Some s → m < length (states v.runs) → slice_get (states v.runs) m ≡ Some s
-    still m s is below = ⊎_elim (λ e. e) (λ e. absurd (omega (arith, below, e.0))) (get-pushed (states v.runs) new.run.state s m is)
-one-open-after v at (change.Added more) o fits one =
-    let (facts, added, created, is) = fits in
+one-open-added : (v : ShardView) (at : ℕ) (m : Option MoreOf) (o : Option Added) → FitsAdded v at m o → IsOneOpen (states v.runs) → IsOneOpen (runs_added m (states v.runs))
+one-open-added v at None o fits one = one
+one-open-added v at (Some more) o (facts, added, fits) one =
     let i = more.index in
     let old = states v.runs in
-    let x = after_step more.plan.change.moment more.plan.change.facts (state_at old i) in
-    let facts_fit : FitStep more.plan.change.moment (state_at old i) more.plan.change.facts = subst (λ (c : MoreFacts). FitStep c.moment (state_at old i) c.facts) (sym is.change) is.fits in
+    let x = grown more old in
+    let c = more.plan.change in
     record {
       earlier = λ m n s t l at_m at_n same.
           let (s', there_m, how_m) = get-set old i x s m at_m in
           let (t', there_n, how_n) = get-set old i x t n at_n in
-          let id_s : id_of s ≡ id_of s' = kept old i x m s s' (keeps-id more.plan.change.moment more.plan.change.facts (state_at old i)) there_m how_m in
-          let id_t : id_of t ≡ id_of t' = kept old i x n t t' (keeps-id more.plan.change.moment more.plan.change.facts (state_at old i)) there_n how_n in
+          let id_s : id_of s ≡ id_of s' = kept old i x m s s' (keeps-id c.moment c.facts (state_at old i)) there_m how_m in
+          let id_t : id_of t ≡ id_of t' = kept old i x n t t' (keeps-id c.moment c.facts (state_at old i)) there_n how_n in
           let over : is_open s' ≡ false = one.earlier m n s' t' l there_m there_n (sym id_s ∙ same ∙ id_t) in
           ⊎_elim (λ (e : (m ≡ i) × (s ≡ x)).
           let here : state_at old i ≡ s' = ap (state_at old) (sym e.0) ∙ state-there old m s' there_m in
-          ap is_open e.1 ∙ stays-closed more.plan.change.moment more.plan.change.facts (state_at old i) facts_fit (ap is_open here ∙ over))
+          ap is_open e.1 ∙ stays-closed c.moment c.facts (state_at old i) fits.has_room.fits (ap is_open here ∙ over))
           (λ (e : s ≡ s'). ap is_open e ∙ over) how_m;
     }
+
+one-open-created : {T : Type 0} (n : Option (NewRun T)) (runs : List RunState) → IsFreeFor n runs → IsOneOpen runs → IsOneOpen (runs_created n runs)
+one-open-created None runs free one = one
+one-open-created (Some new) runs free one = record {
+  earlier = λ m n s t l at_m at_n same. ⊎_elim
+      (λ (e : slice_get runs n ≡ Some t). one.earlier m n s t l (still m s at_m (let b = get-below runs n t e in omega (arith, b, l))) e same)
+      (λ (e : (n ≡ length runs) × (t ≡ new.run.state)). free.each m s (still m s at_m (omega (arith, e.0, l))) (same ∙ ap id_of e.1))
+      (get-pushed runs new.run.state t n at_n);
+}
+  where
+    still : (m : ℕ) (s : RunState) → slice_get (runs ++ new.run.state ∷ []) m ≡ Some s → m < length runs → slice_get runs m ≡ Some s
+    still m s is below = ⊎_elim (λ e. e) (λ e. absurd (omega (arith, below, e.0))) (get-pushed runs new.run.state s m is)
+
+-- a step leaves at most one open run of each ID
+pub one-open-after : {T : Type 0} (v : ShardView) (at : ℕ) (c : Change T) (o : Outcome) → FitsChange v at c o → IsOneOpen (states v.runs) → IsOneOpen (runs_created c.created (runs_added c.added (states v.runs)))
+one-open-after v at c o fits one = one-open-created c.created (runs_added c.added (states v.runs)) (fits.free one) (one-open-added v at c.added o.added fits.added one)
 
 -- the same, of the journals
 pub of-journals : (S : Content) → HasOneOpen S → IsOneOpen (map state_of S.runs)

@@ -6,7 +6,7 @@ ghost use Rattle.shard_steps.specs.Issuing.{next_waiting, count_waiting};
 ghost use Rattle.shard.specs.Fitting.{FitsStep};
 ghost use Rattle.shard.specs.View.{state};
 
-use crate::plan::{Change, Plan};
+use crate::plan::{Change, Count, Plan};
 use crate::prepare::answered;
 use crate::shard::Shard;
 use mutable_state_keeper::KeepsRun;
@@ -54,7 +54,11 @@ impl<T: KeepsRun> Shard<T> {
         }
         Ok(Plan {
             moment,
-            change: Change::Counted,
+            change: Change {
+                added: None,
+                created: None,
+                count: Count::Dispatch,
+            },
             reply: Ok(Answer::Counted(Acknowledged::Acknowledged)),
         })
     }

@@ -6,7 +6,7 @@ ghost use Rattle.mutable_state.specs.Steps.{FitStep};
 ghost use Rattle.shard.specs.Fitting.{FitsStep};
 ghost use Rattle.shard.specs.View.{state, runs_in};
 
-use crate::plan::{Change, MoreOf, Plan};
+use crate::plan::{Change, Count, MoreOf, Plan};
 use crate::shard::Shard;
 use mutable_state::Change as MoreFacts;
 use mutable_state_keeper::KeepsRun;
@@ -33,7 +33,11 @@ impl<T: KeepsRun> Shard<T> {
         let plan = self.prepare_in(n - 1, MoreFacts { moment, facts })?;
         Ok(Plan {
             moment,
-            change: Change::Added(MoreOf { index: n - 1, plan }),
+            change: Change {
+                added: Some(MoreOf { index: n - 1, plan }),
+                created: None,
+                count: Count::Nothing,
+            },
             reply: Ok(answer),
         })
     }

@@ -20,14 +20,21 @@ pub struct MoreOf {
     pub plan: mutable_state::Plan,
 }
 
-/// What a step does to the runs and the dispatches.
-#[derive(Drop)]
-pub enum Change<T: KeepsRun> {
+/// Which count a step moves on.
+#[derive(Clone, Copy)]
+pub enum Count {
     Nothing,
-    Created(NewRun<T>),
-    Added(MoreOf),
     /// The first dispatch that waits is counted.
-    Counted,
+    Dispatch,
+}
+
+/// What a step does to a shard: what an older run gets, the run that is made, and the count that is
+/// moved on.
+#[derive(Drop)]
+pub struct Change<T: KeepsRun> {
+    pub added: Option<MoreOf>,
+    pub created: Option<NewRun<T>>,
+    pub count: Count,
 }
 
 /// A step that can't fail any more.

@@ -3,9 +3,9 @@
 ghost use Rattle.std.specs.Prelude.{◌≡◌, max, IfOk};
 ghost use Rattle.service_model.specs.Outcome.{answered, refused};
 ghost use Rattle.shard.specs.View.{state, runs_in};
-ghost use Rattle.shard.specs.Fitting.{FitsStep, outcome_in};
+ghost use Rattle.shard.specs.Fitting.{FitsStep, nothing, outcome_in};
 
-use crate::plan::{Change, Plan};
+use crate::plan::{Change, Count, Plan};
 use crate::shard::Shard;
 use mutable_state_keeper::KeepsRun;
 use service_model::answer::Answer;
@@ -50,13 +50,17 @@ impl<T: KeepsRun> Shard<T> {
 pub fn answered<T: KeepsRun>(moment: Moment, answer: Answer) -> Plan<T>
     ensures { result ≡ record {
       moment = moment;
-      change = Change.Nothing;
+      change = nothing;
       reply = (answered answer).reply;
     } }
 {
     Plan {
         moment,
-        change: Change::Nothing,
+        change: Change {
+            added: None,
+            created: None,
+            count: Count::Nothing,
+        },
         reply: Ok(answer),
     }
 }
@@ -65,13 +69,17 @@ pub fn answered<T: KeepsRun>(moment: Moment, answer: Answer) -> Plan<T>
 pub fn refused<T: KeepsRun>(moment: Moment, refusal: Refusal) -> Plan<T>
     ensures { result ≡ record {
       moment = moment;
-      change = Change.Nothing;
+      change = nothing;
       reply = (refused refusal).reply;
     } }
 {
     Plan {
         moment,
-        change: Change::Nothing,
+        change: Change {
+            added: None,
+            created: None,
+            count: Count::Nothing,
+        },
         reply: Err(refusal),
     }
 }

@@ -1,23 +1,19 @@
 //! A shard, and its two halves of a step.
 
-ghost use Rattle.std.specs.Prelude.{◌≡◌, ◌+◌, ◌<◌, ◌≤◌, ◌^◌, ◌++◌, ◌∷◌, [], None, length, slice_set};
-ghost use Rattle.std.specs.String.{string_bytes};
+ghost use Rattle.std.specs.Prelude.{◌≡◌, []};
 ghost use Rattle.service_model.specs.Outcome.{Outcome};
-ghost use Rattle.service_model.specs.RunState.{id_of};
 ghost use Rattle.service_model.specs.Service.{opening};
-ghost use Rattle.mutable_state.specs.Steps.{after_step, FitStep};
 ghost use Rattle.shard.specs.View.{IsSetup, state, states};
-ghost use Rattle.shard.specs.Fitting.{CountsFirst, FitsChange, issued_for, issued_new, state_after, room_at, state_at};
+ghost use Rattle.shard.specs.Fitting.{FitsChange, state_after};
 ghost use Rattle.shard.specs.Standing.{Grows, StandsFor};
-ghost use Rattle.shard_steps.specs.Issuing.{one_counted, with_issued};
 
-use crate::plan::{Change, MoreOf, NewRun, Plan};
+use crate::plan::Plan;
 use indexmap::IndexMap;
 use mutable_state_keeper::{KeepsRun, Run};
 use service_model::answer::Reply;
 use service_model::content::Setup;
-use shard_steps::{Dispatches, readied};
-use std::alloc::{AllocError, Global};
+use shard_steps::{Changed, Dispatches};
+use std::alloc::Global;
 use std::marker::Model;
 use timeouts::Deadlines;
 use wf_event_values::Moment;
@@ -33,9 +29,9 @@ pub struct Shard<T: KeepsRun> {
     pub(crate) deadlines: Deadlines,
     /// The tasks that are to be handed to their queues.
     pub(crate) dispatches: Dispatches,
-    /// The place of the run that the last step changed, where its deadline and its dispatches were
+    /// The places of the runs that the last step changed, where their deadlines and dispatches were
     /// not looked up since: that may take memory, so the next step does it.
-    pub(crate) changed: Option<usize>,
+    pub(crate) changed: Changed,
     pub(crate) last: Moment,
 }
 
@@ -101,7 +97,7 @@ impl<T: KeepsRun> Shard<T> {
             index: IndexMap::new(alloc),
             deadlines: Deadlines::new(alloc),
             dispatches: Dispatches::new(alloc),
-            changed: None,
+            changed: Changed::none(),
             last: Moment::zero(),
         }
     }
@@ -116,79 +112,17 @@ impl<T: KeepsRun> Shard<T> {
 
         ensures reply { result ≡ plan.reply }
     {
-        self.carry_out(plan)
+        self.finish(plan)
     }
 
-    fn carry_out(&mut self, plan: Plan<T>) -> Reply
+    fn finish(&mut self, plan: Plan<T>) -> Reply
         requires { (o : Outcome) × FitsChange self.old plan.moment plan.change o }
         ensures state { state self.new ≡ state_after plan (state self.old) }
         ensures reply { result ≡ plan.reply }
     {
         let (moment, change, reply) = plan.into_parts();
-        match change {
-            Change::Nothing => {}
-            Change::Created(created) => self.add(created),
-            Change::Added(more) => self.grow(more),
-            Change::Counted => self.count(),
-        }
+        self.carry_out(change);
         self.last = moment;
         reply
-    }
-
-    /// Adds a run.
-    fn add(&mut self, created: NewRun<T>)
-        requires room { 0 < self.old.room }
-        requires noted { self.old.changed ≡ None }
-        requires few { length self.old.runs + 1 < 2 ^ 60 }
-        requires named { id_of created.run.state ≡ string_bytes created.key }
-        ensures runs { states self.new.runs ≡ states self.old.runs ++ created.run.state ∷ [] }
-        ensures waiting { self.new.waiting ≡ with_issued self.old.waiting
-            (issued_new created.run.state (state self.old)) }
-        ensures setup { self.new.setup ≡ self.old.setup }
-        ensures last { self.new.last ≡ self.old.last }
-    {
-        let NewRun { run, key } = created;
-        let index = self.runs.len();
-        let _ = self.index.insert(key, index + 1).unwrap();
-        self.runs.push(run).unwrap();
-        self.deadlines.push_none();
-        self.dispatches.add_run();
-        self.changed = Some(index);
-    }
-
-    /// Adds a step's facts to a run.
-    fn grow(&mut self, more: MoreOf)
-        requires there { more.index < length self.old.runs }
-        requires noted { self.old.changed ≡ None }
-        requires room { length more.plan.change.facts ≤ room_at self.old.runs more.index }
-        requires fits { FitStep more.plan.change.moment
-            (state_at (states self.old.runs) more.index) more.plan.change.facts }
-        ensures runs { states self.new.runs ≡ slice_set (states self.old.runs) more.index
-            (after_step more.plan.change.moment more.plan.change.facts
-            (state_at (states self.old.runs) more.index)) }
-        ensures waiting { self.new.waiting ≡ with_issued self.old.waiting
-            (issued_for more (state self.old)) }
-        ensures setup { self.new.setup ≡ self.old.setup }
-        ensures last { self.new.last ≡ self.old.last }
-    {
-        let MoreOf { index, plan } = more;
-        let ready = readied(plan.change.facts.as_slice());
-        let run = &mut self.runs[index];
-        run.commit(plan);
-        self.dispatches.note(ready);
-        self.changed = Some(index);
-    }
-
-    /// Counts the first dispatch that waits.
-    fn count(&mut self)
-        requires { CountsFirst self.old }
-        ensures state { state self.new ≡ record {
-          setup = self.old.setup;
-          runs = states self.old.runs;
-          last = self.old.last;
-          waiting = one_counted self.old.waiting;
-        } }
-    {
-        self.dispatches.count_first();
     }
 }

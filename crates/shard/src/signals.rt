@@ -4,6 +4,7 @@ ghost use Rattle.std.specs.Prelude.{◌≡◌, ◌≤◌, ◌<◌, length, IfOk,
 ghost use Rattle.service_model.specs.Outcome.{run_at};
 ghost use Rattle.service_model.specs.RunState.{is_open};
 ghost use Rattle.service_model.specs.Signals.{signal, signal_at, signal_fact, signals};
+ghost use Rattle.shard_steps.specs.Kept.{IsNoted};
 ghost use Rattle.shard.specs.View.{state, runs_in};
 ghost use Rattle.shard.specs.Fitting.{FitsStep, room_at};
 
@@ -109,7 +110,7 @@ impl<T: KeepsRun> Shard<T> {
         requires { index < length self.old.runs }
         ensures same { state self.new ≡ state self.old }
         ensures there { index < length self.new.runs }
-        ensures noted { OnOk result (self.new.changed ≡ None) }
+        ensures noted { OnOk result (IsNoted self.new.changed) }
         ensures made { IfOk result (λ plan. plan.change ≡ more) }
         ensures room { IfOk result (λ plan.
             length plan.change.facts ≤ room_at self.new.runs index) }

@@ -1,48 +1,34 @@
 //! Starting a run.
 
-ghost use Rattle.std.specs.Prelude.{◌≡◌, ◌+◌, ◌<◌, ◌≤◌, ◌^◌, length, OnOk, IfOk, Some, None, ◌∷◌, [], false};
+ghost use Rattle.std.specs.Prelude.{◌≡◌, ◌<◌, ◌≤◌, ◌^◌, length, IfOk, Some, None, ◌∷◌, [], true};
 ghost use Rattle.id_policy.specs.Decisions.{says};
-ghost use Rattle.service_model.specs.Service.{at_served_policies, is_terminate_existing};
-ghost use Rattle.service_model.specs.IdPolicy.{decide, is_same_request};
+ghost use Rattle.service_model.specs.IdPolicy.{TerminateThenNew, decide, is_same_request};
 ghost use Rattle.service_model.specs.Outcome.{latest_run, run_at};
-ghost use Rattle.service_model.specs.Starts.{start, start_request, starts_new, started_fact, first_task};
+ghost use Rattle.service_model.specs.RunState.{id_of, is_open};
+ghost use Rattle.service_model.specs.Starts.{by_decision, start, start_request, starts_new, started_fact, first_task};
 ghost use Rattle.shard.specs.View.{state, states, runs_in};
 ghost use Rattle.shard.specs.Fitting.{FitsStep, IsFree, decided, decided_by};
-ghost use Rattle.shard_steps.specs.Starts.{first_facts, MayBegin};
 
 use crate::index::shard_of;
-use crate::plan::{Change, NewRun, Plan};
+use crate::plan::{Change, Count, MoreOf, Plan};
 use crate::prepare::{answered, refused};
 use crate::shard::Shard;
 use id_policy::{Decision, Latest, decide};
+use mutable_state::Change as MoreFacts;
 use mutable_state_keeper::KeepsRun;
 use service_model::answer::Answer;
-use service_model::limits::MOST_MEMBERS;
 use service_model::request::Start;
-use shard_steps::{Beginning, beginning_of, new_run};
+use shard_steps::{beginning_of, replaced_reason, terminated_facts};
 use std::alloc::AllocError;
 use wf_event_values::{ConflictPolicy, Field, Moment, Refusal};
 
 impl<T: KeepsRun> Shard<T> {
+    #[tactic(auto, unfolding(service_model::specs::Starts::start))]
     pub(crate) fn prepare_start(
         &mut self,
         moment: Moment,
         request: &Start,
     ) -> Result<Plan<T>, AllocError>
-        ensures same { state self.new ≡ state self.old }
-        ensures plan { IfOk result (λ plan. FitsStep self.new plan moment
-            (at_served_policies request.now (start (runs_in self.old) request.now))) }
-    {
-        if is_terminate_existing(request.conflict) {
-            return Ok(refused(moment, Refusal::InvalidArgument(Field::Conflict)));
-        }
-        self.prepare_start_here(moment, request)
-    }
-
-    /// A start at policies that are served.
-    #[tactic(auto, unfolding(service_model::specs::Starts::start))]
-    fn prepare_start_here(&mut self, moment: Moment, request: &Start) -> Result<Plan<T>, AllocError>
-        requires conflict { is_terminate_existing request.now.conflict ≡ false }
         ensures same { state self.new ≡ state self.old }
         ensures plan { IfOk result (λ plan. FitsStep self.new plan moment
             (start (runs_in self.old) request.now)) }
@@ -58,7 +44,6 @@ impl<T: KeepsRun> Shard<T> {
 
     /// A start, decided by the workflow ID's latest run.
     fn prepare_decided(&mut self, moment: Moment, request: &Start) -> Result<Plan<T>, AllocError>
-        requires conflict { is_terminate_existing request.now.conflict ≡ false }
         ensures same { state self.new ≡ state self.old }
         ensures plan { IfOk result (λ plan. FitsStep self.new plan moment
             (decided (runs_in self.old) request.now)) }
@@ -80,7 +65,6 @@ impl<T: KeepsRun> Shard<T> {
         requires to { n ≤ length self.old.runs }
         requires few { length self.old.runs < 2 ^ 60 }
         requires latest { latest_run (states self.old.runs) request.now.workflow_id ≡ Some n }
-        requires conflict { is_terminate_existing request.now.conflict ≡ false }
         ensures same { state self.new ≡ state self.old }
         ensures plan { IfOk result (λ plan. FitsStep self.new plan moment
             (decided_by (runs_in self.old) request.now (Some n))) }
@@ -89,7 +73,7 @@ impl<T: KeepsRun> Shard<T> {
         match self.decision_by(n, request, request.conflict) {
             Decision::New => self.prepare_started(moment, request),
             Decision::Same | Decision::Existing => Ok(answered(moment, Answer::Existing(run))),
-            Decision::TerminateThenNew => unreachable!(),
+            Decision::TerminateThenNew => self.prepare_replaced(moment, n, request),
             Decision::Refused => Ok(refused(moment, Refusal::AlreadyStarted(run))),
         }
     }
@@ -128,51 +112,37 @@ impl<T: KeepsRun> Shard<T> {
         self.prepare_new_run(moment, beginning)
     }
 
-    /// A run that begins so, where nothing stands in its way.
-    pub(crate) fn prepare_new_run(
+    /// The termination of the workflow ID's open run, which has that ordinal, and the run of the start:
+    /// both, or neither.
+    fn prepare_replaced(
         &mut self,
         moment: Moment,
-        beginning: Beginning,
+        n: usize,
+        request: &Start,
     ) -> Result<Plan<T>, AllocError>
-        requires begins { MayBegin moment beginning }
-        requires free { IsFree (states self.old.runs) beginning.started.workflow_id }
+        requires from { 1 ≤ n }
+        requires to { n ≤ length self.old.runs }
+        requires named { id_of (run_at (runs_in self.old) n) ≡ request.now.workflow_id }
+        requires open { is_open (run_at (runs_in self.old) n) ≡ true }
         ensures same { state self.new ≡ state self.old }
         ensures plan { IfOk result (λ plan. FitsStep self.new plan moment
-            (starts_new (runs_in self.old) None (first_facts beginning))) }
+            (by_decision (runs_in self.old) n
+            (started_fact request.now ∷ first_task request.now.task_queue ∷ [])
+            TerminateThenNew)) }
     {
-        let id = beginning.started.workflow_id.as_str();
-        let key = String::from_str(self.alloc, id)?;
-        let run = new_run(self.alloc, moment, beginning)?;
-        self.reserve_run()?;
+        let facts = terminated_facts(self.alloc, replaced_reason(self.alloc)?)?;
+        let plan = self.prepare_in(n - 1, MoreFacts { moment, facts })?;
+        let beginning = beginning_of(self.alloc, request)?;
+        let made = self.prepare_made(moment, beginning)?;
         let ordinal = self.runs.len() + 1;
         Ok(Plan {
             moment,
-            change: Change::Created(NewRun { run, key }),
+            change: Change {
+                added: Some(MoreOf { index: n - 1, plan }),
+                created: Some(made),
+                count: Count::Nothing,
+            },
             reply: Ok(Answer::Started(self.run_id(ordinal))),
         })
     }
-
-    /// Makes room for one more run.
-    fn reserve_run(&mut self) -> Result<(), AllocError>
-        ensures same { state self.new ≡ state self.old }
-        ensures room { OnOk result (0 < self.new.room) }
-        ensures noted { OnOk result (self.new.changed ≡ None) }
-        ensures few { OnOk result (length self.new.runs + 1 < 2 ^ 60) }
-    {
-        if self.runs.len() >= MOST_MEMBERS {
-            return Err(AllocError);
-        }
-        self.note_change()?;
-        self.runs.reserve(1)?;
-        self.deadlines.reserve(1)?;
-        self.dispatches.reserve(1)?;
-        self.index.reserve(1)
-    }
-}
-
-/// Whether a start would terminate the open run of its workflow ID.
-fn is_terminate_existing(conflict: ConflictPolicy) -> bool
-    ensures { result ≡ is_terminate_existing conflict }
-{
-    matches!(conflict, ConflictPolicy::TerminateExisting)
 }

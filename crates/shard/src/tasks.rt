@@ -12,10 +12,11 @@ ghost use Rattle.service_model.specs.RunState.{is_open};
 ghost use Rattle.service_model.specs.Service.{at_served_commands, is_served};
 ghost use Rattle.service_model.specs.Tasks.{start_task, take_by_kind, take_workflow, waits_workflow, runs_workflow, complete_workflow_task, complete_judged, fail_workflow_task};
 ghost use Rattle.task_completion.specs.Ends.{IsPlanned, IsCompletion};
+ghost use Rattle.shard_steps.specs.Kept.{IsNoted};
 ghost use Rattle.shard.specs.View.{state, states, runs_in};
 ghost use Rattle.shard.specs.Fitting.{FitsStep, state_at, view_at};
 
-use crate::plan::{Change, MoreOf, Plan};
+use crate::plan::{Change, Count, MoreOf, Plan};
 use crate::prepare::{answered, refused};
 use crate::shard::Shard;
 use mutable_state::Change as MoreFacts;
@@ -80,7 +81,11 @@ impl<T: KeepsRun> Shard<T> {
         let plan = self.prepare_in(n - 1, MoreFacts { moment, facts })?;
         Ok(Plan {
             moment,
-            change: Change::Added(MoreOf { index: n - 1, plan }),
+            change: Change {
+                added: Some(MoreOf { index: n - 1, plan }),
+                created: None,
+                count: Count::Nothing,
+            },
             reply: Ok(Answer::WorkflowTask(task)),
         })
     }
@@ -166,7 +171,8 @@ impl<T: KeepsRun> Shard<T> {
         }
     }
 
-    /// The end of the started task of the run with that ordinal.
+    /// The end of the started task of the run with that ordinal, and the run that follows where it
+    /// continues as new: both, or neither.
     fn prepare_completed(
         &mut self,
         moment: Moment,
@@ -186,9 +192,14 @@ impl<T: KeepsRun> Shard<T> {
     {
         let commands = request.commands.as_slice();
         let Completion { plan, fault } = self.complete_in(n - 1, commands, moment)?;
+        let created = self.prepare_follower(moment, n, fault, commands)?;
         Ok(Plan {
             moment,
-            change: Change::Added(MoreOf { index: n - 1, plan }),
+            change: Change {
+                added: Some(MoreOf { index: n - 1, plan }),
+                created,
+                count: Count::Nothing,
+            },
             reply: Ok(ended(fault)),
         })
     }
@@ -205,13 +216,13 @@ impl<T: KeepsRun> Shard<T> {
         requires served { list_all is_served commands.now ≡ true }
         ensures same { state self.new ≡ state self.old }
         ensures there { index < length self.new.runs }
-        ensures noted { OnOk result (self.new.changed ≡ None) }
+        ensures noted { OnOk result (IsNoted self.new.changed) }
         ensures plan { IfOk result (λ c. IsCompletion (view_at self.new.runs index) moment
             (judge_all self.old.setup (run_id self.old.setup (length self.old.runs + 1))
             (state_at (states self.old.runs) index) [] commands.now) c) }
     {
         self.note_change()?;
-        let next = self.runs.len() as u64 + 1;
+        let next = self.run_id(self.runs.len() + 1);
         let run = &mut self.runs[index];
         plan_completion(self.alloc, run, &self.setup, next, commands, moment)
     }
@@ -254,7 +265,11 @@ impl<T: KeepsRun> Shard<T> {
         let plan = self.fail_in(n - 1, message, moment)?;
         Ok(Plan {
             moment,
-            change: Change::Added(MoreOf { index: n - 1, plan }),
+            change: Change {
+                added: Some(MoreOf { index: n - 1, plan }),
+                created: None,
+                count: Count::Nothing,
+            },
             reply: Ok(Answer::Failed),
         })
     }
@@ -270,7 +285,7 @@ impl<T: KeepsRun> Shard<T> {
         requires started { (state_at (states self.old.runs) index).task ≡ IsStarted }
         ensures same { state self.new ≡ state self.old }
         ensures there { index < length self.new.runs }
-        ensures noted { OnOk result (self.new.changed ≡ None) }
+        ensures noted { OnOk result (IsNoted self.new.changed) }
         ensures plan { IfOk result (λ plan. IsPlanned (view_at self.new.runs index) moment
             (failed_task (state_at (states self.old.runs) index)
             WorkflowWorkerUnhandledFailure message) plan) }

@@ -1,5 +1,5 @@
 -- what a step issues, by what is looked up behind it
-use Rattle.std.proofs.Common.{◌≡◌, ℕ, ◌+◌, ◌-◌, ◌<◌, ◌≤◌, Bool, true, false, cond, List, [], ◌∷◌, ◌++◌, length, append-nil, refl, sym, ap, ◌∙◌, arith, zero, suc, slice_index_or, slice_set, Option, Some, None}
+use Rattle.std.proofs.Common.{◌≡◌, ℕ, ◌+◌, ◌-◌, ◌<◌, ◌≤◌, Bool, true, false, cond, List, [], ◌∷◌, ◌++◌, length, append-nil, refl, sym, ap, ◌∙◌, arith, zero, suc, slice_index_or, slice_set, Option, Some, None, IfSome}
 use Rattle.std.proofs.lemmas.List.{get_or-set_same, length-drop}
 use Rattle.std.specs.Prelude.{drop, filter_map, option_and_then, option_to_list, slice_get}
 use Rattle.std.specs.List.{cons_option}
@@ -18,9 +18,10 @@ use Rattle.service_model.specs.Pending.{is_settled}
 use Rattle.service_model.specs.RunState.{RunState, no_run, row_of, held_attributes}
 use Rattle.service_model.specs.Tasks.{is_started_task, pending_row}
 use Rattle.mutable_state.specs.Steps.{Place, IsFirst, FitFrom, FitStep, MayQueue, after_step, all_written, noted_of, place_after, step_ended, with_event, with_noted}
-use Rattle.shard_steps.specs.Issuing.{DispatchesView, Waiting, all_waiting, count_waiting, issued_since, next_waiting, queued_dispatch, readied, waiting_in, with_issued}
-use Rattle.shard_steps.specs.Kept.{HasShown}
-use Rattle.shard_steps.proofs.EachLemmas.{shown-at}
+use Rattle.shard_steps.specs.Issuing.{DispatchesView, Waiting, all_waiting, count_waiting, issued_first, issued_since, next_waiting, of_grown, of_made, queued_dispatch, readied, waiting_in, with_issued}
+use Rattle.shard_steps.specs.Kept.{HasShown, IsNoted, unchanged}
+use Rattle.shard_steps.specs.declared.changed.Changed.{Changed}
+use Rattle.shard_steps.proofs.EachLemmas.{index-push, shown-at}
 
 -- at the end of a step no event that is held back settles what none settled before
 pending-at-end : (id : ℕ) (s : RunState) → is_settled AnActivity id (held_attributes s) ≡ false → pending_row (step_ended s) id ≡ row_of (step_ended s) id
@@ -99,32 +100,12 @@ count-is S number low =
     ap (λ n. acknowledges n S.dispatched number CountsDispatch) all
 
 -- where no run changed, all that waits was looked up
-pub all-looked-up : (setup : Setup) (d : DispatchesView) (changed : Option ℕ) (runs : List RunState) → changed ≡ None → all_waiting setup d changed runs ≡ d.waiting
-all-looked-up setup d changed runs none =
-    ap (λ c. all_waiting setup d c runs) none ∙ ap (λ l. record { dispatches = l; counted = d.waiting.counted }) (append-nil d.waiting.dispatches)
-
-waits-with : (setup : Setup) (d d' : DispatchesView) (changed : Option ℕ) (runs now : List RunState) (n k shown : ℕ) (ready : Option ℕ) (s : RunState) → changed ≡ None → d'.waiting ≡ d.waiting → slice_index_or d'.shown n 0 ≡ shown → d'.ready ≡ ready → n ≡ k → slice_index_or now n no_run ≡ s →
-    all_waiting setup d' (Some n) now ≡ with_issued (all_waiting setup d changed runs) (issued_since setup shown ready (k + 1) s)
-waits-with setup d d' changed runs now n k shown ready s none same counts readies place is =
-    let F : Waiting → List Dispatch → Waiting = with_issued in
-    ap (λ w. F w (issued_since setup (slice_index_or d'.shown n 0) d'.ready (n + 1) (slice_index_or now n no_run))) (same ∙ sym (all-looked-up setup d changed runs none))
-    ∙ ap (λ x. F (all_waiting setup d changed runs) (issued_since setup x d'.ready (n + 1) (slice_index_or now n no_run))) counts
-    ∙ ap (λ x. F (all_waiting setup d changed runs) (issued_since setup shown x (n + 1) (slice_index_or now n no_run))) readies
-    ∙ ap (λ x. F (all_waiting setup d changed runs) (issued_since setup shown ready (x + 1) (slice_index_or now n no_run))) place
-    ∙ ap (λ x. F (all_waiting setup d changed runs) (issued_since setup shown ready (k + 1) x)) is
-
-at-end : {A : Type 0} (d : A) (xs : List A) (x : A) → slice_index_or (xs ++ x ∷ []) (length xs) d ≡ x
-at-end d [] x = refl
-at-end d (y ∷ xs) x = at-end d xs x
-
--- a run was added
-pub added-waits : (setup : Setup) (d d' : DispatchesView) (changed : Option ℕ) (runs now : List RunState) (n : ℕ) (s : RunState) → changed ≡ None → d'.waiting ≡ d.waiting → d'.shown ≡ d.shown ++ 0 ∷ [] → d'.ready ≡ None → n ≡ length runs → now ≡ runs ++ s ∷ [] → HasShown d.shown changed runs →
-    all_waiting setup d' (Some n) now ≡ with_issued (all_waiting setup d changed runs) (issued_since setup 0 None (length runs + 1) s)
-added-waits setup d d' changed runs now n s none same counts readies place is h =
-    let here : n ≡ length d.shown = place ∙ sym h.count in
-    waits-with setup d d' changed runs now n (length runs) 0 None s none same
-    (ap (λ l. slice_index_or l n 0) counts ∙ ap (λ k. slice_index_or (d.shown ++ 0 ∷ []) k 0) here ∙ at-end 0 d.shown 0) readies place
-    (ap (λ l. slice_index_or l n no_run) is ∙ ap (λ k. slice_index_or (runs ++ s ∷ []) k no_run) place ∙ at-end no_run runs s)
+pub all-looked-up : (setup : Setup) (d : DispatchesView) (changed : Changed) (runs : List RunState) → IsNoted changed → all_waiting setup d changed runs ≡ d.waiting
+all-looked-up setup d changed runs noted =
+    let W : List Dispatch → Waiting = λ l. record { dispatches = l; counted = d.waiting.counted } in
+    ap (λ g. with_issued (with_issued d.waiting (of_grown setup d g runs)) (of_made setup changed.made runs)) noted.grown
+    ∙ ap (λ m. with_issued (with_issued d.waiting []) (of_made setup m runs)) noted.made
+    ∙ ap W (append-nil (d.waiting.dispatches ++ [])) ∙ ap W (append-nil d.waiting.dispatches)
 
 pub get-at : (runs : List RunState) (n : ℕ) → n < length runs → slice_get runs n ≡ Some (slice_index_or runs n no_run)
 get-at [] n h = absurd (omega arith)
@@ -132,19 +113,64 @@ get-at (r ∷ runs) zero h = refl
 get-at (r ∷ runs) (suc n) h = get-at runs n (omega arith)
 
 -- a run grew by the facts of a step
-pub grown-waits : (setup : Setup) (d d' : DispatchesView) (changed : Option ℕ) (runs now : List RunState) (n at : ℕ) (facts : List Fact) → changed ≡ None → d'.waiting ≡ d.waiting → d'.shown ≡ d.shown → d'.ready ≡ readied facts → n < length runs → FitStep at (slice_index_or runs n no_run) facts →
+pub grown-waits : (setup : Setup) (d d' : DispatchesView) (changed : Changed) (runs now : List RunState) (n at : ℕ) (facts : List Fact) → IsNoted changed → d'.waiting ≡ d.waiting → d'.shown ≡ d.shown → d'.ready ≡ readied facts → n < length runs → FitStep at (slice_index_or runs n no_run) facts →
     now ≡ slice_set runs n (after_step at facts (slice_index_or runs n no_run)) → HasShown d.shown changed runs →
-    all_waiting setup d' (Some n) now ≡ with_issued (all_waiting setup d changed runs) (dispatches_of setup (n + 1) (slice_index_or runs n no_run) (after_step at facts (slice_index_or runs n no_run)) facts)
-grown-waits setup d d' changed runs now n at facts none same counts readies there fits is h =
+    all_waiting setup d' (record { grown = Some n; made = None }) now ≡ with_issued (all_waiting setup d changed runs) (dispatches_of setup (n + 1) (slice_index_or runs n no_run) (after_step at facts (slice_index_or runs n no_run)) facts)
+grown-waits setup d d' changed runs now n at facts noted same counts readies there fits is h =
     let s = slice_index_or runs n no_run in
     let w = all_waiting setup d changed runs in
-    waits-with setup d d' changed runs now n n (length s.shown) (readied facts) (after_step at facts s) none same
-    (ap (λ l. slice_index_or l n 0) counts ∙ shown-at d.shown changed runs n s none (get-at runs n there) h) readies refl
-    (ap (λ l. slice_index_or l n no_run) is ∙ get_or-set_same runs n (after_step at facts s) no_run there)
-    ∙ ap (with_issued w) (sym (issued-behind setup (n + 1) at s facts fits))
+    let F : Waiting → List Dispatch → Waiting = λ x l. with_issued (with_issued x l) [] in
+    let shown : slice_index_or d'.shown n 0 ≡ length s.shown = ap (λ l. slice_index_or l n 0) counts ∙ shown-at d.shown changed runs n s noted (get-at runs n there) h in
+    let state : slice_index_or now n no_run ≡ after_step at facts s = ap (λ l. slice_index_or l n no_run) is ∙ get_or-set_same runs n (after_step at facts s) no_run there in
+    ap (λ x. F x (issued_since setup (slice_index_or d'.shown n 0) d'.ready (n + 1) (slice_index_or now n no_run))) (same ∙ sym (all-looked-up setup d changed runs noted))
+    ∙ ap (λ x. F w (issued_since setup x d'.ready (n + 1) (slice_index_or now n no_run))) shown
+    ∙ ap (λ x. F w (issued_since setup (length s.shown) x (n + 1) (slice_index_or now n no_run))) readies
+    ∙ ap (λ x. F w (issued_since setup (length s.shown) (readied facts) (n + 1) x)) state
+    ∙ ap (F w) (sym (issued-behind setup (n + 1) at s facts fits))
+    ∙ ap (λ l. record { dispatches = l; counted = w.counted }) (append-nil (w.dispatches ++ dispatches_of setup (n + 1) s (after_step at facts s) facts))
 
--- what the run that changed issued was looked up
-pub noted-waits : (setup : Setup) (d d' : DispatchesView) (runs : List RunState) (n : ℕ) (issued : List Dispatch) → issued ≡ issued_since setup (slice_index_or d.shown n 0) d.ready (n + 1) (slice_index_or runs n no_run) →
-    d'.waiting ≡ with_issued d.waiting issued → all_waiting setup d' None runs ≡ all_waiting setup d (Some n) runs
-noted-waits setup d d' runs n issued is now =
-    all-looked-up setup d' None runs refl ∙ now ∙ ap (with_issued d.waiting) is
+at-end : {A : Type 0} (d : A) (xs : List A) (x : A) → slice_index_or (xs ++ x ∷ []) (length xs) d ≡ x
+at-end d [] x = refl
+at-end d (y ∷ xs) x = at-end d xs x
+
+still-there : {A : Type 0} (d : A) (xs : List A) (x : A) (n : ℕ) → n < length xs → slice_index_or (xs ++ x ∷ []) n d ≡ slice_index_or xs n d
+still-there d [] x n h = absurd (omega arith)
+still-there d (y ∷ xs) x zero h = refl
+still-there d (y ∷ xs) x (suc n) h = still-there d xs x n (omega arith)
+
+-- what the run that grew issued is the same, where a run was added behind it
+grown-behind : (setup : Setup) (d d' : DispatchesView) (grown : Option ℕ) (runs : List RunState) (s : RunState) → d'.shown ≡ d.shown ++ 0 ∷ [] → d'.ready ≡ d.ready → IfSome grown (λ n. n < length runs) → of_grown setup d' grown (runs ++ s ∷ []) ≡ of_grown setup d grown runs
+grown-behind setup d d' None runs s counts readies low = refl
+grown-behind setup d d' (Some n) runs s counts readies low =
+    ap (λ l. issued_since setup (slice_index_or l n 0) d'.ready (n + 1) (slice_index_or (runs ++ s ∷ []) n no_run)) counts
+    ∙ ap (λ k. issued_since setup k d'.ready (n + 1) (slice_index_or (runs ++ s ∷ []) n no_run)) (index-push 0 d.shown n)
+    ∙ ap (λ r. issued_since setup (slice_index_or d.shown n 0) r (n + 1) (slice_index_or (runs ++ s ∷ []) n no_run)) readies
+    ∙ ap (λ x. issued_since setup (slice_index_or d.shown n 0) d.ready (n + 1) x) (still-there no_run runs s n low)
+
+-- a run was added
+pub added-waits : (setup : Setup) (d d' : DispatchesView) (changed : Changed) (runs now : List RunState) (n : ℕ) (s : RunState) → changed.made ≡ None → d'.waiting ≡ d.waiting → d'.shown ≡ d.shown ++ 0 ∷ [] → d'.ready ≡ d.ready → n ≡ length runs → now ≡ runs ++ s ∷ [] → HasShown d.shown changed runs →
+    all_waiting setup d' (record { grown = changed.grown; made = Some n }) now ≡ with_issued (all_waiting setup d changed runs) (issued_first setup (length runs + 1) s)
+added-waits setup d d' changed runs now n s none same counts readies place is h =
+    let g = of_grown setup d changed.grown runs in
+    let w = with_issued d.waiting g in
+    let F : Waiting → List Dispatch → ℕ → RunState → Waiting = λ x l k t. with_issued (with_issued x l) (issued_first setup (k + 1) t) in
+    let state : slice_index_or (runs ++ s ∷ []) n no_run ≡ s = ap (λ k. slice_index_or (runs ++ s ∷ []) k no_run) place ∙ at-end no_run runs s in
+    ap (λ l. F d'.waiting (of_grown setup d' changed.grown l) n (slice_index_or l n no_run)) is
+    ∙ ap (λ x. F x (of_grown setup d' changed.grown (runs ++ s ∷ [])) n (slice_index_or (runs ++ s ∷ []) n no_run)) same
+    ∙ ap (λ l. F d.waiting l n (slice_index_or (runs ++ s ∷ []) n no_run)) (grown-behind setup d d' changed.grown runs s counts readies h.grown)
+    ∙ ap (F d.waiting g n) state ∙ ap (λ k. F d.waiting g k s) place
+    ∙ ap (λ x. with_issued x (issued_first setup (length runs + 1) s)) (sym (ap (λ m. with_issued w (of_made setup m runs)) none ∙ ap (λ l. record { dispatches = l; counted = w.counted }) (append-nil w.dispatches)))
+
+-- what the run that grew issued was looked up
+pub grown-looked-up : (setup : Setup) (d d' : DispatchesView) (made : Option ℕ) (runs : List RunState) (n : ℕ) (issued : List Dispatch) → issued ≡ issued_since setup (slice_index_or d.shown n 0) d.ready (n + 1) (slice_index_or runs n no_run) →
+    d'.waiting ≡ with_issued d.waiting issued → all_waiting setup d' (record { grown = None; made = made }) runs ≡ all_waiting setup d (record { grown = Some n; made = made }) runs
+grown-looked-up setup d d' made runs n issued is now =
+    let F : Waiting → Waiting = λ x. with_issued x (of_made setup made runs) in
+    ap F (ap (λ l. record { dispatches = l; counted = d'.waiting.counted }) (append-nil d'.waiting.dispatches) ∙ now ∙ ap (with_issued d.waiting) is)
+
+-- what the run that was made issued was looked up
+pub made-looked-up : (setup : Setup) (d d' : DispatchesView) (runs : List RunState) (n : ℕ) (issued : List Dispatch) → issued ≡ issued_first setup (n + 1) (slice_index_or runs n no_run) →
+    d'.waiting ≡ with_issued d.waiting issued → all_waiting setup d' unchanged runs ≡ all_waiting setup d (record { grown = None; made = Some n }) runs
+made-looked-up setup d d' runs n issued is now =
+    let F : List Dispatch → Waiting = λ l. with_issued (record { dispatches = l; counted = d.waiting.counted }) (issued_first setup (n + 1) (slice_index_or runs n no_run)) in
+    all-looked-up setup d' unchanged runs (record { grown = refl; made = refl }) ∙ now ∙ ap (with_issued d.waiting) is ∙ ap F (sym (append-nil d.waiting.dispatches))

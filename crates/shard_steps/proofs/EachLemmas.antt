@@ -1,12 +1,13 @@
 -- what is kept of each run, as runs are added and change
-use Rattle.std.proofs.Common.{◌≡◌, ◌≢◌, ℕ, ◌+◌, ◌<◌, ◌⊎◌, inl, inr, List, [], ◌∷◌, ◌++◌, length, length-append, length-set, refl, sym, ap, ◌∙◌, subst, arith, zero, suc, slice_index_or, slice_set, Option, Some, None}
+use Rattle.std.proofs.Common.{◌≡◌, ◌≢◌, ℕ, ◌+◌, ◌<◌, ◌≤◌, ◌⊎◌, inl, inr, List, [], ◌∷◌, ◌++◌, length, length-append, length-set, refl, sym, ap, ◌∙◌, subst, arith, zero, suc, slice_index_or, slice_set, Option, Some, None, IfSome}
 use Rattle.std.proofs.lemmas.List.{get_or-set_same, get_or-set_other}
 use Rattle.std.proofs.lemmas.Option.{slice_get_within}
 use Rattle.std.specs.Prelude.{slice_get, unwrap_or}
 use Rattle.service_model.specs.RunState.{RunState}
 use Rattle.timeouts.specs.Firsts.{first_due, KeepsFirsts}
 use Rattle.timeouts.specs.declared.due.Due.{Due}
-use Rattle.shard_steps.specs.Kept.{KeepsEach, HasFirsts, HasShown}
+use Rattle.shard_steps.specs.Kept.{IsNoted, KeepsEach, HasFirsts, HasShown, unchanged}
+use Rattle.shard_steps.specs.declared.changed.Changed.{Changed}
 
 same-or-apart : (m n : ℕ) → (m ≡ n) ⊎ (m ≢ n)
 same-or-apart zero zero = inl refl
@@ -30,58 +31,85 @@ get-push [] (suc k) s t apart there = there
 get-push (r ∷ runs) zero s t apart there = there
 get-push (r ∷ runs) (suc k) s t apart there = get-push runs k s t (λ e. apart (ap suc e)) there
 
-index-push : {A : Type 0} (d : A) (slots : List A) (k : ℕ) → slice_index_or (slots ++ d ∷ []) k d ≡ slice_index_or slots k d
+pub index-push : {A : Type 0} (d : A) (slots : List A) (k : ℕ) → slice_index_or (slots ++ d ∷ []) k d ≡ slice_index_or slots k d
 index-push d [] zero = refl
 index-push d [] (suc k) = refl
 index-push d (o ∷ slots) zero = refl
 index-push d (o ∷ slots) (suc k) = index-push d slots k
 
+no-place : (o : Option ℕ) (k : ℕ) → o ≡ None → o ≢ Some k
+no-place o k none e = let clash = sym none ∙ e in cc
+
 -- all first deadlines are kept, where no run changed
-pub firsts-kept : (slots : List (Option Due)) (changed : Option ℕ) (runs : List RunState) → changed ≡ None → HasFirsts slots changed runs → KeepsFirsts 1 slots runs
-firsts-kept slots changed runs none h = record {
+pub firsts-kept : (slots : List (Option Due)) (changed : Changed) (runs : List RunState) → IsNoted changed → HasFirsts slots changed runs → KeepsFirsts 1 slots runs
+firsts-kept slots changed runs noted h = record {
   count = h.count;
-  first = λ k s there. let next : k + 1 ≡ 1 + k = omega arith in h.each k s there (λ e. let clash = sym none ∙ e in cc) ∙ ap (λ n. first_due n s) next;
+  first = λ k s there. let next : k + 1 ≡ 1 + k = omega arith in h.each k s there (no-place changed.grown k noted.grown) (no-place changed.made k noted.made) ∙ ap (λ n. first_due n s) next;
 }
 
--- the run that changed was looked up
-pub each-noted : {A B : Type 0} {says : A → B} {fact : ℕ → RunState → B} {none : A} (slots : List A) (n : ℕ) (runs : List RunState) (s : RunState) (x : A) → slice_get runs n ≡ Some s → says x ≡ fact n s → KeepsEach says fact none slots (Some n) runs → KeepsEach says fact none (slice_set slots n x) None runs
-each-noted {says = says} {fact = fact} {none = none} slots n runs s x there is h = record {
+-- what stands at a place where this was put, and elsewhere
+put-there : {A B : Type 0} (says : A → B) (fact : ℕ → RunState → B) (none : A) (slots : List A) (n : ℕ) (runs : List RunState) (s : RunState) (x : A) → n < length slots → slice_get runs n ≡ Some s → says x ≡ fact n s →
+    (k : ℕ) (t : RunState) → slice_get runs k ≡ Some t → (k ≢ n → says (slice_index_or slots k none) ≡ fact k t) → says (slice_index_or (slice_set slots n x) k none) ≡ fact k t
+put-there says fact none slots n runs s x low there is k t at before = elim (same-or-apart k n) [
+  | inl same ↦
+      let which : s ≡ t = ap (λ o. unwrap_or o s) (sym there ∙ ap (slice_get runs) (sym same) ∙ at) in
+      ap (λ m. says (slice_index_or (slice_set slots n x) m none)) same ∙ ap says (get_or-set_same slots n x none low) ∙ is
+      ∙ ap (λ m. fact m s) (sym same) ∙ ap (fact k) which
+  | inr apart ↦ ap says (get_or-set_other slots n k x none apart) ∙ before apart
+]
+
+-- the run that grew was looked up
+pub grown-noted : {A B : Type 0} {says : A → B} {fact : ℕ → RunState → B} {none : A} (slots : List A) (n : ℕ) (made : Option ℕ) (runs : List RunState) (s : RunState) (x : A) → slice_get runs n ≡ Some s → says x ≡ fact n s →
+    KeepsEach says fact none slots (record { grown = Some n; made = made }) runs → KeepsEach says fact none (slice_set slots n x) (record { grown = None; made = made }) runs
+grown-noted {says = says} {fact = fact} {none = none} slots n made runs s x there is h = record {
   count = length-set slots n x ∙ h.count;
-  within = tt;
-  each = λ k t at _. elim (same-or-apart k n) [
-    | inl same ↦
-        let which : s ≡ t = ap (λ o. unwrap_or o s) (sym there ∙ ap (slice_get runs) (sym same) ∙ at) in
-        let low : n < length slots = omega (arith, h.within, h.count) in
-        ap (λ m. says (slice_index_or (slice_set slots n x) m none)) same ∙ ap says (get_or-set_same slots n x none low) ∙ is
-        ∙ ap (λ m. fact m s) (sym same) ∙ ap (fact k) which
-    | inr apart ↦ ap says (get_or-set_other slots n k x none apart) ∙ h.each k t at (λ e. apart (sym (one-place n k e)))
-  ];
+  grown = tt;
+  made = h.made;
+  each = λ k t at _ past. put-there says fact none slots n runs s x (omega (arith, h.grown, h.count)) there is k t at (λ apart. h.each k t at (λ e. apart (sym (one-place n k e))) past);
 }
 
--- one run changed
-pub each-grown : {A B : Type 0} {says : A → B} {fact : ℕ → RunState → B} {d : A} (slots : List A) (changed : Option ℕ) (n : ℕ) (runs : List RunState) (s : RunState) → changed ≡ None → n < length runs → KeepsEach says fact d slots changed runs → KeepsEach says fact d slots (Some n) (slice_set runs n s)
-each-grown slots changed n runs s none there h = record {
-  count = h.count ∙ sym (length-set runs n s);
-  within = subst (λ k. n < k) (sym (length-set runs n s)) there;
-  each = λ k t at apart. h.each k t (get-set-other runs n k s t (λ e. apart (ap Some (sym e))) at) (λ e. let clash = sym none ∙ e in cc);
+-- the run that was made was looked up
+pub made-noted : {A B : Type 0} {says : A → B} {fact : ℕ → RunState → B} {none : A} (slots : List A) (n : ℕ) (runs : List RunState) (s : RunState) (x : A) → slice_get runs n ≡ Some s → says x ≡ fact n s →
+    KeepsEach says fact none slots (record { grown = None; made = Some n }) runs → KeepsEach says fact none (slice_set slots n x) unchanged runs
+made-noted {says = says} {fact = fact} {none = none} slots n runs s x there is h = record {
+  count = length-set slots n x ∙ h.count;
+  grown = tt;
+  made = tt;
+  each = λ k t at past _. put-there says fact none slots n runs s x (omega (arith, h.made, h.count)) there is k t at (λ apart. h.each k t at past (λ e. apart (sym (one-place n k e))));
 }
+
+-- a run grew
+pub each-grown : {A B : Type 0} {says : A → B} {fact : ℕ → RunState → B} {d : A} (slots : List A) (changed : Changed) (n : ℕ) (runs : List RunState) (s : RunState) → IsNoted changed → n < length runs →
+    KeepsEach says fact d slots changed runs → KeepsEach says fact d slots (record { grown = Some n; made = None }) (slice_set runs n s)
+each-grown slots changed n runs s noted there h = record {
+  count = h.count ∙ sym (length-set runs n s);
+  grown = subst (λ k. n < k) (sym (length-set runs n s)) there;
+  made = tt;
+  each = λ k t at apart _. h.each k t (get-set-other runs n k s t (λ e. apart (ap Some (sym e))) at) (no-place changed.grown k noted.grown) (no-place changed.made k noted.made);
+}
+
+within-more : (o : Option ℕ) (a b : ℕ) → a ≤ b → IfSome o (λ n. n < a) → IfSome o (λ n. n < b)
+within-more None a b more h = tt
+within-more (Some n) a b more h = omega (arith, more, h)
 
 -- a run was added
-pub each-added : {A B : Type 0} {says : A → B} {fact : ℕ → RunState → B} {d : A} (slots : List A) (changed : Option ℕ) (runs : List RunState) (s : RunState) → changed ≡ None → KeepsEach says fact d slots changed runs → KeepsEach says fact d (slots ++ d ∷ []) (Some (length runs)) (runs ++ s ∷ [])
+pub each-added : {A B : Type 0} {says : A → B} {fact : ℕ → RunState → B} {d : A} (slots : List A) (changed : Changed) (runs : List RunState) (s : RunState) → changed.made ≡ None →
+    KeepsEach says fact d slots changed runs → KeepsEach says fact d (slots ++ d ∷ []) (record { grown = changed.grown; made = Some (length runs) }) (runs ++ s ∷ [])
 each-added {says = says} {d = d} slots changed runs s none h = record {
   count = length-append slots (d ∷ []) ∙ ap (λ k. k + 1) h.count ∙ sym (length-append runs (s ∷ []));
-  within = omega (arith, length-append runs (s ∷ []));
-  each = λ k t at apart. ap says (index-push d slots k) ∙ h.each k t (get-push runs k s t (λ e. apart (ap Some (sym e))) at) (λ e. let clash = sym none ∙ e in cc);
+  grown = within-more changed.grown (length runs) (length (runs ++ s ∷ [])) (omega (arith, length-append runs (s ∷ []))) h.grown;
+  made = omega (arith, length-append runs (s ∷ []));
+  each = λ k t at past apart. ap says (index-push d slots k) ∙ h.each k t (get-push runs k s t (λ e. apart (ap Some (sym e))) at) past (no-place changed.made k none);
 }
 
-pub each-fresh : {A B : Type 0} {says : A → B} {fact : ℕ → RunState → B} {d : A} (slots : List A) (runs : List RunState) → slots ≡ [] → runs ≡ [] → KeepsEach says fact d slots None runs
-each-fresh {A = A} {says = says} {fact = fact} {d = d} slots runs no_slots no_runs = subst (λ (l : List A). KeepsEach says fact d l None runs) (sym no_slots) (subst (λ (l : List RunState). KeepsEach says fact d [] None l) (sym no_runs)
-    (record { count = refl; within = tt; each = λ k s there _. absurd (let past = slice_get_within [] k s there in omega (arith, past)) }))
+pub each-fresh : {A B : Type 0} {says : A → B} {fact : ℕ → RunState → B} {d : A} (slots : List A) (runs : List RunState) → slots ≡ [] → runs ≡ [] → KeepsEach says fact d slots unchanged runs
+each-fresh {A = A} {says = says} {fact = fact} {d = d} slots runs no_slots no_runs = subst (λ (l : List A). KeepsEach says fact d l unchanged runs) (sym no_slots) (subst (λ (l : List RunState). KeepsEach says fact d [] unchanged l) (sym no_runs)
+    (record { count = refl; grown = tt; made = tt; each = λ k s there _ _. absurd (let past = slice_get_within [] k s there in omega (arith, past)) }))
 
 -- a run's state is as it was, so all are
-pub each-same : {A B : Type 0} {says : A → B} {fact : ℕ → RunState → B} {d : A} (slots : List A) (changed : Option ℕ) (runs now : List RunState) → now ≡ runs → KeepsEach says fact d slots changed runs → KeepsEach says fact d slots changed now
+pub each-same : {A B : Type 0} {says : A → B} {fact : ℕ → RunState → B} {d : A} (slots : List A) (changed : Changed) (runs now : List RunState) → now ≡ runs → KeepsEach says fact d slots changed runs → KeepsEach says fact d slots changed now
 each-same {says = says} {fact = fact} {d = d} slots changed runs now is h = subst (λ l. KeepsEach says fact d slots changed l) (sym is) h
 
 -- so many events as a run showed, that had not changed
-pub shown-at : (counts : List ℕ) (changed : Option ℕ) (runs : List RunState) (n : ℕ) (s : RunState) → changed ≡ None → slice_get runs n ≡ Some s → HasShown counts changed runs → slice_index_or counts n 0 ≡ length s.shown
-shown-at counts changed runs n s none there h = h.each n s there (λ e. let clash = sym none ∙ e in cc)
+pub shown-at : (counts : List ℕ) (changed : Changed) (runs : List RunState) (n : ℕ) (s : RunState) → IsNoted changed → slice_get runs n ≡ Some s → HasShown counts changed runs → slice_index_or counts n 0 ≡ length s.shown
+shown-at counts changed runs n s noted there h = h.each n s there (no-place changed.grown n noted.grown) (no-place changed.made n noted.made)

@@ -1,5 +1,6 @@
 pub mod StartLemmas
 pub mod TaskLemmas
+pub mod ClosingLemmas
 pub mod AttemptLemmas
 pub mod EndingLemmas
 mod ActivityTurnLemmas

@@ -1,5 +1,5 @@
 -- what a start decides by the workflow ID's latest run, and the facts of starts, signals, requests to cancel and terminations
-use Rattle.std.proofs.Common.{◌≡◌, ◌≢◌, ℕ, Bool, true, false, [], ◌∷◌, refl, cond, Option, Some, None, List}
+use Rattle.std.proofs.Common.{◌≡◌, ◌≢◌, ℕ, Bool, true, false, [], ◌∷◌, refl, sym, ap, ◌∙◌, cond, Option, Some, None, List}
 use Rattle.wf_event_values.specs.declared.policies.CancelSource.TheVariants.{Client}
 use Rattle.wf_event_values.specs.declared.policies.ConflictPolicy.{ConflictPolicy}
 use Rattle.wf_event_values.specs.declared.policies.ConflictPolicy.TheVariants.{Fail, UseExisting, TerminateExisting}
@@ -18,7 +18,6 @@ use Rattle.service_model.specs.Journal.{plain}
 use Rattle.service_model.specs.Outcome.{Runs, made_by, outside, is_no_task, schedule_task, run_at}
 use Rattle.service_model.specs.Pending.{Task, NoTask, IsScheduled, IsStarted}
 use Rattle.service_model.specs.RunState.{RunState, is_open, is_open_status}
-use Rattle.service_model.specs.Service.{is_terminate_existing}
 use Rattle.service_model.specs.Signals.{was_signaled, signal_fact}
 use Rattle.service_model.specs.Starts.{decision, start_request, first_task}
 use Rattle.mutable_state.specs.Steps.{IsFirst, FitsEvent, FitStep}
@@ -33,28 +32,36 @@ on_closed-ends AllowDuplicateFailedOnly s e = by_test (is_failed s) e
     by_test false e = absurd (cc)
 on_closed-ends RejectDuplicate s e = absurd (cc)
 
--- at the policies that are served no run is terminated
-on_open-served : (c : ConflictPolicy) → is_terminate_existing c ≡ false → on_open c ≢ TerminateThenNew
-on_open-served Fail h e = absurd (cc)
-on_open-served UseExisting h e = absurd (cc)
-on_open-served TerminateExisting h e = absurd (cc)
-
-on_status-served : (r : ReusePolicy) (c : ConflictPolicy) (s : Status) → is_terminate_existing c ≡ false → on_status r c s ≢ TerminateThenNew
-on_status-served r c Running h e = on_open-served c h e
-on_status-served r c Completed h e = on_closed-ends r Completed e
-on_status-served r c Failed h e = on_closed-ends r Failed e
-on_status-served r c Canceled h e = on_closed-ends r Canceled e
-on_status-served r c Terminated h e = on_closed-ends r Terminated e
-on_status-served r c ContinuedAsNew h e = on_closed-ends r ContinuedAsNew e
-on_status-served r c TimedOut h e = on_closed-ends r TimedOut e
-
-pub decides-served : (R : Runs) (q : Start) (n : ℕ) → is_terminate_existing q.conflict ≡ false → decision R q (Some n) ≢ TerminateThenNew
+-- under the policy Fail no run is terminated
+pub decides-fail : (R : Runs) (q : Start) (n : ℕ) → q.conflict ≡ Fail → decision R q (Some n) ≢ TerminateThenNew
 unfolding decide
-decides-served R q n h e = by_test (is_same_request q.request_id (start_request (run_at R n))) e
+decides-fail R q n fail e =
+    by_test (is_same_request q.request_id (start_request (run_at R n))) (run_at R n).status (ap (λ c. cond (is_same_request q.request_id (start_request (run_at R n))) Same (on_status q.reuse c (run_at R n).status)) (sym fail) ∙ e)
   where
-    by_test : (b : Bool) → cond b Same (on_status q.reuse q.conflict (run_at R n).status) ≢ TerminateThenNew
-    by_test true e = absurd (cc)
-    by_test false e = on_status-served q.reuse q.conflict (run_at R n).status h e
+    by_test : (b : Bool) (s : Status) → cond b Same (on_status q.reuse Fail s) ≢ TerminateThenNew
+    by_test true s e = absurd (cc)
+    by_test false Running e = absurd (cc)
+    by_test false Completed e = on_closed-ends q.reuse Completed e
+    by_test false Failed e = on_closed-ends q.reuse Failed e
+    by_test false Canceled e = on_closed-ends q.reuse Canceled e
+    by_test false Terminated e = on_closed-ends q.reuse Terminated e
+    by_test false ContinuedAsNew e = on_closed-ends q.reuse ContinuedAsNew e
+    by_test false TimedOut e = on_closed-ends q.reuse TimedOut e
+
+-- only an open run is terminated
+pub decides-open : (R : Runs) (q : Start) (n : ℕ) → decision R q (Some n) ≡ TerminateThenNew → is_open (run_at R n) ≡ true
+unfolding decide
+decides-open R q n e = by_test (is_same_request q.request_id (start_request (run_at R n))) (run_at R n).status e
+  where
+    by_test : (b : Bool) (s : Status) → cond b Same (on_status q.reuse q.conflict s) ≡ TerminateThenNew → is_open_status s ≡ true
+    by_test true s e = absurd (cc)
+    by_test false Running e = refl
+    by_test false Completed e = absurd (on_closed-ends q.reuse Completed e)
+    by_test false Failed e = absurd (on_closed-ends q.reuse Failed e)
+    by_test false Canceled e = absurd (on_closed-ends q.reuse Canceled e)
+    by_test false Terminated e = absurd (on_closed-ends q.reuse Terminated e)
+    by_test false ContinuedAsNew e = absurd (on_closed-ends q.reuse ContinuedAsNew e)
+    by_test false TimedOut e = absurd (on_closed-ends q.reuse TimedOut e)
 
 opens-anew : (c : ConflictPolicy) → on_open c ≢ New
 opens-anew Fail e = absurd (cc)

@@ -9,6 +9,7 @@ use Rattle.service_model.specs.Issued.{task_dispatch, row_dispatch, queued_again
 use Rattle.service_model.specs.Outcome.{Outcome, CountsDispatch, answered}
 use Rattle.service_model.specs.RunState.{RunState, no_run}
 use Rattle.service_model.specs.Tasks.{pending_row}
+use Rattle.shard_steps.specs.declared.changed.Changed.{Changed}
 
 -- the dispatches that were issued and not counted, and how many were counted
 pub record Waiting : Type 0 where
@@ -46,14 +47,23 @@ queued_dispatch setup run s id = option_and_then (row_dispatch setup run) (pendi
 abbrev pub issued_since : Setup → ℕ → Option ℕ → ℕ → RunState → List Dispatch
 issued_since setup shown ready run s = filter_map (task_dispatch setup run) (drop shown s.shown) ++ option_to_list (option_and_then (queued_dispatch setup run s) ready)
 
--- those of the run that changed last, if one did
-abbrev pub not_looked_up : Setup → DispatchesView → Option ℕ → List RunState → List Dispatch
-not_looked_up setup d None runs = []
-not_looked_up setup d (Some n) runs = issued_since setup (slice_index_or d.shown n 0) d.ready (n + 1) (slice_index_or runs n no_run)
+-- those that a step issued for the run with this ordinal that it made
+abbrev pub issued_first : Setup → ℕ → RunState → List Dispatch
+issued_first setup run s = filter_map (task_dispatch setup run) s.shown
 
--- all that waits, where this run changed last
-abbrev pub all_waiting : Setup → DispatchesView → Option ℕ → List RunState → Waiting
-all_waiting setup d changed runs = with_issued d.waiting (not_looked_up setup d changed runs)
+-- those of the run to which the last step added, if it added to one
+abbrev pub of_grown : Setup → DispatchesView → Option ℕ → List RunState → List Dispatch
+of_grown setup d None runs = []
+of_grown setup d (Some n) runs = issued_since setup (slice_index_or d.shown n 0) d.ready (n + 1) (slice_index_or runs n no_run)
+
+-- those of the run that it made, if it made one
+abbrev pub of_made : Setup → Option ℕ → List RunState → List Dispatch
+of_made setup None runs = []
+of_made setup (Some n) runs = issued_first setup (n + 1) (slice_index_or runs n no_run)
+
+-- all that waits, where these runs changed last
+abbrev pub all_waiting : Setup → DispatchesView → Changed → List RunState → Waiting
+all_waiting setup d changed runs = with_issued (with_issued d.waiting (of_grown setup d changed.grown runs)) (of_made setup changed.made runs)
 
 -- the first that waits, under its number
 abbrev pub next_waiting : Waiting → Outcome

@@ -1,6 +1,6 @@
 //! What a request to cancel and a termination add to a run.
 
-ghost use Rattle.std.specs.Prelude.{◌≡◌, ◌∷◌, [], ◌&&◌, IfOk};
+ghost use Rattle.std.specs.Prelude.{◌≡◌, ◌∷◌, [], ◌&&◌, IfOk, codes};
 ghost use Rattle.wf_event.specs.declared.attributes.Attributes.TheVariants.{WorkflowExecutionCancelRequested, WorkflowExecutionTerminated};
 ghost use Rattle.wf_event_values.specs.declared.policies.CancelSource.TheVariants.{Client};
 ghost use Rattle.service_model.specs.Cancels.{is_client, is_same_or_absent};
@@ -13,7 +13,7 @@ use mutable_state_keeper::{KeepsRun, Run};
 use service_model::journal::{CancelRequest, EventFact, Fact, copied};
 use std::alloc::{AllocError, Global};
 use wf_event::Attributes;
-use wf_event_values::{CancelSource, Id, Items, Text};
+use wf_event_values::{CancelSource, Field, Id, Items, Text};
 
 /// The facts of a client's request to cancel, with a workflow task where none is scheduled or started.
 pub fn cancel_facts<T: KeepsRun>(
@@ -55,6 +55,16 @@ fn is_same_or_absent(one: &Option<Id>, other: &Option<Id>) -> bool
         (Some(one), Some(other)) => one == other,
         _ => false,
     }
+}
+
+/// The reason of a termination by a start that replaces the run.
+pub fn replaced_reason(alloc: Global) -> Result<Text, AllocError>
+    ensures { IfOk result (λ reason. reason ≡ codes "TerminateExisting") }
+{
+    let Ok(reason) = Text::new(alloc, Field::Reason, "TerminateExisting") else {
+        return Err(AllocError);
+    };
+    Ok(reason)
 }
 
 /// The facts of a termination.

@@ -7,6 +7,7 @@
 mod activities;
 mod activity_turns;
 mod attempts;
+mod changed;
 mod dispatches;
 mod ends;
 mod notes;
@@ -19,11 +20,14 @@ mod verdicts;
 
 pub use activities::attempt_task;
 pub use attempts::{ended_facts, is_running};
+pub use changed::Changed;
 pub use dispatches::{Dispatches, readied};
-pub use ends::{cancel_facts, is_repeated, terminated_facts};
+pub use ends::{cancel_facts, is_repeated, replaced_reason, terminated_facts};
 pub use notes::note_facts;
 pub use signals::signal_facts;
-pub use starts::{Beginning, beginning_of, new_run, signaled_beginning};
+pub use starts::{
+    Beginning, beginning_of, first_task, new_run, signaled_beginning, used_task_timeout,
+};
 pub use tasks::{are_served, ended, started_facts};
 pub use turns::fired_facts;
 pub use verdicts::{failure, verdict_of};

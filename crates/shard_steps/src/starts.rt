@@ -72,7 +72,7 @@ pub fn signaled_beginning(alloc: Global, both: &SignalWithStart) -> Result<Begin
 }
 
 /// The first workflow task of a run in the queue.
-fn first_task(queue: &Id) -> Result<Fact, AllocError>
+pub fn first_task(queue: &Id) -> Result<Fact, AllocError>
     ensures { IfOk result (λ fact. fact ≡ first_task queue.now) }
 {
     Ok(plain(Attributes::WorkflowTaskScheduled(WorkflowTaskScheduled {
@@ -98,7 +98,7 @@ fn started_by(start: &Start) -> Result<WorkflowExecutionStarted, AllocError>
 }
 
 /// A task timeout of 0 is written as the default that is used.
-fn used_task_timeout(given: Span) -> Span
+pub fn used_task_timeout(given: Span) -> Span
     ensures { result ≡ used_task_timeout given }
 {
     if given.millis() == 0 {

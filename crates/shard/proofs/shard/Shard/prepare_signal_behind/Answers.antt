@@ -4,11 +4,11 @@ use Rattle.service_model.specs.Signals.{with_fail}
 use Rattle.id_policy.specs.Decisions.{says}
 use Rattle.shard.specs.View.{runs_in, states}
 use Rattle.shard.specs.Fitting.{state_at}
-use Rattle.shard_steps.proofs.StartLemmas.{decides-new, decides-served}
+use Rattle.shard_steps.proofs.StartLemmas.{decides-fail, decides-new}
 use Rattle.shard.proofs.shard.Shard.prepare_signal_behind.Goals as goal
 
 pub unreachable-requires : goal.unreachable-requires
-unreachable-requires g c = decides-served (runs_in c.args.self.now) (with_fail c.args.request.now.start) c.args.n refl (sym c.decision_by.ensures ∙ ap says c.in-TerminateThenNew.is)
+unreachable-requires g c = decides-fail (runs_in c.args.self.now) (with_fail c.args.request.now.start) c.args.n refl (sym c.decision_by.ensures ∙ ap says c.in-TerminateThenNew.is)
 
 pub prepare_signaled-requires : goal.prepare_signaled-requires
 prepare_signaled-requires g c =

@@ -1,0 +1,156 @@
+//! The run that follows one which continues as new.
+
+ghost use Rattle.std.specs.Prelude.{◌≡◌, ◌≤◌, length, IfOk, OnOk, option_copied};
+ghost use Rattle.service_model.specs.Journal.{latest};
+ghost use Rattle.service_model.specs.Outcome.{run_at};
+ghost use Rattle.service_model.specs.Tasks.{continue_part, continued};
+ghost use Rattle.shard_steps.specs.Kept.{IsNoted};
+ghost use Rattle.shard.specs.Fitting.{FitsCreated};
+ghost use Rattle.shard.specs.Following.{continuing, following};
+ghost use Rattle.shard.specs.View.{state, runs_in};
+
+use crate::plan::NewRun;
+use crate::shard::Shard;
+use mutable_state_keeper::KeepsRun;
+use shard_steps::{Beginning, first_task, used_task_timeout};
+use std::alloc::{AllocError, Global};
+use task_completion::{queue_after, type_after};
+use wf_command::Command;
+use wf_command::command::ContinueAsNew;
+use wf_event::payloads::WorkflowExecutionStarted;
+use wf_event_values::{Cause, Id, Items, Moment, RunId};
+
+impl<T: KeepsRun> Shard<T> {
+    /// The run that follows the one with that ordinal, where its completion has no fault and continues
+    /// as new.
+    pub(crate) fn prepare_follower(
+        &mut self,
+        moment: Moment,
+        n: usize,
+        fault: Option<Cause>,
+        commands: &[Command],
+    ) -> Result<Option<NewRun<T>>, AllocError>
+        requires from { 1 ≤ n }
+        requires to { n ≤ length self.old.runs }
+        requires noted { IsNoted self.old.changed }
+        ensures same { state self.new ≡ state self.old }
+        ensures runs { self.new.runs ≡ self.old.runs }
+        ensures noted { OnOk result (IsNoted self.new.changed) }
+        ensures made { IfOk result (λ created. FitsCreated self.new moment created
+            (continued (runs_in self.old) n (continuing fault commands.now)
+            (run_at (runs_in self.old) n).beginning)) }
+    {
+        let Some(command) = continuing(fault, commands) else {
+            return Ok(None);
+        };
+        let made = self.prepare_following(moment, n, command)?;
+        Ok(Some(made))
+    }
+
+    /// The run that follows the one with that ordinal by this command.
+    fn prepare_following(
+        &mut self,
+        moment: Moment,
+        n: usize,
+        command: &ContinueAsNew,
+    ) -> Result<NewRun<T>, AllocError>
+        requires from { 1 ≤ n }
+        requires to { n ≤ length self.old.runs }
+        ensures same { state self.new ≡ state self.old }
+        ensures runs { self.new.runs ≡ self.old.runs }
+        ensures noted { OnOk result (IsNoted self.new.changed) }
+        ensures made { IfOk result (λ made. FitsCreated self.new moment (Some made)
+            (continued (runs_in self.old) n (Some command.now)
+            (run_at (runs_in self.old) n).beginning)) }
+    {
+        let count = self.runs.len();
+        prove!(n <= count);
+        let from = self.run_id(n);
+        let run = &self.runs[n - 1];
+        let beginning = following(
+            self.alloc,
+            from,
+            command,
+            run.started(),
+            run.start_request(),
+        )?;
+        let made = self.prepare_made(moment, beginning)?;
+        Ok(made)
+    }
+}
+
+/// How the run begins that follows one that began like this.
+fn following(
+    alloc: Global,
+    from: RunId,
+    command: &ContinueAsNew,
+    started: &WorkflowExecutionStarted,
+    request_id: Option<&Id>,
+) -> Result<Beginning, AllocError>
+    ensures { IfOk result (λ b.
+        b ≡ following from command.now started.now (option_copied request_id.entry)) }
+{
+    let task_timeout = command.task_timeout.unwrap_or(started.task_timeout);
+    let queue = queue_after(command, started);
+    let mut facts = Vec::new(alloc);
+    facts.push(first_task(queue)?)?;
+    Ok(Beginning {
+        started: WorkflowExecutionStarted {
+            workflow_id: started.workflow_id.clone()?,
+            workflow_type: type_after(command, started).clone()?,
+            task_queue: queue.clone()?,
+            input: command.input.clone()?,
+            run_timeout: command.run_timeout.unwrap_or(started.run_timeout),
+            task_timeout: used_task_timeout(task_timeout),
+            continued_from: Some(from),
+            parent: started.parent,
+        },
+        request_id: owned(request_id)?,
+        facts: Items::from_vec(facts),
+    })
+}
+
+/// A copy of an id that is lent.
+fn owned(id: Option<&Id>) -> Result<Option<Id>, AllocError>
+    ensures { IfOk result (λ copy. copy ≡ option_copied id.entry) }
+{
+    let Some(id) = id else {
+        return Ok(None);
+    };
+    let copy = id.clone()?;
+    Ok(Some(copy))
+}
+
+/// The command of a completion without a fault that continues as new, if one does.
+fn continuing(fault: Option<Cause>, commands: &[Command]) -> Option<&ContinueAsNew>
+    ensures { option_copied result ≡ continuing fault commands.now }
+{
+    if fault.is_some() {
+        return None;
+    }
+    last_continuing(commands)
+}
+
+/// The last command that continues as new, if one does.
+fn last_continuing(commands: &[Command]) -> Option<&ContinueAsNew>
+    ensures { option_copied result ≡ latest continue_part commands.now }
+{
+    let mut found = None;
+    for command in commands {
+        let here = continue_part(command);
+        if here.is_some() {
+            found = here;
+        }
+    }
+    found
+}
+
+/// What a command says of the run that follows, if it continues as new.
+fn continue_part(command: &Command) -> Option<&ContinueAsNew>
+    ensures { option_copied result ≡ continue_part command.now }
+{
+    match command {
+        Command::ContinueAsNewWorkflowExecution(next) => Some(next),
+        _ => None,
+    }
+}
