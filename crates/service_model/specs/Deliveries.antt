@@ -34,7 +34,8 @@ use Rattle.service_model.specs.declared.transfer.ExternalKind.TheVariants.{Signa
 use Rattle.service_model.specs.Journal.{plain}
 use Rattle.service_model.specs.RunState.{RunState, pending, parent_of}
 use Rattle.service_model.specs.IdPolicy.{Decision, New, decide}
-use Rattle.service_model.specs.Outcome.{Outcome, Added, Sent, AcceptsFrom, Runs, answered, refused, shard_of, knows_queue, run_id, run_at, has_run, next_ordinal, latest_run, open_run, if_some, outside, used_task_timeout}
+use Rattle.service_model.specs.declared.transfer.Sent.{Sent}
+use Rattle.service_model.specs.Outcome.{Outcome, Added, AcceptsFrom, Runs, answered, refused, shard_of, knows_queue, run_id, run_at, has_run, next_ordinal, latest_run, open_run, if_some, outside, used_task_timeout}
 use Rattle.service_model.specs.Counts.{counted}
 use Rattle.service_model.specs.Starts.{first_task}
 

@@ -1,5 +1,5 @@
 -- what a step issues for a run that it changed: found in the run's states before and after (this service's)
-use Rattle.std.specs.Prelude.{ℕ, Bool, true, false, cond, not, List, ◌++◌, [], drop, filter_map, length, Option, None, Some, option_map, option_and_then}
+use Rattle.std.specs.Prelude.{ℕ, Bool, true, false, cond, not, ◌&&◌, List, ◌++◌, [], drop, filter, filter_map, map, length, Option, None, Some, option_map, option_and_then}
 use Rattle.wf_event.specs.declared.event.Event.{Event}
 use Rattle.wf_event.specs.declared.attributes.Attributes.{Attributes}
 use Rattle.wf_event.specs.declared.attributes.Attributes.TheVariants.{WorkflowTaskScheduled, ActivityTaskScheduled, StartChildWorkflowExecutionInitiated, SignalExternalWorkflowExecutionInitiated, RequestCancelExternalWorkflowExecutionInitiated, WorkflowExecutionCompleted, WorkflowExecutionFailed, WorkflowExecutionCanceled, WorkflowExecutionTimedOut, WorkflowExecutionTerminated}
@@ -10,7 +10,8 @@ use Rattle.service_model.specs.declared.transfer.ChildStatus.TheVariants.{Comple
 use Rattle.wf_event_values.specs.declared.policies.ParentClosePolicy.{ParentClosePolicy}
 use Rattle.wf_event_values.specs.declared.policies.ParentClosePolicy.TheVariants.{Abandon}
 use Rattle.wf_event_values.specs.declared.policies.TaskKind.TheVariants.{Workflow, Activity}
-use Rattle.wf_event.specs.Role.{role, is_closing_role, AChild}
+use Rattle.wf_event.specs.Role.{AChild, opens}
+use Rattle.service_model.specs.Pending.{is_opening, is_settled}
 use Rattle.service_model.specs.declared.content.Dispatch.{Dispatch}
 use Rattle.service_model.specs.declared.content.Setup.{Setup}
 use Rattle.service_model.specs.declared.journal.Fact.{Fact}
@@ -18,9 +19,11 @@ use Rattle.service_model.specs.declared.journal.Fact.TheVariants.{Event as an_ev
 use Rattle.service_model.specs.declared.journal.Note.{Note}
 use Rattle.service_model.specs.declared.journal.Note.TheVariants.{Ready}
 use Rattle.service_model.specs.declared.transfer.TransferContent.TheVariants.{StartChild, ChildClosed, CloseChild, SignalExternal, CancelExternal}
-use Rattle.service_model.specs.RunState.{RunState, ActivityRow, row_of, pending, parent_of, is_open}
+use Rattle.service_model.specs.RunState.{RunState, ActivityRow, row_of, parent_of, is_open}
 use Rattle.service_model.specs.Deadlines.{scheduled_fields}
-use Rattle.service_model.specs.Outcome.{Sent, shard_of, run_id, if_some}
+use Rattle.service_model.specs.Outcome.{shard_of, run_id, if_some}
+use Rattle.service_model.specs.declared.transfer.Sent.{Sent}
+use Rattle.wf_event_values.specs.Run.{Run}
 
 -- the events that a run shows after a step beyond those that it showed before
 abbrev pub new_events : RunState → RunState → List Event
@@ -63,14 +66,14 @@ dispatches_of setup run before after' facts =
     filter_map (task_dispatch setup run) (new_events before after') ++ filter_map (ready_dispatch setup run after') facts
 
 -- the request that a command's event of this id sends, by what it carries
-abbrev pub request_by : Setup → ℕ → ℕ → Attributes → Option Sent
-request_by setup run id (StartChildWorkflowExecutionInitiated a) = Some (record { to = shard_of setup a.workflow_id; content = StartChild (record { parent_run = run_id setup run; initiated = id; workflow_id = a.workflow_id; workflow_type = a.workflow_type; task_queue = a.task_queue; input = a.input; reuse = a.reuse; run_timeout = a.run_timeout; task_timeout = a.task_timeout }) })
-request_by setup run id (SignalExternalWorkflowExecutionInitiated a) = Some (record { to = shard_of setup a.workflow_id; content = SignalExternal (record { from_run = run_id setup run; initiated = id; workflow_id = a.workflow_id; run = a.run; name = a.name; input = a.input }) })
-request_by setup run id (RequestCancelExternalWorkflowExecutionInitiated a) = Some (record { to = shard_of setup a.workflow_id; content = CancelExternal (record { from_run = run_id setup run; initiated = id; workflow_id = a.workflow_id; run = a.run }) })
+abbrev pub request_by : Setup → Run → ℕ → Attributes → Option Sent
+request_by setup run id (StartChildWorkflowExecutionInitiated a) = Some (record { to = shard_of setup a.workflow_id; content = StartChild (record { parent_run = run; initiated = id; workflow_id = a.workflow_id; workflow_type = a.workflow_type; task_queue = a.task_queue; input = a.input; reuse = a.reuse; run_timeout = a.run_timeout; task_timeout = a.task_timeout }) })
+request_by setup run id (SignalExternalWorkflowExecutionInitiated a) = Some (record { to = shard_of setup a.workflow_id; content = SignalExternal (record { from_run = run; initiated = id; workflow_id = a.workflow_id; run = a.run; name = a.name; input = a.input }) })
+request_by setup run id (RequestCancelExternalWorkflowExecutionInitiated a) = Some (record { to = shard_of setup a.workflow_id; content = CancelExternal (record { from_run = run; initiated = id; workflow_id = a.workflow_id; run = a.run }) })
 request_by setup run id _ = None
 
 -- the request that a command's event sends
-abbrev pub request_transfer : Setup → ℕ → Event → Option Sent
+abbrev pub request_transfer : Setup → Run → Event → Option Sent
 request_transfer setup run e = request_by setup run e.id e.attributes
 
 abbrev pub is_abandon : ParentClosePolicy → Bool
@@ -78,12 +81,12 @@ is_abandon Abandon = true
 is_abandon _ = false
 
 -- what a closing parent asks of a child that the event of this id asked for, by what that carries
-abbrev pub close_by : Setup → ℕ → ℕ → Attributes → Option Sent
-close_by setup run id (StartChildWorkflowExecutionInitiated a) = if_some (not (is_abandon a.parent_close)) (record { to = shard_of setup a.workflow_id; content = CloseChild (record { parent_run = run_id setup run; initiated = id; workflow_id = a.workflow_id; policy = a.parent_close }) })
+abbrev pub close_by : Setup → Run → ℕ → Attributes → Option Sent
+close_by setup run id (StartChildWorkflowExecutionInitiated a) = if_some (not (is_abandon a.parent_close)) (record { to = shard_of setup a.workflow_id; content = CloseChild (record { parent_run = run; initiated = id; workflow_id = a.workflow_id; policy = a.parent_close }) })
 close_by setup run id _ = None
 
--- what a closing parent asks of a pending child
-abbrev pub close_transfer : Setup → ℕ → Event → Option Sent
+-- what a closing parent asks of a child that it leaves
+abbrev pub close_transfer : Setup → Run → Event → Option Sent
 close_transfer setup run e = close_by setup run e.id e.attributes
 
 -- how a child closed, and the result, message or details that it leaves; nothing where it continues as new
@@ -96,26 +99,30 @@ child_end (WorkflowExecutionTerminated reason) = Some (Terminated, [])
 child_end _ = None
 
 -- what a closing run tells its parent, unless it continues as new
-abbrev pub closed_transfer : Setup → ℕ → Option Parent → Event → Option Sent
-closed_transfer setup run None e = None
-closed_transfer setup run (Some p) e =
-    option_map (λ (c : ChildStatus × List ℕ). record { to = p.run.shard; content = ChildClosed (record { parent_run = p.run; initiated = p.event; run = run_id setup run; status = c.0; text = c.1 }) }) (child_end e.attributes)
+abbrev pub closed_transfer : Run → Option Parent → Event → Option Sent
+closed_transfer run None e = None
+closed_transfer run (Some p) e =
+    option_map (λ (c : ChildStatus × List ℕ). record { to = p.run.shard; content = ChildClosed (record { parent_run = p.run; initiated = p.event; run = run; status = c.0; text = c.1 }) }) (child_end e.attributes)
 
--- facts but for the closing events
-abbrev pub is_open_fact : Fact → Bool
-is_open_fact (an_event f) = not (is_closing_role (role f.attributes))
-is_open_fact (a_note n) = true
+-- whether an event asks for a child that none of these events settles
+abbrev pub is_left : List Event → Event → Bool
+is_left events e = is_opening AChild (opens e.attributes) && not (is_settled AChild e.id (map (λ (x : Event). x.attributes) events))
+
+-- the children that a history asks for, and that no event of it settles
+abbrev pub children_left : List Event → List Event
+children_left events = filter (is_left events) events
 
 -- the transfers that the commands of a step send, by the events that it wrote
-abbrev pub requests_of : Setup → ℕ → List Event → List Sent
+abbrev pub requests_of : Setup → Run → List Event → List Sent
 requests_of setup run events = filter_map (request_transfer setup run) events
 
--- those that a closing run sends, to its pending children and then to its parent, by its state but for its closing event and by the events that the step wrote
-abbrev pub closings_of : Setup → ℕ → RunState → List Event → List Sent
-closings_of setup run s events = filter_map (close_transfer setup run) (pending AChild s) ++ filter_map (closed_transfer setup run (parent_of s)) events
+-- those that a run sends as it closes, to the children that it leaves and then to its parent, by its state then and by the events that the step wrote
+abbrev pub closings_of : Setup → Run → RunState → List Event → List Sent
+closings_of setup run s events = filter_map (close_transfer setup run) (children_left s.shown) ++ filter_map (closed_transfer run (parent_of s)) events
 
--- the transfers that a step issues for one run: those of its commands, and those of its closing, where it closes; open_after is the run but for its closing event
-abbrev pub transfers_of : Setup → ℕ → RunState → RunState → RunState → List Sent
-transfers_of setup run before open_after after' =
-    let events = new_events before after' in
-    requests_of setup run events ++ cond (is_open after') [] (closings_of setup run open_after events)
+-- the transfers that a step issues for one run, by its state then and by the events that the step wrote: those of its commands, and those of its closing, where it closed
+abbrev pub transfers_by : Setup → Run → RunState → List Event → List Sent
+transfers_by setup run s events = requests_of setup run events ++ cond (is_open s) [] (closings_of setup run s events)
+
+abbrev pub transfers_of : Setup → ℕ → RunState → RunState → List Sent
+transfers_of setup run before after' = transfers_by setup (run_id setup run) after' (new_events before after')

@@ -12,7 +12,7 @@ use Rattle.service_model.specs.declared.content.Setup.{Setup}
 use Rattle.service_model.specs.declared.journal.Fact.{Fact}
 use Rattle.service_model.specs.declared.journal.Fact.TheVariants.{Event as an_event, Note as a_note}
 use Rattle.service_model.specs.declared.journal.Note.{Note}
-use Rattle.service_model.specs.declared.transfer.TransferContent.{TransferContent}
+use Rattle.service_model.specs.declared.transfer.Sent.{Sent}
 use Rattle.service_model.specs.Journal.{plain, latest}
 use Rattle.service_model.specs.Pending.{Task, NoTask}
 use Rattle.service_model.specs.RunState.{RunState, no_run, is_open, id_of, queue_of}
@@ -25,11 +25,6 @@ Reply = Result Answer Refusal
 pub record Added : Type 0 where
   pub run : ℕ
   pub facts : List Fact
-
--- a transfer to a shard
-pub record Sent : Type 0 where
-  pub to : ℕ
-  pub content : TransferContent
 
 -- which count a step moves on
 pub data Counting : Type 0 where

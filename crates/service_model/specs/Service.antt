@@ -11,8 +11,9 @@ use Rattle.service_model.specs.declared.request.Operation.TheVariants as served
 use Rattle.service_model.specs.declared.request.Request.{Request}
 use Rattle.service_model.specs.Journal.{Journal}
 use Rattle.service_model.specs.RunState.{state_of}
-use Rattle.service_model.specs.Outcome.{Outcome, Added, Sent, Counting, CountsNothing, AcceptsFrom, AcknowledgesTo, CountsDispatch, Reply, Runs}
-use Rattle.service_model.specs.Issued.{dispatches_of, transfers_of, is_open_fact}
+use Rattle.service_model.specs.declared.transfer.Sent.{Sent}
+use Rattle.service_model.specs.Outcome.{Outcome, Added, Counting, CountsNothing, AcceptsFrom, AcknowledgesTo, CountsDispatch, Reply, Runs}
+use Rattle.service_model.specs.Issued.{dispatches_of, transfers_of}
 use Rattle.service_model.specs.Starts.{start}
 use Rattle.service_model.specs.Signals.{signal, signal_with_start}
 use Rattle.service_model.specs.Cancels.{request_cancel, terminate}
@@ -74,7 +75,7 @@ abbrev pub sent_for : Content → ℕ → ℕ → Option Added → List Sent
 sent_for S step moment None = []
 sent_for S step moment (Some a) =
     let J = journal_at S.runs a.run in
-    transfers_of S.setup a.run (state_of J) (state_of (J ++ entries step moment 0 (filter is_open_fact a.facts))) (state_of (J ++ entries step moment 0 a.facts))
+    transfers_of S.setup a.run (state_of J) (state_of (J ++ entries step moment 0 a.facts))
 
 -- the dispatches that a step issues for the run that it changes
 abbrev pub dispatched_for : Content → ℕ → ℕ → Option Added → List Dispatch

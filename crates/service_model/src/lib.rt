@@ -8,5 +8,6 @@ pub mod journal;
 pub mod laws;
 pub mod limits;
 pub mod request;
+pub mod routing;
 pub mod settings;
 pub mod transfer;

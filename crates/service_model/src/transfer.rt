@@ -210,6 +210,18 @@ impl Drop for TransferContent {
     }
 }
 
+/// A transfer to a shard, which gets its number as it is issued.
+pub struct Sent {
+    pub to: u16,
+    pub content: TransferContent,
+}
+
+impl Drop for Sent {
+    fn drop(self) {
+        let Sent { to: _, content: _ } = self;
+    }
+}
+
 /// What a shard says of a transfer that is delivered to it.
 #[derive(Clone, Copy)]
 pub enum Delivery {
