@@ -4,7 +4,7 @@ use Rattle.std.specs.Option.{option_map_or}
 use Rattle.std.specs.List.{AllByRecursion}
 use Rattle.wf_event.specs.declared.event.Event.{Event}
 use Rattle.wf_event.specs.declared.attributes.Attributes.{Attributes}
-use Rattle.wf_event.specs.declared.attributes.Attributes.TheVariants.{ActivityTaskScheduled, TimerStarted}
+use Rattle.wf_event.specs.declared.attributes.Attributes.TheVariants.{ActivityTaskScheduled, TimerStarted, StartChildWorkflowExecutionInitiated, SignalExternalWorkflowExecutionInitiated, RequestCancelExternalWorkflowExecutionInitiated}
 use Rattle.wf_event.specs.Role.{Role, TimerFires, role, Class}
 use Rattle.service_model.specs.Pending.{is_settled}
 use Rattle.service_model.specs.RunState.{RunState, used, held_attributes}
@@ -12,16 +12,19 @@ use Rattle.mutable_state.specs.declared.open.Open.{Open}
 use Rattle.mutable_state.specs.Formed.{IsFromOutside, SettlesTo, IdsTo}
 use Rattle.mutable_state.specs.Opens.{is_of, event_at}
 
--- a thing in use: the event that opened it, the id that the worker gave it, and whether an event that settles it is held back
+-- a thing in use: the event that opened it, the id that it is known by, and whether an event that settles it is held back
 pub record UsedRow : Type 0 where
   pub event : ℕ
   pub name : Option (List ℕ)
   pub is_settled : Bool
 
--- the id that the worker gave to what an event opens
+-- the id that what an event opens is known by: the one that the worker gave it, or that of the workflow that is asked
 abbrev pub name_of : Attributes → Option (List ℕ)
 name_of (ActivityTaskScheduled a) = Some a.activity_id
 name_of (TimerStarted a) = Some a.timer_id
+name_of (StartChildWorkflowExecutionInitiated a) = Some a.workflow_id
+name_of (SignalExternalWorkflowExecutionInitiated a) = Some a.workflow_id
+name_of (RequestCancelExternalWorkflowExecutionInitiated a) = Some a.workflow_id
 name_of _ = None
 
 -- whether the worker gave it this id

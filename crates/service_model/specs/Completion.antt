@@ -54,10 +54,13 @@ pending_so_far c s F = filter (λ e. not (is_settled_so_far c e.id s F)) (opened
 unfoldable pub in_use_so_far : Class → RunState → List Attributes → List Event
 in_use_so_far c s F = filter (λ e. not (is_settled_so_far c e.id s F) || is_settled c e.id (still_held s F)) (opened_so_far c s F)
 
--- the id that the worker gave to an activity or a timer
+-- what is known by an id: an activity or a timer by the one that the worker gave it, what is asked of another workflow by that one's
 abbrev pub has_name : List ℕ → Attributes → Bool
 has_name name (ActivityTaskScheduled a) = bytes_eq a.activity_id name
 has_name name (TimerStarted a) = bytes_eq a.timer_id name
+has_name name (StartChildWorkflowExecutionInitiated a) = bytes_eq a.workflow_id name
+has_name name (SignalExternalWorkflowExecutionInitiated a) = bytes_eq a.workflow_id name
+has_name name (RequestCancelExternalWorkflowExecutionInitiated a) = bytes_eq a.workflow_id name
 has_name name _ = false
 
 -- what is in use of a class under a worker's id

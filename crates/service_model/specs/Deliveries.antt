@@ -1,5 +1,5 @@
 -- what a transfer does where it is delivered: children, and signals and cancels of other workflows (Temporal, Child Workflows and Parent close policy; transfers are this service's)
-use Rattle.std.specs.Prelude.{ℕ, ◌+◌, codes, Bool, true, false, cond, not, ◌&&◌, nat_lt, nat_le, ◌==◌, List, [], ◌∷◌, find, map, slice_get, Option, None, Some, option_map, unwrap_or, is_some}
+use Rattle.std.specs.Prelude.{ℕ, ◌+◌, codes, Bool, true, false, cond, not, ◌&&◌, nat_lt, nat_le, ◌==◌, List, [], ◌∷◌, find, map, slice_get, Option, None, Some, option_map, option_and_then, unwrap_or, is_some}
 use Rattle.wf_event.specs.declared.event.Event.{Event}
 use Rattle.wf_event.specs.declared.attributes.Attributes.{Attributes}
 use Rattle.wf_event.specs.declared.attributes.Attributes.TheVariants.{WorkflowExecutionStarted, WorkflowExecutionSignaled, WorkflowExecutionTerminated, WorkflowExecutionCancelRequested, StartChildWorkflowExecutionFailed, ChildWorkflowExecutionStarted, ChildWorkflowExecutionCompleted, ChildWorkflowExecutionFailed, ChildWorkflowExecutionCanceled, ChildWorkflowExecutionTimedOut, ChildWorkflowExecutionTerminated, ExternalWorkflowExecutionSignaled, ExternalWorkflowExecutionCancelRequested, SignalExternalWorkflowExecutionFailed, RequestCancelExternalWorkflowExecutionFailed, StartChildWorkflowExecutionInitiated, SignalExternalWorkflowExecutionInitiated, RequestCancelExternalWorkflowExecutionInitiated}
@@ -59,17 +59,21 @@ adds_outside R n as' = Some (record { run = n; facts = outside (run_at R n) (map
 abbrev pub own_run : Runs → Run → Option ℕ
 own_run R r = if_some ((r.service == R.setup.service) && (r.shard == R.setup.shard) && has_run R r.ordinal) r.ordinal
 
--- the workflow ID that an event asked something of
-abbrev pub asked_id : Attributes → List ℕ
-asked_id (StartChildWorkflowExecutionInitiated a) = a.workflow_id
-asked_id (SignalExternalWorkflowExecutionInitiated a) = a.workflow_id
-asked_id (RequestCancelExternalWorkflowExecutionInitiated a) = a.workflow_id
-asked_id _ = []
+-- the workflow ID that an event asks something of
+abbrev pub asked_id : Attributes → Option (List ℕ)
+asked_id (StartChildWorkflowExecutionInitiated a) = Some a.workflow_id
+asked_id (SignalExternalWorkflowExecutionInitiated a) = Some a.workflow_id
+asked_id (RequestCancelExternalWorkflowExecutionInitiated a) = Some a.workflow_id
+asked_id _ = None
 
--- the run in which a request of the class is pending, and the workflow ID that it was asked of
+-- the workflow ID that is asked by the request of the class that this event made, while it is pending in the run
+abbrev pub pending_asked : RunState → Class → ℕ → Option (List ℕ)
+pending_asked s c id = option_and_then (λ (e : Event). asked_id e.attributes) (find (λ (e : Event). e.id == id) (pending c s))
+
+-- the run in which such a request is pending, and the workflow ID that it was asked of
 abbrev pub pending_id : Runs → Class → ℕ → Option ℕ → Option (ℕ × List ℕ)
 pending_id R c id None = None
-pending_id R c id (Some n) = option_map (λ (e : Event). (n, asked_id e.attributes)) (find (λ (e : Event). e.id == id) (pending c (run_at R n)))
+pending_id R c id (Some n) = option_map (λ (name : List ℕ). (n, name)) (pending_asked (run_at R n) c id)
 
 -- an answer to a pending request: it has an effect only there
 abbrev pub answers_pending : Runs → Transfer → Option (ℕ × List ℕ) → (List ℕ → Attributes) → Outcome
