@@ -1,5 +1,4 @@
 //! What a shard is asked.
-use crate::transfer::Transfer;
 use wf_command::Command;
 use wf_event_values::{
     ConflictPolicy, Id, Items, Moment, ReusePolicy, RunId, Span, TaskKind, Text,
@@ -202,10 +201,15 @@ impl Drop for FailActivity {
 }
 
 /// Counts on the transfers to a shard.
-#[derive(Clone, Copy)]
 pub struct Acknowledge {
     pub to: u16,
     pub number: u64,
+}
+
+impl Drop for Acknowledge {
+    fn drop(self) {
+        let Acknowledge { to: _, number: _ } = self;
+    }
 }
 
 /// What a shard serves.
@@ -231,12 +235,6 @@ pub enum Operation {
     NextDispatch,
     /// Counts the dispatch of that number, which was pushed. It names no shard either.
     Dispatched(u64),
-    /// Asks for the first transfer to a shard that is not acknowledged.
-    NextTransfer(u16),
-    /// Delivers a transfer of another shard, or of this one.
-    Deliver(Transfer),
-    /// Counts a transfer of this shard that its destination accepted.
-    Acknowledge(Acknowledge),
 }
 
 impl Drop for Operation {
@@ -259,9 +257,6 @@ impl Drop for Operation {
             Operation::TimerTurn => {}
             Operation::NextDispatch => {}
             Operation::Dispatched(_) => {}
-            Operation::NextTransfer(_) => {}
-            Operation::Deliver(_) => {}
-            Operation::Acknowledge(_) => {}
         }
     }
 }
