@@ -6,7 +6,7 @@ use Rattle.wf_event.specs.declared.attributes.Attributes.TheVariants.{WorkflowEx
 use Rattle.wf_event.specs.declared.payloads.WorkflowExecutionStarted.{WorkflowExecutionStarted as StartedAttributes}
 use Rattle.wf_command.specs.declared.command.ContinueAsNew.{ContinueAsNew}
 use Rattle.service_model.specs.declared.journal.Fact.{Fact}
-use Rattle.service_model.specs.declared.journal.Fact.TheVariants.{Event as an_event, Note as a_note}
+use Rattle.service_model.specs.declared.journal.Fact.TheVariants.{Event as an_event}
 use Rattle.service_model.specs.Outcome.{Outcome, CountsNothing, Reply, Runs, run_at, run_id}
 use Rattle.service_model.specs.RunState.{Beginning, RunState, id_of, is_open, no_run, started_of}
 use Rattle.service_model.specs.Starts.{start_request}

@@ -3,7 +3,7 @@ use Rattle.std.specs.Prelude.{option_copied}
 use Rattle.wf_event_values.specs.Run.{Run}
 use Rattle.service_model.specs.declared.journal.Fact.{Fact}
 use Rattle.service_model.specs.Outcome.{run_at, run_id}
-use Rattle.service_model.specs.RunState.{RunState, started_of}
+use Rattle.service_model.specs.RunState.{started_of}
 use Rattle.service_model.specs.Starts.{start_request}
 use Rattle.mutable_state.specs.View.{RunView}
 use Rattle.shard_steps.specs.Starts.{MayBegin, first_facts}

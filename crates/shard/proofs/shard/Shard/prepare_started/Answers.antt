@@ -1,4 +1,4 @@
-use Rattle.std.proofs.Common.{List, ◌∷◌, [], IfOk, None, subst, sym}
+use Rattle.std.proofs.Common.{IfOk, None, subst, sym}
 use Rattle.service_model.specs.Starts.{starts_new}
 use Rattle.shard_steps.specs.declared.starts.Beginning.{Beginning}
 use Rattle.shard_steps.specs.Starts.{first_facts, started_by, MayBegin}

@@ -1,4 +1,4 @@
-use Rattle.std.proofs.Common.{◌≡◌, ◌∙◌, sym, ap, subst, List, [], ◌∷◌, IfOk, Some}
+use Rattle.std.proofs.Common.{◌∙◌, sym, ap, subst, List, [], ◌∷◌, IfOk}
 use Rattle.wf_event.specs.declared.attributes.Attributes.TheVariants.{WorkflowExecutionTerminated}
 use Rattle.service_model.specs.declared.answer.Answer.TheVariants.{Terminated}
 use Rattle.service_model.specs.declared.journal.Fact.{Fact}
