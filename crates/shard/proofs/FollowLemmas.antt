@@ -6,7 +6,7 @@ use Rattle.wf_event.specs.declared.attributes.Attributes.TheVariants.{WorkflowEx
 use Rattle.wf_event.specs.declared.payloads.WorkflowExecutionStarted.{WorkflowExecutionStarted as StartedAttributes}
 use Rattle.wf_command.specs.declared.command.ContinueAsNew.{ContinueAsNew}
 use Rattle.service_model.specs.declared.journal.Fact.{Fact}
-use Rattle.service_model.specs.declared.journal.Fact.TheVariants.{Event as an_event, Note as a_note}
+use Rattle.service_model.specs.declared.journal.Fact.TheVariants.{Event as an_event}
 use Rattle.service_model.specs.Outcome.{Outcome, CountsNothing, Reply, Runs, run_at, run_id}
 use Rattle.service_model.specs.RunState.{Beginning, RunState, id_of, is_open, no_run, started_of}
 use Rattle.service_model.specs.Starts.{start_request}
@@ -17,14 +17,14 @@ use Rattle.mutable_state.specs.Steps.{FitStep, after_step}
 use Rattle.shard_steps.specs.Kept.{IsNoted}
 use Rattle.shard_steps.specs.Starts.{first_facts}
 use Rattle.shard_steps.specs.declared.starts.Beginning.{Beginning as NewBeginning}
-use Rattle.shard.specs.Fitting.{FitsStep, IsMade, grown, room_at, runs_added, state_at}
+use Rattle.shard_store.specs.Fitting.{FitsStep, IsMade, grown, room_at, runs_added, state_at}
 use Rattle.shard.specs.Following.{following}
-use Rattle.shard.specs.Open.{HasClosed, IsOneOpen}
-use Rattle.shard.specs.View.{ShardView, state, states, runs_in}
-use Rattle.shard.specs.declared.plan.Count.TheVariants as count
-use Rattle.shard.specs.declared.plan.NewRun.{NewRun}
-use Rattle.shard.proofs.IndexLemmas.{length-states}
-use Rattle.shard.proofs.OpenLemmas.{closed-alone}
+use Rattle.shard_store.specs.Open.{HasClosed, IsOneOpen}
+use Rattle.shard_store.specs.View.{ShardView, state, states, runs_in}
+use Rattle.shard_store.specs.declared.plan.Count.TheVariants as count
+use Rattle.shard_store.specs.declared.plan.NewRun.{NewRun}
+use Rattle.shard_store.proofs.IndexLemmas.{length-states}
+use Rattle.shard_store.proofs.OpenLemmas.{closed-alone}
 use Rattle.shard.proofs.StartLemmas.{fits-more, made-named}
 
 -- where the open run that an ordinal names is closed, all runs of its workflow ID have closed

@@ -14,8 +14,8 @@ use Rattle.shard_steps.specs.Attempts.{has_run_of, runs_at}
 use Rattle.shard_steps.proofs.EndingLemmas.{are-same, pending-named}
 use Rattle.shard_steps.proofs.TaskLemmas.{and-left, and-right}
 use Rattle.shard.specs.Running.{HasAttempt}
-use Rattle.shard.specs.View.{ShardView, states, runs_in}
-use Rattle.shard.proofs.IndexLemmas.{length-states}
+use Rattle.shard_store.specs.View.{ShardView, states, runs_in}
+use Rattle.shard_store.proofs.IndexLemmas.{length-states}
 
 -- the running attempt that a token names is that of a pending activity
 kept-row : (t : TakenTask) (o : Option ActivityRow) (r : ActivityRow) → keep_running t o ≡ Some r → (o ≡ Some r) × (r.attempt ≡ t.attempt)

@@ -6,7 +6,7 @@ use Rattle.service_model.specs.Activities.{running_attempt}
 use Rattle.service_model.specs.Outcome.{run_at}
 use Rattle.service_model.specs.RunState.{ActivityRow, is_open, pending}
 use Rattle.mutable_state.specs.Steps.{has_id}
-use Rattle.shard.specs.View.{ShardView, runs_in}
+use Rattle.shard_store.specs.View.{ShardView, runs_in}
 
 -- the activity is the one whose running attempt a token names, in an open run of the shard
 pub record HasAttempt (v : ShardView) (t : TakenTask) (r : ActivityRow) : Type 0 where

@@ -10,92 +10,94 @@ ghost use Rattle.service_model.specs.RunState.{is_open, used};
 ghost use Rattle.service_model.specs.Tasks.{take_by_kind, pending_row};
 ghost use Rattle.mutable_state.specs.Steps.{has_id};
 ghost use Rattle.shard_steps.specs.Attempts.{has_run_of, task_for};
-ghost use Rattle.shard.specs.Fitting.{FitsStep};
-ghost use Rattle.shard.specs.View.{state, runs_in};
+ghost use Rattle.shard_store.specs.Fitting.{FitsStep};
+ghost use Rattle.shard_store.specs.View.{state, runs_in};
 
-use crate::plan::Plan;
+use crate::more::prepare_more;
 use crate::prepare::answered;
-use crate::shard::Shard;
 use mutable_state_keeper::KeepsRun;
 use service_model::answer::{ActivityTask, Answer};
 use service_model::journal::Note;
 use service_model::request::Hint;
 use shard_steps::{attempt_task, note_facts};
+use shard_store::{Plan, Store};
 use std::alloc::AllocError;
 use wf_event_values::Moment;
 
-impl<T: KeepsRun> Shard<T> {
-    /// The attempt of an activity is taken, where it waits.
-    pub(crate) fn take_activity(
-        &mut self,
-        moment: Moment,
-        hint: Hint,
-    ) -> Result<Plan<T>, AllocError>
-        ensures same { state self.new ≡ state self.old }
-        ensures plan { IfOk result (λ plan. FitsStep self.new plan moment
-            (take_by_kind (runs_in self.old) hint of_an_activity)) }
-    {
-        let Some(n) = self.run_of(hint.shard, hint.run) else {
-            return Ok(answered(moment, Answer::Stale));
-        };
-        let Some(task) = self.attempt_for(n, hint)? else {
-            return Ok(answered(moment, Answer::Stale));
-        };
-        let plan = self.take_attempt(moment, n, hint, task)?;
-        Ok(plan)
-    }
+/// The attempt of an activity is taken, where it waits.
+pub(crate) fn take_activity<T: KeepsRun>(
+    store: &mut Store<T>,
+    moment: Moment,
+    hint: Hint,
+) -> Result<Plan<T>, AllocError>
+    ensures same { state store.new ≡ state store.old }
+    ensures plan { IfOk result (λ plan. FitsStep store.new plan moment
+        (take_by_kind (runs_in store.old) hint of_an_activity)) }
+{
+    let Some(n) = run_of(store, hint.shard, hint.run) else {
+        return Ok(answered(moment, Answer::Stale));
+    };
+    let Some(task) = attempt_for(store, n, hint)? else {
+        return Ok(answered(moment, Answer::Stale));
+    };
+    let plan = take_attempt(store, moment, n, hint, task)?;
+    Ok(plan)
+}
 
-    /// The ordinal of a run, where the shard of this number is this one and has it.
-    pub(crate) fn run_of(&self, shard: u16, run: u64) -> Option<usize>
-        ensures some { has_run_of (runs_in self.now) shard run ≡ is_some result }
-        ensures found { IfSome result (λ n. (n ≡ run) × (1 ≤ n) × (n ≤ length self.now.runs)) }
-    {
-        let n = run as usize;
-        if shard != self.setup.shard || n < 1 || n > self.runs.len() {
-            return None;
-        }
-        Some(n)
+/// The ordinal of a run, where the shard of this number is this one and has it.
+pub(crate) fn run_of<T: KeepsRun>(store: &Store<T>, shard: u16, run: u64) -> Option<usize>
+    ensures some { has_run_of (runs_in store.now) shard run ≡ is_some result }
+    ensures found { IfSome result (λ n. (n ≡ run) × (1 ≤ n) × (n ≤ length store.now.runs)) }
+{
+    let n = run as usize;
+    if shard != store.setup().shard || n < 1 || n > store.count() {
+        return None;
     }
+    Some(n)
+}
 
-    /// The attempt that the hint names in the run with that ordinal, where it waits to be taken.
-    fn attempt_for(&self, n: usize, hint: Hint) -> Result<Option<ActivityTask>, AllocError>
-        requires from { 1 ≤ n }
-        requires to { n ≤ length self.now.runs }
-        requires run { n ≡ hint.run }
-        ensures task { IfOk result (λ task. task ≡ task_for (runs_in self.now) hint
-            (pending_row (run_at (runs_in self.now) hint.run) hint.event)) }
-        ensures there { IfOk result (λ task. IfSome task
-            (λ t. has_id hint.event (used AnActivity (run_at (runs_in self.now) n)) ≡ true)) }
-        ensures open { IfOk result (λ task. IfSome task
-            (λ t. is_open (run_at (runs_in self.now) n) ≡ true)) }
-    {
-        let Some(activity) = self.runs[n - 1].pending_activity(self.alloc, hint.event)? else {
-            return Ok(None);
-        };
-        let workflow_id = self.runs[n - 1].workflow_id().clone()?;
-        let task = attempt_task(&activity, hint, self.run_id(n), workflow_id)?;
-        Ok(task)
-    }
+/// The attempt that the hint names in the run with that ordinal, where it waits to be taken.
+fn attempt_for<T: KeepsRun>(
+    store: &Store<T>,
+    n: usize,
+    hint: Hint,
+) -> Result<Option<ActivityTask>, AllocError>
+    requires from { 1 ≤ n }
+    requires to { n ≤ length store.now.runs }
+    requires run { n ≡ hint.run }
+    ensures task { IfOk result (λ task. task ≡ task_for (runs_in store.now) hint
+        (pending_row (run_at (runs_in store.now) hint.run) hint.event)) }
+    ensures there { IfOk result (λ task. IfSome task
+        (λ t. has_id hint.event (used AnActivity (run_at (runs_in store.now) n)) ≡ true)) }
+    ensures open { IfOk result (λ task. IfSome task
+        (λ t. is_open (run_at (runs_in store.now) n) ≡ true)) }
+{
+    let Some(activity) = store.run(n).pending_activity(store.alloc(), hint.event)? else {
+        return Ok(None);
+    };
+    let workflow_id = store.run(n).workflow_id().clone()?;
+    let task = attempt_task(&activity, hint, store.run_id(n), workflow_id)?;
+    Ok(task)
+}
 
-    /// The taking of the attempt of an activity in use.
-    fn take_attempt(
-        &mut self,
-        moment: Moment,
-        n: usize,
-        hint: Hint,
-        task: ActivityTask,
-    ) -> Result<Plan<T>, AllocError>
-        requires from { 1 ≤ n }
-        requires to { n ≤ length self.old.runs }
-        requires run { n ≡ hint.run }
-        requires there { has_id hint.event (used AnActivity (run_at (runs_in self.old) n)) ≡ true }
-        requires open { is_open (run_at (runs_in self.old) n) ≡ true }
-        ensures same { state self.new ≡ state self.old }
-        ensures plan { IfOk result (λ plan. FitsStep self.new plan moment
-            (adds hint.run (noted hint.event Taken ∷ []) (an_activity_task task))) }
-    {
-        let facts = note_facts(self.alloc, hint.event, Note::Taken)?;
-        let plan = self.prepare_more(moment, n, facts, Answer::ActivityTask(task))?;
-        Ok(plan)
-    }
+/// The taking of the attempt of an activity in use.
+fn take_attempt<T: KeepsRun>(
+    store: &mut Store<T>,
+    moment: Moment,
+    n: usize,
+    hint: Hint,
+    task: ActivityTask,
+) -> Result<Plan<T>, AllocError>
+    requires from { 1 ≤ n }
+    requires to { n ≤ length store.old.runs }
+    requires run { n ≡ hint.run }
+    requires there { has_id hint.event (used AnActivity (run_at (runs_in store.old) n)) ≡ true }
+    requires open { is_open (run_at (runs_in store.old) n) ≡ true }
+    ensures same { state store.new ≡ state store.old }
+    ensures plan { IfOk result (λ plan. FitsStep store.new plan moment
+        (adds hint.run (noted hint.event Taken ∷ []) (an_activity_task task))) }
+{
+    let facts = note_facts(store.alloc(), hint.event, Note::Taken)?;
+    let plan = prepare_more(store, moment, n, facts, Answer::ActivityTask(task))?;
+    Ok(plan)
 }

@@ -1,17 +1,17 @@
 //! The shard as an object of the gate.
 
-ghost use Rattle.std.specs.Prelude.{◌≡◌, IfOk, OnErr};
 ghost use Rattle.service_model.specs.Growth.{KeepsHistories, keeps-on, keeps-same};
 ghost use Rattle.service_model.specs.Service.{after, answer};
 ghost use Rattle.shard.specs.Standing.{StandsFor, IsReady, opened};
 
-use crate::plan::Plan;
+use crate::prepare::prepare;
 use crate::shard::Shard;
 use gate::Object;
 use mutable_state_keeper::KeepsRun;
 use service_model::answer::Reply;
 use service_model::content::Content;
 use service_model::request::Request;
+use shard_store::Plan;
 use std::alloc::AllocError;
 
 impl<T: KeepsRun> Object for Shard<T> {
@@ -40,10 +40,10 @@ impl<T: KeepsRun> Object for Shard<T> {
     ghost ready = { IsReady };
 
     fn prepare(&mut self, request: &Request) -> Result<Plan<T>, AllocError> {
-        Shard::prepare(self, request)
+        prepare(&mut self.store, request)
     }
 
     fn commit(&mut self, plan: Plan<T>) -> Reply {
-        Shard::commit(self, plan)
+        self.store.commit(plan)
     }
 }

@@ -3,65 +3,65 @@
 ghost use Rattle.std.specs.Prelude.{◌≡◌, IfOk};
 ghost use Rattle.service_model.specs.Outcome.{answered};
 ghost use Rattle.shard_steps.specs.Issuing.{next_waiting, count_waiting};
-ghost use Rattle.shard.specs.Fitting.{FitsStep};
-ghost use Rattle.shard.specs.View.{state};
+ghost use Rattle.shard_store.specs.Fitting.{FitsStep};
+ghost use Rattle.shard_store.specs.View.{state};
 
-use crate::plan::{Change, Count, Plan};
 use crate::prepare::answered;
-use crate::shard::Shard;
 use mutable_state_keeper::KeepsRun;
 use service_model::answer::{Acknowledged, Answer, NumberedDispatch};
 use service_model::content::Dispatch;
+use shard_store::{Change, Count, Plan, Store};
 use std::alloc::AllocError;
 use wf_event_values::Moment;
 
-impl<T: KeepsRun> Shard<T> {
-    /// The first dispatch that is not counted.
-    pub(crate) fn prepare_next_dispatch(&mut self, moment: Moment) -> Result<Plan<T>, AllocError>
-        ensures same { state self.new ≡ state self.old }
-        ensures plan { IfOk result (λ plan. FitsStep self.new plan moment
-            (next_waiting self.old.waiting)) }
-    {
-        self.note_change()?;
-        let Some(first) = self.dispatches.first() else {
-            return Ok(answered(moment, Answer::NoDispatch));
-        };
-        let dispatch = copied(first)?;
-        let Some(number) = self.dispatches.counted().checked_add(1) else {
-            return Err(AllocError);
-        };
-        let next = NumberedDispatch { number, dispatch };
-        Ok(answered(moment, Answer::Dispatch(next)))
-    }
+/// The first dispatch that is not counted.
+pub(crate) fn prepare_next_dispatch<T: KeepsRun>(
+    store: &mut Store<T>,
+    moment: Moment,
+) -> Result<Plan<T>, AllocError>
+    ensures same { state store.new ≡ state store.old }
+    ensures plan { IfOk result (λ plan. FitsStep store.new plan moment
+        (next_waiting store.old.waiting)) }
+{
+    store.note_change()?;
+    let Some(first) = store.first_dispatch() else {
+        return Ok(answered(moment, Answer::NoDispatch));
+    };
+    let dispatch = copied(first)?;
+    let Some(number) = store.counted_dispatches().checked_add(1) else {
+        return Err(AllocError);
+    };
+    let next = NumberedDispatch { number, dispatch };
+    Ok(answered(moment, Answer::Dispatch(next)))
+}
 
-    /// A dispatch was pushed: it is counted, where it is the first that was not.
-    pub(crate) fn prepare_dispatched(
-        &mut self,
-        moment: Moment,
-        number: u64,
-    ) -> Result<Plan<T>, AllocError>
-        ensures same { state self.new ≡ state self.old }
-        ensures plan { IfOk result (λ plan. FitsStep self.new plan moment
-            (count_waiting self.old.waiting number)) }
-    {
-        self.note_change()?;
-        let counted = self.dispatches.counted();
-        if number <= counted {
-            return Ok(answered(moment, Answer::Counted(Acknowledged::Already)));
-        }
-        if number - 1 != counted || self.dispatches.count() == 0 {
-            return Ok(answered(moment, Answer::Counted(Acknowledged::OutOfOrder)));
-        }
-        Ok(Plan {
-            moment,
-            change: Change {
-                added: None,
-                created: None,
-                count: Count::Dispatch,
-            },
-            reply: Ok(Answer::Counted(Acknowledged::Acknowledged)),
-        })
+/// A dispatch was pushed: it is counted, where it is the first that was not.
+pub(crate) fn prepare_dispatched<T: KeepsRun>(
+    store: &mut Store<T>,
+    moment: Moment,
+    number: u64,
+) -> Result<Plan<T>, AllocError>
+    ensures same { state store.new ≡ state store.old }
+    ensures plan { IfOk result (λ plan. FitsStep store.new plan moment
+        (count_waiting store.old.waiting number)) }
+{
+    store.note_change()?;
+    let counted = store.counted_dispatches();
+    if number <= counted {
+        return Ok(answered(moment, Answer::Counted(Acknowledged::Already)));
     }
+    if number - 1 != counted || store.waiting_dispatches() == 0 {
+        return Ok(answered(moment, Answer::Counted(Acknowledged::OutOfOrder)));
+    }
+    Ok(Plan {
+        moment,
+        change: Change {
+            added: None,
+            created: None,
+            count: Count::Dispatch,
+        },
+        reply: Ok(Answer::Counted(Acknowledged::Acknowledged)),
+    })
 }
 
 fn copied(dispatch: &Dispatch) -> Result<Dispatch, AllocError>

@@ -5,14 +5,13 @@ ghost use Rattle.service_model.specs.Journal.{latest};
 ghost use Rattle.service_model.specs.Outcome.{run_at};
 ghost use Rattle.service_model.specs.Tasks.{continue_part, continued};
 ghost use Rattle.shard_steps.specs.Kept.{IsNoted};
-ghost use Rattle.shard.specs.Fitting.{FitsCreated};
+ghost use Rattle.shard_store.specs.Fitting.{FitsCreated};
 ghost use Rattle.shard.specs.Following.{continuing, following};
-ghost use Rattle.shard.specs.View.{state, runs_in};
+ghost use Rattle.shard_store.specs.View.{state, runs_in};
 
-use crate::plan::NewRun;
-use crate::shard::Shard;
 use mutable_state_keeper::KeepsRun;
 use shard_steps::{Beginning, first_task, used_task_timeout};
+use shard_store::{NewRun, Store};
 use std::alloc::{AllocError, Global};
 use task_completion::{queue_after, type_after};
 use wf_command::Command;
@@ -20,63 +19,59 @@ use wf_command::command::ContinueAsNew;
 use wf_event::payloads::WorkflowExecutionStarted;
 use wf_event_values::{Cause, Id, Items, Moment, RunId};
 
-impl<T: KeepsRun> Shard<T> {
-    /// The run that follows the one with that ordinal, where its completion has no fault and continues
-    /// as new.
-    pub(crate) fn prepare_follower(
-        &mut self,
-        moment: Moment,
-        n: usize,
-        fault: Option<Cause>,
-        commands: &[Command],
-    ) -> Result<Option<NewRun<T>>, AllocError>
-        requires from { 1 ≤ n }
-        requires to { n ≤ length self.old.runs }
-        requires noted { IsNoted self.old.changed }
-        ensures same { state self.new ≡ state self.old }
-        ensures runs { self.new.runs ≡ self.old.runs }
-        ensures noted { OnOk result (IsNoted self.new.changed) }
-        ensures made { IfOk result (λ created. FitsCreated self.new moment created
-            (continued (runs_in self.old) n (continuing fault commands.now)
-            (run_at (runs_in self.old) n).beginning)) }
-    {
-        let Some(command) = continuing(fault, commands) else {
-            return Ok(None);
-        };
-        let made = self.prepare_following(moment, n, command)?;
-        Ok(Some(made))
-    }
+/// The run that follows the one with that ordinal, where its completion has no fault and continues
+/// as new.
+pub(crate) fn prepare_follower<T: KeepsRun>(
+    store: &mut Store<T>,
+    moment: Moment,
+    n: usize,
+    fault: Option<Cause>,
+    commands: &[Command],
+) -> Result<Option<NewRun<T>>, AllocError>
+    requires from { 1 ≤ n }
+    requires to { n ≤ length store.old.runs }
+    requires noted { IsNoted store.old.changed }
+    ensures same { state store.new ≡ state store.old }
+    ensures runs { store.new.runs ≡ store.old.runs }
+    ensures noted { OnOk result (IsNoted store.new.changed) }
+    ensures made { IfOk result (λ created. FitsCreated store.new moment created
+        (continued (runs_in store.old) n (continuing fault commands.now)
+        (run_at (runs_in store.old) n).beginning)) }
+{
+    let Some(command) = continuing(fault, commands) else {
+        return Ok(None);
+    };
+    let made = prepare_following(store, moment, n, command)?;
+    Ok(Some(made))
+}
 
-    /// The run that follows the one with that ordinal by this command.
-    fn prepare_following(
-        &mut self,
-        moment: Moment,
-        n: usize,
-        command: &ContinueAsNew,
-    ) -> Result<NewRun<T>, AllocError>
-        requires from { 1 ≤ n }
-        requires to { n ≤ length self.old.runs }
-        ensures same { state self.new ≡ state self.old }
-        ensures runs { self.new.runs ≡ self.old.runs }
-        ensures noted { OnOk result (IsNoted self.new.changed) }
-        ensures made { IfOk result (λ made. FitsCreated self.new moment (Some made)
-            (continued (runs_in self.old) n (Some command.now)
-            (run_at (runs_in self.old) n).beginning)) }
-    {
-        let count = self.runs.len();
-        prove!(n <= count);
-        let from = self.run_id(n);
-        let run = &self.runs[n - 1];
-        let beginning = following(
-            self.alloc,
-            from,
-            command,
-            run.started(),
-            run.start_request(),
-        )?;
-        let made = self.prepare_made(moment, beginning)?;
-        Ok(made)
-    }
+/// The run that follows the one with that ordinal by this command.
+fn prepare_following<T: KeepsRun>(
+    store: &mut Store<T>,
+    moment: Moment,
+    n: usize,
+    command: &ContinueAsNew,
+) -> Result<NewRun<T>, AllocError>
+    requires from { 1 ≤ n }
+    requires to { n ≤ length store.old.runs }
+    ensures same { state store.new ≡ state store.old }
+    ensures runs { store.new.runs ≡ store.old.runs }
+    ensures noted { OnOk result (IsNoted store.new.changed) }
+    ensures made { IfOk result (λ made. FitsCreated store.new moment (Some made)
+        (continued (runs_in store.old) n (Some command.now)
+        (run_at (runs_in store.old) n).beginning)) }
+{
+    let from = store.run_id(n);
+    let run = store.run(n);
+    let beginning = following(
+        store.alloc(),
+        from,
+        command,
+        run.started(),
+        run.start_request(),
+    )?;
+    let made = store.prepare_made(moment, beginning)?;
+    Ok(made)
 }
 
 /// How the run begins that follows one that began like this.

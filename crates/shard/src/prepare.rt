@@ -2,47 +2,56 @@
 
 ghost use Rattle.std.specs.Prelude.{◌≡◌, max, IfOk};
 ghost use Rattle.service_model.specs.Outcome.{answered, refused};
-ghost use Rattle.shard.specs.View.{state, runs_in};
-ghost use Rattle.shard.specs.Fitting.{FitsStep, nothing, outcome_in};
+ghost use Rattle.shard_store.specs.View.{state, runs_in};
+ghost use Rattle.shard_store.specs.Fitting.{FitsStep, nothing};
+ghost use Rattle.shard.specs.Deciding.{outcome_in};
 
-use crate::plan::{Change, Count, Plan};
-use crate::shard::Shard;
+use crate::attempts::{prepare_cancel_activity, prepare_complete_activity};
+use crate::counts::{prepare_dispatched, prepare_next_dispatch};
+use crate::ends::{prepare_request_cancel, prepare_terminate};
+use crate::heartbeats::prepare_heartbeat;
+use crate::reads::{prepare_describe, prepare_history};
+use crate::signal_starts::prepare_signal_with_start;
+use crate::signals::prepare_signal;
+use crate::starts::prepare_start;
+use crate::tasks::{prepare_completion, prepare_failure, prepare_start_task};
+use crate::turns::prepare_timer_turn;
+use crate::verdicts::prepare_fail_activity;
 use mutable_state_keeper::KeepsRun;
 use service_model::answer::Answer;
 use service_model::request::{Operation, Request};
+use shard_store::{Change, Count, Plan, Store};
 use std::alloc::AllocError;
 use wf_event_values::{Moment, Refusal};
 
-impl<T: KeepsRun> Shard<T> {
-    /// Makes all that the request's step needs. The shard stands for the same contents, whatever the
-    /// result.
-    pub fn prepare(&mut self, request: &Request) -> Result<Plan<T>, AllocError>
-        ensures same { state self.new ≡ state self.old }
-        ensures plan { IfOk result (λ plan. FitsStep self.new plan
-            (max request.now.at self.old.last)
-            (outcome_in self.old.waiting (runs_in self.old)
-            (max request.now.at self.old.last) request.now.operation)) }
-    {
-        let moment = request.at.later(self.last);
-        match &request.operation {
-            Operation::Start(start) => self.prepare_start(moment, start),
-            Operation::Signal(signal) => self.prepare_signal(moment, signal),
-            Operation::SignalWithStart(both) => self.prepare_signal_with_start(moment, both),
-            Operation::RequestCancel(cancel) => self.prepare_request_cancel(moment, cancel),
-            Operation::Terminate(end) => self.prepare_terminate(moment, end),
-            Operation::History(read) => self.prepare_history(moment, read),
-            Operation::Describe(read) => self.prepare_describe(moment, read),
-            Operation::StartTask(hint) => self.prepare_start_task(moment, *hint),
-            Operation::CompleteWorkflowTask(end) => self.prepare_completion(moment, end),
-            Operation::FailWorkflowTask(end) => self.prepare_failure(moment, end),
-            Operation::CompleteActivity(end) => self.prepare_complete_activity(moment, end),
-            Operation::FailActivity(end) => self.prepare_fail_activity(moment, end),
-            Operation::CancelActivity(end) => self.prepare_cancel_activity(moment, end),
-            Operation::Heartbeat(beat) => self.prepare_heartbeat(moment, beat),
-            Operation::TimerTurn => self.prepare_timer_turn(moment),
-            Operation::NextDispatch => self.prepare_next_dispatch(moment),
-            Operation::Dispatched(number) => self.prepare_dispatched(moment, *number),
-        }
+/// Makes all that the request's step needs. The shard stands for the same contents, whatever the
+/// result.
+pub fn prepare<T: KeepsRun>(store: &mut Store<T>, request: &Request) -> Result<Plan<T>, AllocError>
+    ensures same { state store.new ≡ state store.old }
+    ensures plan { IfOk result (λ plan. FitsStep store.new plan
+        (max request.now.at store.old.last)
+        (outcome_in store.old.waiting (runs_in store.old)
+        (max request.now.at store.old.last) request.now.operation)) }
+{
+    let moment = request.at.later(store.last());
+    match &request.operation {
+        Operation::Start(start) => prepare_start(store, moment, start),
+        Operation::Signal(signal) => prepare_signal(store, moment, signal),
+        Operation::SignalWithStart(both) => prepare_signal_with_start(store, moment, both),
+        Operation::RequestCancel(cancel) => prepare_request_cancel(store, moment, cancel),
+        Operation::Terminate(end) => prepare_terminate(store, moment, end),
+        Operation::History(read) => prepare_history(store, moment, read),
+        Operation::Describe(read) => prepare_describe(store, moment, read),
+        Operation::StartTask(hint) => prepare_start_task(store, moment, *hint),
+        Operation::CompleteWorkflowTask(end) => prepare_completion(store, moment, end),
+        Operation::FailWorkflowTask(end) => prepare_failure(store, moment, end),
+        Operation::CompleteActivity(end) => prepare_complete_activity(store, moment, end),
+        Operation::FailActivity(end) => prepare_fail_activity(store, moment, end),
+        Operation::CancelActivity(end) => prepare_cancel_activity(store, moment, end),
+        Operation::Heartbeat(beat) => prepare_heartbeat(store, moment, beat),
+        Operation::TimerTurn => prepare_timer_turn(store, moment),
+        Operation::NextDispatch => prepare_next_dispatch(store, moment),
+        Operation::Dispatched(number) => prepare_dispatched(store, moment, *number),
     }
 }
 

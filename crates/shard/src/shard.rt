@@ -1,79 +1,33 @@
 //! A shard, and its two halves of a step.
 
 ghost use Rattle.std.specs.Prelude.{◌≡◌, []};
-ghost use Rattle.service_model.specs.Outcome.{Outcome};
 ghost use Rattle.service_model.specs.Service.{opening};
-ghost use Rattle.shard.specs.View.{IsSetup, state, states};
-ghost use Rattle.shard.specs.Fitting.{FitsChange, state_after};
-ghost use Rattle.shard.specs.Standing.{Grows, StandsFor};
+ghost use Rattle.shard.specs.Standing.{StandsFor};
+ghost use Rattle.shard_store.specs.View.{IsSetup, state};
 
-use crate::plan::Plan;
-use indexmap::IndexMap;
-use mutable_state_keeper::{KeepsRun, Run};
-use service_model::answer::Reply;
+use mutable_state_keeper::KeepsRun;
 use service_model::content::Setup;
-use shard_steps::{Changed, Dispatches};
+use shard_store::Store;
 use std::alloc::Global;
 use std::marker::Model;
-use timeouts::Deadlines;
-use wf_event_values::Moment;
 
 /// A shard of a workflow service, whose runs are kept by `T`.
 pub struct Shard<T: KeepsRun> {
-    pub(crate) alloc: Global,
-    pub(crate) setup: Setup,
-    pub(crate) runs: Vec<Run<T>>,
-    /// The place of each workflow ID's latest run.
-    pub(crate) index: IndexMap<String, usize>,
-    /// The first deadline of each run, at the run's place.
-    pub(crate) deadlines: Deadlines,
-    /// The tasks that are to be handed to their queues.
-    pub(crate) dispatches: Dispatches,
-    /// The places of the runs that the last step changed, where their deadlines and dispatches were
-    /// not looked up since: that may take memory, so the next step does it.
-    pub(crate) changed: Changed,
-    pub(crate) last: Moment,
+    pub(crate) store: Store<T>,
 }
 
 impl<T: KeepsRun> Drop for Shard<T> {
     fn drop(self) {
-        let Shard {
-            alloc: _,
-            setup: _,
-            runs: _,
-            index: _,
-            deadlines: _,
-            dispatches: _,
-            changed: _,
-            last: _,
-        } = self;
+        let Shard { store: _ } = self;
     }
 }
 
 impl<T: KeepsRun> Model for Shard<T> {
-    ghost use Rattle.std.specs.Prelude.{◌-◌, ◌<◌, ◌^◌, length, min, vec_capacity, vec_len};
-    ghost use Rattle.indexmap.specs.IndexMap.{get_by_text, spare};
-    ghost use Rattle.shard.specs.View.{ShardView, IsIndexed, IsSetup, states};
-    ghost use Rattle.shard_steps.specs.Issuing.{all_waiting};
-    ghost use Rattle.shard_steps.specs.Kept.{HasFirsts, HasShown};
+    ghost use Rattle.shard_store.specs.View.{ShardView};
 
     ghost Value = { ShardView };
 
-    ghost view = { λ a. record {
-      setup = a.setup;
-      runs = a.runs.items;
-      changed = a.changed;
-      last = a.last;
-      room = min (vec_capacity a.runs - vec_len a.runs)
-          (min (spare a.index) (min a.deadlines.room a.dispatches.room));
-      waiting = all_waiting a.setup a.dispatches a.changed (states a.runs.items);
-    } };
-
-    ghost invariant = { λ a. IsSetup a.setup
-        × IsIndexed (get_by_text a.index) a.runs.items
-        × (length a.runs.items < 2 ^ 60)
-        × HasFirsts a.deadlines.slots a.changed (states a.runs.items)
-        × HasShown a.dispatches.shown a.changed (states a.runs.items) };
+    ghost view = { λ a. a.store };
 }
 
 impl<T: KeepsRun> Shard<T> {
@@ -91,38 +45,7 @@ impl<T: KeepsRun> Shard<T> {
         ensures stands { StandsFor result (opening setup) }
     {
         Shard {
-            alloc,
-            setup,
-            runs: Vec::new(alloc),
-            index: IndexMap::new(alloc),
-            deadlines: Deadlines::new(alloc),
-            dispatches: Dispatches::new(alloc),
-            changed: Changed::none(),
-            last: Moment::zero(),
+            store: Store::new(alloc, setup),
         }
-    }
-
-    /// Does what was planned. It takes no memory.
-    pub fn commit(&mut self, plan: Plan<T>) -> Reply
-        requires { (o : Outcome) × FitsChange self.old plan.moment plan.change o }
-        ensures state { state self.new ≡ state_after plan (state self.old) }
-
-        // Each older run showed before what it shows first after.
-        ensures grows { Grows (states self.old.runs) (states self.new.runs) }
-
-        ensures reply { result ≡ plan.reply }
-    {
-        self.finish(plan)
-    }
-
-    fn finish(&mut self, plan: Plan<T>) -> Reply
-        requires { (o : Outcome) × FitsChange self.old plan.moment plan.change o }
-        ensures state { state self.new ≡ state_after plan (state self.old) }
-        ensures reply { result ≡ plan.reply }
-    {
-        let (moment, change, reply) = plan.into_parts();
-        self.carry_out(change);
-        self.last = moment;
-        reply
     }
 }

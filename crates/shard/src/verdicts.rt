@@ -4,14 +4,14 @@ ghost use Rattle.std.specs.Prelude.{◌≡◌, IfOk};
 ghost use Rattle.service_model.specs.Activities.{by_verdict, fail_activity};
 ghost use Rattle.mutable_state.specs.Activities.{row_said};
 ghost use Rattle.retry.specs.Verdicts.{says};
-ghost use Rattle.shard.specs.Fitting.{FitsStep};
+ghost use Rattle.shard_store.specs.Fitting.{FitsStep};
 ghost use Rattle.shard.specs.Running.{HasAttempt};
-ghost use Rattle.shard.specs.View.{state, runs_in};
+ghost use Rattle.shard_store.specs.View.{state, runs_in};
 ghost use Rattle.shard_steps.specs.Attempts.{HasNext};
 
-use crate::plan::Plan;
+use crate::attempts::{attempt_running, end_activity};
+use crate::heartbeats::note_attempt;
 use crate::prepare::refused;
-use crate::shard::Shard;
 use mutable_state::Activity;
 use mutable_state_keeper::KeepsRun;
 use retry::{Ended, Verdict};
@@ -19,60 +19,59 @@ use service_model::answer::{Answer, Retrying};
 use service_model::journal::Note;
 use service_model::request::FailActivity;
 use shard_steps::{failure, verdict_of};
+use shard_store::{Plan, Store};
 use std::alloc::AllocError;
 use wf_event_values::{Moment, Refusal};
 
-impl<T: KeepsRun> Shard<T> {
-    /// An activity's attempt fails.
-    #[tactic(auto, unfolding(service_model::specs::Activities::fail_activity))]
-    pub(crate) fn prepare_fail_activity(
-        &mut self,
-        moment: Moment,
-        request: &FailActivity,
-    ) -> Result<Plan<T>, AllocError>
-        ensures same { state self.new ≡ state self.old }
-        ensures plan { IfOk result (λ plan.
-            FitsStep self.new plan moment (fail_activity (runs_in self.old) moment request.now)) }
-    {
-        let Some(activity) = self.attempt_running(request.task)? else {
-            return Ok(refused(moment, Refusal::NotFound));
-        };
-        let ended = Ended::Failure {
-            error_type: request.error_type.as_ref(),
-            non_retryable: request.non_retryable,
-        };
-        let Some(verdict) = verdict_of(&activity, ended, moment) else {
-            return Ok(refused(moment, Refusal::NotFound));
-        };
-        let plan = self.prepare_by_verdict(moment, request, &activity, verdict)?;
-        Ok(plan)
-    }
+/// An activity's attempt fails.
+#[tactic(auto, unfolding(service_model::specs::Activities::fail_activity))]
+pub(crate) fn prepare_fail_activity<T: KeepsRun>(
+    store: &mut Store<T>,
+    moment: Moment,
+    request: &FailActivity,
+) -> Result<Plan<T>, AllocError>
+    ensures same { state store.new ≡ state store.old }
+    ensures plan { IfOk result (λ plan.
+        FitsStep store.new plan moment (fail_activity (runs_in store.old) moment request.now)) }
+{
+    let Some(activity) = attempt_running(store, request.task)? else {
+        return Ok(refused(moment, Refusal::NotFound));
+    };
+    let ended = Ended::Failure {
+        error_type: request.error_type.as_ref(),
+        non_retryable: request.non_retryable,
+    };
+    let Some(verdict) = verdict_of(&activity, ended, moment) else {
+        return Ok(refused(moment, Refusal::NotFound));
+    };
+    let plan = prepare_by_verdict(store, moment, request, &activity, verdict)?;
+    Ok(plan)
+}
 
-    /// What a verdict makes of a running attempt that failed.
-    fn prepare_by_verdict(
-        &mut self,
-        moment: Moment,
-        request: &FailActivity,
-        activity: &Activity,
-        verdict: Verdict,
-    ) -> Result<Plan<T>, AllocError>
-        requires running { HasAttempt self.old request.now.task (row_said activity.now) }
-        requires next { HasNext request.now.task.attempt (says verdict) }
-        ensures same { state self.new ≡ state self.old }
-        ensures plan { IfOk result (λ plan. FitsStep self.new plan moment
-            (by_verdict (runs_in self.old) request.now (row_said activity.now) (says verdict))) }
-    {
-        match verdict {
-            Verdict::GiveUp(state) => {
-                let last = failure(request, state)?;
-                let answer = Answer::ActivityFailed(state);
-                self.end_activity(moment, request.task, activity, last, answer)
-            }
-            Verdict::Retry { ready } => {
-                let attempt = request.task.attempt + 1;
-                let answer = Answer::Retrying(Retrying { attempt, ready });
-                self.note_attempt(moment, request.task, Note::Ended, answer)
-            }
+/// What a verdict makes of a running attempt that failed.
+fn prepare_by_verdict<T: KeepsRun>(
+    store: &mut Store<T>,
+    moment: Moment,
+    request: &FailActivity,
+    activity: &Activity,
+    verdict: Verdict,
+) -> Result<Plan<T>, AllocError>
+    requires running { HasAttempt store.old request.now.task (row_said activity.now) }
+    requires next { HasNext request.now.task.attempt (says verdict) }
+    ensures same { state store.new ≡ state store.old }
+    ensures plan { IfOk result (λ plan. FitsStep store.new plan moment
+        (by_verdict (runs_in store.old) request.now (row_said activity.now) (says verdict))) }
+{
+    match verdict {
+        Verdict::GiveUp(state) => {
+            let last = failure(request, state)?;
+            let answer = Answer::ActivityFailed(state);
+            end_activity(store, moment, request.task, activity, last, answer)
+        }
+        Verdict::Retry { ready } => {
+            let attempt = request.task.attempt + 1;
+            let answer = Answer::Retrying(Retrying { attempt, ready });
+            note_attempt(store, moment, request.task, Note::Ended, answer)
         }
     }
 }

@@ -1,0 +1,29 @@
+use Rattle.std.proofs.Common.{◌≡◌, ◌∙◌, sym, ap, subst, cond, true, false, Some}
+use Rattle.std.specs.Prelude.{is_some}
+use Rattle.service_model.specs.declared.answer.Answer.TheVariants.{Stale}
+use Rattle.service_model.specs.Outcome.{Outcome, answered, run_at}
+use Rattle.service_model.specs.Tasks.{take_row, pending_row}
+use Rattle.shard_steps.specs.Attempts.{has_run_of, task_for}
+use Rattle.shard_store.specs.Fitting.{FitsStep}
+use Rattle.shard_store.specs.View.{runs_in}
+use Rattle.shard_steps.proofs.AttemptLemmas.{taking, taken-by}
+use Rattle.shard.proofs.StartLemmas.{fits-answered}
+use Rattle.shard.proofs.activities.take_activity.Goals as goal
+
+pub returns-in_default-clause-plan : goal.returns-in_default-clause-plan
+returns-in_default-clause-plan g c =
+    let R = runs_in c.args.store.now in
+    let h = c.args.hint in
+    let none : has_run_of R h.shard h.run ≡ false = c.run_of.ensures.some ∙ ap (λ o. is_some o) c.in_default.is in
+    let P : Outcome → Type 0 = λ o. FitsStep {T = g.row.T.Denot} c.args.store.now c.answered.result c.args.moment o in
+    subst P (sym (ap (λ b. cond b (take_row R h (pending_row (run_at R h.run) h.event)) (answered Stale)) none)) (fits-answered {T = g.row.T.Denot} c.args.store.now c.args.moment Stale c.answered.result c.answered.ensures)
+
+pub returns-clause-plan : goal.returns-clause-plan
+returns-clause-plan g c =
+    let R = runs_in c.args.store.now in
+    let h = c.args.hint in
+    let row = pending_row (run_at R h.run) h.event in
+    let there : has_run_of R h.shard h.run ≡ true = c.run_of.ensures.some ∙ ap (λ o. is_some o) c.in-Some.is in
+    let task : task_for R h row ≡ Some c.in-Some-2.task = sym c.in_ok-task.ensures.task ∙ c.in-Some-2.is in
+    let P : Outcome → Type 0 = λ o. FitsStep {T = g.row.T.Denot} c.take_attempt.new.store c.in_ok-plan.plan c.args.moment o in
+    subst P (sym (ap (λ b. cond b (take_row R h row) (answered Stale)) there ∙ taken-by R h row ∙ ap (taking h) task)) c.in_ok-plan.ensures.plan

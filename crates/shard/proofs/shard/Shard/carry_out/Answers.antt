@@ -1,1 +1,0 @@
-use Rattle.shard.proofs.shard.Shard.carry_out.Goals as goal

@@ -1,0 +1,104 @@
+-- the latest run of a workflow ID, as runs are added and grow
+use Rattle.std.proofs.Common.{◌≡◌, ℕ, ◌+◌, ◌<◌, ◌≤◌, Bool, true, false, List, [], ◌∷◌, ◌++◌, length, refl, sym, ap, ◌∙◌, arith, zero, suc, slice_index_or, slice_set, cond, Option, Some, None, IfSome}
+use Rattle.std.specs.Prelude.{bytes_eq, IfSome}
+use Rattle.std.specs.List.{enumerate_from}
+use Rattle.service_model.specs.Journal.{latest, first_some}
+use Rattle.service_model.specs.RunState.{RunState, no_run, id_of}
+use Rattle.service_model.specs.Outcome.{latest_run}
+use Rattle.mutable_state.specs.View.{RunView}
+use Rattle.shard_store.specs.View.{states, IsIndexed}
+
+-- the same, where the ordinals count from k
+unfoldable pub latest_from : ℕ → List ℕ → List RunState → Option ℕ
+latest_from k id runs = latest (λ (p : ℕ × RunState). cond (bytes_eq (id_of p.1) id) (Some p.0) None) (enumerate_from k runs)
+
+first_some_cond : (b : Bool) (k : ℕ) (o : Option ℕ) → first_some (cond b (Some k) None) o ≡ cond b (Some k) o
+first_some_cond true k o = refl
+first_some_cond false k o = refl
+
+first_some_assoc : (a b c : Option ℕ) → first_some (first_some a b) c ≡ first_some a (first_some b c)
+first_some_assoc None b c = refl
+first_some_assoc (Some n) b c = refl
+
+latest_from-append : (k : ℕ) (id : List ℕ) (runs : List RunState) (run : RunState) →
+    latest_from k id (runs ++ run ∷ []) ≡ first_some (cond (bytes_eq (id_of run) id) (Some (length runs + k)) None) (latest_from k id runs)
+unfolding latest_from
+latest_from-append k id [] run = only (bytes_eq (id_of run) id) k (0 + k) (omega arith)
+  where
+    only : (b : Bool) (m n : ℕ) → n ≡ m → cond b (Some m) None ≡ first_some (cond b (Some n) None) None
+    only true m n e = ap Some (sym e)
+    only false m n e = refl
+latest_from-append k id (r ∷ runs) run =
+    let count : length runs + (k + 1) ≡ length (r ∷ runs) + k = omega arith in
+    let here : Option ℕ = cond (bytes_eq (id_of r) id) (Some k) None in
+    ap (λ o. first_some o here) (latest_from-append (k + 1) id runs run ∙ ap (λ n. first_some (cond (bytes_eq (id_of run) id) (Some n) None) (latest_from (k + 1) id runs)) count)
+    ∙ first_some_assoc (cond (bytes_eq (id_of run) id) (Some (length (r ∷ runs) + k)) None) (latest_from (k + 1) id runs) here
+
+pub length-states : (runs : List RunView) → length (states runs) ≡ length runs
+length-states [] = refl
+length-states (r ∷ runs) = ap suc (length-states runs)
+
+pub states-push : (runs : List RunView) (run : RunView) → states (runs ++ run ∷ []) ≡ states runs ++ run.state ∷ []
+states-push [] run = refl
+states-push (r ∷ runs) run = ap (λ t. r.state ∷ t) (states-push runs run)
+
+pub states-set : (runs : List RunView) (n : ℕ) (run : RunView) → states (slice_set runs n run) ≡ slice_set (states runs) n run.state
+states-set [] n run = refl
+states-set (r ∷ runs) zero run = refl
+states-set (r ∷ runs) (suc n) run = ap (λ t. r.state ∷ t) (states-set runs n run)
+
+pub states-at : (runs : List RunView) (n : ℕ) (d : RunView) → n < length runs → slice_index_or (states runs) n no_run ≡ (slice_index_or runs n d).state
+states-at [] n d h = absurd (omega arith)
+states-at (r ∷ runs) zero d h = refl
+states-at (r ∷ runs) (suc n) d h = states-at runs n d (omega arith)
+
+-- a run whose state is as it was
+pub states-same : (runs : List RunView) (n : ℕ) (was now : RunView) → n < length runs → was ≡ slice_index_or runs n was → now.state ≡ was.state → states (slice_set runs n now) ≡ states runs
+states-same [] n was now there is same = refl
+states-same (r ∷ runs) zero was now there is same = ap (λ s. s ∷ states runs) (same ∙ ap (λ (v : RunView). v.state) is)
+states-same (r ∷ runs) (suc n) was now there is same = ap (λ t. r.state ∷ t) (states-same runs n was now (omega arith) is same)
+
+-- a new run is the latest of its workflow ID
+pub latest_run-push : (id : List ℕ) (runs : List RunView) (run : RunView) (key : List ℕ) → id_of run.state ≡ key →
+    latest_run (states (runs ++ run ∷ [])) id ≡ cond (bytes_eq key id) (Some (length runs + 1)) (latest_run (states runs) id)
+unfolding latest_run latest_from
+latest_run-push id runs run key named =
+    let all : latest_run (states runs ++ run.state ∷ []) id ≡ first_some (cond (bytes_eq (id_of run.state) id) (Some (length (states runs) + 1)) None) (latest_run (states runs) id) = latest_from-append 1 id (states runs) run.state in
+    ap (λ t. latest_run t id) (states-push runs run) ∙ all
+    ∙ first_some_cond (bytes_eq (id_of run.state) id) (length (states runs) + 1) (latest_run (states runs) id)
+    ∙ ap (λ n. cond (bytes_eq (id_of run.state) id) (Some (n + 1)) (latest_run (states runs) id)) (length-states runs)
+    ∙ ap (λ w. cond (bytes_eq w id) (Some (length runs + 1)) (latest_run (states runs) id)) named
+
+latest_from-set : (k : ℕ) (id : List ℕ) (runs : List RunState) (n : ℕ) (run : RunState) → id_of run ≡ id_of (slice_index_or runs n no_run) → latest_from k id (slice_set runs n run) ≡ latest_from k id runs
+unfolding latest_from
+latest_from-set k id [] n run same = refl
+latest_from-set k id (r ∷ runs) zero run same = ap (λ w. first_some (latest_from (k + 1) id runs) (cond (bytes_eq w id) (Some k) None)) same
+latest_from-set k id (r ∷ runs) (suc n) run same = ap (λ o. first_some o (cond (bytes_eq (id_of r) id) (Some k) None)) (latest_from-set (k + 1) id runs n run same)
+
+-- a run that keeps its workflow ID changes no latest run
+pub latest_run-set : (id : List ℕ) (runs : List RunState) (n : ℕ) (run : RunState) → id_of run ≡ id_of (slice_index_or runs n no_run) → latest_run (slice_set runs n run) id ≡ latest_run runs id
+unfolding latest_run latest_from
+latest_run-set id runs n run same = latest_from-set 1 id runs n run same
+
+within_more : (k top : ℕ) (here : Bool) (o : Option ℕ) → k < top → IfSome o (λ n. (k + 1 ≤ n) × (n < top)) → IfSome (first_some o (cond here (Some k) None)) (λ n. (k ≤ n) × (n < top))
+within_more k top here (Some n) h below = (omega (arith, below.0), below.1)
+within_more k top true None h below = (omega arith, h)
+within_more k top false None h below = tt
+
+latest_from-within : (k top : ℕ) (id : List ℕ) (runs : List RunState) → k + length runs ≤ top → IfSome (latest_from k id runs) (λ n. (k ≤ n) × (n < top))
+unfolding latest_from
+latest_from-within k top id [] h = tt
+latest_from-within k top id (r ∷ runs) h = within_more k top (bytes_eq (id_of r) id) (latest_from (k + 1) id runs) (omega arith) (latest_from-within (k + 1) top id runs (omega arith))
+
+to_range : (top : ℕ) (o : Option ℕ) → IfSome o (λ n. (1 ≤ n) × (n < top + 1)) → IfSome o (λ n. (1 ≤ n) × (n ≤ top))
+to_range top None h = tt
+to_range top (Some n) h = (h.0, omega (arith, h.1))
+
+-- the latest run is one of the shard's
+pub latest_run-within : (id : List ℕ) (runs : List RunView) → IfSome (latest_run (states runs) id) (λ n. (1 ≤ n) × (n ≤ length runs))
+unfolding latest_run latest_from
+latest_run-within id runs = to_range (length runs) (latest_run (states runs) id) (latest_from-within 1 (length runs + 1) id (states runs) (omega (arith, length-states runs)))
+
+-- the index still knows the latest runs, where one run's state is as it was
+pub indexed-same : (look : List ℕ → Option ℕ) (runs : List RunView) (n : ℕ) (was now : RunView) → n < length runs → was ≡ slice_index_or runs n was → now.state ≡ was.state → IsIndexed look runs → IsIndexed look (slice_set runs n now)
+indexed-same look runs n was now there is same h = record { latest = λ id. h.latest id ∙ sym (ap (λ t. latest_run t id) (states-same runs n was now there is same)) }

@@ -1,0 +1,4 @@
+pub mod IndexLemmas
+pub mod StepLemmas
+pub mod OpenLemmas
+pub mod KeptLemmas

@@ -1,0 +1,54 @@
+use Rattle.std.proofs.Common.{◌≡◌, ℕ, ◌+◌, length, length-append, List, [], ◌∷◌, ◌++◌, sym, ap, subst, ◌∙◌, arith, Option, Some, None, cond}
+use Rattle.std.specs.Prelude.{bytes_eq, string_bytes}
+use Rattle.std.proofs.lemmas.Map.Text.{hash_map_updates_text}
+use Rattle.indexmap.specs.IndexMap.{get_by_text}
+use Rattle.service_model.specs.Outcome.{latest_run}
+use Rattle.shard_store.specs.View.{ShardView, state, states}
+use Rattle.timeouts.specs.declared.due.Due.{Due}
+use Rattle.shard_steps.specs.Kept.{HasFirsts, HasShown}
+use Rattle.service_model.specs.RunState.{RunState}
+use Rattle.shard_store.specs.Fitting.{after_created}
+use Rattle.shard_steps.specs.Issuing.{Waiting, all_waiting}
+use Rattle.shard_steps.proofs.DispatchLemmas.{added-waits}
+use Rattle.shard_steps.proofs.EachLemmas.{each-added, each-same}
+use Rattle.shard_store.proofs.IndexLemmas.{latest_run-push, length-states, states-push}
+use Rattle.shard_store.proofs.store.Store.add.Goals as goal
+
+pub invariant_of-self : goal.invariant_of-self
+invariant_of-self g c =
+    let count : c.len-index.result ≡ length c.self.inside.runs.items = omega (arith, c.self.inside.runs.ok.0) in
+    let states-count : c.len-index.result ≡ length (states c.self.inside.runs.items) = count ∙ sym (length-states c.self.inside.runs.items) in
+    let updates = rw c.unwrap-self-inside.ensures at c.insert.ensures.updates in
+    let pushed = rw c.unwrap.ensures at c.push.ensures.items in
+    let sets = hash_map_updates_text (string_bytes c.args.created.key) c.self.inside.index c.insert.new.self _ updates in (
+      c.self.invariant.0,
+      record {
+        latest = λ id. sets id
+            ∙ ap (λ n. cond (bytes_eq (string_bytes c.args.created.key) id) (Some (n + 1)) (get_by_text c.self.inside.index id)) count
+            ∙ ap (λ o. cond (bytes_eq (string_bytes c.args.created.key) id) (Some (length c.self.inside.runs.items + 1)) o) (c.self.invariant.1.latest id)
+            ∙ sym (ap (λ t. latest_run (states t) id) pushed ∙ latest_run-push id c.self.inside.runs.items c.args.created.run (string_bytes c.args.created.key) c.requires.named);
+      },
+      omega (arith, ap length pushed, length-append c.self.inside.runs.items (c.args.created.run ∷ []), ap (λ v. length v.runs) c.self.view_is, c.requires.few),
+      subst (λ (l : List (Option Due)). HasFirsts l (record { grown = c.self.inside.changed.grown; made = Some c.len-index.result }) (states c.push.new.self.items)) (sym c.push_none.ensures.slots)
+          (subst (λ n. HasFirsts (c.self.inside.deadlines.slots ++ None ∷ []) (record { grown = c.self.inside.changed.grown; made = Some n }) (states c.push.new.self.items)) (sym states-count)
+          (each-same _ _ _ _ (ap states pushed ∙ states-push c.self.inside.runs.items c.args.created.run)
+          (each-added _ _ (states c.self.inside.runs.items) c.args.created.run.state (ap (λ v. v.changed.made) c.self.view_is ∙ c.requires.noted) c.self.invariant.3))),
+      subst (λ (l : List ℕ). HasShown l (record { grown = c.self.inside.changed.grown; made = Some c.len-index.result }) (states c.push.new.self.items)) (sym c.add_run.ensures.shown)
+          (subst (λ n. HasShown (c.self.inside.dispatches.shown ++ 0 ∷ []) (record { grown = c.self.inside.changed.grown; made = Some n }) (states c.push.new.self.items)) (sym states-count)
+          (each-same _ _ _ _ (ap states pushed ∙ states-push c.self.inside.runs.items c.args.created.run)
+          (each-added _ _ (states c.self.inside.runs.items) c.args.created.run.state (ap (λ v. v.changed.made) c.self.view_is ∙ c.requires.noted) c.self.invariant.4))),
+    )
+
+pub returns : goal.returns
+returns g c =
+    let before = c.self.inside in
+    let runs = states before.runs.items in
+    let s = c.args.created.run.state in
+    let count : c.len-index.result ≡ length runs = omega (arith, before.runs.ok.0, length-states before.runs.items) in
+    let pushed = rw c.unwrap.ensures at c.push.ensures.items in
+    let now = ap states pushed ∙ states-push before.runs.items c.args.created.run in
+    let waits = added-waits before.setup before.dispatches c.add_run.new.self before.changed runs (states c.push.new.self.items) c.len-index.result s
+    (ap (λ v. v.changed.made) c.self.view_is ∙ c.requires.noted) c.add_run.ensures.waiting c.add_run.ensures.shown c.add_run.ensures.ready count now c.self.invariant.4 in
+    ap (λ (r : List RunState). record { setup = before.setup; runs = r; last = before.last; waiting = all_waiting before.setup c.add_run.new.self (record { grown = before.changed.grown; made = Some c.len-index.result }) (states c.push.new.self.items) }) now
+    ∙ ap (λ (w : Waiting). record { setup = before.setup; runs = runs ++ s ∷ []; last = before.last; waiting = w }) waits
+    ∙ ap (λ (v : ShardView). after_created (Some c.args.created) (state v)) c.self.view_is

@@ -1,0 +1,58 @@
+use Rattle.std.proofs.Common.{◌≡◌, ◌+◌, ◌<◌, length, length-set, sym, ap, subst, ◌∙◌, arith, slice_index_or, slice_set}
+use Rattle.std.specs.Prelude.{unwrap_or, option_map, [], List, Option, None, Some}
+use Rattle.service_model.specs.RunState.{Beginning, RunState, no_run, id_of}
+use Rattle.service_model.specs.Outcome.{latest_run}
+use Rattle.mutable_state.specs.Steps.{after_step, FitStep}
+use Rattle.mutable_state.specs.View.{RunView}
+use Rattle.mutable_state.proofs.GrowthLemmas.{beginning-stays}
+use Rattle.service_model.specs.Issued.{dispatches_of}
+use Rattle.shard_store.specs.Fitting.{after_added, state_at}
+use Rattle.shard_steps.specs.Issuing.{Waiting, all_waiting, readied, with_issued}
+use Rattle.shard_steps.specs.declared.changed.Changed.{Changed}
+use Rattle.shard_steps.proofs.DispatchLemmas.{grown-waits}
+use Rattle.shard_steps.specs.Kept.{HasShown, IsNoted}
+use Rattle.shard_store.specs.View.{ShardView, state, states}
+use Rattle.shard_steps.proofs.EachLemmas.{each-grown, each-same}
+use Rattle.shard_store.proofs.IndexLemmas.{length-states, states-at, states-set, latest_run-set}
+use Rattle.shard_store.proofs.store.Store.grow.Goals as goal
+
+pub invariant_of-self : goal.invariant_of-self
+invariant_of-self g c =
+    let there : c.args.more.index < length c.self.inside.runs.items = rw (ap (λ v. v.runs) c.self.view_is) c.requires.there in
+    let was = c.index_mut-run.result.now in
+    let here : slice_index_or (states c.self.inside.runs.items) c.args.more.index no_run ≡ was.state =
+    states-at c.self.inside.runs.items c.args.more.index was there ∙ ap (λ (v : RunView). v.state) (sym c.index_mut-run.ensures.value) in
+    let named : id_of c.commit.new.self.state ≡ id_of was.state =
+    ap id_of c.commit.ensures.state ∙ ap (λ (o : Option Beginning). unwrap_or (option_map (λ (b : Beginning). b.attributes.workflow_id) o) []) (beginning-stays c.args.more.plan.change.moment c.args.more.plan.change.facts was.state) in (
+      c.self.invariant.0,
+      record {
+        latest = λ id. c.self.invariant.1.latest id
+            ∙ sym (ap (λ t. latest_run t id) (states-set c.self.inside.runs.items c.args.more.index c.commit.new.self)
+            ∙ latest_run-set id (states c.self.inside.runs.items) c.args.more.index c.commit.new.self.state (named ∙ ap id_of (sym here)));
+      },
+      rw length-set c.self.invariant.2,
+      each-same _ _ _ _ (states-set c.self.inside.runs.items c.args.more.index c.commit.new.self)
+          (each-grown _ _ c.args.more.index (states c.self.inside.runs.items) c.commit.new.self.state (subst (λ (v : ShardView). IsNoted v.changed) (sym c.self.view_is) c.requires.noted) (omega (arith, there, length-states c.self.inside.runs.items)) c.self.invariant.3),
+      subst (λ l. HasShown l (record { grown = Some c.args.more.index; made = None }) (states (slice_set c.self.inside.runs.items c.args.more.index c.commit.new.self))) (sym c.note.ensures.shown)
+          (each-same _ _ _ _ (states-set c.self.inside.runs.items c.args.more.index c.commit.new.self)
+          (each-grown _ _ c.args.more.index (states c.self.inside.runs.items) c.commit.new.self.state (subst (λ (v : ShardView). IsNoted v.changed) (sym c.self.view_is) c.requires.noted) (omega (arith, there, length-states c.self.inside.runs.items)) c.self.invariant.4)),
+    )
+
+pub returns-clause-state : goal.returns-clause-state
+returns-clause-state g c =
+    let before = c.self.inside in
+    let there : c.args.more.index < length before.runs.items = rw (ap (λ v. v.runs) c.self.view_is) c.requires.there in
+    let was = c.index_mut-run.result.now in
+    let m = c.args.more.plan.change in
+    let k = c.args.more.index in
+    let runs = states before.runs.items in
+    let here : slice_index_or runs k no_run ≡ was.state = states-at before.runs.items k was there ∙ ap (λ (v : RunView). v.state) (sym c.index_mut-run.ensures.value) in
+    let now : states (slice_set before.runs.items k c.commit.new.self) ≡ slice_set runs k (after_step m.moment m.facts (slice_index_or runs k no_run)) =
+    states-set before.runs.items k c.commit.new.self ∙ ap (λ s. slice_set runs k s) (c.commit.ensures.state ∙ ap (after_step m.moment m.facts) (sym here)) in
+    let fits : FitStep m.moment (slice_index_or runs k no_run) m.facts = subst (λ (v : ShardView). FitStep m.moment (state_at (states v.runs) k) m.facts) (sym c.self.view_is) c.requires.fits in
+    let changed : Changed = record { grown = Some k; made = None } in
+    let waits = grown-waits before.setup before.dispatches c.note.new.self before.changed runs _ k m.moment m.facts
+    (subst (λ (v : ShardView). IsNoted v.changed) (sym c.self.view_is) c.requires.noted) c.note.ensures.waiting c.note.ensures.shown (c.note.ensures.ready ∙ c.readied-ready.ensures ∙ ap readied c.as_slice.ensures) (omega (arith, there, length-states before.runs.items)) fits now c.self.invariant.4 in
+    ap (λ (w : Waiting). record { setup = before.setup; runs = states (slice_set before.runs.items k c.commit.new.self); last = before.last; waiting = w }) waits
+    ∙ ap (λ (r : List RunState). record { setup = before.setup; runs = r; last = before.last; waiting = with_issued (all_waiting before.setup before.dispatches before.changed runs) (dispatches_of before.setup (k + 1) (slice_index_or runs k no_run) (after_step m.moment m.facts (slice_index_or runs k no_run)) m.facts) }) now
+    ∙ ap (λ (v : ShardView). after_added (Some c.args.more) (state v)) c.self.view_is

@@ -1,0 +1,18 @@
+use Rattle.std.proofs.Common.{◌∙◌, ap, sym}
+use Rattle.service_model.specs.RunState.{id_of}
+use Rattle.shard_store.proofs.StepLemmas.{id-of-begun}
+use Rattle.shard_store.proofs.store.Store.prepare_made.Goals as goal
+
+pub returns-clause-made : goal.returns-clause-made
+returns-clause-made g c =
+    let b = c.args.beginning in
+    record {
+      place = record {
+        room = c.in_ok-reserve_run.ensures.room;
+        noted = c.in_ok-reserve_run.ensures.noted.made;
+        few = c.in_ok-reserve_run.ensures.few;
+        named = ap id_of c.in_ok-run.ensures ∙ id-of-begun c.args.moment b.facts b.request_id b.started ∙ sym (c.in_ok-key.ensures.ok ∙ c.as_str-id.ensures.value);
+      };
+      made = c.in_ok-run.ensures;
+      begins = c.requires;
+    }

@@ -1,0 +1,180 @@
+-- a plan that was made for a step on a shard as it is
+use Rattle.std.specs.Prelude.{◌≡◌, ℕ, ◌+◌, ◌-◌, ◌<◌, ◌≤◌, ◌^◌, false, IfSome, ◌∷◌, ◌++◌, [], List, Option, None, Some, length, slice_index_or, slice_set}
+use Rattle.std.specs.Prelude.{string_bytes}
+use Rattle.service_model.specs.declared.content.Dispatch.{Dispatch}
+use Rattle.service_model.specs.declared.journal.Fact.{Fact}
+use Rattle.service_model.specs.RunState.{RunState, no_run, id_of, is_open}
+use Rattle.service_model.specs.Issued.{dispatches_of}
+use Rattle.service_model.specs.Outcome.{Outcome, Added, Counting, CountsNothing, CountsDispatch, latest_run}
+use Rattle.mutable_state.specs.View.{RunView}
+use Rattle.mutable_state.specs.Steps.{after_step, FitStep}
+use Rattle.shard_steps.specs.Issuing.{Waiting, issued_first, one_counted, with_issued}
+use Rattle.shard_steps.specs.Kept.{IsNoted}
+use Rattle.shard_steps.specs.Starts.{MayBegin, first_facts, new_run}
+use Rattle.shard_steps.specs.declared.starts.Beginning.{Beginning}
+use Rattle.shard_store.specs.View.{ShardView, ShardState, states}
+use Rattle.shard_store.specs.Open.{HasClosed, IsOneOpen}
+use Rattle.shard_store.specs.declared.plan.Change.{Change}
+use Rattle.shard_store.specs.declared.plan.Count.{Count}
+use Rattle.shard_store.specs.declared.plan.Count.TheVariants as count
+use Rattle.shard_store.specs.declared.plan.NewRun.{NewRun}
+use Rattle.shard_store.specs.declared.plan.MoreOf.{MoreOf}
+use Rattle.shard_store.specs.declared.plan.Plan.{Plan}
+
+-- the run at a place in the list
+abbrev pub state_at : List RunState → ℕ → RunState
+state_at runs n = slice_index_or runs n no_run
+
+-- the run at a place, with its room
+abbrev pub view_at : List RunView → ℕ → RunView
+view_at runs n = slice_index_or runs n (record { state = no_run; room = 0 })
+
+-- the room of the run at a place
+abbrev pub room_at : List RunView → ℕ → ℕ
+room_at runs n = (view_at runs n).room
+
+-- the latest run of a workflow ID, if it has one, has closed
+abbrev pub IsFree : List RunState → List ℕ → Type 0
+IsFree runs id = IfSome (latest_run runs id) (λ n. is_open (state_at runs (n - 1)) ≡ false)
+
+-- there is room for a new run, the last one that was made was looked up, and the new one is kept under its workflow ID
+pub record HasPlace {T : Type 0} (v : ShardView) (n : NewRun T) : Type 0 where
+  pub room : 0 < v.room
+  pub noted : v.changed.made ≡ None
+  pub few : length v.runs + 1 < 2 ^ 60
+  pub named : id_of n.run.state ≡ string_bytes n.key
+
+-- the run in the plan is one that may begin so, and there is room for it
+pub record IsMade {T : Type 0} (v : ShardView) (at : ℕ) (n : NewRun T) (b : Beginning) : Type 0 where
+  pub place : HasPlace v n
+  pub made : n.run.state ≡ new_run at b
+  pub begins : MayBegin at b
+
+-- the run at that place has room for the facts in the plan, they may come, and all runs that changed were looked up
+pub record HasRoom (v : ShardView) (m : MoreOf) : Type 0 where
+  pub there : m.index < length v.runs
+  pub noted : IsNoted v.changed
+  pub room : length m.plan.change.facts ≤ room_at v.runs m.index
+  pub fits : FitStep m.plan.change.moment (state_at (states v.runs) m.index) m.plan.change.facts
+
+-- the plan for the run at that place adds these facts
+pub record FitsMore (v : ShardView) (at : ℕ) (m : MoreOf) (facts : List Fact) : Type 0 where
+  pub has_room : HasRoom v m
+  pub change : m.plan.change ≡ record { moment = at; facts = facts }
+
+-- there is a dispatch to be counted, which no run that changed has still to show
+pub record CountsFirst (v : ShardView) : Type 0 where
+  pub noted : IsNoted v.changed
+  pub some : 0 < length v.waiting.dispatches
+  pub few : v.waiting.counted + 1 < 2 ^ 64
+
+-- the plan for an older run is what is added
+abbrev pub FitsAdded : ShardView → ℕ → Option MoreOf → Option Added → Type 0
+FitsAdded v at None o = o ≡ None
+FitsAdded v at (Some m) o = (facts : List Fact) × (o ≡ Some (record { run = m.index + 1; facts = facts })) × FitsMore v at m facts
+
+-- the run in the plan is the one that is created
+abbrev pub FitsCreated : {T : Type 0} → ShardView → ℕ → Option (NewRun T) → Option (List Fact) → Type 0
+FitsCreated v at None o = o ≡ None
+FitsCreated v at (Some n) o = (b : Beginning) × (o ≡ Some (first_facts b)) × IsMade v at n b
+
+-- the count in the plan is the one that is moved on
+abbrev pub FitsCount : ShardView → Count → Counting → Type 0
+FitsCount v count.Nothing o = o ≡ CountsNothing
+FitsCount v count.Dispatch o = (o ≡ CountsDispatch) × CountsFirst v
+
+-- the state of the run to which a step adds, behind it
+abbrev pub grown : MoreOf → List RunState → RunState
+grown m runs = after_step m.plan.change.moment m.plan.change.facts (state_at runs m.index)
+
+-- the runs with what is added to an older one
+abbrev pub runs_added : Option MoreOf → List RunState → List RunState
+runs_added None runs = runs
+runs_added (Some m) runs = slice_set runs m.index (grown m runs)
+
+-- the runs with the new one
+abbrev pub runs_created : {T : Type 0} → Option (NewRun T) → List RunState → List RunState
+runs_created None runs = runs
+runs_created (Some n) runs = runs ++ n.run.state ∷ []
+
+-- all runs of a new run's workflow ID have closed
+abbrev pub IsFreeFor : {T : Type 0} → Option (NewRun T) → List RunState → Type 0
+IsFreeFor None runs = Unit {0}
+IsFreeFor (Some n) runs = HasClosed runs (id_of n.run.state)
+
+-- the change is what the outcome does to the runs and the counts; where a workflow ID has at most one open run, none is open beside a new one
+pub record FitsChange {T : Type 0} (v : ShardView) (at : ℕ) (c : Change T) (o : Outcome) : Type 0 where
+  pub added : FitsAdded v at c.added o.added
+  pub created : FitsCreated v at c.created o.created
+  pub count : FitsCount v c.count o.counting
+  pub free : IsOneOpen (states v.runs) → IsFreeFor c.created (runs_added c.added (states v.runs))
+
+-- the plan is what the outcome does at the moment
+pub record FitsStep {T : Type 0} (v : ShardView) (plan : Plan T) (at : ℕ) (o : Outcome) : Type 0 where
+  pub moment : plan.moment ≡ at
+  pub reply : plan.reply ≡ o.reply
+  pub change : FitsChange v at plan.change o
+
+-- a change that changes nothing
+abbrev pub nothing : {T : Type 0} → Change T
+nothing = record { added = None; created = None; count = count.Nothing }
+
+-- a change that adds to an older run alone
+abbrev pub adding : {T : Type 0} → MoreOf → Change T
+adding m = record { added = Some m; created = None; count = count.Nothing }
+
+-- the dispatches that are issued for the run to which a step adds
+abbrev pub issued_for : MoreOf → ShardState → List Dispatch
+issued_for m s = dispatches_of s.setup (m.index + 1) (state_at s.runs m.index) (grown m s.runs) m.plan.change.facts
+
+-- those that are issued for a new run
+abbrev pub issued_new : {T : Type 0} → NewRun T → ShardState → List Dispatch
+issued_new n s = issued_first s.setup (length s.runs + 1) n.run.state
+
+-- what waits once a count was moved on
+abbrev pub counted_by : Count → Waiting → Waiting
+counted_by count.Nothing w = w
+counted_by count.Dispatch w = one_counted w
+
+-- what waits with what is issued for an older run
+abbrev pub waiting_added : Option MoreOf → ShardState → Waiting
+waiting_added None s = s.waiting
+waiting_added (Some m) s = with_issued s.waiting (issued_for m s)
+
+-- what waits with what is issued for a new run
+abbrev pub waiting_created : {T : Type 0} → Option (NewRun T) → ShardState → Waiting
+waiting_created None s = s.waiting
+waiting_created (Some n) s = with_issued s.waiting (issued_new n s)
+
+-- what is known of a shard once a count was moved on
+abbrev pub after_count : Count → ShardState → ShardState
+after_count k s = record s { waiting = counted_by k s.waiting }
+
+-- and once facts were added to an older run
+abbrev pub after_added : Option MoreOf → ShardState → ShardState
+after_added m s = record s { runs = runs_added m s.runs; waiting = waiting_added m s }
+
+-- and once a new run was added
+abbrev pub after_created : {T : Type 0} → Option (NewRun T) → ShardState → ShardState
+after_created n s = record s { runs = runs_created n s.runs; waiting = waiting_created n s }
+
+-- and after a change
+abbrev pub after_change : {T : Type 0} → Change T → ShardState → ShardState
+after_change c s = after_created c.created (after_added c.added (after_count c.count s))
+
+-- and after a plan was done
+abbrev pub state_after : {T : Type 0} → Plan T → ShardState → ShardState
+state_after plan s = record (after_change plan.change s) { last = plan.moment }
+
+-- what carrying out asks of a count, of what is added, and of a new run
+abbrev pub MayCount : ShardView → Count → Type 0
+MayCount v count.Nothing = Unit {0}
+MayCount v count.Dispatch = CountsFirst v
+
+abbrev pub MayGrow : ShardView → Option MoreOf → Type 0
+MayGrow v None = Unit {0}
+MayGrow v (Some m) = HasRoom v m
+
+abbrev pub MayAdd : {T : Type 0} → ShardView → Option (NewRun T) → Type 0
+MayAdd v None = Unit {0}
+MayAdd v (Some n) = HasPlace v n

@@ -1,0 +1,4 @@
+pub mod View
+pub mod Open
+pub mod Fitting
+pub mod Standing

@@ -1,0 +1,23 @@
+-- what it is for a shard to stand for a content
+use Rattle.std.specs.Prelude.{◌≡◌, ℕ, ◌≤◌, List, ◌++◌, length, map, slice_get, Some}
+use Rattle.std.specs.List.{AllByRecursion}
+use Rattle.wf_event.specs.declared.event.Event.{Event}
+use Rattle.service_model.specs.declared.content.Content.{Content}
+use Rattle.service_model.specs.RunState.{RunState, state_of}
+use Rattle.mutable_state.specs.Formed.{IsFormed}
+use Rattle.shard_steps.specs.Issuing.{waiting_in}
+use Rattle.shard_store.specs.View.{ShardView, ShardState, state}
+
+-- what can be known of a content
+abbrev pub known : Content → ShardState
+known S = record { setup = S.setup; runs = map state_of S.runs; last = S.last_moment; waiting = waiting_in S }
+
+-- the shard says what the content's journals and dispatches say, each journal is formed as steps form it, and what was counted was issued
+pub record StandsFor (v : ShardView) (S : Content) : Type 0 where
+  pub says : state v ≡ known S
+  pub formed : AllByRecursion (IsFormed S.steps) S.runs
+  pub counted : S.dispatched ≤ length S.dispatches
+
+-- each run showed before what it shows first after
+pub record Grows (old new : List RunState) : Type 0 where
+  pub runs : (n : ℕ) (s : RunState) → slice_get old n ≡ Some s → (t : RunState) × (more : List Event) × (slice_get new n ≡ Some t) × (t.shown ≡ s.shown ++ more)

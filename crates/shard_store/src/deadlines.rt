@@ -1,0 +1,74 @@
+//! The first deadlines of a shard's runs, and what a step leaves to be looked up.
+
+ghost use Rattle.std.specs.Prelude.{◌≡◌, None, option_map, IfOk, OnOk};
+ghost use Rattle.service_model.specs.TimerTurns.{all_dues, due_now, least};
+ghost use Rattle.timeouts.specs.Slots.{run_due};
+ghost use Rattle.shard_steps.specs.Kept.{IsNoted};
+ghost use Rattle.shard_store.specs.View.{state, states};
+
+use crate::store::Store;
+use mutable_state_keeper::KeepsRun;
+use std::alloc::AllocError;
+use timeouts::Due;
+use wf_event_values::Moment;
+
+impl<T: KeepsRun> Store<T> {
+    /// Looks up the first deadlines and the dispatches of the runs that changed since.
+    pub fn note_change(&mut self) -> Result<(), AllocError>
+        ensures same { state self.new ≡ state self.old }
+        ensures runs { self.new.runs ≡ self.old.runs }
+        ensures noted { OnOk result (IsNoted self.new.changed) }
+    {
+        self.note_grown()?;
+        self.note_made()
+    }
+
+    /// Looks up those of the run to which the last step added.
+    fn note_grown(&mut self) -> Result<(), AllocError>
+        ensures same { state self.new ≡ state self.old }
+        ensures runs { self.new.runs ≡ self.old.runs }
+        ensures noted { OnOk result (self.new.changed.grown ≡ None) }
+    {
+        let Some(index) = self.changed.grown else {
+            return Ok(());
+        };
+        let run = &self.runs[index];
+        let due = run.first_due(self.alloc, index as u64 + 1)?;
+        let issued = self.dispatches.issued(self.alloc, &self.setup, run, index)?;
+        let shown = run.shown(self.alloc)?;
+        self.dispatches.issue(index, shown, issued)?;
+        self.deadlines.set(index, due);
+        self.changed.grown = None;
+        Ok(())
+    }
+
+    /// Looks up those of the run that the last step made.
+    fn note_made(&mut self) -> Result<(), AllocError>
+        requires { self.old.changed.grown ≡ None }
+        ensures same { state self.new ≡ state self.old }
+        ensures runs { self.new.runs ≡ self.old.runs }
+        ensures noted { OnOk result (IsNoted self.new.changed) }
+    {
+        let Some(index) = self.changed.made else {
+            return Ok(());
+        };
+        let run = &self.runs[index];
+        let due = run.first_due(self.alloc, index as u64 + 1)?;
+        let issued = run.dispatches(self.alloc, &self.setup, index as u64 + 1, 0)?;
+        let shown = run.shown(self.alloc)?;
+        self.dispatches.issue(index, shown, issued)?;
+        self.deadlines.set(index, due);
+        self.changed.made = None;
+        Ok(())
+    }
+
+    /// The first deadline of the shard, where its moment has come.
+    pub fn due_now(&mut self, moment: Moment) -> Result<Option<Due>, AllocError>
+        ensures same { state self.new ≡ state self.old }
+        ensures due { IfOk result (λ due. option_map run_due due
+            ≡ due_now moment (least (all_dues (states self.old.runs)))) }
+    {
+        self.note_change()?;
+        Ok(self.deadlines.due(moment))
+    }
+}

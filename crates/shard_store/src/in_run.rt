@@ -1,0 +1,87 @@
+//! Plans for one run, and room for them in it.
+
+ghost use Rattle.std.specs.Prelude.{◌≡◌, ◌≤◌, ◌<◌, ◌+◌, [], length, true, IfOk, OnOk};
+ghost use Rattle.std.specs.List.{list_all};
+ghost use Rattle.wf_event_values.specs.declared.policies.Cause.TheVariants.{WorkflowWorkerUnhandledFailure};
+ghost use Rattle.service_model.specs.Completion.{judge_all, failed_task};
+ghost use Rattle.service_model.specs.Outcome.{run_id};
+ghost use Rattle.service_model.specs.Pending.{IsStarted};
+ghost use Rattle.service_model.specs.Service.{is_served};
+ghost use Rattle.task_completion.specs.Ends.{IsPlanned, IsCompletion};
+ghost use Rattle.shard_steps.specs.Kept.{IsNoted};
+ghost use Rattle.shard_store.specs.View.{state, states};
+ghost use Rattle.shard_store.specs.Fitting.{room_at, state_at, view_at};
+
+use crate::store::Store;
+use mutable_state::Change as MoreFacts;
+use mutable_state_keeper::KeepsRun;
+use std::alloc::AllocError;
+use task_completion::{Completion, plan_completion, plan_failure};
+use wf_command::Command;
+use wf_event_values::{Cause, Moment, Text};
+
+impl<T: KeepsRun> Store<T> {
+    /// Makes room for a step's facts in the run at a place.
+    pub fn prepare_in(
+        &mut self,
+        index: usize,
+        more: MoreFacts,
+    ) -> Result<mutable_state::Plan, AllocError>
+        requires { index < length self.old.runs }
+        ensures same { state self.new ≡ state self.old }
+        ensures there { index < length self.new.runs }
+        ensures noted { OnOk result (IsNoted self.new.changed) }
+        ensures made { IfOk result (λ plan. plan.change ≡ more) }
+        ensures room { IfOk result (λ plan.
+            length plan.change.facts ≤ room_at self.new.runs index) }
+    {
+        self.note_change()?;
+        let run = &mut self.runs[index];
+        run.prepare(more)
+    }
+
+    /// Plans the end of the started task of the run at a place.
+    pub fn complete_in(
+        &mut self,
+        index: usize,
+        commands: &[Command],
+        moment: Moment,
+    ) -> Result<Completion, AllocError>
+        requires there { index < length self.old.runs }
+        requires started { (state_at (states self.old.runs) index).task ≡ IsStarted }
+        requires served { list_all is_served commands.now ≡ true }
+        ensures same { state self.new ≡ state self.old }
+        ensures there { index < length self.new.runs }
+        ensures noted { OnOk result (IsNoted self.new.changed) }
+        ensures plan { IfOk result (λ c. IsCompletion (view_at self.new.runs index) moment
+            (judge_all self.old.setup (run_id self.old.setup (length self.old.runs + 1))
+            (state_at (states self.old.runs) index) [] commands.now) c) }
+    {
+        self.note_change()?;
+        let next = self.run_id(self.runs.len() + 1);
+        let run = &mut self.runs[index];
+        plan_completion(self.alloc, run, &self.setup, next, commands, moment)
+    }
+
+    /// Plans the failure of the started task of the run at a place.
+    pub fn fail_in(
+        &mut self,
+        index: usize,
+        message: Text,
+        moment: Moment,
+    ) -> Result<mutable_state::Plan, AllocError>
+        requires there { index < length self.old.runs }
+        requires started { (state_at (states self.old.runs) index).task ≡ IsStarted }
+        ensures same { state self.new ≡ state self.old }
+        ensures there { index < length self.new.runs }
+        ensures noted { OnOk result (IsNoted self.new.changed) }
+        ensures plan { IfOk result (λ plan. IsPlanned (view_at self.new.runs index) moment
+            (failed_task (state_at (states self.old.runs) index)
+            WorkflowWorkerUnhandledFailure message) plan) }
+    {
+        self.note_change()?;
+        let run = &mut self.runs[index];
+        let cause = Cause::WorkflowWorkerUnhandledFailure;
+        plan_failure(self.alloc, run, cause, message, moment)
+    }
+}

@@ -1,0 +1,17 @@
+//! What a shard keeps in memory: its runs, the index of their workflow IDs, their first deadlines,
+//! and the dispatches that wait. A plan says what a step does to it, with all that it needs made;
+//! `commit` only moves what was made, so it can't fail.
+//!
+//! What a request asks for, the crate above decides.
+#![tactic(auto)]
+
+mod carry_out;
+mod deadlines;
+mod find;
+mod in_run;
+mod made;
+mod plan;
+mod store;
+
+pub use plan::{Change, Count, MoreOf, NewRun, Plan};
+pub use store::Store;

@@ -1,0 +1,189 @@
+//! What a shard keeps in memory.
+
+ghost use Rattle.std.specs.Prelude.{◌≡◌, ◌<◌, ◌≤◌, ◌^◌, [], length, option_copied, slice_get};
+ghost use Rattle.service_model.specs.Outcome.{Outcome, run_at};
+ghost use Rattle.service_model.specs.Service.{opening};
+ghost use Rattle.shard_steps.specs.Kept.{IsNoted};
+ghost use Rattle.shard_store.specs.View.{IsSetup, runs_in, state, states};
+ghost use Rattle.shard_store.specs.Fitting.{FitsChange, state_after};
+ghost use Rattle.shard_store.specs.Standing.{Grows, StandsFor};
+
+use crate::plan::Plan;
+use indexmap::IndexMap;
+use mutable_state_keeper::{KeepsRun, Run};
+use service_model::answer::Reply;
+use service_model::content::{Dispatch, Setup};
+use shard_steps::{Changed, Dispatches};
+use std::alloc::Global;
+use std::marker::Model;
+use timeouts::Deadlines;
+use wf_event_values::Moment;
+
+/// What a shard keeps, where `T` keeps its runs.
+pub struct Store<T: KeepsRun> {
+    pub(crate) alloc: Global,
+    pub(crate) setup: Setup,
+    pub(crate) runs: Vec<Run<T>>,
+    /// The place of each workflow ID's latest run.
+    pub(crate) index: IndexMap<String, usize>,
+    /// The first deadline of each run, at the run's place.
+    pub(crate) deadlines: Deadlines,
+    /// The tasks that are to be handed to their queues.
+    pub(crate) dispatches: Dispatches,
+    /// The places of the runs that the last step changed, where their deadlines and dispatches were
+    /// not looked up since: that may take memory, so the next step does it.
+    pub(crate) changed: Changed,
+    pub(crate) last: Moment,
+}
+
+impl<T: KeepsRun> Drop for Store<T> {
+    fn drop(self) {
+        let Store {
+            alloc: _,
+            setup: _,
+            runs: _,
+            index: _,
+            deadlines: _,
+            dispatches: _,
+            changed: _,
+            last: _,
+        } = self;
+    }
+}
+
+impl<T: KeepsRun> Model for Store<T> {
+    ghost use Rattle.std.specs.Prelude.{◌-◌, ◌<◌, ◌^◌, length, min, vec_capacity, vec_len};
+    ghost use Rattle.indexmap.specs.IndexMap.{get_by_text, spare};
+    ghost use Rattle.shard_store.specs.View.{ShardView, IsIndexed, IsSetup, states};
+    ghost use Rattle.shard_steps.specs.Issuing.{all_waiting};
+    ghost use Rattle.shard_steps.specs.Kept.{HasFirsts, HasShown};
+
+    ghost Value = { ShardView };
+
+    ghost view = { λ a. record {
+      setup = a.setup;
+      runs = a.runs.items;
+      changed = a.changed;
+      last = a.last;
+      room = min (vec_capacity a.runs - vec_len a.runs)
+          (min (spare a.index) (min a.deadlines.room a.dispatches.room));
+      waiting = all_waiting a.setup a.dispatches a.changed (states a.runs.items);
+    } };
+
+    ghost invariant = { λ a. IsSetup a.setup
+        × IsIndexed (get_by_text a.index) a.runs.items
+        × (length a.runs.items < 2 ^ 60)
+        × HasFirsts a.deadlines.slots a.changed (states a.runs.items)
+        × HasShown a.dispatches.shown a.changed (states a.runs.items) };
+}
+
+impl<T: KeepsRun> Store<T> {
+    /// What a shard without runs keeps.
+    pub fn new(alloc: Global, setup: Setup) -> Store<T>
+        requires { IsSetup setup }
+        ensures state { state result ≡ record {
+          setup = setup;
+          runs = [];
+          last = 0;
+          waiting = record { dispatches = []; counted = 0 };
+        } }
+
+        // It stands for the content that every shard opens with.
+        ensures stands { StandsFor result (opening setup) }
+    {
+        Store {
+            alloc,
+            setup,
+            runs: Vec::new(alloc),
+            index: IndexMap::new(alloc),
+            deadlines: Deadlines::new(alloc),
+            dispatches: Dispatches::new(alloc),
+            changed: Changed::none(),
+            last: Moment::zero(),
+        }
+    }
+
+    /// The allocator of all that steps make.
+    pub fn alloc(&self) -> Global {
+        self.alloc
+    }
+
+    /// The service's and the shard's settings.
+    pub fn setup(&self) -> &Setup
+        ensures value { result.now ≡ self.now.setup }
+        ensures fits { IsSetup result.now }
+    {
+        &self.setup
+    }
+
+    /// The moment of the last step.
+    pub fn last(&self) -> Moment
+        ensures { result ≡ self.now.last }
+    {
+        self.last
+    }
+
+    /// How many runs there are.
+    pub fn count(&self) -> usize
+        ensures count { result ≡ length self.now.runs }
+        ensures few { result < 2 ^ 60 }
+    {
+        self.runs.len()
+    }
+
+    /// The run with that ordinal.
+    pub fn run(&self, n: usize) -> &Run<T>
+        requires from { 1 ≤ n }
+        requires to { n ≤ length self.now.runs }
+        ensures { result.now.state ≡ run_at (runs_in self.now) n }
+    {
+        &self.runs[n - 1]
+    }
+
+    /// The first dispatch that waits.
+    pub fn first_dispatch(&self) -> Option<&Dispatch>
+        requires { IsNoted self.now.changed }
+        ensures { option_copied result ≡ slice_get self.now.waiting.dispatches 0 }
+    {
+        self.dispatches.first()
+    }
+
+    /// How many dispatches wait.
+    pub fn waiting_dispatches(&self) -> usize
+        requires { IsNoted self.now.changed }
+        ensures { result ≡ length self.now.waiting.dispatches }
+    {
+        self.dispatches.count()
+    }
+
+    /// How many dispatches were counted.
+    pub fn counted_dispatches(&self) -> u64
+        ensures { result ≡ self.now.waiting.counted }
+    {
+        self.dispatches.counted()
+    }
+
+    /// Does what was planned. It takes no memory.
+    pub fn commit(&mut self, plan: Plan<T>) -> Reply
+        requires { (o : Outcome) × FitsChange self.old plan.moment plan.change o }
+        ensures state { state self.new ≡ state_after plan (state self.old) }
+
+        // Each older run showed before what it shows first after.
+        ensures grows { Grows (states self.old.runs) (states self.new.runs) }
+
+        ensures reply { result ≡ plan.reply }
+    {
+        self.finish(plan)
+    }
+
+    fn finish(&mut self, plan: Plan<T>) -> Reply
+        requires { (o : Outcome) × FitsChange self.old plan.moment plan.change o }
+        ensures state { state self.new ≡ state_after plan (state self.old) }
+        ensures reply { result ≡ plan.reply }
+    {
+        let (moment, change, reply) = plan.into_parts();
+        self.carry_out(change);
+        self.last = moment;
+        reply
+    }
+}
