@@ -1,116 +1,165 @@
 -- what was printed before a fault is a beginning of replies to the lines that were read
-use Rattle.std.proofs.Common.{◌≡◌, ℕ, ◌+◌, List, [], ◌∷◌, ◌++◌, length, take, drop, get_or, true, false, cond, eqb, Option, Some, inl, inr, sym, ap, subst, ◌∙◌, append_assoc, arith, ◌<◌}
-use Rattle.std.proofs.lemmas.List.{append-nil, map-append, take-append-drop, take_more}
-use Rattle.std.specs.Io.KnownBytes.{Consumes, Keeps}
+use Rattle.std.proofs.Common.{◌≡◌, ℕ, ◌+◌, List, [], ◌∷◌, ◌++◌, length, map, take, drop, get_or, true, false, Option, Some, Result, Ok, inl, inr, refl, sym, ap, subst, ◌∙◌, append_assoc, ◌<◌}
+use Rattle.std.proofs.lemmas.List.{map-append, take-append-drop, take_more}
+use Rattle.std.specs.Io.KnownBytes.{Appends, Consumes, Keeps}
+use Rattle.wf_event_values.specs.declared.refusal.Refusal.{Refusal}
 use Rattle.service_model.specs.declared.settings.Settings.{Settings}
+use Rattle.service_model.specs.Outcome.{Reply}
+use Rattle.service.specs.declared.service.Pass.{Pass}
+use Rattle.wire_requests.specs.declared.calls.Asked.{Asked}
+use Rattle.wire_requests.specs.declared.calls.Asked.TheVariants.{Barrier as a_barrier}
+use Rattle.script.specs.Asked.{asked}
 use Rattle.script.specs.Lines.{Line, all_lines, whole_lines}
 use Rattle.script.specs.Output.{numbered_from}
 use Rattle.script.specs.Pending.{ended, left, is_empty_line}
-use Rattle.script.proofs.LineLemmas.{ended-all, ended-whole}
+use Rattle.script.proofs.LineLemmas.{ended-whole}
 use Rattle.script.proofs.Steps.{ended-append}
-use Rattle.wire_counted.proofs.Known.{Consumes-keeps, Consumes-none, Consumes-then, beginning_behind, beginning_of_all, beginning_of_more, beginning_of_nothing}
+use Rattle.wire_counted.specs.Written.{AppendsBeginning}
+use Rattle.wire_counted.proofs.Known.{Consumes-keeps, Consumes-none, Consumes-then, beginning_behind, beginning_of_all, beginning_of_nothing}
 use Rattle.lanes.specs.declared.run.Script.{Script}
-use Rattle.lanes.specs.Printed.{AllAnswer, Begun}
-use Rattle.lanes.specs.Told.{place_of, places_of, Beginning, Broke, Halted, Progress, TextTold, Told}
-use Rattle.lanes.proofs.PrintLemmas.{all-append, all-some, count-answers, numbered-append, some_replies}
+use Rattle.lanes.specs.Course.{Serves, Meets, Course, InTurn, LineServed, asks_of}
+use Rattle.lanes.specs.Endings.{Beginning, Broke, Halted}
+use Rattle.lanes.specs.Lanes.{Took, WereAsked, is_barrier, own_calls, passes_of, place_in}
+use Rattle.lanes.specs.Told.{Added, BeginsLine, Progress, Stopped, TellsLine, TextTold, Told}
+use Rattle.lanes.proofs.PhaseLemmas.{phase-part, phase-part-barrier}
+use Rattle.lanes.proofs.PrintLemmas.{numbered-append}
+use Rattle.lanes.proofs.ToldLemmas.{asks-push, barrier-asked, barrier-places, lines-clean, lines-end, lines-last, next-number}
+use Rattle.lanes.proofs.TurnLemmas.{turn-append}
+use Rattle.lanes.proofs.WorkLemmas.{waiting-same}
 
 -- nothing was printed
-begins-nothing : (K : Settings) (lines : List Line) (held : Option (List ℕ)) → Beginning K lines held held
-begins-nothing K lines held = record { replies = some_replies (places_of K lines); answer = all-some (places_of K lines); written = beginning_of_nothing held _ }
+begins-nothing : {serves : Serves} {meets : Meets} {K : Settings} {ps : List Pass} (lines : List Line) (held : Option (List ℕ)) → Beginning serves meets K ps lines held held
+begins-nothing {serves} {meets} {K} {ps} lines held = record { front = []; rest = asks_of K lines; replies = []; served = ps; parts = refl; course = refl; written = beginning_of_nothing held [] }
 
 -- a beginning for some lines is one for more
-begins-more : (K : Settings) (lines more : List Line) (held w : Option (List ℕ)) → Beginning K lines held w → Beginning K (lines ++ more) held w
-begins-more K lines more held w b =
-    let rest = some_replies (places_of K more) in
-    record {
-      replies = b.replies ++ rest;
-      answer = subst (λ ps. AllAnswer ps (b.replies ++ rest)) (sym (map-append (place_of K) lines more)) (all-append (places_of K lines) (places_of K more) b.replies rest b.answer (all-some (places_of K more)));
-      written = rw (numbered-append 1 b.replies rest) (beginning_of_more held w (numbered_from 1 b.replies) (numbered_from (1 + length b.replies) rest) b.written);
-    }
+begins-more : {serves : Serves} {meets : Meets} {K : Settings} {ps : List Pass} (lines more : List Line) (held w : Option (List ℕ)) → Beginning serves meets K ps lines held w → Beginning serves meets K ps (lines ++ more) held w
+begins-more {serves} {meets} {K} {ps} lines more held w b = record {
+  front = b.front;
+  rest = b.rest ++ asks_of K more;
+  replies = b.replies;
+  served = b.served;
+  parts = map-append (asked K) lines more ∙ ap (λ x. x ++ asks_of K more) b.parts ∙ append_assoc b.front b.rest (asks_of K more);
+  course = b.course;
+  written = b.written;
+}
 
 -- the lines before the last barrier were printed
-begins-told : (K : Settings) (lines : List Line) (s : Script) (held w : Option (List ℕ)) → Told K lines s held w → Beginning K lines held w
-begins-told K lines s held w h =
-    let rest = some_replies s.places.items in
-    record {
-      replies = h.replies ++ rest;
-      answer = subst (λ ps. AllAnswer ps (h.replies ++ rest)) (sym h.parts) (all-append h.done s.places.items h.replies rest h.answer (all-some s.places.items));
-      written = rw (numbered-append 1 h.replies rest) (beginning_of_more held w (numbered_from 1 h.replies) (numbered_from (1 + length h.replies) rest) (beginning_of_all held w (numbered_from 1 h.replies) h.written));
-    }
+begins-told : {serves : Serves} {meets : Meets} {K : Settings} {ps : List Pass} (lines : List Line) (s : Script) (held w : Option (List ℕ)) → Told serves meets K ps lines s held w → Beginning serves meets K ps lines held w
+begins-told lines s held w h = record {
+  front = h.done;
+  rest = h.waits;
+  replies = h.replies;
+  served = passes_of s.lanes.items;
+  parts = h.parts;
+  course = h.course;
+  written = beginning_of_all held w (numbered_from 1 h.replies) h.written;
+}
 
--- and a beginning of those behind it
-pub begins-phase : (K : Settings) (lines : List Line) (s : Script) (held w w' : Option (List ℕ)) → Told K lines s held w → Begun s.first s.places.items w w' → Beginning K lines held w'
-begins-phase K lines s held w w' h b =
-    let count : 1 + length h.replies ≡ s.first = ap (λ n. 1 + n) (sym (count-answers h.done h.replies h.answer)) ∙ sym h.number in
-    record {
-      replies = h.replies ++ b.replies;
-      answer = subst (λ ps. AllAnswer ps (h.replies ++ b.replies)) (sym h.parts) (all-append h.done s.places.items h.replies b.replies h.answer b.answer);
-      written = rw (numbered-append 1 h.replies b.replies, count) (beginning_behind held w w' (numbered_from 1 h.replies) (numbered_from s.first b.replies) h.written b.written);
-    }
+both-begun : (first : ℕ) (rs ss : List (Option Reply)) (held w w' : Option (List ℕ)) → 1 + length rs ≡ first → Appends held w (numbered_from 1 rs) → AppendsBeginning w w' (numbered_from first ss) → AppendsBeginning held w' (numbered_from 1 (rs ++ ss))
+both-begun first rs ss held w w' count h k = rw (numbered-append 1 rs ss, count) (beginning_behind held w w' (numbered_from 1 rs) (numbered_from first ss) h k)
+
+-- the lines before the last barrier, and the first of those behind it
+begins-front : {serves : Serves} {meets : Meets} {K : Settings} {ps : List Pass} (lines : List Line) (s : Script) (held w w' : Option (List ℕ)) (more : List (Result Asked Refusal)) (n : ℕ) (rs : List (Option Reply)) (ps' : List Pass) (all : List Line)
+    → (h : Told serves meets K ps lines s held w) → asks_of K all ≡ h.done ++ more → Course serves meets (passes_of s.lanes.items) (take n more) rs ps' → AppendsBeginning w w' (numbered_from s.first rs) → Beginning serves meets K ps all held w'
+begins-front {serves} {meets} {K} {ps} lines s held w w' more n rs ps' all h parts course written = record {
+  front = h.done ++ take n more;
+  rest = drop n more;
+  replies = h.replies ++ rs;
+  served = ps';
+  parts = parts ∙ ap (λ x. h.done ++ x) (sym (take-append-drop n more)) ∙ sym (append_assoc h.done (take n more) (drop n more));
+  course = turn-append (LineServed serves meets) ps (passes_of s.lanes.items) ps' h.done (take n more) h.replies rs h.course course;
+  written = both-begun s.first h.replies rs held w w' (next-number lines s held w h) h.written written;
+}
+
+-- a phase was not printed whole
+pub begins-phase : {serves : Serves} {meets : Meets} {K : Settings} {ps : List Pass} (lines : List Line) (s : Script) (held w w' : Option (List ℕ)) → Stopped serves meets s w w' → Told serves meets K ps lines s held w → Beginning serves meets K ps lines held w'
+begins-phase {serves} {meets} {K} {ps} lines s held w w' (inl same) h = subst (λ x. Beginning serves meets K ps lines held x) (sym same) (begins-told lines s held w h)
+begins-phase {serves} {meets} {K} {ps} lines s held w w' (inr p) h =
+    let b = p.begun in
+    let part = phase-part serves meets h.waits s.places.items b.count b.replies s.lanes.items p.after b.left h.plain h.waiting p.phase (subst (λ x. InTurn Took p.after (take b.count x) b.replies b.left) h.waiting.places b.took) in
+    begins-front lines s held w w' h.waits b.count b.replies part.0 lines h h.parts part.1 b.written
 
 -- a line more was read, and nothing printed
-pub begins-line : (K : Settings) (lines : List Line) (line : Line) (s : Script) (held w : Option (List ℕ)) → Told K lines s held w → Beginning K (lines ++ line ∷ []) held w
-begins-line K lines line s held w h = begins-more K lines (line ∷ []) held w (begins-told K lines s held w h)
+pub begins-line : {serves : Serves} {meets : Meets} {K : Settings} {ps : List Pass} (lines : List Line) (line : Line) (s : Script) (held w : Option (List ℕ)) → Told serves meets K ps lines s held w → Beginning serves meets K ps (lines ++ line ∷ []) held w
+begins-line lines line s held w h = begins-more lines (line ∷ []) held w (begins-told lines s held w h)
+
+-- a phase that a barrier ends was not printed whole
+pub begins-barrier : {serves : Serves} {meets : Meets} {K : Settings} {ps : List Pass} (lines : List Line) (line : Line) (s s1 : Script) (held w w' : Option (List ℕ)) → Added (asked K line) s s1 → is_barrier (place_in (asked K line)) ≡ true
+    → Stopped serves meets s1 w w' → Told serves meets K ps lines s held w → Beginning serves meets K ps (lines ++ line ∷ []) held w'
+begins-barrier {serves} {meets} {K} {ps} lines line s s1 held w w' a barrier (inl same) h = subst (λ x. Beginning serves meets K ps (lines ++ line ∷ []) held x) (sym same) (begins-line lines line s held w h)
+begins-barrier {serves} {meets} {K} {ps} lines line s s1 held w w' a barrier (inr p) h =
+    let is : asked K line ≡ Ok a_barrier = barrier-asked (asked K line) barrier in
+    let all = h.waits ++ Ok a_barrier ∷ [] in
+    let b = p.begun in
+    let places : s1.places.items ≡ map place_in all = barrier-places (asked K line) h.waits s.places.items s1.places.items is a.places h.waiting.places in
+    let waiting = waiting-same h.waits s.places.items s.lanes.items s1.lanes.items (subst (λ x. WereAsked (λ k. own_calls k x) s.lanes.items s1.lanes.items) is a.lanes) h.waiting in
+    let part = phase-part-barrier serves meets h.waits s.places.items b.count b.replies s1.lanes.items p.after b.left h.plain waiting p.phase (subst (λ x. InTurn Took p.after (take b.count x) b.replies b.left) places b.took) in
+    begins-front lines s held w w' all b.count b.replies part.0 (lines ++ line ∷ []) h (asks-push K lines line h.done h.waits h.parts ∙ ap (λ x. h.done ++ (h.waits ++ x ∷ [])) is)
+    (subst (λ x. Course serves meets x (take b.count all) b.replies part.0) a.lanes.passes part.1) (subst (λ n. AppendsBeginning w w' (numbered_from n b.replies)) a.first b.written)
 
 -- ---- texts
 
 -- a beginning for a text is one for a longer text
-begins-longer : (K : Settings) (a b : List ℕ) (held w : Option (List ℕ)) → Beginning K (ended (Some []) a) held w → Beginning K (ended (Some []) (a ++ b)) held w
-begins-longer K a b held w h = subst (λ ls. Beginning K ls held w) (sym (ended-append (Some []) a b)) (begins-more K (ended (Some []) a) (ended (left (Some []) a) b) held w h)
+begins-longer : {serves : Serves} {meets : Meets} {K : Settings} {ps : List Pass} (a b : List ℕ) (held w : Option (List ℕ)) → Beginning serves meets K ps (ended (Some []) a) held w → Beginning serves meets K ps (ended (Some []) (a ++ b)) held w
+begins-longer {serves} {meets} {K} {ps} a b held w h = subst (λ ls. Beginning serves meets K ps ls held w) (sym (ended-append (Some []) a b)) (begins-more (ended (Some []) a) (ended (left (Some []) a) b) held w h)
 
 -- a byte that ends a line
-pub begins-end : (K : Settings) (text : List ℕ) (byte : ℕ) (s : Script) (held w w' : Option (List ℕ)) → byte ≡ 10 → TextTold K text s held w → Beginning K (ended (Some []) text ++ s.line ∷ []) held w' → Beginning K (ended (Some []) (text ++ byte ∷ [])) held w'
-unfolding ended left
-begins-end K text byte s held w w' is h b =
-    let ends : eqb byte 10 ≡ true = ap (λ b. eqb b 10) is in
-    let lines : ended (Some []) (text ++ byte ∷ []) ≡ ended (Some []) text ++ s.line ∷ [] =
-    ended-append (Some []) text (byte ∷ []) ∙ ap (λ b. ended (Some []) text ++ cond b (left (Some []) text ∷ []) []) ends ∙ ap (λ l. ended (Some []) text ++ l ∷ []) (sym h.line) in
-    subst (λ ls. Beginning K ls held w') (sym lines) b
+pub begins-end : {serves : Serves} {meets : Meets} {K : Settings} {ps : List Pass} (text : List ℕ) (byte : ℕ) (s : Script) (held w w' : Option (List ℕ)) → byte ≡ 10 → BeginsLine serves meets K s.line s w w'
+    → TextTold serves meets K ps text s held w → Beginning serves meets K ps (ended (Some []) (text ++ byte ∷ [])) held w'
+begins-end {serves} {meets} {K} {ps} text byte s held w w' is step h =
+    subst (λ ls. Beginning serves meets K ps ls held w') (sym (lines-end text byte is ∙ ap (λ l. ended (Some []) text ++ l ∷ []) (sym h.line))) (step ps (ended (Some []) text) held h.told)
 
 -- a byte that nothing was made of
-pub begins-byte : (K : Settings) (text : List ℕ) (byte : ℕ) (s : Script) (held w : Option (List ℕ)) → TextTold K text s held w → Beginning K (ended (Some []) (text ++ byte ∷ [])) held w
-begins-byte K text byte s held w h = begins-longer K text (byte ∷ []) held w (begins-told K (ended (Some []) text) s held w h.told)
+pub begins-byte : {serves : Serves} {meets : Meets} {K : Settings} {ps : List Pass} (text : List ℕ) (byte : ℕ) (s : Script) (held w : Option (List ℕ)) → TextTold serves meets K ps text s held w → Beginning serves meets K ps (ended (Some []) (text ++ byte ∷ [])) held w
+begins-byte text byte s held w h = begins-longer text (byte ∷ []) held w (begins-told (ended (Some []) text) s held w h.told)
 
 -- a byte of a chunk
-pub begins-chunk : (K : Settings) (text all : List ℕ) (i : ℕ) (held w : Option (List ℕ)) → i < length all → Beginning K (ended (Some []) ((text ++ take i all) ++ get_or all i 0 ∷ [])) held w → Beginning K (ended (Some []) (text ++ all)) held w
-begins-chunk K text all i held w below b =
-    let longer = begins-longer K ((text ++ take i all) ++ get_or all i 0 ∷ []) (drop (i + 1) all) held w b in
+pub begins-chunk : {serves : Serves} {meets : Meets} {K : Settings} {ps : List Pass} (text all : List ℕ) (i : ℕ) (held w : Option (List ℕ)) → i < length all → Beginning serves meets K ps (ended (Some []) ((text ++ take i all) ++ get_or all i 0 ∷ [])) held w
+    → Beginning serves meets K ps (ended (Some []) (text ++ all)) held w
+begins-chunk {serves} {meets} {K} {ps} text all i held w below b =
+    let longer = begins-longer ((text ++ take i all) ++ get_or all i 0 ∷ []) (drop (i + 1) all) held w b in
     let front : (text ++ take i all) ++ get_or all i 0 ∷ [] ≡ text ++ take (i + 1) all = append_assoc text (take i all) (get_or all i 0 ∷ []) ∙ ap (λ t. text ++ t) (sym (take_more all i 0 below)) in
     let whole : ((text ++ take i all) ++ get_or all i 0 ∷ []) ++ drop (i + 1) all ≡ text ++ all =
     ap (λ t. t ++ drop (i + 1) all) front ∙ append_assoc text (take (i + 1) all) (drop (i + 1) all) ∙ ap (λ t. text ++ t) (take-append-drop (i + 1) all) in
-    subst (λ t. Beginning K (ended (Some []) t) held w) whole longer
+    subst (λ t. Beginning serves meets K ps (ended (Some []) t) held w) whole longer
 
 -- ---- turns
 
-pub broke-reading : (K : Settings) (s : Script) (unread held r r' w : Option (List ℕ)) → Keeps r r' → Progress K s unread held r w → Broke K unread held r' w
-broke-reading K s unread held r r' w keeps p = record {
+pub broke-reading : {serves : Serves} {meets : Meets} {K : Settings} {ps : List Pass} (s : Script) (unread held r r' w : Option (List ℕ)) → Keeps r r' → Progress serves meets K ps s unread held r w → Broke serves meets K ps unread held r' w
+broke-reading {serves} {meets} {K} {ps} s unread held r r' w keeps p = record {
   text = p.text;
   read = Consumes-keeps unread r r' p.text p.read keeps;
-  begun = subst (λ ls. Beginning K ls held w) (ended-whole p.text) (begins-told K (ended (Some []) p.text) s held w p.told.told);
+  begun = subst (λ ls. Beginning serves meets K ps ls held w) (ended-whole p.text) (begins-told (ended (Some []) p.text) s held w p.told.told);
 }
 
-pub broke-feeding : (K : Settings) (s : Script) (unread held r r' w w' : Option (List ℕ)) (chunk : List ℕ) → Consumes r r' chunk → (p : Progress K s unread held r w) → Beginning K (ended (Some []) (p.text ++ chunk)) held w' → Broke K unread held r' w'
-broke-feeding K s unread held r r' w w' chunk read p b = record {
+pub broke-feeding : {serves : Serves} {meets : Meets} {K : Settings} {ps : List Pass} (s : Script) (unread held r r' w w' : Option (List ℕ)) (chunk : List ℕ) → Consumes r r' chunk → (p : Progress serves meets K ps s unread held r w)
+    → Beginning serves meets K ps (ended (Some []) (p.text ++ chunk)) held w' → Broke serves meets K ps unread held r' w'
+broke-feeding {serves} {meets} {K} {ps} s unread held r r' w w' chunk read p b = record {
   text = p.text ++ chunk;
   read = Consumes-then unread r r' p.text chunk p.read read;
-  begun = subst (λ ls. Beginning K ls held w') (ended-whole (p.text ++ chunk)) b;
+  begun = subst (λ ls. Beginning serves meets K ps ls held w') (ended-whole (p.text ++ chunk)) b;
 }
 
-pub nothing-read : (K : Settings) (unread held : Option (List ℕ)) → Halted K unread held unread held
-nothing-read K unread held = inl (record { text = []; read = Consumes-none unread; begun = begins-nothing K (whole_lines []) held })
+pub nothing-read : {serves : Serves} {meets : Meets} {K : Settings} {ps : List Pass} (unread held : Option (List ℕ)) → Halted serves meets K ps unread held unread held
+nothing-read unread held = inl (record { text = []; read = Consumes-none unread; begun = begins-nothing (whole_lines []) held })
 
 -- ---- the end
 
 -- behind a line feed
-pub begins-clean : (K : Settings) (text : List ℕ) (s : Script) (held w w' : Option (List ℕ)) → is_empty_line s.line ≡ true → TextTold K text s held w → Begun s.first s.places.items w w' → Beginning K (all_lines text) held w'
-begins-clean K text s held w w' empty h b =
-    let all : ended (Some []) text ≡ all_lines text =
-    sym (append-nil (ended (Some []) text)) ∙ ap (λ b. ended (Some []) text ++ cond b [] (left (Some []) text ∷ [])) (sym (ap is_empty_line (sym h.line) ∙ empty)) ∙ ended-all text in
-    subst (λ ls. Beginning K ls held w') all (begins-phase K (ended (Some []) text) s held w w' h.told b)
+pub begins-clean : {serves : Serves} {meets : Meets} {K : Settings} {ps : List Pass} (text : List ℕ) (s : Script) (held w w' : Option (List ℕ)) → is_empty_line s.line ≡ true → Stopped serves meets s w w'
+    → TextTold serves meets K ps text s held w → Beginning serves meets K ps (all_lines text) held w'
+begins-clean {serves} {meets} {K} {ps} text s held w w' empty stop h =
+    subst (λ ls. Beginning serves meets K ps ls held w') (lines-clean text s.line h.line empty) (begins-phase (ended (Some []) text) s held w w' stop h.told)
 
--- behind a last line without its line feed
-pub begins-last : (K : Settings) (text : List ℕ) (s : Script) (held w w' : Option (List ℕ)) → is_empty_line s.line ≡ false → TextTold K text s held w → Beginning K (ended (Some []) text ++ s.line ∷ []) held w' → Beginning K (all_lines text) held w'
-begins-last K text s held w w' some h b =
-    let all : ended (Some []) text ++ s.line ∷ [] ≡ all_lines text =
-    ap (λ l. ended (Some []) text ++ l ∷ []) h.line ∙ ap (λ b. ended (Some []) text ++ cond b [] (left (Some []) text ∷ [])) (sym (ap is_empty_line (sym h.line) ∙ some)) ∙ ended-all text in
-    subst (λ ls. Beginning K ls held w') all b
+-- in a last line without its line feed
+pub begins-last : {serves : Serves} {meets : Meets} {K : Settings} {ps : List Pass} (text : List ℕ) (s : Script) (held w w' : Option (List ℕ)) → is_empty_line s.line ≡ false → BeginsLine serves meets K s.line s w w'
+    → TextTold serves meets K ps text s held w → Beginning serves meets K ps (all_lines text) held w'
+begins-last {serves} {meets} {K} {ps} text s held w w' some step h =
+    subst (λ ls. Beginning serves meets K ps ls held w') (lines-last text s.line h.line some) (step ps (ended (Some []) text) held h.told)
+
+-- behind it
+pub begins-behind : {serves : Serves} {meets : Meets} {K : Settings} {ps : List Pass} (text : List ℕ) (s s1 : Script) (held w w1 w' : Option (List ℕ)) → is_empty_line s.line ≡ false → TellsLine serves meets K s.line s s1 w w1 → Stopped serves meets s1 w1 w'
+    → TextTold serves meets K ps text s held w → Beginning serves meets K ps (all_lines text) held w'
+begins-behind {serves} {meets} {K} {ps} text s s1 held w w1 w' some step stop h =
+    subst (λ ls. Beginning serves meets K ps ls held w') (lines-last text s.line h.line some)
+    (begins-phase (ended (Some []) text ++ s.line ∷ []) s1 held w1 w' stop (step ps (ended (Some []) text) held h.told))

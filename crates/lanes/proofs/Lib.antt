@@ -1,5 +1,11 @@
 pub mod BegunLemmas
+pub mod CourseLemmas
 pub mod FaultLemmas
 pub mod LaneLemmas
+pub mod MeetLemmas
+pub mod PhaseLemmas
+pub mod PlaceLemmas
 pub mod PrintLemmas
 pub mod ToldLemmas
+pub mod TurnLemmas
+pub mod WorkLemmas

@@ -1,49 +1,19 @@
 -- what is printed line by line
-use Rattle.std.proofs.Common.{◌≡◌, ℕ, suc, ◌+◌, ◌<◌, List, [], ◌∷◌, ◌++◌, take, drop, length, get_or, Bool, true, false, ◌||◌, Option, None, Some, Err, refl, sym, ap, subst, ◌∙◌, append_assoc, arith}
-use Rattle.std.proofs.lemmas.List.{append-nil, take-append-drop, take_more, length-take-le}
+use Rattle.std.proofs.Common.{◌≡◌, ℕ, zero, suc, ◌+◌, ◌<◌, min, List, [], ◌∷◌, ◌++◌, take, length, get_or, Bool, true, false, ◌||◌, Option, refl, sym, ap, subst, ◌∙◌, append_assoc, arith}
+use Rattle.std.proofs.lemmas.List.{append-nil, take_all, take_more, length-take-le}
 use Rattle.std.specs.List.{list_any}
+use Rattle.std.specs.Io.KnownBytes.{Keeps}
 use Rattle.wire_counted.specs.Written.{AppendsBeginning}
-use Rattle.wire_counted.proofs.Known.{Appends-none, Appends-then, beginning_of_nothing, beginning_of_more, beginning_behind}
-use Rattle.wf_event_values.specs.declared.refusal.Refusal.TheVariants.{NotFound}
+use Rattle.wire_counted.proofs.Known.{Appends-keeps, Appends-none, Appends-then, beginning_behind, beginning_of_all, beginning_of_nothing}
 use Rattle.service_model.specs.Outcome.{Reply}
 use Rattle.script.specs.Serving.{is_refusal, text_of}
 use Rattle.script.specs.Output.{numbered_from}
+use Rattle.lanes.specs.declared.lane.Lane.{Lane}
 use Rattle.lanes.specs.declared.print.Place.{Place}
-use Rattle.lanes.specs.declared.print.Place.TheVariants.{Barrier, Refused, InLane}
-use Rattle.lanes.specs.Printed.{Answers, AllAnswer, Printed, PrintedOne, Begun, BegunOne}
-
--- a reply that a line may have
-some_reply : Place → Option Reply
-some_reply Barrier = None
-some_reply (Refused e) = Some (Err e)
-some_reply (InLane lane) = Some (Err NotFound)
-
-some-answers : (p : Place) → Answers p (some_reply p)
-unfolding some_reply
-some-answers Barrier = refl
-some-answers (Refused e) = refl
-some-answers (InLane lane) = tt
-
-pub some_replies : List Place → List (Option Reply)
-some_replies [] = []
-some_replies (p ∷ ps) = some_reply p ∷ some_replies ps
-
-pub all-some : (ps : List Place) → AllAnswer ps (some_replies ps)
-unfolding some_replies
-all-some [] = tt
-all-some (p ∷ ps) = (some-answers p, all-some ps)
-
-pub all-append : (ps qs : List Place) (rs ss : List (Option Reply)) → AllAnswer ps rs → AllAnswer qs ss → AllAnswer (ps ++ qs) (rs ++ ss)
-all-append [] qs [] ss h k = k
-all-append [] qs (r ∷ rs) ss h k = absurd h
-all-append (p ∷ ps) qs [] ss h k = absurd h
-all-append (p ∷ ps) qs (r ∷ rs) ss h k = (h.0, all-append ps qs rs ss h.1 k)
-
-pub count-answers : (ps : List Place) (rs : List (Option Reply)) → AllAnswer ps rs → length ps ≡ length rs
-count-answers [] [] h = refl
-count-answers [] (r ∷ rs) h = absurd h
-count-answers (p ∷ ps) [] h = absurd h
-count-answers (p ∷ ps) (r ∷ rs) h = ap suc (count-answers ps rs h.1)
+use Rattle.lanes.specs.Course.{InTurn}
+use Rattle.lanes.specs.Lanes.{Took}
+use Rattle.lanes.specs.Printed.{Begun, Printed, PrintedOne}
+use Rattle.lanes.proofs.TurnLemmas.{turn-append, turn-count, turn-one}
 
 pub numbered-append : (n : ℕ) (rs ss : List (Option Reply)) → numbered_from n (rs ++ ss) ≡ numbered_from n rs ++ numbered_from (n + length rs) ss
 numbered-append n [] ss = ap (λ m. numbered_from m ss) (let e : n ≡ n + 0 = omega arith in e)
@@ -64,45 +34,66 @@ or-false true = refl
 or-false false = refl
 
 -- nothing was printed yet
-pub printed-none : (first : ℕ) (held : Option (List ℕ)) → Printed first [] false held held
-printed-none first held = record { replies = []; answer = tt; written = Appends-none held; refused_is = refl }
+pub printed-none : (first : ℕ) (ls : List Lane) (held : Option (List ℕ)) → Printed first [] ls ls false held held
+printed-none first ls held = record { replies = []; took = refl; written = Appends-none held; refused_is = refl }
 
--- nothing of a line was printed
-pub begun-none : (number : ℕ) (p : Place) (held : Option (List ℕ)) → BegunOne number p held held
-begun-none number p held = record { reply = some_reply p; answers = some-answers p; written = beginning_of_nothing held (text_of number (some_reply p)) }
+-- nothing of some lines was printed
+pub begun-none : (first : ℕ) (ps : List Place) (ls : List Lane) (held : Option (List ℕ)) → Begun first ps ls held held
+begun-none first ps ls held = record { count = 0; replies = []; left = ls; took = refl; written = beginning_of_nothing held [] }
+
+-- a beginning of one line was printed
+pub begun-one : (number : ℕ) (p : Place) (reply : Option Reply) (ls left : List Lane) (held held' : Option (List ℕ)) → Took ls p reply left → AppendsBeginning held held' (text_of number reply) → Begun number (p ∷ []) ls held held'
+begun-one number p reply ls left held held' took written = record {
+  count = 1;
+  replies = reply ∷ [];
+  left = left;
+  took = turn-one Took ls left p reply took;
+  written = subst (AppendsBeginning held held') (sym (append-nil (text_of number reply))) written;
+}
 
 -- one line more was printed
-pub printed-more : (first number i : ℕ) (ps : List Place) (p : Place) (b c : Bool) (h0 h1 h2 : Option (List ℕ)) → i < length ps → p ≡ get_or ps i p → number ≡ first + i
-    → Printed first (take i ps) b h0 h1 → PrintedOne number p c h1 h2 → Printed first (take (i + 1) ps) (b || c) h0 h2
-printed-more first number i ps p b c h0 h1 h2 below is counts h k =
+pub printed-more : (first number i : ℕ) (ps : List Place) (p : Place) (b c : Bool) (l0 l1 l2 : List Lane) (h0 h1 h2 : Option (List ℕ)) → i < length ps → p ≡ get_or ps i p → number ≡ first + i
+    → Printed first (take i ps) l0 l1 b h0 h1 → PrintedOne number p l1 l2 c h1 h2 → Printed first (take (i + 1) ps) l0 l2 (b || c) h0 h2
+printed-more first number i ps p b c l0 l1 l2 h0 h1 h2 below is counts h k =
     let grows : take (i + 1) ps ≡ take i ps ++ p ∷ [] = take_more ps i p below ∙ ap (λ x. take i ps ++ x ∷ []) (sym is) in
-    let count : i ≡ length h.replies = sym (length-take-le i ps (omega arith)) ∙ count-answers (take i ps) h.replies h.answer in
+    let count : i ≡ length h.replies = sym (length-take-le i ps (omega arith)) ∙ turn-count Took l0 l1 (take i ps) h.replies h.took in
     let place : number ≡ first + length h.replies = counts ∙ ap (λ n. first + n) count in
     record {
       replies = h.replies ++ k.reply ∷ [];
-      answer = subst (λ l. AllAnswer l (h.replies ++ k.reply ∷ [])) (sym grows) (all-append (take i ps) (p ∷ []) h.replies (k.reply ∷ []) h.answer (k.answers, tt));
+      took = subst (λ x. InTurn Took l0 x (h.replies ++ k.reply ∷ []) l2) (sym grows) (turn-append Took l0 l1 l2 (take i ps) (p ∷ []) h.replies (k.reply ∷ []) h.took (turn-one Took l1 l2 p k.reply k.took));
       written = rw (numbered-append first h.replies (k.reply ∷ []), append-nil (text_of (first + length h.replies) k.reply), ← place) (Appends-then h0 h1 h2 (numbered_from first h.replies) (text_of number k.reply) h.written k.written);
       refused_is = ap (λ x. x || c) h.refused_is ∙ ap (λ x. list_any is_refusal h.replies || x) (k.refused_is ∙ sym (or-false (is_refusal k.reply))) ∙ sym (any-append h.replies (k.reply ∷ []));
     }
 
--- all lines before one were printed, and a beginning of that one
-pub begun-at : (first number i : ℕ) (ps : List Place) (p : Place) (b : Bool) (h0 h1 h2 : Option (List ℕ)) → i < length ps → p ≡ get_or ps i p → number ≡ first + i
-    → Printed first (take i ps) b h0 h1 → BegunOne number p h1 h2 → Begun first ps h0 h2
-begun-at first number i ps p b h0 h1 h2 below is counts h k =
-    let grows : take (i + 1) ps ≡ take i ps ++ p ∷ [] = take_more ps i p below ∙ ap (λ x. take i ps ++ x ∷ []) (sym is) in
-    let count : i ≡ length h.replies = sym (length-take-le i ps (omega arith)) ∙ count-answers (take i ps) h.replies h.answer in
-    let place : number ≡ first + length h.replies = counts ∙ ap (λ n. first + n) count in
-    let rest = drop (i + 1) ps in
-    let here = h.replies ++ k.reply ∷ [] in
-    let front : AllAnswer (take (i + 1) ps) here = subst (λ l. AllAnswer l here) (sym grows) (all-append (take i ps) (p ∷ []) h.replies (k.reply ∷ []) h.answer (k.answers, tt)) in
-    let some : AppendsBeginning h0 h2 (numbered_from first here) =
-    rw (numbered-append first h.replies (k.reply ∷ []), append-nil (text_of (first + length h.replies) k.reply), ← place) (beginning_behind h0 h1 h2 (numbered_from first h.replies) (text_of number k.reply) h.written k.written) in
-    record {
-      replies = here ++ some_replies rest;
-      answer = subst (λ l. AllAnswer l (here ++ some_replies rest)) (take-append-drop (i + 1) ps) (all-append (take (i + 1) ps) rest here (some_replies rest) front (all-some rest));
-      written = rw (numbered-append first here (some_replies rest)) (beginning_of_more h0 h2 (numbered_from first here) (numbered_from (first + length here) (some_replies rest)) some);
-    }
+take-none : (n : ℕ) → take {A = Place} n [] ≡ []
+take-none zero = refl
+take-none (suc n) = refl
 
--- nothing of some lines was printed
-pub begun-nothing : (first : ℕ) (ps : List Place) (held : Option (List ℕ)) → Begun first ps held held
-begun-nothing first ps held = record { replies = some_replies ps; answer = all-some ps; written = beginning_of_nothing held (numbered_from first (some_replies ps)) }
+-- all lines before one were printed, and a beginning of that one
+pub begun-at : (first number i : ℕ) (ps : List Place) (p : Place) (b : Bool) (l0 l1 : List Lane) (h0 h1 h2 : Option (List ℕ)) → i < length ps → p ≡ get_or ps i p → number ≡ first + i
+    → Printed first (take i ps) l0 l1 b h0 h1 → Begun number (p ∷ []) l1 h1 h2 → Begun first ps l0 h0 h2
+begun-at first number i ps p b l0 l1 h0 h1 h2 below is counts h k =
+    let grows : take (i + 1) ps ≡ take i ps ++ p ∷ [] = take_more ps i p below ∙ ap (λ x. take i ps ++ x ∷ []) (sym is) in
+    let count : i ≡ length h.replies = sym (length-take-le i ps (omega arith)) ∙ turn-count Took l0 l1 (take i ps) h.replies h.took in
+    let place : number ≡ first + length h.replies = counts ∙ ap (λ n. first + n) count in
+    record {
+      count = i + min 1 k.count;
+      replies = h.replies ++ k.replies;
+      left = k.left;
+      took = subst (λ x. InTurn Took l0 x (h.replies ++ k.replies) k.left) (sym (one-more k.count grows)) (turn-append Took l0 l1 k.left (take i ps) (take k.count (p ∷ [])) h.replies k.replies h.took k.took);
+      written = rw (numbered-append first h.replies k.replies, ← place) (beginning_behind h0 h1 h2 (numbered_from first h.replies) (numbered_from number k.replies) h.written k.written);
+    }
+  where
+    one-more : (n : ℕ) → take (i + 1) ps ≡ take i ps ++ p ∷ [] → take (i + min 1 n) ps ≡ take i ps ++ take n (p ∷ [])
+    one-more zero grows = ap (λ k. take k ps) (let e : i + min 1 0 ≡ i = omega arith in e) ∙ sym (append-nil (take i ps))
+    one-more (suc n) grows = ap (λ k. take k ps) (let e : i + min 1 (suc n) ≡ i + 1 = omega arith in e) ∙ grows ∙ ap (λ x. take i ps ++ p ∷ x) (sym (take-none n))
+
+-- all of them were printed
+pub begun-all : (first : ℕ) (ps : List Place) (b : Bool) (ls ls' : List Lane) (h0 h1 h2 : Option (List ℕ)) → Printed first ps ls ls' b h0 h1 → Keeps h1 h2 → Begun first ps ls h0 h2
+begun-all first ps b ls ls' h0 h1 h2 h keeps = record {
+  count = length ps;
+  replies = h.replies;
+  left = ls';
+  took = subst (λ x. InTurn Took ls x h.replies ls') (sym (take_all (length ps) ps (omega arith))) h.took;
+  written = beginning_of_all h0 h2 (numbered_from first h.replies) (Appends-keeps h0 h1 h2 (numbered_from first h.replies) h.written keeps);
+}

@@ -1,10 +1,16 @@
 -- what a script over lanes has told, line by line
-use Rattle.std.proofs.Common.{◌≡◌, ℕ, ◌+◌, List, [], ◌∷◌, ◌++◌, length, true, false, cond, eqb, ◌||◌, Option, Some, sym, ap, subst, ◌∙◌, append_assoc, arith}
-use Rattle.std.proofs.lemmas.List.{append-nil, length-append}
-use Rattle.std.proofs.lemmas.Bool.{false_from_ne_true, eqb-true}
+use Rattle.std.proofs.Common.{◌≡◌, ℕ, ◌+◌, List, [], ◌∷◌, ◌++◌, length, map, true, false, cond, eqb, Bool, ◌||◌, Option, Some, Result, Ok, Err, refl, sym, ap, subst, ◌∙◌, append_assoc, arith}
+use Rattle.std.proofs.lemmas.List.{append-nil, length-append, length-map, map-append}
+use Rattle.std.proofs.lemmas.Bool.{eqb-true, false_from_ne_true, or_from, or_parts, true≢false}
 use Rattle.std.specs.List.{list_any}
+use Rattle.std.specs.Io.KnownBytes.{Appends}
+use Rattle.wf_event_values.specs.declared.refusal.Refusal.{Refusal}
 use Rattle.service_model.specs.declared.settings.Settings.{Settings}
-use Rattle.service_model.proofs.ListLemmas.{map-push}
+use Rattle.service_model.specs.Outcome.{Reply}
+use Rattle.service.specs.declared.service.Pass.{Pass}
+use Rattle.wire_requests.specs.declared.calls.Asked.{Asked}
+use Rattle.wire_requests.specs.declared.calls.Asked.TheVariants.{Barrier as a_barrier, Call as in_a_lane}
+use Rattle.script.specs.Asked.{asked}
 use Rattle.script.specs.Lines.{Line, all_lines}
 use Rattle.script.specs.Output.{numbered_from}
 use Rattle.script.specs.Pending.{ended, left, longer, is_empty_line}
@@ -12,115 +18,194 @@ use Rattle.script.specs.Serving.{is_refusal}
 use Rattle.script.proofs.LineLemmas.{ended-all}
 use Rattle.script.proofs.Steps.{ended-append, left-append}
 use Rattle.wire_counted.proofs.Known.{Appends-none, Appends-then}
+use Rattle.lanes.specs.declared.print.Place.{Place}
 use Rattle.lanes.specs.declared.run.Script.{Script}
-use Rattle.lanes.specs.Printed.{AllAnswer}
-use Rattle.lanes.specs.Told.{place_of, places_of, Told, TextTold, Closed, Ended}
-use Rattle.lanes.proofs.PrintLemmas.{all-append, count-answers, numbered-append, any-append}
+use Rattle.lanes.specs.Course.{Serves, Meets, Course, InTurn, LineServed, asks_of}
+use Rattle.lanes.specs.Endings.{Ended}
+use Rattle.lanes.specs.Lanes.{ArePlain, Took, Waiting, WereAsked, is_barrier, own_calls, passes_of, place_in}
+use Rattle.lanes.specs.Told.{Added, Closed, Opened, TellsLine, TextTold, Told}
+use Rattle.lanes.proofs.PhaseLemmas.{phase-barrier, phase-last}
+use Rattle.lanes.proofs.PrintLemmas.{any-append, numbered-append}
+use Rattle.lanes.proofs.TurnLemmas.{turn-append, turn-count}
+use Rattle.lanes.proofs.WorkLemmas.{waiting-more, waiting-same}
+
+-- ---- lines
+
+pub asks-push : (K : Settings) (lines : List Line) (line : Line) (done waits : List (Result Asked Refusal)) → asks_of K lines ≡ done ++ waits → asks_of K (lines ++ line ∷ []) ≡ done ++ (waits ++ asked K line ∷ [])
+asks-push K lines line done waits parts = map-append (asked K) lines (line ∷ []) ∙ ap (λ x. x ++ asked K line ∷ []) parts ∙ append_assoc done waits (asked K line ∷ [])
+
+plain-push : (lines : List (Result Asked Refusal)) (ask : Result Asked Refusal) → ArePlain lines → is_barrier (place_in ask) ≡ false → ArePlain (lines ++ ask ∷ [])
+plain-push [] ask h no_barrier = or_from (is_barrier (place_in ask)) false no_barrier refl
+plain-push (line ∷ lines) ask h no_barrier =
+    let parts = or_parts (is_barrier (place_in line)) (list_any is_barrier (map place_in lines)) h in
+    or_from (is_barrier (place_in line)) (list_any is_barrier (map place_in (lines ++ ask ∷ []))) parts.0 (plain-push lines ask parts.1 no_barrier)
+
+-- a line whose place is a barrier's asks for one
+pub barrier-asked : (ask : Result Asked Refusal) → is_barrier (place_in ask) ≡ true → ask ≡ Ok a_barrier
+barrier-asked (Ok a_barrier) is = refl
+barrier-asked (Ok (in_a_lane c)) is = absurd (true≢false (sym is))
+barrier-asked (Err refusal) is = absurd (true≢false (sym is))
+
+-- the number of the next line
+pub next-number : {serves : Serves} {meets : Meets} {K : Settings} {ps : List Pass} (lines : List Line) (s : Script) (held w : Option (List ℕ)) → (h : Told serves meets K ps lines s held w) → 1 + length h.replies ≡ s.first
+next-number {serves} {meets} {K} {ps} lines s held w h = ap (λ n. 1 + n) (sym (turn-count (LineServed serves meets) ps (passes_of s.lanes.items) h.done h.replies h.course)) ∙ sym h.number
+
+both-written : (first : ℕ) (rs ss : List (Option Reply)) (held w w' : Option (List ℕ)) → 1 + length rs ≡ first → Appends held w (numbered_from 1 rs) → Appends w w' (numbered_from first ss) → Appends held w' (numbered_from 1 (rs ++ ss))
+both-written first rs ss held w w' count h k = rw (numbered-append 1 rs ss, count) (Appends-then held w w' (numbered_from 1 rs) (numbered_from first ss) h k)
+
+both-refused : (a b c : Bool) (rs ss : List (Option Reply)) → c ≡ (a || b) → a ≡ list_any is_refusal rs → b ≡ list_any is_refusal ss → c ≡ list_any is_refusal (rs ++ ss)
+both-refused a b c rs ss is first second = is ∙ ap (λ x. x || b) first ∙ ap (λ x. list_any is_refusal rs || x) second ∙ sym (any-append rs ss)
+
+-- ---- steps
 
 -- before the first byte
-pub told-nothing : (K : Settings) (held : Option (List ℕ)) (s : Script) → s.places.items ≡ [] → s.first ≡ 1 → s.refused ≡ false → s.line ≡ Some [] → TextTold K [] s held held
+pub told-nothing : {serves : Serves} {meets : Meets} {K : Settings} (ps : List Pass) (held : Option (List ℕ)) (s : Script) → Opened ps s → TextTold serves meets K ps [] s held held
 unfolding ended left
-told-nothing K held s places first refused line = record {
-  line = line;
+told-nothing ps held s o = record {
+  line = o.line;
   told = record {
     done = [];
+    waits = [];
     replies = [];
-    parts = sym places;
-    answer = tt;
+    parts = refl;
+    course = o.passes;
+    waiting = o.waiting;
+    plain = refl;
     written = Appends-none held;
-    number = first;
-    refused_is = refused;
+    number = o.first;
+    refused_is = o.refused;
   };
 }
 
 -- one line more waits
-pub told-line : (K : Settings) (lines : List Line) (line : Line) (s s' : Script) (held held' : Option (List ℕ)) → s'.places.items ≡ s.places.items ++ place_of K line ∷ [] → s'.first ≡ s.first → s'.refused ≡ s.refused
-    → Told K lines s held held' → Told K (lines ++ line ∷ []) s' held held'
-told-line K lines line s s' held held' places first refused h = record {
+pub told-line : {serves : Serves} {meets : Meets} {K : Settings} {ps : List Pass} (lines : List Line) (line : Line) (s s' : Script) (held w : Option (List ℕ)) → Added (asked K line) s s' → is_barrier (place_in (asked K line)) ≡ false
+    → Told serves meets K ps lines s held w → Told serves meets K ps (lines ++ line ∷ []) s' held w
+told-line {serves} {meets} {K} {ps} lines line s s' held w a no_barrier h = record {
   done = h.done;
+  waits = h.waits ++ asked K line ∷ [];
   replies = h.replies;
-  parts = map-push (place_of K) lines line ∙ ap (λ ps. ps ++ place_of K line ∷ []) h.parts ∙ append_assoc h.done s.places.items (place_of K line ∷ []) ∙ ap (λ ps. h.done ++ ps) (sym places);
-  answer = h.answer;
+  parts = asks-push K lines line h.done h.waits h.parts;
+  course = subst (λ x. Course serves meets ps h.done h.replies x) (sym a.lanes.passes) h.course;
+  waiting = waiting-more h.waits (asked K line) s.places.items s'.places.items s.lanes.items s'.lanes.items a.places a.lanes h.waiting;
+  plain = plain-push h.waits (asked K line) h.plain no_barrier;
   written = h.written;
-  number = first ∙ h.number;
-  refused_is = refused ∙ h.refused_is;
+  number = a.first ∙ h.number;
+  refused_is = a.refused ∙ h.refused_is;
 }
 
--- what waited was printed
-pub told-closed : (K : Settings) (lines : List Line) (s s' : Script) (held w w' : Option (List ℕ)) → Closed s s' w w' → Told K lines s held w → Told K lines s' held w'
-told-closed K lines s s' held w w' c h =
-    let rs = h.replies ++ c.printed.replies in
-    let all : AllAnswer (h.done ++ s.places.items) rs = all-append h.done s.places.items h.replies c.printed.replies h.answer c.printed.answer in
-    let count : 1 + length h.replies ≡ s.first = ap (λ n. 1 + n) (sym (count-answers h.done h.replies h.answer)) ∙ sym h.number in
+-- the places of lines and of the barrier behind them
+pub barrier-places : (ask : Result Asked Refusal) (waits : List (Result Asked Refusal)) (ps ps' : List Place) → ask ≡ Ok a_barrier → ps' ≡ ps ++ place_in ask ∷ [] → ps ≡ map place_in waits → ps' ≡ map place_in (waits ++ Ok a_barrier ∷ [])
+barrier-places ask waits ps ps' is grows places = grows ∙ ap (λ x. ps ++ place_in x ∷ []) is ∙ ap (λ x. x ++ place_in (Ok a_barrier) ∷ []) places ∙ sym (map-append place_in waits (Ok a_barrier ∷ []))
+
+-- a barrier, and what waited before it
+pub told-barrier : {serves : Serves} {meets : Meets} {K : Settings} {ps : List Pass} (lines : List Line) (line : Line) (s s1 s' : Script) (held w w' : Option (List ℕ)) → Added (asked K line) s s1 → is_barrier (place_in (asked K line)) ≡ true
+    → Closed serves meets s1 s' w w' → Told serves meets K ps lines s held w → Told serves meets K ps (lines ++ line ∷ []) s' held w'
+told-barrier {serves} {meets} {K} {ps} lines line s s1 s' held w w' a barrier c h =
+    let is : asked K line ≡ Ok a_barrier = barrier-asked (asked K line) barrier in
+    let all = h.waits ++ Ok a_barrier ∷ [] in
+    let p = c.printed in
+    let rs = p.printed.replies in
+    let places : s1.places.items ≡ map place_in all = barrier-places (asked K line) h.waits s.places.items s1.places.items is a.places h.waiting.places in
+    let waiting = waiting-same h.waits s.places.items s.lanes.items s1.lanes.items (subst (λ x. WereAsked (λ k. own_calls k x) s.lanes.items s1.lanes.items) is a.lanes) h.waiting in
+    let phase = phase-barrier serves meets h.waits s.places.items rs s1.lanes.items p.after s'.lanes.items h.plain waiting p.phase (subst (λ x. InTurn Took p.after x rs s'.lanes.items) places p.printed.took) in
+    let course = subst (λ x. Course serves meets x all rs (passes_of s'.lanes.items)) a.lanes.passes (subst (λ x. Course serves meets (passes_of s1.lanes.items) all rs x) (sym p.passes) phase.course) in
+    let count : 1 + length h.replies ≡ s1.first = next-number lines s held w h ∙ sym a.first in
     record {
-      done = h.done ++ s.places.items;
-      replies = rs;
-      parts = h.parts ∙ sym (append-nil (h.done ++ s.places.items)) ∙ ap (λ ps. (h.done ++ s.places.items) ++ ps) (sym c.places);
-      answer = all;
-      written = rw (numbered-append 1 h.replies c.printed.replies, count) (Appends-then held w w' (numbered_from 1 h.replies) (numbered_from s.first c.printed.replies) h.written c.printed.written);
-      number = omega (arith, c.first, h.number, length-append h.done s.places.items);
-      refused_is = c.refused_is ∙ ap (λ b. b || c.refused) h.refused_is ∙ ap (λ b. list_any is_refusal h.replies || b) c.printed.refused_is ∙ sym (any-append h.replies c.printed.replies);
+      done = h.done ++ all;
+      waits = [];
+      replies = h.replies ++ rs;
+      parts = asks-push K lines line h.done h.waits h.parts ∙ ap (λ x. h.done ++ (h.waits ++ x ∷ [])) is ∙ sym (append-nil (h.done ++ all));
+      course = turn-append (LineServed serves meets) ps (passes_of s.lanes.items) (passes_of s'.lanes.items) h.done all h.replies rs h.course course;
+      waiting = record { places = c.places; asked = phase.empty.asked; answered = phase.empty.answered };
+      plain = refl;
+      written = both-written s1.first h.replies rs held w w' count h.written p.printed.written;
+      number = omega (arith, c.first, a.first, h.number, length-append h.done all, ap length places, length-map all place_in);
+      refused_is = both-refused s.refused c.refused s'.refused h.replies rs (c.refused_is ∙ ap (λ x. x || c.refused) a.refused) h.refused_is p.printed.refused_is;
     }
 
--- a byte that ends a line
-pub text-line : (K : Settings) (text : List ℕ) (byte : ℕ) (s s' : Script) (held w w' : Option (List ℕ)) → byte ≡ 10 → s'.line ≡ Some []
-    → ((lines : List Line) (h : Option (List ℕ)) → Told K lines s h w → Told K (lines ++ s.line ∷ []) s' h w') → TextTold K text s held w → TextTold K (text ++ byte ∷ []) s' held w'
+-- the end, and what waited before it
+pub told-ended : {serves : Serves} {meets : Meets} {K : Settings} {ps : List Pass} (text : List ℕ) (lines : List Line) (s s' : Script) (held w w' : Option (List ℕ)) → lines ≡ all_lines text
+    → Closed serves meets s s' w w' → Told serves meets K ps lines s held w → Ended serves meets K ps text held w' s'.refused
+told-ended {serves} {meets} {K} {ps} text lines s s' held w w' all c h =
+    let p = c.printed in
+    let rs = p.printed.replies in
+    let phase = phase-last serves meets h.waits s.places.items rs s.lanes.items p.after s'.lanes.items h.plain h.waiting p.phase (subst (λ x. InTurn Took p.after x rs s'.lanes.items) h.waiting.places p.printed.took) in
+    record {
+      replies = h.replies ++ rs;
+      served = passes_of p.phase.worked;
+      ends = passes_of p.after;
+      course = subst (λ x. Course serves meets ps x (h.replies ++ rs) (passes_of p.phase.worked)) (sym h.parts ∙ ap (asks_of K) all)
+          (turn-append (LineServed serves meets) ps (passes_of s.lanes.items) (passes_of p.phase.worked) h.done h.waits h.replies rs h.course phase.course);
+      met = p.phase.met;
+      written = both-written s.first h.replies rs held w w' (next-number lines s held w h) h.written p.printed.written;
+      refused_is = both-refused s.refused c.refused s'.refused h.replies rs c.refused_is h.refused_is p.printed.refused_is;
+    }
+
+-- ---- texts
+
+-- the lines that end in a text with a line feed more
+pub lines-end : (text : List ℕ) (byte : ℕ) → byte ≡ 10 → ended (Some []) (text ++ byte ∷ []) ≡ ended (Some []) text ++ left (Some []) text ∷ []
 unfolding ended left
-text-line K text byte s s' held w w' is empty step h =
+lines-end text byte is =
     let ends : eqb byte 10 ≡ true = ap (λ b. eqb b 10) is in
-    let lines : ended (Some []) (text ++ byte ∷ []) ≡ ended (Some []) text ++ s.line ∷ [] =
-    ended-append (Some []) text (byte ∷ []) ∙ ap (λ b. ended (Some []) text ++ cond b (left (Some []) text ∷ []) []) ends ∙ ap (λ l. ended (Some []) text ++ l ∷ []) (sym h.line) in
+    ended-append (Some []) text (byte ∷ []) ∙ ap (λ b. ended (Some []) text ++ cond b (left (Some []) text ∷ []) []) ends
+
+-- a byte that ends a line
+pub text-line : {serves : Serves} {meets : Meets} {K : Settings} {ps : List Pass} (text : List ℕ) (byte : ℕ) (s s' : Script) (held w w' : Option (List ℕ)) → byte ≡ 10 → s'.line ≡ Some []
+    → TellsLine serves meets K s.line s s' w w' → TextTold serves meets K ps text s held w → TextTold serves meets K ps (text ++ byte ∷ []) s' held w'
+unfolding ended left
+text-line {serves} {meets} {K} {ps} text byte s s' held w w' is empty step h =
+    let ends : eqb byte 10 ≡ true = ap (λ b. eqb b 10) is in
+    let lines : ended (Some []) (text ++ byte ∷ []) ≡ ended (Some []) text ++ s.line ∷ [] = lines-end text byte is ∙ ap (λ l. ended (Some []) text ++ l ∷ []) (sym h.line) in
     record {
       line = empty ∙ sym (left-append (Some []) text (byte ∷ []) ∙ ap (λ b. cond b (Some []) (longer (left (Some []) text) byte)) ends);
-      told = subst (λ ls. Told K ls s' held w') (sym lines) (step (ended (Some []) text) held h.told);
+      told = subst (λ ls. Told serves meets K ps ls s' held w') (sym lines) (step ps (ended (Some []) text) held h.told);
     }
 
 -- a byte within a line
-pub text-byte : (K : Settings) (text : List ℕ) (byte : ℕ) (s s' : Script) (held w : Option (List ℕ)) → ¬ (byte ≡ 10) → s'.line ≡ longer s.line byte
-    → s'.places.items ≡ s.places.items → s'.first ≡ s.first → s'.refused ≡ s.refused → TextTold K text s held w → TextTold K (text ++ byte ∷ []) s' held w
+pub text-byte : {serves : Serves} {meets : Meets} {K : Settings} {ps : List Pass} (text : List ℕ) (byte : ℕ) (s s' : Script) (held w : Option (List ℕ)) → ¬ (byte ≡ 10) → s'.line ≡ longer s.line byte
+    → s'.lanes ≡ s.lanes → s'.places ≡ s.places → s'.first ≡ s.first → s'.refused ≡ s.refused → TextTold serves meets K ps text s held w → TextTold serves meets K ps (text ++ byte ∷ []) s' held w
 unfolding ended left
-text-byte K text byte s s' held w other line places first refused h =
+text-byte {serves} {meets} {K} {ps} text byte s s' held w other line lanes places first refused h =
     let within : eqb byte 10 ≡ false = false_from_ne_true (eqb byte 10) (λ e. other (eqb-true byte 10 e)) in
     let lines : ended (Some []) (text ++ byte ∷ []) ≡ ended (Some []) text =
     ended-append (Some []) text (byte ∷ []) ∙ ap (λ b. ended (Some []) text ++ cond b (left (Some []) text ∷ []) []) within ∙ append-nil (ended (Some []) text) in
     record {
       line = line ∙ ap (λ l. longer l byte) h.line ∙ sym (left-append (Some []) text (byte ∷ []) ∙ ap (λ b. cond b (Some []) (longer (left (Some []) text) byte)) within);
-      told = subst (λ ls. Told K ls s' held w) (sym lines) (told-same K (ended (Some []) text) s s' held w places first refused h.told);
+      told = subst (λ ls. Told serves meets K ps ls s' held w) (sym lines) (told-same (ended (Some []) text) s s' held w lanes places first refused h.told);
     }
   where
-    told-same : (K : Settings) (lines : List Line) (s s' : Script) (held held' : Option (List ℕ)) → s'.places.items ≡ s.places.items → s'.first ≡ s.first → s'.refused ≡ s.refused → Told K lines s held held' → Told K lines s' held held'
-    told-same K lines s s' held held' places first refused h = record {
+    told-same : (lines : List Line) (s s' : Script) (held w : Option (List ℕ)) → s'.lanes ≡ s.lanes → s'.places ≡ s.places → s'.first ≡ s.first → s'.refused ≡ s.refused → Told serves meets K ps lines s held w → Told serves meets K ps lines s' held w
+    told-same lines s s' held w lanes places first refused h = record {
       done = h.done;
+      waits = h.waits;
       replies = h.replies;
-      parts = h.parts ∙ ap (λ ps. h.done ++ ps) (sym places);
-      answer = h.answer;
+      parts = h.parts;
+      course = subst (λ x. Course serves meets ps h.done h.replies (passes_of x.items)) (sym lanes) h.course;
+      waiting = subst (λ x. Waiting h.waits x.items s'.lanes.items) (sym places) (subst (λ x. Waiting h.waits s.places.items x.items) (sym lanes) h.waiting);
+      plain = h.plain;
       written = h.written;
       number = first ∙ h.number;
       refused_is = refused ∙ h.refused_is;
     }
 
--- nothing waits any more
-pub told-ended : (K : Settings) (text : List ℕ) (lines : List Line) (s : Script) (held held' : Option (List ℕ)) → lines ≡ all_lines text → s.places.items ≡ [] → Told K lines s held held' → Ended K text held held' s.refused
-told-ended K text lines s held held' is none h =
-    let done : places_of K (all_lines text) ≡ h.done = ap (places_of K) (sym is) ∙ h.parts ∙ ap (λ ps. h.done ++ ps) none ∙ append-nil h.done in
-    record {
-      replies = h.replies;
-      answer = subst (λ ps. AllAnswer ps h.replies) (sym done) h.answer;
-      written = h.written;
-      refused_is = h.refused_is;
-    }
+-- all lines of a text behind a line feed
+pub lines-clean : (text : List ℕ) (line : Line) → line ≡ left (Some []) text → is_empty_line line ≡ true → ended (Some []) text ≡ all_lines text
+lines-clean text line is empty =
+    sym (append-nil (ended (Some []) text)) ∙ ap (λ b. ended (Some []) text ++ cond b [] (left (Some []) text ∷ [])) (sym (ap is_empty_line (sym is) ∙ empty)) ∙ ended-all text
+
+-- all lines of a text that ends in a line without its line feed
+pub lines-last : (text : List ℕ) (line : Line) → line ≡ left (Some []) text → is_empty_line line ≡ false → ended (Some []) text ++ line ∷ [] ≡ all_lines text
+lines-last text line is some =
+    ap (λ l. ended (Some []) text ++ l ∷ []) is ∙ ap (λ b. ended (Some []) text ++ cond b [] (left (Some []) text ∷ [])) (sym (ap is_empty_line (sym is) ∙ some)) ∙ ended-all text
 
 -- the end behind a line feed
-pub ended-clean : (K : Settings) (text : List ℕ) (s s' : Script) (held w w' : Option (List ℕ)) → is_empty_line s.line ≡ true → Closed s s' w w' → TextTold K text s held w → Ended K text held w' s'.refused
-ended-clean K text s s' held w w' empty c h =
-    let all : ended (Some []) text ≡ all_lines text =
-    sym (append-nil (ended (Some []) text)) ∙ ap (λ b. ended (Some []) text ++ cond b [] (left (Some []) text ∷ [])) (sym (ap is_empty_line (sym h.line) ∙ empty)) ∙ ended-all text in
-    told-ended K text (ended (Some []) text) s' held w' all c.places (told-closed K (ended (Some []) text) s s' held w w' c h.told)
+pub ended-clean : {serves : Serves} {meets : Meets} {K : Settings} {ps : List Pass} (text : List ℕ) (s s' : Script) (held w w' : Option (List ℕ)) → is_empty_line s.line ≡ true → Closed serves meets s s' w w'
+    → TextTold serves meets K ps text s held w → Ended serves meets K ps text held w' s'.refused
+ended-clean text s s' held w w' empty c h = told-ended text (ended (Some []) text) s s' held w w' (lines-clean text s.line h.line empty) c h.told
 
 -- the end behind a last line without its line feed
-pub ended-line : (K : Settings) (text : List ℕ) (s s1 s' : Script) (held w w' : Option (List ℕ)) → is_empty_line s.line ≡ false
-    → ((lines : List Line) (h h' : Option (List ℕ)) → Told K lines s h h' → Told K (lines ++ s.line ∷ []) s1 h h') → Closed s1 s' w w' → TextTold K text s held w → Ended K text held w' s'.refused
-ended-line K text s s1 s' held w w' some step c h =
-    let all : ended (Some []) text ++ s.line ∷ [] ≡ all_lines text =
-    ap (λ l. ended (Some []) text ++ l ∷ []) h.line ∙ ap (λ b. ended (Some []) text ++ cond b [] (left (Some []) text ∷ [])) (sym (ap is_empty_line (sym h.line) ∙ some)) ∙ ended-all text in
-    told-ended K text (ended (Some []) text ++ s.line ∷ []) s' held w' all c.places (told-closed K (ended (Some []) text ++ s.line ∷ []) s1 s' held w w' c (step (ended (Some []) text) held w h.told))
+pub ended-line : {serves : Serves} {meets : Meets} {K : Settings} {ps : List Pass} (text : List ℕ) (s s1 s' : Script) (held w w1 w' : Option (List ℕ)) → is_empty_line s.line ≡ false
+    → TellsLine serves meets K s.line s s1 w w1 → Closed serves meets s1 s' w1 w' → TextTold serves meets K ps text s held w → Ended serves meets K ps text held w' s'.refused
+ended-line {serves} {meets} {K} {ps} text s s1 s' held w w1 w' some step c h =
+    told-ended text (ended (Some []) text ++ s.line ∷ []) s1 s' held w1 w' (lines-last text s.line h.line some) c (step ps (ended (Some []) text) held h.told)

@@ -1,2 +1,6 @@
+pub mod Course
+pub mod Endings
+pub mod Lanes
+pub mod Meetings
 pub mod Printed
 pub mod Told

@@ -1,52 +1,47 @@
 -- what is printed of a phase: the replies in the order of the lines, each under its line's number
-use Rattle.std.specs.Prelude.{◌≡◌, ℕ, List, [], ◌∷◌, Bool, Option, None, Some, Err}
+use Rattle.std.specs.Prelude.{◌≡◌, ℕ, List, take, Bool, Option}
 use Rattle.std.specs.List.{list_any}
 use Rattle.std.specs.Io.KnownBytes.{Appends}
 use Rattle.wire_counted.specs.Written.{AppendsBeginning}
 use Rattle.service_model.specs.Outcome.{Reply}
 use Rattle.script.specs.Serving.{is_refusal, text_of}
 use Rattle.script.specs.Output.{numbered_from}
+use Rattle.lanes.specs.declared.lane.Lane.{Lane}
 use Rattle.lanes.specs.declared.print.Place.{Place}
-use Rattle.lanes.specs.declared.print.Place.TheVariants.{Barrier, Refused, InLane}
+use Rattle.lanes.specs.Course.{Serves, Meets, InTurn}
+use Rattle.lanes.specs.Lanes.{Phase, Took, passes_of}
 
--- there is a reply
-abbrev pub IsThere : Option Reply → Type 0
-IsThere None = ⊥
-IsThere (Some r) = Unit {0}
-
--- a line has the reply that its place asks for: a barrier none, a refused line its refusal, a call any
-abbrev pub Answers : Place → Option Reply → Type 0
-Answers Barrier r = r ≡ None
-Answers (Refused e) r = r ≡ Some (Err e)
-Answers (InLane lane) r = IsThere r
-
--- each line has one
-abbrev pub AllAnswer : List Place → List (Option Reply) → Type 0
-AllAnswer [] [] = Unit {0}
-AllAnswer (p ∷ ps) (r ∷ rs) = Answers p r × AllAnswer ps rs
-AllAnswer _ _ = ⊥
-
--- the reply of one line was printed
-pub record PrintedOne (number : ℕ) (p : Place) (refused : Bool) (held held' : Option (List ℕ)) : Type 0 where
+-- the reply of one line was taken and printed
+pub record PrintedOne (number : ℕ) (p : Place) (ls ls' : List Lane) (refused : Bool) (held held' : Option (List ℕ)) : Type 0 where
   pub reply : Option Reply
-  pub answers : Answers p reply
+  pub took : Took ls p reply ls'
   pub written : Appends held held' (text_of number reply)
   pub refused_is : refused ≡ is_refusal reply
 
--- the replies of lines, numbered from this one on, were printed
-pub record Printed (first : ℕ) (ps : List Place) (refused : Bool) (held held' : Option (List ℕ)) : Type 0 where
+-- the replies of lines, numbered from this one on, were taken one after another, and printed
+pub record Printed (first : ℕ) (ps : List Place) (ls ls' : List Lane) (refused : Bool) (held held' : Option (List ℕ)) : Type 0 where
   pub replies : List (Option Reply)
-  pub answer : AllAnswer ps replies
+  pub took : InTurn Took ls ps replies ls'
   pub written : Appends held held' (numbered_from first replies)
   pub refused_is : refused ≡ list_any is_refusal replies
 
--- a beginning of what would be printed was printed
-pub record Begun (first : ℕ) (ps : List Place) (held held' : Option (List ℕ)) : Type 0 where
+-- the replies of the first of these lines were taken, and a beginning of them was printed
+pub record Begun (first : ℕ) (ps : List Place) (ls : List Lane) (held held' : Option (List ℕ)) : Type 0 where
+  pub count : ℕ
   pub replies : List (Option Reply)
-  pub answer : AllAnswer ps replies
+  pub left : List Lane
+  pub took : InTurn Took ls (take count ps) replies left
   pub written : AppendsBeginning held held' (numbered_from first replies)
 
-pub record BegunOne (number : ℕ) (p : Place) (held held' : Option (List ℕ)) : Type 0 where
-  pub reply : Option Reply
-  pub answers : Answers p reply
-  pub written : AppendsBeginning held held' (text_of number reply)
+-- a phase was served and printed
+pub record PhasePrinted (serves : Serves) (meets : Meets) (first : ℕ) (ps : List Place) (ls ls' : List Lane) (refused : Bool) (held held' : Option (List ℕ)) : Type 0 where
+  pub after : List Lane
+  pub phase : Phase serves meets ls after
+  pub printed : Printed first ps after ls' refused held held'
+  pub passes : passes_of ls' ≡ passes_of after
+
+-- a phase was served, and a beginning of it was printed
+pub record PhaseBegun (serves : Serves) (meets : Meets) (first : ℕ) (ps : List Place) (ls : List Lane) (held held' : Option (List ℕ)) : Type 0 where
+  pub after : List Lane
+  pub phase : Phase serves meets ls after
+  pub begun : Begun first ps after held held'

@@ -1,102 +1,105 @@
 -- what a script over lanes has told of its lines
-use Rattle.std.specs.Prelude.{◌≡◌, ◌⊎◌, ℕ, ◌+◌, List, [], ◌++◌, length, map, Bool, true, false, ◌||◌, Option, Some, Result, Ok, Err}
+use Rattle.std.specs.Prelude.{◌≡◌, ◌⊎◌, ℕ, ◌+◌, List, [], ◌∷◌, ◌++◌, length, Bool, false, ◌||◌, Option, Some, Result}
 use Rattle.std.specs.List.{list_any}
-use Rattle.std.specs.Io.KnownBytes.{Appends, Consumes, IsAtEnd}
-use Rattle.wire_counted.specs.Written.{AppendsBeginning}
+use Rattle.std.specs.Io.KnownBytes.{Appends, Consumes}
 use Rattle.wf_event_values.specs.declared.refusal.Refusal.{Refusal}
 use Rattle.service_model.specs.declared.settings.Settings.{Settings}
 use Rattle.service_model.specs.Outcome.{Reply}
+use Rattle.service.specs.declared.service.Pass.{Pass}
 use Rattle.wire_requests.specs.declared.calls.Asked.{Asked}
-use Rattle.wire_requests.specs.declared.calls.Asked.TheVariants.{Barrier as a_barrier, Call as in_a_lane}
-use Rattle.script.specs.Asked.{asked}
-use Rattle.script.specs.Lines.{Line, all_lines, whole_lines}
+use Rattle.script.specs.Lines.{Line, all_lines}
 use Rattle.script.specs.Pending.{ended, left}
 use Rattle.script.specs.Serving.{is_refusal}
 use Rattle.script.specs.Output.{numbered_from}
-use Rattle.lanes.specs.declared.print.Place.{Place}
-use Rattle.lanes.specs.declared.print.Place.TheVariants.{Barrier, Refused, InLane}
 use Rattle.lanes.specs.declared.run.Script.{Script}
-use Rattle.lanes.specs.Printed.{AllAnswer, Printed}
+use Rattle.lanes.specs.Course.{Serves, Meets, Course, asks_of}
+use Rattle.lanes.specs.Endings.{Beginning, Broke, Ended}
+use Rattle.lanes.specs.Lanes.{ArePlain, Waiting, WereAsked, own_calls, passes_of, place_in}
+use Rattle.lanes.specs.Printed.{PhaseBegun, PhasePrinted}
 
--- what a line was found to be
-abbrev pub place_in : Result Asked Refusal → Place
-place_in (Ok a_barrier) = Barrier
-place_in (Ok (in_a_lane c)) = InLane c.lane
-place_in (Err refusal) = Refused refusal
-
-abbrev pub place_of : Settings → Line → Place
-place_of K line = place_in (asked K line)
-
-abbrev pub places_of : Settings → List Line → List Place
-places_of K lines = map (place_of K) lines
-
-abbrev pub is_barrier : Place → Bool
-is_barrier Barrier = true
-is_barrier _ = false
-
--- the replies of the lines before the last barrier were printed, the lines behind it wait
-pub record Told (K : Settings) (lines : List Line) (s : Script) (held held' : Option (List ℕ)) : Type 0 where
-  pub done : List Place
+-- the lines before the last barrier were served and printed, the lines behind it wait
+pub record Told (serves : Serves) (meets : Meets) (K : Settings) (ps : List Pass) (lines : List Line) (s : Script) (held held' : Option (List ℕ)) : Type 0 where
+  pub done : List (Result Asked Refusal)
+  pub waits : List (Result Asked Refusal)
   pub replies : List (Option Reply)
-  pub parts : places_of K lines ≡ done ++ s.places.items
-  pub answer : AllAnswer done replies
+  pub parts : asks_of K lines ≡ done ++ waits
+  pub course : Course serves meets ps done replies (passes_of s.lanes.items)
+  pub waiting : Waiting waits s.places.items s.lanes.items
+  pub plain : ArePlain waits
   pub written : Appends held held' (numbered_from 1 replies)
   pub number : s.first ≡ 1 + length done
   pub refused_is : s.refused ≡ list_any is_refusal replies
 
 -- what it has told of a text so far
-pub record TextTold (K : Settings) (text : List ℕ) (s : Script) (held held' : Option (List ℕ)) : Type 0 where
+pub record TextTold (serves : Serves) (meets : Meets) (K : Settings) (ps : List Pass) (text : List ℕ) (s : Script) (held held' : Option (List ℕ)) : Type 0 where
   pub line : s.line ≡ left (Some []) text
-  pub told : Told K (ended (Some []) text) s held held'
+  pub told : Told serves meets K ps (ended (Some []) text) s held held'
 
 -- some text was read, and told of
-pub record Progress (K : Settings) (s : Script) (unread held unread' held' : Option (List ℕ)) : Type 0 where
+pub record Progress (serves : Serves) (meets : Meets) (K : Settings) (ps : List Pass) (s : Script) (unread held unread' held' : Option (List ℕ)) : Type 0 where
   pub text : List ℕ
   pub read : Consumes unread unread' text
-  pub told : TextTold K text s held held'
+  pub told : TextTold serves meets K ps text s held held'
 
--- a phase was printed: nothing waits
-pub record Closed (s s' : Script) (held held' : Option (List ℕ)) : Type 0 where
+-- nothing was read, and no line waits
+pub record Opened (ps : List Pass) (s : Script) : Type 0 where
+  pub passes : passes_of s.lanes.items ≡ ps
+  pub waiting : Waiting [] s.places.items s.lanes.items
+  pub first : s.first ≡ 1
+  pub refused : s.refused ≡ false
+  pub line : s.line ≡ Some []
+
+-- one line more waits, which asks this
+pub record Added (ask : Result Asked Refusal) (s s' : Script) : Type 0 where
+  pub places : s'.places.items ≡ s.places.items ++ place_in ask ∷ []
+  pub lanes : WereAsked (λ k. own_calls k ask) s.lanes.items s'.lanes.items
+  pub first : s'.first ≡ s.first
+  pub refused : s'.refused ≡ s.refused
+  pub line : s'.line ≡ Some []
+
+-- a phase was served and printed: nothing waits
+pub record Closed (serves : Serves) (meets : Meets) (s s' : Script) (held held' : Option (List ℕ)) : Type 0 where
   pub refused : Bool
-  pub printed : Printed s.first s.places.items refused held held'
+  pub printed : PhasePrinted serves meets s.first s.places.items s.lanes.items s'.lanes.items refused held held'
   pub first : s'.first ≡ s.first + length s.places.items
   pub places : s'.places.items ≡ []
   pub refused_is : s'.refused ≡ (s.refused || refused)
   pub line : s'.line ≡ s.line
 
--- all lines of a text were told
-pub record Ended (K : Settings) (text : List ℕ) (held held' : Option (List ℕ)) (refused : Bool) : Type 0 where
-  pub replies : List (Option Reply)
-  pub answer : AllAnswer (places_of K (all_lines text)) replies
-  pub written : Appends held held' (numbered_from 1 replies)
-  pub refused_is : refused ≡ list_any is_refusal replies
+-- a phase was not served; or it was, and a beginning of it was printed
+abbrev pub Stopped : Serves → Meets → Script → (held held' : Option (List ℕ)) → Type 0
+Stopped serves meets s held held' = (held' ≡ held) ⊎ PhaseBegun serves meets s.first s.places.items s.lanes.items held held'
 
--- The input was read to its end. Each of its lines but the barriers has one reply, in the order of the lines, each under its
--- line's number; a line that is no call is refused as it is in a script of one lane.
-pub record Ran (K : Settings) (unread held unread' held' : Option (List ℕ)) (refused : Bool) : Type 0 where
-  pub text : List ℕ
-  pub read : Consumes unread unread' text
-  pub at_end : IsAtEnd unread'
-  pub told : Ended K text held held' refused
+-- ---- a step of the script, whatever was told before it
 
--- a beginning of what would be told of these lines was printed
-pub record Beginning (K : Settings) (lines : List Line) (held held' : Option (List ℕ)) : Type 0 where
-  pub replies : List (Option Reply)
-  pub answer : AllAnswer (places_of K lines) replies
-  pub written : AppendsBeginning held held' (numbered_from 1 replies)
+-- all was told of the lines before, and then of this one too
+abbrev pub TellsLine : Serves → Meets → Settings → Line → Script → Script → Option (List ℕ) → Option (List ℕ) → Type 0
+TellsLine serves meets K line s s' w w' = (ps : List Pass) (lines : List Line) (held : Option (List ℕ)) → Told serves meets K ps lines s held w → Told serves meets K ps (lines ++ line ∷ []) s' held w'
 
--- some input was read, and a beginning of replies to its whole lines was written
-pub record Broke (K : Settings) (unread held unread' held' : Option (List ℕ)) : Type 0 where
-  pub text : List ℕ
-  pub read : Consumes unread unread' text
-  pub begun : Beginning K (whole_lines text) held held'
+-- all was told of the lines before, and then a beginning
+abbrev pub BeginsLine : Serves → Meets → Settings → Line → Script → Option (List ℕ) → Option (List ℕ) → Type 0
+BeginsLine serves meets K line s w w' = (ps : List Pass) (lines : List Line) (held : Option (List ℕ)) → Told serves meets K ps lines s held w → Beginning serves meets K ps (lines ++ line ∷ []) held w'
 
--- the input was read to its end, and a beginning of replies to its lines was written
-pub record BrokeAtEnd (K : Settings) (unread held unread' held' : Option (List ℕ)) : Type 0 where
-  pub text : List ℕ
-  pub read : Consumes unread unread' text
-  pub at_end : IsAtEnd unread'
-  pub begun : Beginning K (all_lines text) held held'
+-- all was told of a text, and then of these bytes more
+abbrev pub TellsMore : Serves → Meets → Settings → List ℕ → Script → Script → Option (List ℕ) → Option (List ℕ) → Type 0
+TellsMore serves meets K more s s' w w' = (ps : List Pass) (text : List ℕ) (held : Option (List ℕ)) → TextTold serves meets K ps text s held w → TextTold serves meets K ps (text ++ more) s' held w'
 
-abbrev pub Halted : Settings → (unread held unread' held' : Option (List ℕ)) → Type 0
-Halted K unread held unread' held' = Broke K unread held unread' held' ⊎ BrokeAtEnd K unread held unread' held'
+-- all was told of a text, and then a beginning of it with these bytes
+abbrev pub BeginsMore : Serves → Meets → Settings → List ℕ → Script → Option (List ℕ) → Option (List ℕ) → Type 0
+BeginsMore serves meets K more s w w' = (ps : List Pass) (text : List ℕ) (held : Option (List ℕ)) → TextTold serves meets K ps text s held w → Beginning serves meets K ps (ended (Some []) (text ++ more)) held w'
+
+-- some text was read and told of, and then more of it
+abbrev pub ReadsOn : Serves → Meets → Settings → Script → Script → (r r' w w' : Option (List ℕ)) → Type 0
+ReadsOn serves meets K s s' r r' w w' = (ps : List Pass) (unread held : Option (List ℕ)) → Progress serves meets K ps s unread held r w → Progress serves meets K ps s' unread held r' w'
+
+-- some text was read and told of, and then a beginning of more
+abbrev pub Breaks : Serves → Meets → Settings → Script → (r r' w w' : Option (List ℕ)) → Type 0
+Breaks serves meets K s r r' w w' = (ps : List Pass) (unread held : Option (List ℕ)) → Progress serves meets K ps s unread held r w → Broke serves meets K ps unread held r' w'
+
+-- all was told of a text, and then of its last line too
+abbrev pub TellsAll : Serves → Meets → Settings → Script → Script → Option (List ℕ) → Option (List ℕ) → Type 0
+TellsAll serves meets K s s' w w' = (ps : List Pass) (text : List ℕ) (held : Option (List ℕ)) → TextTold serves meets K ps text s held w → Ended serves meets K ps text held w' s'.refused
+
+-- all was told of a text, and then a beginning of all its lines
+abbrev pub BeginsAll : Serves → Meets → Settings → Script → Option (List ℕ) → Option (List ℕ) → Type 0
+BeginsAll serves meets K s w w' = (ps : List Pass) (text : List ℕ) (held : Option (List ℕ)) → TextTold serves meets K ps text s held w → Beginning serves meets K ps (all_lines text) held w'

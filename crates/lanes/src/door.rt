@@ -3,6 +3,7 @@
 ghost use Rattle.std.specs.Prelude.{◌≡◌, IfOk};
 ghost use Rattle.service.specs.Services.{IsPassOf};
 ghost use Rattle.service.specs.Calls.{CallServed};
+ghost use Rattle.lanes.specs.Meetings.{PassesMet};
 
 use service::{Pass, Service};
 use service_model::answer::Reply;
@@ -22,6 +23,9 @@ pub trait Door {
     // A call of a pass that knew this, and then knew that, was answered so.
     ghost serves: { Self → Pass → Pass → Call → Reply → Type 0 };
 
+    // Two passes as they were, and as they are after they met.
+    ghost meets: { Self → Pass → Pass → Pass → Pass → Type 0 };
+
     /// Serves a call. It may wait for ever.
     fn call<R: Wait>(&self, rt: &R, pass: &mut Pass, call: Call) -> Result<Reply, AllocError>
         requires { admits self.now pass.old }
@@ -33,16 +37,20 @@ pub trait Door {
         requires one { admits self.now one.old }
         requires other { admits self.now other.old }
         ensures one { admits self.now one.new }
-        ensures other { admits self.now other.new };
+        ensures other { admits self.now other.new }
+        ensures met { meets self.now one.old other.old one.new other.new };
 }
 
 impl Door for Service {
     ghost use Rattle.service.specs.Services.{IsPassOf};
     ghost use Rattle.service.specs.Calls.{CallServed};
+    ghost use Rattle.lanes.specs.Meetings.{PassesMet};
 
     ghost admits = { λ x p. IsPassOf p x };
 
     ghost serves = { λ x p p' c r. CallServed x p p' c r };
+
+    ghost meets = { λ x p q p' q'. PassesMet x p q p' q' };
 
     fn call<R: Wait>(&self, rt: &R, pass: &mut Pass, call: Call) -> Result<Reply, AllocError> {
         self.serve_call(rt, pass, call)

@@ -1,6 +1,7 @@
 //! One lane.
 
-ghost use Rattle.std.specs.Prelude.{◌≡◌, OnOk};
+ghost use Rattle.std.specs.Prelude.{◌≡◌, [], ◌∷◌, ◌++◌, OnOk, OnErr, IfSome};
+ghost use Rattle.lanes.specs.Lanes.{AnsweredOne, Worked};
 
 use crate::door::Door;
 use service::Pass;
@@ -21,7 +22,9 @@ pub(crate) struct Lane {
 
 impl Lane {
     pub(crate) fn new(alloc: Global, pass: Pass) -> Lane
-        ensures { result.pass ≡ pass }
+        ensures pass { result.pass ≡ pass }
+        ensures asked { result.asked.items ≡ [] }
+        ensures answered { result.answered.items ≡ [] }
     {
         Lane {
             pass,
@@ -32,7 +35,9 @@ impl Lane {
 
     /// One call more.
     pub(crate) fn ask(&mut self, call: Call) -> Result<(), AllocError>
-        ensures { self.new.pass ≡ self.old.pass }
+        ensures pass { self.new.pass ≡ self.old.pass }
+        ensures asked { OnOk result (self.new.asked.items ≡ self.old.asked.items ++ call ∷ []) }
+        ensures answered { self.new.answered ≡ self.old.answered }
     {
         self.asked.push(call)?;
         Ok(())
@@ -40,7 +45,9 @@ impl Lane {
 
     /// The reply to the first call whose reply wasn't taken yet; none where memory ran out at it.
     pub(crate) fn next_reply(&mut self) -> Option<Reply>
-        ensures { self.new.pass ≡ self.old.pass }
+        ensures pass { self.new.pass ≡ self.old.pass }
+        ensures asked { self.new.asked ≡ self.old.asked }
+        ensures first { IfSome result (λ r. self.old.answered.items ≡ r ∷ self.new.answered.items) }
     {
         self.answered.pop_front()
     }
@@ -48,7 +55,8 @@ impl Lane {
     /// Makes the calls in their order, up to the first that memory runs out at.
     pub(crate) fn serve<R: Wait, D: Door>(&mut self, rt: &R, alloc: Global, door: &D)
         requires { D.admits door.now self.old.pass }
-        ensures { D.admits door.now self.new.pass }
+        ensures own { D.admits door.now self.new.pass }
+        ensures worked { Worked (D.serves door.now) self.old self.new }
     {
         let asked = mem::replace(&mut self.asked, Vec::new(alloc));
         for call in asked {
@@ -58,6 +66,7 @@ impl Lane {
         }
     }
 
+    /// Makes one call.
     fn serve_one<R: Wait, D: Door>(
         &mut self,
         rt: &R,
@@ -65,7 +74,10 @@ impl Lane {
         call: Call,
     ) -> Result<(), AllocError>
         requires { D.admits door.now self.old.pass }
-        ensures { D.admits door.now self.new.pass }
+        ensures own { D.admits door.now self.new.pass }
+        ensures asked { self.new.asked ≡ self.old.asked }
+        ensures answered { OnOk result (AnsweredOne (D.serves door.now) call self.old self.new) }
+        ensures kept { OnErr result (self.new.answered.items ≡ self.old.answered.items) }
     {
         let reply = door.call(rt, &mut self.pass, call)?;
         self.answered.push_back(reply)?;

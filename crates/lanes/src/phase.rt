@@ -2,7 +2,9 @@
 
 ghost use Rattle.std.specs.Prelude.{◌≡◌, ◌+◌, ◌<◌, ◌≤◌, ◌^◌, All, length, IfOk, IfErr, OnErr};
 ghost use Rattle.script.specs.Endings.{IsWriteFault};
-ghost use Rattle.lanes.specs.Printed.{Printed, Begun};
+ghost use Rattle.lanes.specs.Course.{AllMet};
+ghost use Rattle.lanes.specs.Lanes.{EachWorked, KeepsReplies, Worked, passes_of};
+ghost use Rattle.lanes.specs.Printed.{PhaseBegun, PhasePrinted};
 
 use crate::door::Door;
 use crate::lane::Lane;
@@ -25,6 +27,7 @@ fn serve_lanes<R: Threads + Wait + Sync, D: Door + Sync>(
     requires { All (λ l. D.admits door.now l.pass) lanes.old }
     ensures own { All (λ l. D.admits door.now l.pass) lanes.new }
     ensures count { length lanes.new ≡ length lanes.old }
+    ensures worked { EachWorked (D.serves door.now) lanes.old lanes.new }
 {
     let threads = lanes.len();
     if threads > 0 {
@@ -34,7 +37,8 @@ fn serve_lanes<R: Threads + Wait + Sync, D: Door + Sync>(
             threads,
             &|_, lane: &mut Lane|
                 requires { D.admits door.now lane.now.pass }
-                ensures { D.admits door.entry.now lane.exit.now.pass }
+                ensures own { D.admits door.entry.now lane.exit.now.pass }
+                ensures worked { Worked (D.serves door.entry.now) lane.entry.now lane.exit.now }
             { lane.serve(rt, alloc, door) },
         );
     }
@@ -45,6 +49,8 @@ fn meet_all<D: Door>(door: &D, lanes: &mut [Lane])
     requires { All (λ l. D.admits door.now l.pass) lanes.old }
     ensures own { All (λ l. D.admits door.now l.pass) lanes.new }
     ensures count { length lanes.new ≡ length lanes.old }
+    ensures met { AllMet (D.meets door.now) (passes_of lanes.old) (passes_of lanes.new) }
+    ensures kept { KeepsReplies lanes.old lanes.new }
 {
     if let Some((first, rest)) = lanes.split_first_mut() {
         for other in rest {
@@ -68,9 +74,11 @@ pub(crate) fn serve_phase<R: Threads + Wait + Sync, D: Door + Sync, W: Write>(
     requires numbers { first + length places.now < 2 ^ 64 }
     ensures own { All (λ l. D.admits door.now l.pass) lanes.new }
     ensures count { length lanes.new ≡ length lanes.old }
-    ensures printed { IfOk result (λ refused. Printed first places.now refused
+    ensures printed { IfOk result (λ refused. PhasePrinted (D.serves door.now) (D.meets door.now)
+        first places.now lanes.old lanes.new refused
         (W.contents writer.old.inner) (W.contents writer.new.inner)) }
-    ensures begun { OnErr result (Begun first places.now
+    ensures begun { OnErr result (PhaseBegun (D.serves door.now) (D.meets door.now)
+        first places.now lanes.old
         (W.contents writer.old.inner) (W.contents writer.new.inner)) }
     ensures grows { writer.old.failures ≤ writer.new.failures }
     ensures fault { IfErr result (λ e. IsWriteFault e writer.old.failures writer.new.failures) }

@@ -1,9 +1,10 @@
 //! The replies of a phase, in the order of its lines.
 
-ghost use Rattle.std.specs.Prelude.{◌≡◌, ◌+◌, ◌<◌, ◌≤◌, ◌^◌, length, map, IfOk, IfErr, OnErr};
+ghost use Rattle.std.specs.Prelude.{◌≡◌, ◌+◌, ◌<◌, ◌≤◌, ◌^◌, [], ◌∷◌, length, slice_get, IfOk, IfErr, OnErr};
 ghost use Rattle.script.specs.Endings.{IsWriteFault};
 ghost use Rattle.script.specs.declared.fault.ScriptFault.TheVariants.{Memory};
-ghost use Rattle.lanes.specs.Printed.{Answers, IsThere, Printed, PrintedOne, Begun, BegunOne};
+ghost use Rattle.lanes.specs.Lanes.{Took, TookIn, passes_of};
+ghost use Rattle.lanes.specs.Printed.{Begun, Printed, PrintedOne};
 
 use crate::lane::Lane;
 use script::ScriptFault;
@@ -30,8 +31,8 @@ pub(crate) enum Place {
 /// # Errors
 /// A call has none where memory ran out in its lane.
 fn reply_at(lanes: &mut [Lane], place: Place) -> Result<Option<Reply>, ScriptFault>
-    ensures passes { map (λ l. l.pass) lanes.new ≡ map (λ l. l.pass) lanes.old }
-    ensures reply { IfOk result (λ r. Answers place r) }
+    ensures passes { passes_of lanes.new ≡ passes_of lanes.old }
+    ensures took { IfOk result (λ r. Took lanes.old place r lanes.new) }
     ensures fault { IfErr result (λ e. e ≡ Memory) }
 {
     match place {
@@ -46,8 +47,8 @@ fn reply_at(lanes: &mut [Lane], place: Place) -> Result<Option<Reply>, ScriptFau
 /// # Errors
 /// There is none where memory ran out in the lane.
 fn reply_of(lanes: &mut [Lane], lane: usize) -> Result<Option<Reply>, ScriptFault>
-    ensures passes { map (λ l. l.pass) lanes.new ≡ map (λ l. l.pass) lanes.old }
-    ensures reply { IfOk result IsThere }
+    ensures passes { passes_of lanes.new ≡ passes_of lanes.old }
+    ensures took { IfOk result (λ r. TookIn lane (slice_get lanes.old lane) lanes.old r lanes.new) }
     ensures fault { IfErr result (λ e. e ≡ Memory) }
 {
     if lane >= lanes.len() {
@@ -68,10 +69,10 @@ fn print_one<W: Write>(
     place: Place,
     writer: &mut Counted<W>,
 ) -> Result<bool, ScriptFault>
-    ensures passes { map (λ l. l.pass) lanes.new ≡ map (λ l. l.pass) lanes.old }
-    ensures printed { IfOk result (λ refused. PrintedOne number place refused
+    ensures passes { passes_of lanes.new ≡ passes_of lanes.old }
+    ensures printed { IfOk result (λ refused. PrintedOne number place lanes.old lanes.new refused
         (W.contents writer.old.inner) (W.contents writer.new.inner)) }
-    ensures begun { OnErr result (BegunOne number place
+    ensures begun { OnErr result (Begun number (place ∷ []) lanes.old
         (W.contents writer.old.inner) (W.contents writer.new.inner)) }
     ensures grows { writer.old.failures ≤ writer.new.failures }
     ensures fault { IfErr result (λ e. IsWriteFault e writer.old.failures writer.new.failures) }
@@ -96,10 +97,10 @@ pub(crate) fn print<W: Write>(
     writer: &mut Counted<W>,
 ) -> Result<bool, ScriptFault>
     requires { first + length places.now < 2 ^ 64 }
-    ensures passes { map (λ l. l.pass) lanes.new ≡ map (λ l. l.pass) lanes.old }
-    ensures printed { IfOk result (λ refused. Printed first places.now refused
+    ensures passes { passes_of lanes.new ≡ passes_of lanes.old }
+    ensures printed { IfOk result (λ refused. Printed first places.now lanes.old lanes.new refused
         (W.contents writer.old.inner) (W.contents writer.new.inner)) }
-    ensures begun { OnErr result (Begun first places.now
+    ensures begun { OnErr result (Begun first places.now lanes.old
         (W.contents writer.old.inner) (W.contents writer.new.inner)) }
     ensures grows { writer.old.failures ≤ writer.new.failures }
     ensures fault { IfErr result (λ e. IsWriteFault e writer.old.failures writer.new.failures) }

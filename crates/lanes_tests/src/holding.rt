@@ -63,6 +63,8 @@ impl Door for HoldingDoor {
 
     ghost serves = { λ d p p' c r. ⊤ };
 
+    ghost meets = { λ d p q p' q'. ⊤ };
+
     fn call<R: Wait>(&self, _rt: &R, _pass: &mut Pass, call: Call) -> Result<Reply, AllocError> {
         let shard = shard_of(&call);
         if shard == self.held {

@@ -1,5 +1,6 @@
 pub mod Steps
 pub mod LineLemmas
+mod PartLemmas
 pub mod OutputLemmas
 pub mod EndLemmas
 pub mod OnePassLemmas

@@ -18,7 +18,7 @@ last_part [] = []
 last_part (part ∷ []) = part
 last_part (part ∷ next ∷ more) = last_part (next ∷ more)
 
-longer-within : (l : List ℕ) (b : ℕ) → longer (within_limit l) b ≡ within_limit (l ++ b ∷ [])
+pub longer-within : (l : List ℕ) (b : ℕ) → longer (within_limit l) b ≡ within_limit (l ++ b ∷ [])
 longer-within l b = go (nat_lt limit (length l)) (nat_lt limit (length (l ++ b ∷ []))) refl refl
   where
     more : length (l ++ b ∷ []) ≡ length l + 1

@@ -1,5 +1,5 @@
 -- the one pass of a service that was just opened
-use Rattle.std.proofs.Common.{◌≡◌, ℕ, ◌+◌, ◌*◌, ◌<◌, List, [], ◌∷◌, ◌++◌, length, refl, sym, ap, ◌∙◌, arith, zero, suc, Option, None, Some, slice_index_or, subst, length-append, replicate}
+use Rattle.std.proofs.Common.{◌≡◌, ℕ, ◌+◌, ◌*◌, ◌<◌, List, [], ◌∷◌, ◌++◌, length, refl, sym, ap, ◌∙◌, arith, zero, suc, Some, slice_index_or, length-append, replicate}
 use Rattle.std.specs.Prelude.{map, slice_get}
 use Rattle.std.specs.List.{range_with_len}
 use Rattle.std.proofs.lemmas.List.{length-map}
@@ -11,9 +11,7 @@ use Rattle.service_model.specs.Service.{after, opening}
 use Rattle.service_model.proofs.ListLemmas.{get-map}
 use Rattle.gate.specs.Passes as gate
 use Rattle.gate.specs.Records.{replay}
-use Rattle.matching.specs.declared.queue.HintPass.{HintPass}
-use Rattle.matching.specs.declared.view.View.{View as HintView}
-use Rattle.matching.specs.Alone.{IsAlone, waiting_of}
+use Rattle.matching.specs.Alone.{waiting_of}
 use Rattle.matching.specs.Named.{at}
 use Rattle.matching.specs.Plays.{fresh, nobody}
 use Rattle.matching.specs.Queues as one

@@ -1,7 +1,6 @@
 -- Progress, step by step.
-use Rattle.std.proofs.Common.{◌≡◌, ℕ, List, [], ◌∷◌, ◌++◌, take, drop, Bool, true, false, cond, eqb, Option, Some, Result, Ok, Err, OnOk, OnErr, ◌<◌, ◌+◌, length, get_or, subst, refl, sym, ap, ◌∙◌, append_assoc}
-use Rattle.std.proofs.lemmas.List.{append-nil, take-append-drop, take_more}
-use Rattle.std.specs.Io.KnownBytes.{Appends, Consumes, Keeps}
+use Rattle.std.proofs.Common.{◌≡◌, ℕ, List, [], ◌∷◌, ◌++◌, Bool, true, false, cond, eqb, Option, Some, Result, Ok, Err, OnErr, refl, sym, ap, ◌∙◌, append_assoc}
+use Rattle.std.specs.Io.KnownBytes.{Consumes, Keeps}
 use Rattle.wire_counted.specs.Written.{AppendsBeginning}
 use Rattle.wire_counted.proofs.Known.{Appends-none, Appends-then, Appends-keeps, Consumes-none, Consumes-then, Consumes-keeps, beginning_of_nothing, beginning_of_all, beginning_of_more, beginning_behind}
 use Rattle.script.specs.Lines.{Line}
@@ -65,43 +64,8 @@ Served-begun c p w a c1 p1 w1 b w2 s h =
     let second : AppendsBeginning w1 w2 (lines_text (after_lines c (ended p a)) (ended (left p a) b)) = rw (← s.cursor_is, ← s.line_is) h in
     rw (both_texts c p a b) (beginning_behind w w1 w2 (lines_text c (ended p a)) (lines_text (after_lines c (ended p a)) (ended (left p a) b)) s.written second)
 
-begun_longer : (c : Cursor) (p : Line) (w w' : Option (List ℕ)) (a b : List ℕ) → AppendsBeginning w w' (lines_text c (ended p a)) → AppendsBeginning w w' (lines_text c (ended p (a ++ b)))
+pub begun_longer : (c : Cursor) (p : Line) (w w' : Option (List ℕ)) (a b : List ℕ) → AppendsBeginning w w' (lines_text c (ended p a)) → AppendsBeginning w w' (lines_text c (ended p (a ++ b)))
 begun_longer c p w w' a b h = rw (both_texts c p a b) (beginning_of_more w w' (lines_text c (ended p a)) (lines_text (after_lines c (ended p a)) (ended (left p a) b)) h)
-
--- ---- one byte
-
-pub Served-end : {E : Type 0} (r : Result (Unit {0}) E) (c : Cursor) (p : Line) (w : Option (List ℕ)) (b : ℕ) (c' : Cursor) (p' : Line) (w' : Option (List ℕ)) → eqb b 10 ≡ true
-    → OnOk r (p' ≡ Some []) → OnOk r (c' ≡ after_line c p) → OnOk r (Appends w w' (line_text c p)) → OnOk r (Served c p w (b ∷ []) c' p' w')
-unfolding ended left
-Served-end (Ok u) c p w b c' p' w' t line cursor written =
-    record { line_is = rw t line; cursor_is = rw t cursor; written = rw (t, append-nil (line_text c p)) written }
-Served-end (Err e) c p w b c' p' w' t line cursor written = tt
-
-pub begun_end : {E : Type 0} (r : Result (Unit {0}) E) (c : Cursor) (p : Line) (w w' : Option (List ℕ)) (b : ℕ) → eqb b 10 ≡ true
-    → OnErr r (AppendsBeginning w w' (line_text c p)) → OnErr r (AppendsBeginning w w' (lines_text c (ended p (b ∷ []))))
-unfolding ended
-begun_end (Ok u) c p w w' b t begun = tt
-begun_end (Err e) c p w w' b t begun = rw (t, append-nil (line_text c p)) begun
-
-pub Served-keep : (c : Cursor) (p : Line) (w : Option (List ℕ)) (b : ℕ) (c' : Cursor) (p' : Line) → eqb b 10 ≡ false
-    → p' ≡ longer p b → c' ≡ c → Served c p w (b ∷ []) c' p' w
-unfolding ended left
-Served-keep c p w b c' p' t line cursor = record { line_is = rw t line; cursor_is = rw t cursor; written = rw t (Appends-none w) }
-
--- ---- one byte of a chunk
-
-pub feed_served : (c : Cursor) (p : Line) (w : Option (List ℕ)) (chunk : List ℕ) (i : ℕ) (c1 : Cursor) (p1 : Line) (w1 : Option (List ℕ)) (c2 : Cursor) (p2 : Line) (w2 : Option (List ℕ)) → i < length chunk
-    → Served c p w (take i chunk) c1 p1 w1 → Served c1 p1 w1 (get_or chunk i 0 ∷ []) c2 p2 w2 → Served c p w (take (i + 1) chunk) c2 p2 w2
-feed_served c p w chunk i c1 p1 w1 c2 p2 w2 lt s t = rw (take_more chunk i 0 lt) (Served-then c p w (take i chunk) c1 p1 w1 (get_or chunk i 0 ∷ []) c2 p2 w2 s t)
-
-pub feed_begun : (c : Cursor) (p : Line) (w : Option (List ℕ)) (chunk : List ℕ) (i : ℕ) (c1 : Cursor) (p1 : Line) (w1 w2 : Option (List ℕ)) → i < length chunk
-    → Served c p w (take i chunk) c1 p1 w1 → AppendsBeginning w1 w2 (lines_text c1 (ended p1 (get_or chunk i 0 ∷ []))) → AppendsBeginning w w2 (lines_text c (ended p chunk))
-feed_begun c p w chunk i c1 p1 w1 w2 lt s h =
-    let some = Served-begun c p w (take i chunk) c1 p1 w1 (get_or chunk i 0 ∷ []) w2 s h in
-    let front : AppendsBeginning w w2 (lines_text c (ended p (take (i + 1) chunk))) = rw (take_more chunk i 0 lt) some in
-    let all = begun_longer c p w w2 (take (i + 1) chunk) (drop (i + 1) chunk) front in
-    let P : List ℕ → Type 0 = λ t. AppendsBeginning w w2 (lines_text c (ended p t)) in
-    subst P (take-append-drop (i + 1) chunk) all
 
 pub on_any_err : {T E : Type 0} (r : Result T E) (P : Type 0) → P → OnErr r P
 on_any_err (Ok x) P p = tt

@@ -6,7 +6,6 @@ use Rattle.service_model.specs.Outcome.{Reply}
 use Rattle.wire_replies.specs.Replies.{reply_line}
 use Rattle.wire_requests.specs.declared.calls.Asked.{Asked}
 use Rattle.wire_requests.specs.declared.calls.Asked.TheVariants.{Barrier, Call as in_a_lane}
-use Rattle.wire_requests.specs.declared.calls.LaneCall.{LaneCall}
 use Rattle.service.specs.Ranges.{are_queues}
 use Rattle.script.specs.Asked.{asked}
 use Rattle.script.specs.Lines.{Line}

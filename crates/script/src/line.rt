@@ -1,8 +1,9 @@
-//! A line as it comes in, byte by byte.
+//! A line as it comes in, by parts.
 
-ghost use Rattle.std.specs.Prelude.{◌≡◌, [], Some, OnOk, option_map};
-ghost use Rattle.script.specs.Pending.{longer, is_empty_line};
+ghost use Rattle.std.specs.Prelude.{◌≡◌, [], ◌∷◌, ◌++◌, false, Some, IfSome, IfNone, OnOk, option_map};
+ghost use Rattle.script.specs.Pending.{longer, grown, is_empty_line, has_feed};
 
+use memchr::memchr;
 use std::alloc::{AllocError, Global};
 use std::marker::Model;
 
@@ -46,6 +47,34 @@ impl Line {
         Ok(())
     }
 
+    /// More bytes. A line that grows past the limit gives its memory up.
+    pub fn extend(&mut self, part: &[u8]) -> Result<(), AllocError>
+        ensures { OnOk result (self.new ≡ grown self.old part.now) }
+    {
+        if part.is_empty() {
+            return Ok(());
+        }
+        let Some(bytes) = &mut self.bytes else {
+            return Ok(());
+        };
+        if bytes.len() + part.len() > LINE_LIMIT {
+            self.bytes = None;
+            return Ok(());
+        }
+        bytes.extend_from_slice(part)?;
+        Ok(())
+    }
+
+    /// Begins the next line, in the memory of this one.
+    pub fn clear(&mut self, alloc: Global)
+        ensures { self.new ≡ Some [] }
+    {
+        match &mut self.bytes {
+            Some(bytes) => bytes.clear(),
+            None => self.bytes = Some(Vec::new(alloc)),
+        }
+    }
+
     pub fn is_empty(&self) -> bool
         ensures { result ≡ is_empty_line self.now }
     {
@@ -64,4 +93,17 @@ impl Line {
             None => None,
         }
     }
+}
+
+/// What stands before the first line feed and what stands behind it, where there is one.
+pub(crate) fn cut(text: &[u8]) -> Option<(&[u8], &[u8])>
+    ensures parts { IfSome result (λ p. text.now ≡ p.0.now ++ 10 ∷ p.1.now) }
+    ensures first { IfSome result (λ p. has_feed p.0.now ≡ false) }
+    ensures none { IfNone result (has_feed text.now ≡ false) }
+{
+    let Some(at) = memchr(b'\n', text) else {
+        return None;
+    };
+    let (line, rest) = text.split_at(at);
+    Some((line, &rest[1..]))
 }

@@ -1,6 +1,6 @@
 -- the members of a reply, by its answer: the answer's name under `ok`, and what it says
 use Rattle.std.specs.Prelude.{ℕ, List, Bool, codes}
-use Rattle.serde_json.specs.Data.{Members, put}
+use Rattle.serde_json.specs.Data.{Members, no_members, put}
 use Rattle.wf_event_values.specs.declared.policies.Cause.{Cause}
 use Rattle.wf_event_values.specs.declared.policies.RetryState.{RetryState}
 use Rattle.wf_event_values.specs.Names.{cause_name, class_name, retry_state_name, status_name}
@@ -16,6 +16,10 @@ use Rattle.service_model.specs.declared.answer.Retrying.{Retrying}
 use Rattle.wire_events.specs.Events.{event_list}
 use Rattle.wire_events.specs.Members.{◌▸◌, boolean_member, number_member, run_member, text_member}
 use Rattle.wire_replies.specs.Tasks.{workflow_task_members, activity_task_members}
+
+-- the number of the line that is answered
+abbrev pub line_member : ℕ → Members
+line_member line = no_members ▸ number_member (codes "line") line
 
 -- an answer's name
 abbrev pub ok_member : List ℕ → Members → Members

@@ -1,100 +1,106 @@
-//! The members of a reply, by its answer.
+//! The members of a reply, by its answer, in the order of their keys.
+#![tactic(auto, unfolding(wire_events::specs::Pages::add_members, crate::specs::Answers::history_members, crate::specs::Answers::count_members, crate::specs::Answers::description_members, crate::specs::Answers::fired_members))]
 
 ghost use Rattle.std.specs.Prelude.{◌≡◌, OnOk};
-ghost use Rattle.wire_events.specs.Trees.{members_of};
-ghost use Rattle.wire_replies.specs.Answers.{with_run, with_number, task_failed_members, activity_failed_members, retrying_members, heartbeat_members, history_members, count_members, description_members, fired_members, acknowledged_name, answer_members};
+ghost use Rattle.wire_events.specs.Pages.{sheet_of, add_members};
+ghost use Rattle.wire_replies.specs.Answers.{with_run, with_number, task_failed_members, activity_failed_members, retrying_members, heartbeat_members, history_members, description_members, fired_members, acknowledged_name, answer_members, line_member, ok_member};
 
 use crate::tasks::{put_activity_task, put_workflow_task};
 use service_model::answer::{Acknowledged, Answer, Description, Fired, History, Retrying};
 use std::alloc::AllocError;
 use wf_event_values::{Cause, RetryState, RunId};
-use wire_events::{Fields, event_list};
+use wire_events::{Page, put_event_list};
 
-fn put_with_run(fields: &mut Fields, ok: &str, run: RunId) -> Result<(), AllocError>
-    ensures { OnOk result (members_of fields.new ≡ with_run ok.now run (members_of fields.old)) }
+fn put_ok(page: &mut Page, line: u64, ok: &str) -> Result<(), AllocError>
+    ensures { OnOk result (sheet_of page.new
+        ≡ add_members (ok_member ok.now (line_member line)) (sheet_of page.old)) }
 {
-    fields.text("ok", ok)?;
-    fields.run("run", run)
+    page.number("line", line)?;
+    page.text("ok", ok)
 }
 
-fn put_with_number(fields: &mut Fields, ok: &str, number: u64) -> Result<(), AllocError>
-    ensures { OnOk result (members_of fields.new ≡ with_number ok.now number (members_of fields.old)) }
+fn put_with_run(page: &mut Page, line: u64, ok: &str, run: RunId) -> Result<(), AllocError>
+    ensures { OnOk result (sheet_of page.new
+        ≡ add_members (with_run ok.now run (line_member line)) (sheet_of page.old)) }
 {
-    fields.text("ok", ok)?;
-    fields.number("number", number)
+    put_ok(page, line, ok)?;
+    page.run("run", run)
 }
 
-fn put_task_failed(fields: &mut Fields, cause: Cause) -> Result<(), AllocError>
-    ensures { OnOk result (members_of fields.new ≡ task_failed_members cause (members_of fields.old)) }
+fn put_with_number(page: &mut Page, line: u64, ok: &str, number: u64) -> Result<(), AllocError>
+    ensures { OnOk result (sheet_of page.new
+        ≡ add_members (with_number ok.now number (line_member line)) (sheet_of page.old)) }
 {
-    fields.text("ok", "task_failed")?;
-    fields.text("cause", cause.name())
+    page.number("line", line)?;
+    page.number("number", number)?;
+    page.text("ok", ok)
 }
 
-fn put_activity_failed(fields: &mut Fields, state: RetryState) -> Result<(), AllocError>
-    ensures { OnOk result (members_of fields.new ≡ activity_failed_members state (members_of fields.old)) }
+fn put_task_failed(page: &mut Page, line: u64, cause: Cause) -> Result<(), AllocError>
+    ensures { OnOk result (sheet_of page.new
+        ≡ add_members (task_failed_members cause (line_member line)) (sheet_of page.old)) }
 {
-    fields.text("ok", "failed")?;
-    fields.text("retry", state.name())
+    page.text("cause", cause.name())?;
+    put_ok(page, line, "task_failed")
 }
 
-fn put_retrying(fields: &mut Fields, retrying: Retrying) -> Result<(), AllocError>
-    ensures { OnOk result (members_of fields.new ≡ retrying_members retrying (members_of fields.old)) }
+fn put_activity_failed(page: &mut Page, line: u64, state: RetryState) -> Result<(), AllocError>
+    ensures { OnOk result (sheet_of page.new
+        ≡ add_members (activity_failed_members state (line_member line)) (sheet_of page.old)) }
 {
-    fields.text("ok", "retrying")?;
-    fields.number("attempt", u64::from(retrying.attempt))?;
-    fields.number("ready", retrying.ready)
+    put_ok(page, line, "failed")?;
+    page.text("retry", state.name())
 }
 
-fn put_heartbeat(fields: &mut Fields, cancel_requested: bool) -> Result<(), AllocError>
-    ensures { OnOk result (members_of fields.new ≡ heartbeat_members cancel_requested (members_of fields.old)) }
+fn put_retrying(page: &mut Page, line: u64, retrying: Retrying) -> Result<(), AllocError>
+    ensures { OnOk result (sheet_of page.new
+        ≡ add_members (retrying_members retrying (line_member line)) (sheet_of page.old)) }
 {
-    fields.text("ok", "heartbeat")?;
-    fields.boolean("cancel_requested", cancel_requested)
+    page.number("attempt", u64::from(retrying.attempt))?;
+    put_ok(page, line, "retrying")?;
+    page.number("ready", retrying.ready)
 }
 
-#[tactic(auto, unfolding(crate::specs::Answers::history_members))]
-pub(crate) fn put_history(fields: &mut Fields, history: &History) -> Result<(), AllocError>
-    ensures { OnOk result (members_of fields.new ≡ history_members history.now (members_of fields.old)) }
+fn put_heartbeat(page: &mut Page, line: u64, cancel_requested: bool) -> Result<(), AllocError>
+    ensures { OnOk result (sheet_of page.new
+        ≡ add_members (heartbeat_members cancel_requested (line_member line)) (sheet_of page.old)) }
 {
-    put_with_run(fields, "history", history.run)?;
-    fields.tree(
-        "events",
-        event_list(fields.alloc(), history.events.as_slice())?,
-    )
+    page.boolean("cancel_requested", cancel_requested)?;
+    put_ok(page, line, "heartbeat")
 }
 
-/// How many of each there are.
-#[tactic(auto, unfolding(crate::specs::Answers::count_members))]
-fn put_counts(fields: &mut Fields, description: &Description) -> Result<(), AllocError>
-    ensures { OnOk result (members_of fields.new ≡ count_members description.now (members_of fields.old)) }
+/// The history's events, from its own list.
+pub(crate) fn put_history(page: &mut Page, line: u64, history: &History) -> Result<(), AllocError>
+    ensures { OnOk result (sheet_of page.new
+        ≡ add_members (history_members history.now (line_member line)) (sheet_of page.old)) }
 {
-    fields.number("activities", description.activities)?;
-    fields.number("cancels", description.cancels)?;
-    fields.number("children", description.children)?;
-    fields.number("held", description.held)?;
-    fields.number("length", description.length)?;
-    fields.number("signals", description.signals)?;
-    fields.number("timers", description.timers)
+    put_event_list(page, "events", history.events.as_slice())?;
+    put_with_run(page, line, "history", history.run)
 }
 
-#[tactic(auto, unfolding(crate::specs::Answers::description_members))]
-fn put_description(fields: &mut Fields, description: &Description) -> Result<(), AllocError>
-    ensures { OnOk result (members_of fields.new ≡ description_members description.now (members_of fields.old)) }
+fn put_description(page: &mut Page, line: u64, description: &Description) -> Result<(), AllocError>
+    ensures { OnOk result (sheet_of page.new
+        ≡ add_members (description_members description.now (line_member line)) (sheet_of page.old)) }
 {
-    put_with_run(fields, "described", description.run)?;
-    fields.text("status", description.status.name())?;
-    put_counts(fields, description)
+    page.number("activities", description.activities)?;
+    page.number("cancels", description.cancels)?;
+    page.number("children", description.children)?;
+    page.number("held", description.held)?;
+    page.number("length", description.length)?;
+    put_with_run(page, line, "described", description.run)?;
+    page.number("signals", description.signals)?;
+    page.text("status", description.status.name())?;
+    page.number("timers", description.timers)
 }
 
-#[tactic(auto, unfolding(crate::specs::Answers::fired_members))]
-fn put_fired(fields: &mut Fields, fired: Fired) -> Result<(), AllocError>
-    ensures { OnOk result (members_of fields.new ≡ fired_members fired (members_of fields.old)) }
+fn put_fired(page: &mut Page, line: u64, fired: Fired) -> Result<(), AllocError>
+    ensures { OnOk result (sheet_of page.new
+        ≡ add_members (fired_members fired (line_member line)) (sheet_of page.old)) }
 {
-    put_with_run(fields, "fired", fired.run)?;
-    fields.text("class", fired.class.name())?;
-    fields.number("due", fired.due)?;
-    fields.number("event", fired.event)
+    page.text("class", fired.class.name())?;
+    page.number("due", fired.due)?;
+    page.number("event", fired.event)?;
+    put_with_run(page, line, "fired", fired.run)
 }
 
 fn acknowledged_name(acknowledged: Acknowledged) -> &'static str
@@ -107,45 +113,46 @@ fn acknowledged_name(acknowledged: Acknowledged) -> &'static str
     }
 }
 
-/// The answer's name under `ok`, and what it says.
-pub(crate) fn put_answer(fields: &mut Fields, answer: &Answer) -> Result<(), AllocError>
-    ensures { OnOk result (members_of fields.new ≡ answer_members answer.now (members_of fields.old)) }
+/// The line's number, the answer's name under `ok`, and what it says.
+pub(crate) fn put_answer(page: &mut Page, line: u64, answer: &Answer) -> Result<(), AllocError>
+    ensures { OnOk result (sheet_of page.new
+        ≡ add_members (answer_members answer.now (line_member line)) (sheet_of page.old)) }
 {
     match answer {
-        Answer::Started(run) => put_with_run(fields, "started", *run),
-        Answer::Existing(run) => put_with_run(fields, "existing", *run),
-        Answer::Signaled => fields.text("ok", "signaled"),
-        Answer::Repeated => fields.text("ok", "repeated"),
-        Answer::SignaledRun(run) => put_with_run(fields, "signaled", *run),
-        Answer::RepeatedRun(run) => put_with_run(fields, "repeated", *run),
-        Answer::CancelRequested => fields.text("ok", "cancel_requested"),
-        Answer::Terminated => fields.text("ok", "terminated"),
-        Answer::WorkflowTask(task) => put_workflow_task(fields, task),
-        Answer::ActivityTask(task) => put_activity_task(fields, task),
-        Answer::Stale => fields.text("ok", "stale"),
-        Answer::Completed => fields.text("ok", "completed"),
-        Answer::TaskFailed(cause) => put_task_failed(fields, *cause),
-        Answer::Failed => fields.text("ok", "failed"),
-        Answer::ActivityCompleted => fields.text("ok", "completed"),
-        Answer::Retrying(retrying) => put_retrying(fields, *retrying),
-        Answer::ActivityFailed(state) => put_activity_failed(fields, *state),
-        Answer::ActivityCanceled => fields.text("ok", "canceled"),
-        Answer::Heartbeat(cancel_requested) => put_heartbeat(fields, *cancel_requested),
-        Answer::History(history) => put_history(fields, history),
-        Answer::Described(description) => put_description(fields, description),
-        Answer::Fired(fired) => put_fired(fields, *fired),
-        Answer::NothingDue => fields.text("ok", "none"),
-        Answer::Transfer(transfer) => put_with_number(fields, "taken", transfer.number),
-        Answer::NoTransfer => fields.text("ok", "none"),
-        Answer::Accepted(number) => put_with_number(fields, "accepted", *number),
-        Answer::AlreadyDelivered(number) => put_with_number(fields, "already", *number),
-        Answer::OutOfOrder(number) => put_with_number(fields, "out_of_order", *number),
-        Answer::Counted(acknowledged) => fields.text("ok", acknowledged_name(*acknowledged)),
-        Answer::Dispatch(dispatch) => put_with_number(fields, "taken", dispatch.number),
-        Answer::NoDispatch => fields.text("ok", "none"),
-        Answer::Empty => fields.text("ok", "empty"),
-        Answer::Taken(number) => put_with_number(fields, "taken", *number),
-        Answer::Pushed(number) => put_with_number(fields, "pushed", *number),
-        Answer::Dispatched(number) => put_with_number(fields, "dispatched", *number),
+        Answer::Started(run) => put_with_run(page, line, "started", *run),
+        Answer::Existing(run) => put_with_run(page, line, "existing", *run),
+        Answer::Signaled => put_ok(page, line, "signaled"),
+        Answer::Repeated => put_ok(page, line, "repeated"),
+        Answer::SignaledRun(run) => put_with_run(page, line, "signaled", *run),
+        Answer::RepeatedRun(run) => put_with_run(page, line, "repeated", *run),
+        Answer::CancelRequested => put_ok(page, line, "cancel_requested"),
+        Answer::Terminated => put_ok(page, line, "terminated"),
+        Answer::WorkflowTask(task) => put_workflow_task(page, line, task),
+        Answer::ActivityTask(task) => put_activity_task(page, line, task),
+        Answer::Stale => put_ok(page, line, "stale"),
+        Answer::Completed => put_ok(page, line, "completed"),
+        Answer::TaskFailed(cause) => put_task_failed(page, line, *cause),
+        Answer::Failed => put_ok(page, line, "failed"),
+        Answer::ActivityCompleted => put_ok(page, line, "completed"),
+        Answer::Retrying(retrying) => put_retrying(page, line, *retrying),
+        Answer::ActivityFailed(state) => put_activity_failed(page, line, *state),
+        Answer::ActivityCanceled => put_ok(page, line, "canceled"),
+        Answer::Heartbeat(cancel_requested) => put_heartbeat(page, line, *cancel_requested),
+        Answer::History(history) => put_history(page, line, history),
+        Answer::Described(description) => put_description(page, line, description),
+        Answer::Fired(fired) => put_fired(page, line, *fired),
+        Answer::NothingDue => put_ok(page, line, "none"),
+        Answer::Transfer(transfer) => put_with_number(page, line, "taken", transfer.number),
+        Answer::NoTransfer => put_ok(page, line, "none"),
+        Answer::Accepted(number) => put_with_number(page, line, "accepted", *number),
+        Answer::AlreadyDelivered(number) => put_with_number(page, line, "already", *number),
+        Answer::OutOfOrder(number) => put_with_number(page, line, "out_of_order", *number),
+        Answer::Counted(acknowledged) => put_ok(page, line, acknowledged_name(*acknowledged)),
+        Answer::Dispatch(dispatch) => put_with_number(page, line, "taken", dispatch.number),
+        Answer::NoDispatch => put_ok(page, line, "none"),
+        Answer::Empty => put_ok(page, line, "empty"),
+        Answer::Taken(number) => put_with_number(page, line, "taken", *number),
+        Answer::Pushed(number) => put_with_number(page, line, "pushed", *number),
+        Answer::Dispatched(number) => put_with_number(page, line, "dispatched", *number),
     }
 }

@@ -1,62 +1,74 @@
 //! Replies as lines.
 
-ghost use Rattle.std.specs.Prelude.{◌≡◌, OnOk, Ok, IfOk, string_bytes};
+ghost use Rattle.std.specs.Prelude.{◌≡◌, ◌++◌, ◌∷◌, [], OnOk, Ok, IfOk, string_bytes};
 ghost use Rattle.service_model.specs.declared.answer.Answer.TheVariants as answer;
-ghost use Rattle.wire_events.specs.Trees.{tree_of, members_of};
-ghost use Rattle.wire_replies.specs.Replies.{detail_members, refusal_members, reply_tree, reply_line, line_of};
+ghost use Rattle.wire_events.specs.Pages.{sheet_of, text_of, blank, add_members, add_value};
+ghost use Rattle.wire_replies.specs.Answers.{line_member};
+ghost use Rattle.wire_replies.specs.Replies.{refusal_members, reply_tree, reply_line, line_of};
 
 use crate::answers::{put_answer, put_history};
 use service_model::answer::{History, Reply};
 use std::alloc::{AllocError, Global};
 use wf_event_values::Refusal;
-use wire_events::{Fields, Tree};
+use wire_events::Page;
 
-/// What a refusal says besides its name and number.
-fn put_details(fields: &mut Fields, refusal: &Refusal) -> Result<(), AllocError>
-    ensures { OnOk result (members_of fields.new ≡ detail_members refusal.now (members_of fields.old)) }
+/// The bytes that a reply's text has room for before it grows: most replies are shorter.
+const USUAL_LENGTH: usize = 256;
+
+/// A page with room for a usual reply.
+fn page(alloc: Global) -> Result<Page, AllocError>
+    ensures { IfOk result (λ p. sheet_of p ≡ blank []) }
 {
-    match refusal {
-        Refusal::InvalidArgument(field) => fields.text("field", field.name()),
-        Refusal::AlreadyStarted(run) => fields.run("run", *run),
-        _ => Ok(()),
+    let text = String::with_capacity(alloc, USUAL_LENGTH)?;
+    Ok(Page::new(alloc, text))
+}
+
+/// What a refusal is, with what it says besides its name and number.
+#[tactic(auto, unfolding(wire_events::specs::Pages::add_members))]
+fn put_refusal(page: &mut Page, line: u64, refusal: &Refusal) -> Result<(), AllocError>
+    ensures { OnOk result (sheet_of page.new
+        ≡ add_members (refusal_members refusal.now (line_member line)) (sheet_of page.old)) }
+{
+    page.text("error", refusal.name())?;
+    if let Refusal::InvalidArgument(field) = refusal {
+        page.text("field", field.name())?;
     }
+    page.number("line", line)?;
+    page.number("no", refusal.number())?;
+    if let Refusal::AlreadyStarted(run) = refusal {
+        page.run("run", *run)?;
+    }
+    Ok(())
 }
 
-fn put_refusal(fields: &mut Fields, refusal: &Refusal) -> Result<(), AllocError>
-    ensures { OnOk result (members_of fields.new ≡ refusal_members refusal.now (members_of fields.old)) }
+#[tactic(auto, unfolding(wire_events::specs::Pages::add_value, crate::specs::Replies::reply_tree))]
+fn put_reply(page: &mut Page, line: u64, reply: &Reply) -> Result<(), AllocError>
+    ensures { OnOk result (sheet_of page.new
+        ≡ add_value (reply_tree line reply.now) (sheet_of page.old)) }
 {
-    fields.text("error", refusal.name())?;
-    fields.number("no", refusal.number())?;
-    put_details(fields, refusal)
-}
-
-#[tactic(auto, unfolding(crate::specs::Replies::reply_tree))]
-fn reply_tree(alloc: Global, line: u64, reply: &Reply) -> Result<Tree, AllocError>
-    ensures { IfOk result (λ t. tree_of t ≡ reply_tree line reply.now) }
-{
-    let mut fields = Fields::new(alloc);
-    fields.number("line", line)?;
+    page.begin_object()?;
     match reply {
-        Ok(answer) => put_answer(&mut fields, answer)?,
-        Err(refusal) => put_refusal(&mut fields, refusal)?,
+        Ok(answer) => put_answer(page, line, answer)?,
+        Err(refusal) => put_refusal(page, line, refusal)?,
     }
-    Ok(fields.done())
+    page.end_object()
 }
 
-#[tactic(auto, unfolding(crate::specs::Replies::reply_tree))]
-fn history_tree(alloc: Global, line: u64, history: &History) -> Result<Tree, AllocError>
-    ensures { IfOk result (λ t. tree_of t ≡ reply_tree line (Ok (answer.History history.now))) }
+#[tactic(auto, unfolding(wire_events::specs::Pages::add_value, crate::specs::Replies::reply_tree))]
+fn put_history_reply(page: &mut Page, line: u64, history: &History) -> Result<(), AllocError>
+    ensures { OnOk result (sheet_of page.new
+        ≡ add_value (reply_tree line (Ok (answer.History history.now))) (sheet_of page.old)) }
 {
-    let mut fields = Fields::new(alloc);
-    fields.number("line", line)?;
-    put_history(&mut fields, history)?;
-    Ok(fields.done())
+    page.begin_object()?;
+    put_history(page, line, history)?;
+    page.end_object()
 }
 
-fn line_of(alloc: Global, tree: &Tree) -> Result<String, AllocError>
-    ensures { IfOk result (λ s. string_bytes s ≡ line_of (tree_of tree.now)) }
+/// The text, and a line feed.
+fn ended(page: Page) -> Result<String, AllocError>
+    ensures { IfOk result (λ s. string_bytes s ≡ text_of (sheet_of page) ++ 10 ∷ []) }
 {
-    let mut text = tree.to_text(alloc)?;
+    let mut text = page.into_text();
     text.push('\n')?;
     Ok(text)
 }
@@ -64,19 +76,21 @@ fn line_of(alloc: Global, tree: &Tree) -> Result<String, AllocError>
 /// The reply's line: compact JSON with its keys sorted by their bytes, and a line feed.
 ///
 /// `line` is the number, from 1, of the line that is answered.
-#[tactic(auto, unfolding(crate::specs::Replies::reply_line))]
+#[tactic(auto, using(wire_events::proofs::Printed::printed), unfolding(crate::specs::Replies::reply_line))]
 pub fn reply_text(alloc: Global, line: u64, reply: &Reply) -> Result<String, AllocError>
     ensures { IfOk result (λ s. string_bytes s ≡ reply_line line reply.now) }
 {
-    let tree = reply_tree(alloc, line, reply)?;
-    line_of(alloc, &tree)
+    let mut page = page(alloc)?;
+    put_reply(&mut page, line, reply)?;
+    ended(page)
 }
 
 /// The line of a reply that is a history, as `reply_text` gives it.
-#[tactic(auto, unfolding(crate::specs::Replies::reply_line))]
+#[tactic(auto, using(wire_events::proofs::Printed::printed), unfolding(crate::specs::Replies::reply_line))]
 pub fn history_text(alloc: Global, line: u64, history: &History) -> Result<String, AllocError>
     ensures { IfOk result (λ s. string_bytes s ≡ reply_line line (Ok (answer.History history.now))) }
 {
-    let tree = history_tree(alloc, line, history)?;
-    line_of(alloc, &tree)
+    let mut page = page(alloc)?;
+    put_history_reply(&mut page, line, history)?;
+    ended(page)
 }

@@ -1,25 +1,30 @@
 //! Tasks that were taken, with the tokens that their outcomes are handed back under.
+#![tactic(auto, unfolding(wire_events::specs::Pages::add_members, crate::specs::Tasks::workflow_task_members, crate::specs::Tasks::activity_members, crate::specs::Tasks::activity_task_members))]
 
-ghost use Rattle.std.specs.Prelude.{◌≡◌, OnOk};
-ghost use Rattle.wire_events.specs.Trees.{members_of};
-ghost use Rattle.wire_replies.specs.Tasks.{token_member, workflow_task_members, activity_task_members, activity_members};
+ghost use Rattle.std.specs.Prelude.{◌≡◌, OnOk, codes};
+ghost use Rattle.serde_json.specs.Data.{string};
+ghost use Rattle.task_token.specs.TokenTexts.{token_text};
+ghost use Rattle.wire_events.specs.Pages.{sheet_of, add_member, add_members};
+ghost use Rattle.wire_replies.specs.Answers.{line_member};
+ghost use Rattle.wire_replies.specs.Tasks.{token_of, workflow_task_members, activity_task_members};
 
 use service_model::answer::{ActivityTask, WorkflowTask};
 use std::alloc::AllocError;
 use task_token::TaskToken;
 use wf_event_values::{RunId, TaskKind};
-use wire_events::Fields;
+use wire_events::Page;
 
 /// The task's token.
 fn put_token(
-    fields: &mut Fields,
+    page: &mut Page,
     kind: TaskKind,
     run: RunId,
     scheduled: u64,
     attempt: u32,
 ) -> Result<(), AllocError>
-    ensures { OnOk result (members_of fields.new
-        ≡ token_member kind run scheduled attempt (members_of fields.old)) }
+    ensures { OnOk result (sheet_of page.new
+        ≡ add_member (codes "token") (string (token_text (token_of kind run scheduled attempt)))
+        (sheet_of page.old)) }
 {
     let token = TaskToken {
         kind,
@@ -28,53 +33,55 @@ fn put_token(
         event: scheduled,
         attempt,
     };
-    let text = token.write(fields.alloc())?;
-    fields.text("token", text.as_str())
+    let text = token.write(page.alloc())?;
+    page.text("token", text.as_str())
 }
 
-#[tactic(auto, unfolding(crate::specs::Tasks::workflow_task_members))]
-pub(crate) fn put_workflow_task(fields: &mut Fields, task: &WorkflowTask) -> Result<(), AllocError>
-    ensures { OnOk result (members_of fields.new ≡ workflow_task_members task.now (members_of fields.old)) }
+pub(crate) fn put_workflow_task(
+    page: &mut Page,
+    line: u64,
+    task: &WorkflowTask,
+) -> Result<(), AllocError>
+    ensures { OnOk result (sheet_of page.new
+        ≡ add_members (workflow_task_members task.now (line_member line)) (sheet_of page.old)) }
 {
-    fields.text("ok", "task")?;
-    fields.number("attempt", u64::from(task.attempt))?;
-    fields.run("run", task.run)?;
-    fields.number("started", task.started)?;
+    page.number("attempt", u64::from(task.attempt))?;
+    page.number("line", line)?;
+    page.text("ok", "task")?;
+    page.run("run", task.run)?;
+    page.number("started", task.started)?;
     put_token(
-        fields,
+        page,
         TaskKind::Workflow,
         task.run,
         task.scheduled,
         task.attempt,
     )?;
-    fields.text("workflow_id", task.workflow_id.as_str())
+    page.text("workflow_id", task.workflow_id.as_str())
 }
 
-/// The activity itself, and what it is handed.
-#[tactic(auto, unfolding(crate::specs::Tasks::activity_members))]
-fn put_activity(fields: &mut Fields, task: &ActivityTask) -> Result<(), AllocError>
-    ensures { OnOk result (members_of fields.new ≡ activity_members task.now (members_of fields.old)) }
+pub(crate) fn put_activity_task(
+    page: &mut Page,
+    line: u64,
+    task: &ActivityTask,
+) -> Result<(), AllocError>
+    ensures { OnOk result (sheet_of page.new
+        ≡ add_members (activity_task_members task.now (line_member line)) (sheet_of page.old)) }
 {
-    fields.text("activity_id", task.activity_id.as_str())?;
-    fields.text("activity_type", task.activity_type.as_str())?;
-    fields.optional_text("details", &task.details)?;
-    fields.text("input", task.input.as_str())
-}
-
-#[tactic(auto, unfolding(crate::specs::Tasks::activity_task_members))]
-pub(crate) fn put_activity_task(fields: &mut Fields, task: &ActivityTask) -> Result<(), AllocError>
-    ensures { OnOk result (members_of fields.new ≡ activity_task_members task.now (members_of fields.old)) }
-{
-    fields.text("ok", "task")?;
-    put_activity(fields, task)?;
-    fields.number("attempt", u64::from(task.attempt))?;
-    fields.run("run", task.run)?;
+    page.text("activity_id", task.activity_id.as_str())?;
+    page.text("activity_type", task.activity_type.as_str())?;
+    page.number("attempt", u64::from(task.attempt))?;
+    page.optional_text("details", &task.details)?;
+    page.text("input", task.input.as_str())?;
+    page.number("line", line)?;
+    page.text("ok", "task")?;
+    page.run("run", task.run)?;
     put_token(
-        fields,
+        page,
         TaskKind::Activity,
         task.run,
         task.scheduled,
         task.attempt,
     )?;
-    fields.text("workflow_id", task.workflow_id.as_str())
+    page.text("workflow_id", task.workflow_id.as_str())
 }

@@ -5,7 +5,7 @@ use std::alloc::{AllocGlobal, Global};
 use std::io::{self, Error, ErrorKind};
 use wf_event::{Attributes, Event};
 use wf_event_values::{Field, Id, Moment, Refusal, RunId, Span, Text};
-use wire_events::event;
+use wire_events::event_text;
 use wire_replies::reply_text;
 
 /// Whatever is refused here is want of memory.
@@ -45,7 +45,7 @@ pub(crate) fn print_event<R: Print + AllocGlobal>(
         at: moment(at)?,
         attributes,
     };
-    let text = event(rt.alloc(), &written)?.to_text(rt.alloc())?;
+    let text = event_text(rt.alloc(), &written)?;
     rt.println(text.as_str())
 }
 

@@ -5,13 +5,14 @@ use Rattle.lanes.proofs.FaultLemmas.{device-fault, device-later}
 use Rattle.lanes.proofs.LaneLemmas.{all-there, own-of}
 use Rattle.script.proofs.Steps.{on_any_err}
 use Rattle.lanes.proofs.BegunLemmas.{nothing-read}
+use Rattle.lanes.proofs.ToldLemmas.{told-nothing}
 use Rattle.lanes.proofs.run.run_lanes.Goals as goal
 
 pub loop-init : goal.loop-init
 loop-init g c = record {
   room = omega (arith, c.in_ok-buffer.ensures.len);
   own = own-of (g.D.Door.admits c.args.door.now) c.args.passes.items c.in_ok-script.script.lanes.items c.in_ok-script.ensures.passes (all-there (g.D.Door.admits c.args.door.now) c.args.passes.items c.requires);
-  progress = record { text = []; read = Consumes-none _; told = c.in_ok-script.ensures.told _ _ };
+  progress = record { text = []; read = Consumes-none _; told = told-nothing _ _ _ c.in_ok-script.ensures };
   reads = omega arith;
   writes = omega arith;
 }
@@ -28,38 +29,38 @@ returns-in_err-finish-clause-fault g c =
 
 pub returns-then-branch-clause-ran : goal.returns-then-branch-clause-ran
 returns-then-branch-clause-ran g c =
-    let p = c.in_ok-turn.ensures.progress _ _ c.loop.invariant.progress in
+    let p = c.in_ok-turn.ensures.progress _ _ _ c.loop.invariant.progress in
     record {
       text = p.text;
       read = p.read;
       at_end = c.in_ok-turn.ensures.end c.if-branch.true;
-      told = c.in_ok-finish.ensures.ended p.text _ p.told;
+      told = c.in_ok-finish.ensures.ended _ p.text _ p.told;
     }
 
 pub loop-preserved : goal.loop-preserved
 loop-preserved g c = record {
   room = omega (arith, c.loop.invariant.room);
   own = c.turn.ensures.own;
-  progress = c.in_ok-turn.ensures.progress _ _ c.loop.invariant.progress;
+  progress = c.in_ok-turn.ensures.progress _ _ _ c.loop.invariant.progress;
   reads = omega (arith, c.loop.invariant.reads, c.turn.ensures.read_grows);
   writes = omega (arith, c.loop.invariant.writes, c.turn.ensures.write_grows);
 }
 
 pub returns-in_err-script-clause-halted : goal.returns-in_err-script-clause-halted
-returns-in_err-script-clause-halted g c = on_any_err c.from_residual.result _ (nothing-read _ _ _)
+returns-in_err-script-clause-halted g c = on_any_err c.from_residual.result _ (nothing-read _ _)
 
 pub returns-in_err-buffer-clause-halted : goal.returns-in_err-buffer-clause-halted
-returns-in_err-buffer-clause-halted g c = on_any_err c.from_residual-in_err-buffer.result _ (nothing-read _ _ _)
+returns-in_err-buffer-clause-halted g c = on_any_err c.from_residual-in_err-buffer.result _ (nothing-read _ _)
 
 pub returns-in_err-turn-clause-halted : goal.returns-in_err-turn-clause-halted
-returns-in_err-turn-clause-halted g c = on_any_err c.from_residual-in_err-turn.result _ (inl (c.in_err-turn.ensures.broke _ _ c.loop.invariant.progress))
+returns-in_err-turn-clause-halted g c = on_any_err c.from_residual-in_err-turn.result _ (inl (c.in_err-turn.ensures.broke _ _ _ c.loop.invariant.progress))
 
 pub returns-in_err-finish-clause-halted : goal.returns-in_err-finish-clause-halted
 returns-in_err-finish-clause-halted g c =
-    let p = c.in_ok-turn.ensures.progress _ _ c.loop.invariant.progress in
+    let p = c.in_ok-turn.ensures.progress _ _ _ c.loop.invariant.progress in
     on_any_err c.from_residual-in_err-finish.result _ (inr (record {
       text = p.text;
       read = p.read;
       at_end = c.in_ok-turn.ensures.end c.if-branch.true;
-      begun = c.in_err-finish.ensures.begun p.text _ p.told;
+      begun = c.in_err-finish.ensures.begun _ p.text _ p.told;
     }))

@@ -1,8 +1,8 @@
-use Rattle.std.proofs.Common.{rules}
-use Rattle.lanes.proofs.LaneLemmas.{own-same}
-use Rattle.lanes.proofs.ToldLemmas.{told-closed}
+use Rattle.std.proofs.Common.{rules, sym, ◌∙◌}
 use Rattle.script.proofs.Steps.{on_any_err}
-use Rattle.lanes.proofs.BegunLemmas.{begins-line, begins-phase}
+use Rattle.lanes.proofs.BegunLemmas.{begins-barrier, begins-line}
+use Rattle.lanes.proofs.LaneLemmas.{own-same}
+use Rattle.lanes.proofs.ToldLemmas.{told-barrier, told-line}
 use Rattle.lanes.proofs.run.Script.end_line.Goals as goal
 
 pub returns-in_default-clause-own : goal.returns-in_default-clause-own
@@ -11,14 +11,18 @@ returns-in_default-clause-own g c = own-same (g.D.Door.admits c.args.door.now) c
 pub returns-then-not-closes-clause-own : goal.returns-then-not-closes-clause-own
 returns-then-not-closes-clause-own g c = own-same (g.D.Door.admits c.args.door.now) c.args.self.now.lanes.items c.add_line.new.self.lanes.items c.add_line.ensures.passes c.requires
 
+pub returns-then-not-closes-clause-told : goal.returns-then-not-closes-clause-told
+returns-then-not-closes-clause-told g c = λ ps lines held h. told-line lines _ c.args.self.now _ held _ c.in-Ok.ensures.added (sym c.in-Ok.ensures.barrier ∙ c.if-not-closes.true) h
+
 pub close-requires-after_bounds : goal.close-requires-after_bounds
 close-requires-after_bounds g c = let own = own-same (g.D.Door.admits c.args.door.now) c.args.self.now.lanes.items c.add_line.new.self.lanes.items c.add_line.ensures.passes c.requires in search (rules, own)
 
 pub returns-clause-told : goal.returns-clause-told
-returns-clause-told g c = λ lines held h. told-closed _ _ _ _ _ _ _ c.in_ok-close.ensures.closed (c.in-Ok.ensures.told lines held _ h)
+returns-clause-told g c = λ ps lines held h. told-barrier lines _ c.args.self.now c.add_line.new.self _ held _ _ c.in-Ok.ensures.added (sym c.in-Ok.ensures.barrier ∙ c.if-not-closes.false) c.in_ok-close.ensures.closed h
 
 pub returns-in_default-clause-begun : goal.returns-in_default-clause-begun
-returns-in_default-clause-begun g c = λ lines held h. begins-line _ lines _ _ held _ h
+returns-in_default-clause-begun g c = λ ps lines held h. begins-line lines _ _ held _ h
 
 pub returns-in_err-close-clause-begun : goal.returns-in_err-close-clause-begun
-returns-in_err-close-clause-begun g c = on_any_err c.from_residual.result _ (λ lines held h. begins-phase _ _ c.add_line.new.self held _ _ (c.in-Ok.ensures.told lines held _ h) c.in_err-close.ensures.begun)
+returns-in_err-close-clause-begun g c =
+    on_any_err c.from_residual.result _ (λ ps lines held h. begins-barrier lines _ c.args.self.now c.add_line.new.self held _ _ c.in-Ok.ensures.added (sym c.in-Ok.ensures.barrier ∙ c.if-not-closes.false) c.in_err-close.ensures.stopped h)

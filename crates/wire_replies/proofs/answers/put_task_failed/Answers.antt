@@ -1,0 +1,6 @@
+use Rattle.wire_events.specs.Pages.{add_members}
+use Rattle.wire_replies.proofs.answers.put_task_failed.Goals as goal
+
+pub returns : goal.returns
+unfolding add_members
+returns c = simp (c.in_ok-text.ensures, c.name.ensures) at c.put_ok.ensures
