@@ -7,8 +7,8 @@ use crate::service::Service;
 use service_model::call::StepCall;
 use service_model::limits::MOST_COMMANDS;
 use service_model::request::{CompleteWorkflowTask, Operation, Request, TakenTask};
+use service_model::routing::hash_of;
 use service_model::settings::Settings;
-use shard::hash;
 use wf_event_values::{Field, Id, Refusal};
 
 impl Service {
@@ -94,7 +94,7 @@ fn shard_of_id(settings: &Settings, id: &Id) -> usize
     requires { 0 < settings.now.shards }
     ensures { result ≡ shard_of_id settings.now id.now }
 {
-    let hash = hash(id.as_str().as_bytes());
+    let hash = hash_of(id.as_str().as_bytes());
     (u64::from(hash) % settings.shards) as usize
 }
 

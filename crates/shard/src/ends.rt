@@ -7,7 +7,6 @@ ghost use Rattle.service_model.specs.RunState.{is_open};
 ghost use Rattle.shard_store.specs.View.{state, runs_in};
 ghost use Rattle.shard_store.specs.Fitting.{FitsStep};
 
-use crate::index::shard_of;
 use crate::more::prepare_more;
 use crate::prepare::{answered, refused};
 use mutable_state_keeper::KeepsRun;
@@ -29,7 +28,7 @@ pub(crate) fn prepare_request_cancel<T: KeepsRun>(
     ensures plan { IfOk result (λ plan. FitsStep store.new plan moment
         (request_cancel (runs_in store.old) request.now)) }
 {
-    if shard_of(store.setup(), &request.workflow_id) != store.setup().shard {
+    if store.setup().shard_of(&request.workflow_id) != store.setup().shard {
         return Ok(refused(moment, Refusal::InvalidArgument(Field::WorkflowId)));
     }
     match store.named_open(&request.workflow_id, request.run) {
@@ -86,7 +85,7 @@ pub(crate) fn prepare_terminate<T: KeepsRun>(
     ensures plan { IfOk result (λ plan. FitsStep store.new plan moment
         (terminate (runs_in store.old) request.now)) }
 {
-    if shard_of(store.setup(), &request.workflow_id) != store.setup().shard {
+    if store.setup().shard_of(&request.workflow_id) != store.setup().shard {
         return Ok(refused(moment, Refusal::InvalidArgument(Field::WorkflowId)));
     }
     match store.named_open(&request.workflow_id, request.run) {

@@ -9,7 +9,6 @@ ghost use Rattle.shard_store.specs.View.{state, states, runs_in};
 ghost use Rattle.shard_store.specs.Fitting.{FitsStep, IsFree};
 ghost use Rattle.shard.specs.Deciding.{signaled_by, signaled_facts};
 
-use crate::index::shard_of;
 use crate::prepare::{answered, refused};
 use crate::signals::{SignalAnswers, prepare_signal_of};
 use crate::starts::{decision_by, prepare_new_run};
@@ -33,7 +32,7 @@ pub(crate) fn prepare_signal_with_start<T: KeepsRun>(
         (signal_with_start (runs_in store.old) request.now)) }
 {
     let start = &request.start;
-    if shard_of(store.setup(), &start.workflow_id) != store.setup().shard {
+    if store.setup().shard_of(&start.workflow_id) != store.setup().shard {
         return Ok(refused(moment, Refusal::InvalidArgument(Field::WorkflowId)));
     }
     if !store.setup().knows_queue(&start.task_queue) {

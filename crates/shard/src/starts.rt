@@ -11,7 +11,6 @@ ghost use Rattle.shard_steps.specs.Starts.{first_facts, MayBegin};
 ghost use Rattle.shard_store.specs.Fitting.{FitsStep, IsFree};
 ghost use Rattle.shard.specs.Deciding.{decided, decided_by};
 
-use crate::index::shard_of;
 use crate::prepare::{answered, refused};
 use id_policy::{Decision, Latest, decide};
 use mutable_state::Change as MoreFacts;
@@ -33,7 +32,7 @@ pub(crate) fn prepare_start<T: KeepsRun>(
     ensures plan { IfOk result (λ plan. FitsStep store.new plan moment
         (start (runs_in store.old) request.now)) }
 {
-    if shard_of(store.setup(), &request.workflow_id) != store.setup().shard {
+    if store.setup().shard_of(&request.workflow_id) != store.setup().shard {
         return Ok(refused(moment, Refusal::InvalidArgument(Field::WorkflowId)));
     }
     if !store.setup().knows_queue(&request.task_queue) {

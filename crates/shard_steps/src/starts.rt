@@ -1,7 +1,6 @@
 //! The runs that steps make.
 
 ghost use Rattle.std.specs.Prelude.{◌≡◌, IfOk};
-ghost use Rattle.service_model.specs.Outcome.{used_task_timeout};
 ghost use Rattle.service_model.specs.Starts.{first_task};
 ghost use Rattle.shard_steps.specs.Starts.{started_by, beginning_of, signaled_beginning, new_run, MayBegin};
 
@@ -9,11 +8,12 @@ use crate::signals::signal_fact;
 use mutable_state::{Change, plain};
 use mutable_state_keeper::{KeepsRun, Run};
 use service_model::journal::{Fact, copied};
+use service_model::limits::used_task_timeout;
 use service_model::request::{SignalWithStart, Start};
 use std::alloc::{AllocError, Global};
 use wf_event::Attributes;
 use wf_event::payloads::{WorkflowExecutionStarted, WorkflowTaskScheduled};
-use wf_event_values::{Id, Items, Moment, Span};
+use wf_event_values::{Id, Items, Moment};
 
 /// How a run begins: its first event, the request id of its start, and what else its first step adds.
 #[derive(Drop)]
@@ -95,15 +95,4 @@ fn started_by(start: &Start) -> Result<WorkflowExecutionStarted, AllocError>
         continued_from: None,
         parent: None,
     })
-}
-
-/// A task timeout of 0 is written as the default that is used.
-pub fn used_task_timeout(given: Span) -> Span
-    ensures { result ≡ used_task_timeout given }
-{
-    if given.millis() == 0 {
-        Span::default_task_timeout()
-    } else {
-        given
-    }
 }
