@@ -31,6 +31,12 @@ def starts(count):
     return [start(f"order-{number}") for number in range(count)]
 
 
+def replacements(count):
+    """Starts of one workflow, each of which terminates the run of the one before."""
+    return [dict(start("order"), request_id=f"request-{number}", conflict="TerminateExisting")
+            for number in range(count)]
+
+
 def signals(count):
     """One workflow with `count` signals."""
     lines = [start("order")]
@@ -45,6 +51,7 @@ def reads(count):
 
 
 CASES = [("starts of different workflows", starts, 12_500),
+         ("starts that replace one workflow's run", replacements, 12_500),
          ("signals of one workflow", signals, 5_000),
          ("the same and ten reads", reads, 5_000)]
 
