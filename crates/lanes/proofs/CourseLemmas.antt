@@ -12,7 +12,7 @@ use Rattle.wire_requests.specs.declared.calls.Asked.{Asked}
 use Rattle.wire_requests.specs.declared.calls.Asked.TheVariants.{Barrier as a_barrier, Call as in_a_lane}
 use Rattle.wire_requests.specs.declared.calls.LaneCall.{LaneCall}
 use Rattle.lanes.specs.declared.lane.Lane.{Lane}
-use Rattle.lanes.specs.Course.{Serves, Meets, CallServed, LineServed}
+use Rattle.lanes.specs.Course.{Serves, Meets, LaneServed, LineServed}
 use Rattle.lanes.specs.Lanes.{Answered, TookFirst, TookIn, Took, calls_in, is_barrier, place_in}
 use Rattle.lanes.proofs.PlaceLemmas.{get-set, get-other, there-too, gone-too}
 
@@ -48,7 +48,7 @@ serve-nowhere serves meets ps c lines r ls es gone is h =
     let none : slice_get ps c.lane ≡ None = gone-too ls ps c.lane (sym h.lanes) gone in
     record {
       passes = ps;
-      served = subst (λ o. CallServed serves c.lane c.call o ps r ps) (sym none) (is, refl);
+      served = subst (λ o. LaneServed serves c.lane c.call o ps r ps) (sym none) (is, refl);
       ready = record {
         lanes = h.lanes;
         ends = h.ends;
@@ -98,7 +98,7 @@ serve-there serves meets ps c lines r ls m es l at_l t h =
     let here : Answered serves p.0 (c.call ∷ calls_in c.lane lines) (t.reply ∷ t.left.answered.items) e.0 = subst (λ calls. Answered serves p.0 calls (t.reply ∷ t.left.answered.items) e.0) (calls-own c.lane c lines refl) (subst (λ rs. Answered serves p.0 (calls_in c.lane (Ok (in_a_lane c) ∷ lines)) rs e.0) t.first run) in
     record {
       passes = set ps c.lane here.0;
-      served = subst (λ o. CallServed serves c.lane c.call o ps r (set ps c.lane here.0)) (sym p.1) (record { pass = here.0; reply = t.reply; served = here.1; is = t.is; passes = refl });
+      served = subst (λ o. LaneServed serves c.lane c.call o ps r (set ps c.lane here.0)) (sym p.1) (record { pass = here.0; reply = t.reply; served = here.1; is = t.is; passes = refl });
       ready = subst (λ x. Ready serves (set ps c.lane here.0) lines x es) (sym t.lanes) (ready-behind serves ps c lines ls es p.0 here.0 l t.left e.0 p.1 at_l e.1 t.asked here.2 h);
     }
 

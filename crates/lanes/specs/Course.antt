@@ -42,15 +42,15 @@ pub record ServedIn (serves : Serves) (lane : ℕ) (call : Call) (p : Pass) (ps 
   pub passes : ps' ≡ set ps lane pass
 
 -- a call in a lane: the lane's pass serves it where that lane is there, and one that is not is an invalid argument
-abbrev pub CallServed : Serves → ℕ → Call → Option Pass → List Pass → Option Reply → List Pass → Type 0
-CallServed serves lane call None ps r ps' = (r ≡ Some (Err (InvalidArgument field.Lane))) × (ps' ≡ ps)
-CallServed serves lane call (Some p) ps r ps' = ServedIn serves lane call p ps r ps'
+abbrev pub LaneServed : Serves → ℕ → Call → Option Pass → List Pass → Option Reply → List Pass → Type 0
+LaneServed serves lane call None ps r ps' = (r ≡ Some (Err (InvalidArgument field.Lane))) × (ps' ≡ ps)
+LaneServed serves lane call (Some p) ps r ps' = ServedIn serves lane call p ps r ps'
 
 -- A line by what it asks. At a barrier the first pass meets every other, and there is no reply; a call is served in its lane;
 -- a line that is refused has its refusal, and the passes stay.
 abbrev pub LineServed : Serves → Meets → List Pass → Result Asked Refusal → Option Reply → List Pass → Type 0
 LineServed serves meets ps (Ok a_barrier) r ps' = (r ≡ None) × AllMet meets ps ps'
-LineServed serves meets ps (Ok (in_a_lane c)) r ps' = CallServed serves c.lane c.call (slice_get ps c.lane) ps r ps'
+LineServed serves meets ps (Ok (in_a_lane c)) r ps' = LaneServed serves c.lane c.call (slice_get ps c.lane) ps r ps'
 LineServed serves meets ps (Err refusal) r ps' = (r ≡ Some (Err refusal)) × (ps' ≡ ps)
 
 -- Lines, by what they ask, are served one after another from these passes on, and have these replies; the passes are those then.
