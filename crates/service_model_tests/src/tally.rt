@@ -121,7 +121,7 @@ impl Tally {
         let Some(name) = name_of(reply) else {
             return Ok(false);
         };
-        count(&mut self.replies, name)?;
+        count_one(&mut self.replies, name)?;
         if let Ok(Answer::History(history)) = reply {
             self.add_events(history)?;
         }
@@ -130,10 +130,10 @@ impl Tally {
 
     fn add_events(&mut self, history: &History) -> Result<(), AllocError> {
         let length = history.events.as_slice().len() as u64;
-        let before = show(&mut self.shown, history.run.ordinal(), length)?;
+        let before = note_shown(&mut self.shown, history.run.ordinal(), length)?;
         for event in history.events.as_slice() {
             if event.id > before {
-                count(&mut self.events, event.kind().name())?;
+                count_one(&mut self.events, event.kind().name())?;
             }
         }
         Ok(())
@@ -150,7 +150,7 @@ impl Tally {
     }
 }
 
-fn count(counts: &mut Vec<Count>, name: &'static str) -> Result<(), AllocError> {
+fn count_one(counts: &mut Vec<Count>, name: &'static str) -> Result<(), AllocError> {
     for count in counts.iter_mut() {
         if count.name == name {
             count.times = count.times.saturating_add(1);
@@ -171,7 +171,7 @@ fn times(counts: &[Count], name: &str) -> u64 {
 }
 
 /// Notes that so many events of a run were shown. It answers how many had been shown before.
-fn show(shown: &mut Vec<Shown>, run: u64, events: u64) -> Result<u64, AllocError> {
+fn note_shown(shown: &mut Vec<Shown>, run: u64, events: u64) -> Result<u64, AllocError> {
     for known in shown.iter_mut() {
         if known.run == run {
             let before = known.events;
