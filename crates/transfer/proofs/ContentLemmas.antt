@@ -1,5 +1,5 @@
 -- the outbox's and the inbox's words beside those of the sequential service's content
-use Rattle.std.proofs.Common.{◌≡◌, ℕ, zero, suc, ◌+◌, ◌-◌, ◌<◌, true, false, cond, List, [], ◌∷◌, ◌++◌, map, filter, refl, sym, ap, ◌∙◌, arith, append-nil, append_assoc}
+use Rattle.std.proofs.Common.{◌≡◌, ℕ, zero, suc, ◌+◌, ◌-◌, ◌<◌, Bool, true, false, cond, List, [], ◌∷◌, ◌++◌, map, filter, refl, sym, ap, ◌∙◌, arith, append-nil, append_assoc}
 use Rattle.std.specs.Prelude.{◌==◌, slice_set, slice_index_or}
 use Rattle.std.proofs.lemmas.Option.{unwrap_or-slice_get}
 use Rattle.std.proofs.lemmas.List.{set-get_or}
@@ -68,3 +68,23 @@ with_all_sent-from s sent base (suc n) (o ∷ os) at =
 
 pub with_all_sent-cons : (s : Sent) (sent : List Sent) (all : List Outgoing) → with_all_sent (s ∷ sent) 0 all ≡ with_all_sent sent 0 (issued_to all s.to s.content)
 with_all_sent-cons s sent all = with_all_sent-from s sent 0 s.to all (omega arith)
+
+-- those that are sent behind others
+pub with_all_sent-behind : (sent more : List Sent) (all : List Outgoing) → with_all_sent (sent ++ more) 0 all ≡ with_all_sent more 0 (with_all_sent sent 0 all)
+with_all_sent-behind [] more all = ap (with_all_sent more 0) (sym (with_all_sent-nil 0 all))
+with_all_sent-behind (s ∷ sent) more all =
+    with_all_sent-cons s (sent ++ more) all ∙ with_all_sent-behind sent more (issued_to all s.to s.content) ∙ ap (with_all_sent more 0) (sym (with_all_sent-cons s sent all))
+
+-- an acknowledgement and what is sent don't meet
+acknowledged-from : (sent : List Sent) (base : ℕ) (all : List Outgoing) (n : ℕ) → one_more_acknowledged (with_all_sent sent base all) n ≡ with_all_sent sent base (one_more_acknowledged all n)
+acknowledged-from sent base [] n = refl
+acknowledged-from sent base (o ∷ os) n = by_test (n == 0) (acknowledged-from sent (base + 1) os (n - 1))
+  where
+    by_test : (b : Bool) → one_more_acknowledged (with_all_sent sent (base + 1) os) (n - 1) ≡ with_all_sent sent (base + 1) (one_more_acknowledged os (n - 1)) →
+        cond b (record (with_sent sent base o) { acknowledged = o.acknowledged + 1 } ∷ with_all_sent sent (base + 1) os) (with_sent sent base o ∷ one_more_acknowledged (with_all_sent sent (base + 1) os) (n - 1))
+        ≡ with_all_sent sent base (cond b (record o { acknowledged = o.acknowledged + 1 } ∷ os) (o ∷ one_more_acknowledged os (n - 1)))
+    by_test true h = refl
+    by_test false h = ap (λ l. with_sent sent base o ∷ l) h
+
+pub acknowledged-sent : (sent : List Sent) (all : List Outgoing) (to : ℕ) → one_more_acknowledged (with_all_sent sent 0 all) to ≡ with_all_sent sent 0 (one_more_acknowledged all to)
+acknowledged-sent sent all to = acknowledged-from sent 0 all to
