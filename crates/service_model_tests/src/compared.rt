@@ -110,7 +110,7 @@ fn missing_events(alloc: Global, seen: &Tally) -> Result<Vec<&'static str>, Allo
 fn one_shard(rt: HostRuntime) -> Result<(), Fail> {
     let alloc = rt.alloc();
     let mut seen = Tally::new(alloc);
-    for seed in 1..21_u64 {
+    for seed in 1..26_u64 {
         compare(&rt, 0, 1, seed, &mut seen).map_err(|refusal| refusal.name())?;
     }
     let replies = missing_replies(alloc, &seen)?;
@@ -122,7 +122,7 @@ fn one_shard(rt: HostRuntime) -> Result<(), Fail> {
 }
 
 /// The second of two shards, where about half of the workflow IDs belong to the first. Nearly all kinds
-/// of reply and of event.
+/// of reply, and most of event.
 #[test]
 fn second_of_two(rt: HostRuntime) -> Result<(), Fail> {
     let alloc = rt.alloc();
@@ -134,6 +134,6 @@ fn second_of_two(rt: HostRuntime) -> Result<(), Fail> {
     let replies = missing_replies(alloc, &seen)?.len();
     assert!(rt; replies <= 2, "{replies}");
     let events = missing_events(alloc, &seen)?.len();
-    assert!(rt; events <= 2, "{events}");
+    assert!(rt; events <= 4, "{events}");
     Ok(())
 }

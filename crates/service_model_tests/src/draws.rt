@@ -7,6 +7,7 @@ ghost use Rattle.std.specs.Prelude.{◌<◌};
 pub(crate) struct Draws {
     state: u64,
     ends: bool,
+    timers: bool,
 }
 
 impl Draws {
@@ -14,6 +15,7 @@ impl Draws {
         Draws {
             state: seed,
             ends: seed > 10,
+            timers: seed > 20,
         }
     }
 
@@ -21,6 +23,12 @@ impl Draws {
     /// since runs that end early seldom come to the rarer ends of activities.
     pub(crate) fn has_ends(&self) -> bool {
         self.ends
+    }
+
+    /// Whether half of the commands start and cancel timers. With seeds to 20 few do, and a timer is seldom in
+    /// use when it is to be canceled.
+    pub(crate) fn has_timers(&self) -> bool {
+        self.timers
     }
 
     /// The next number, which is below the limit.

@@ -133,6 +133,9 @@ fn completion(
 /// A marker, a timer or an activity most of the time, seldom a command that isn't served, and else one
 /// that closes.
 fn command(alloc: Global, draws: &mut Draws, asked: u64) -> Result<Command, Refusal> {
+    if draws.has_timers() && draws.one_in(2) {
+        return timer_command(alloc, draws);
+    }
     let kinds = if draws.has_ends() { 28 } else { 26 };
     match draws.below(kinds) {
         0..=1 => Ok(Command::RecordMarker(RecordMarker {
@@ -155,6 +158,18 @@ fn command(alloc: Global, draws: &mut Draws, asked: u64) -> Result<Command, Refu
             run: run(draws),
         })),
     }
+}
+
+/// A timer that fires late, or the end of one.
+fn timer_command(alloc: Global, draws: &mut Draws) -> Result<Command, Refusal> {
+    let timer_id = timer_id(alloc, draws)?;
+    if draws.one_in(2) {
+        return Ok(Command::CancelTimer(timer_id));
+    }
+    Ok(Command::StartTimer(StartTimer {
+        timer_id,
+        duration: Span::new(Field::Duration, 1000 + draws.below(1000))?,
+    }))
 }
 
 /// A run to follow, which takes over most of what the last one was given.
