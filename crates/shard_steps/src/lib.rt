@@ -25,9 +25,7 @@ pub use dispatches::{Dispatches, readied};
 pub use ends::{cancel_facts, is_repeated, replaced_reason, terminated_facts};
 pub use notes::note_facts;
 pub use signals::signal_facts;
-pub use starts::{
-    Beginning, beginning_of, first_task, new_run, signaled_beginning,
-};
+pub use starts::{Beginning, beginning_of, first_task, new_run, signaled_beginning};
 pub use tasks::{are_served, ended, started_facts};
 pub use turns::fired_facts;
 pub use verdicts::{failure, verdict_of};
