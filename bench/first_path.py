@@ -75,9 +75,13 @@ def best_time(words, path):
     return best, written
 
 
-def measure(name, lines, path):
+def write_lines(lines, path):
     with open(path, "w") as file:
         file.writelines(json.dumps(line, separators=(",", ":")) + "\n" for line in lines)
+
+
+def measure(name, lines, path):
+    write_lines(lines, path)
     took, written = best_time([PROGRAM], path)
     replies = written.count(b"\n")
     if replies != len(lines):

@@ -4,7 +4,12 @@ import pathlib
 import unittest
 
 ROOT = pathlib.Path(__file__).resolve().parents[2]
-FILES = {"an order": "order.jsonl", "a payment": "payment.jsonl", "a site": "provisioning.jsonl"}
+FILES = {
+    "an order": "order.jsonl",
+    "a payment": "payment.jsonl",
+    "a site": "provisioning.jsonl",
+    "an order and its payment": "order_and_payment.jsonl",
+}
 
 
 def lines_of_cases():

@@ -175,6 +175,10 @@ class Service:
         """Hands the shard's next task to its queue. False where none waits."""
         return self.call("dispatch_turn", shard=shard)["ok"] != "none"
 
+    def transfer_turn(self, source=0, to=0):
+        """Delivers what the one shard sent the other next. False where nothing waits."""
+        return self.call("transfer_turn", **{"from": source, "to": to})["ok"] != "none"
+
     def timer_turn(self, shard=0):
         """Lets the shard's first deadline fire. The reply, or None where none is due."""
         reply = self.call("timer_turn", shard=shard)

@@ -1,6 +1,6 @@
 -- what was printed before a fault is a beginning of replies to the lines that were read
-use Rattle.std.proofs.Common.{◌≡◌, ℕ, ◌+◌, List, [], ◌∷◌, ◌++◌, length, map, take, drop, get_or, true, false, Option, Some, Result, Ok, inl, inr, refl, sym, ap, subst, ◌∙◌, append_assoc, ◌<◌}
-use Rattle.std.proofs.lemmas.List.{map-append, take-append-drop, take_more}
+use Rattle.std.proofs.Common.{◌≡◌, ℕ, ◌+◌, List, [], ◌∷◌, ◌++◌, length, map, take, drop, true, false, Option, Some, Result, Ok, inl, inr, refl, sym, ap, subst, ◌∙◌, append_assoc}
+use Rattle.std.proofs.lemmas.List.{map-append, take-append-drop}
 use Rattle.std.specs.Io.KnownBytes.{Appends, Consumes, Keeps}
 use Rattle.wf_event_values.specs.declared.refusal.Refusal.{Refusal}
 use Rattle.service_model.specs.declared.settings.Settings.{Settings}
@@ -11,7 +11,7 @@ use Rattle.wire_requests.specs.declared.calls.Asked.TheVariants.{Barrier as a_ba
 use Rattle.script.specs.Asked.{asked}
 use Rattle.script.specs.Lines.{Line, all_lines, whole_lines}
 use Rattle.script.specs.Output.{numbered_from}
-use Rattle.script.specs.Pending.{ended, left, is_empty_line}
+use Rattle.script.specs.Pending.{ended, grown, has_feed, left, is_empty_line}
 use Rattle.script.proofs.LineLemmas.{ended-whole}
 use Rattle.script.proofs.Steps.{ended-append}
 use Rattle.wire_counted.specs.Written.{AppendsBeginning}
@@ -23,7 +23,7 @@ use Rattle.lanes.specs.Lanes.{Took, WereAsked, is_barrier, own_calls, passes_of,
 use Rattle.lanes.specs.Told.{Added, BeginsLine, Progress, Stopped, TellsLine, TextTold, Told}
 use Rattle.lanes.proofs.PhaseLemmas.{phase-part, phase-part-barrier}
 use Rattle.lanes.proofs.PrintLemmas.{numbered-append}
-use Rattle.lanes.proofs.ToldLemmas.{asks-push, barrier-asked, barrier-places, lines-clean, lines-end, lines-last, next-number}
+use Rattle.lanes.proofs.ToldLemmas.{asks-push, barrier-asked, barrier-places, lines-clean, lines-end, lines-last, next-number, told-longer}
 use Rattle.lanes.proofs.TurnLemmas.{turn-append}
 use Rattle.lanes.proofs.WorkLemmas.{waiting-same}
 
@@ -103,24 +103,25 @@ begins-barrier {serves} {meets} {K} {ps} lines line s s1 held w w' a barrier (in
 begins-longer : {serves : Serves} {meets : Meets} {K : Settings} {ps : List Pass} (a b : List ℕ) (held w : Option (List ℕ)) → Beginning serves meets K ps (ended (Some []) a) held w → Beginning serves meets K ps (ended (Some []) (a ++ b)) held w
 begins-longer {serves} {meets} {K} {ps} a b held w h = subst (λ ls. Beginning serves meets K ps ls held w) (sym (ended-append (Some []) a b)) (begins-more (ended (Some []) a) (ended (left (Some []) a) b) held w h)
 
--- a byte that ends a line
-pub begins-end : {serves : Serves} {meets : Meets} {K : Settings} {ps : List Pass} (text : List ℕ) (byte : ℕ) (s : Script) (held w w' : Option (List ℕ)) → byte ≡ 10 → BeginsLine serves meets K s.line s w w'
-    → TextTold serves meets K ps text s held w → Beginning serves meets K ps (ended (Some []) (text ++ byte ∷ [])) held w'
-begins-end {serves} {meets} {K} {ps} text byte s held w w' is step h =
-    subst (λ ls. Beginning serves meets K ps ls held w') (sym (lines-end text byte is ∙ ap (λ l. ended (Some []) text ++ l ∷ []) (sym h.line))) (step ps (ended (Some []) text) held h.told)
+-- a part that ends a line
+pub begins-end : {serves : Serves} {meets : Meets} {K : Settings} {ps : List Pass} (text part : List ℕ) (s s1 : Script) (held w w' : Option (List ℕ)) → has_feed part ≡ false → s1.line ≡ grown s.line part
+    → s1.lanes ≡ s.lanes → s1.places ≡ s.places → s1.first ≡ s.first → s1.refused ≡ s.refused → BeginsLine serves meets K s1.line s1 w w'
+    → TextTold serves meets K ps text s held w → Beginning serves meets K ps (ended (Some []) (text ++ (part ++ 10 ∷ []))) held w'
+begins-end {serves} {meets} {K} {ps} text part s s1 held w w' free grows lanes places first refused step h =
+    let line : s1.line ≡ grown (left (Some []) text) part = grows ∙ ap (λ l. grown l part) h.line in
+    subst (λ ls. Beginning serves meets K ps ls held w') (sym (lines-end text part free ∙ ap (λ l. ended (Some []) text ++ l ∷ []) (sym line)))
+    (step ps (ended (Some []) text) held (told-longer (ended (Some []) text) s s1 held w lanes places first refused h.told))
 
--- a byte that nothing was made of
-pub begins-byte : {serves : Serves} {meets : Meets} {K : Settings} {ps : List Pass} (text : List ℕ) (byte : ℕ) (s : Script) (held w : Option (List ℕ)) → TextTold serves meets K ps text s held w → Beginning serves meets K ps (ended (Some []) (text ++ byte ∷ [])) held w
-begins-byte text byte s held w h = begins-longer text (byte ∷ []) held w (begins-told (ended (Some []) text) s held w h.told)
+-- a part that nothing was made of
+pub begins-part : {serves : Serves} {meets : Meets} {K : Settings} {ps : List Pass} (text part : List ℕ) (s : Script) (held w : Option (List ℕ)) → TextTold serves meets K ps text s held w → Beginning serves meets K ps (ended (Some []) (text ++ part)) held w
+begins-part text part s held w h = begins-longer text part held w (begins-told (ended (Some []) text) s held w h.told)
 
--- a byte of a chunk
-pub begins-chunk : {serves : Serves} {meets : Meets} {K : Settings} {ps : List Pass} (text all : List ℕ) (i : ℕ) (held w : Option (List ℕ)) → i < length all → Beginning serves meets K ps (ended (Some []) ((text ++ take i all) ++ get_or all i 0 ∷ [])) held w
+-- the parts of a chunk, one after another: `done` was told of, and then a beginning with `part`
+pub begins-chunk : {serves : Serves} {meets : Meets} {K : Settings} {ps : List Pass} (text all done part rest : List ℕ) (held w : Option (List ℕ)) → all ≡ (done ++ part) ++ rest → Beginning serves meets K ps (ended (Some []) ((text ++ done) ++ part)) held w
     → Beginning serves meets K ps (ended (Some []) (text ++ all)) held w
-begins-chunk {serves} {meets} {K} {ps} text all i held w below b =
-    let longer = begins-longer ((text ++ take i all) ++ get_or all i 0 ∷ []) (drop (i + 1) all) held w b in
-    let front : (text ++ take i all) ++ get_or all i 0 ∷ [] ≡ text ++ take (i + 1) all = append_assoc text (take i all) (get_or all i 0 ∷ []) ∙ ap (λ t. text ++ t) (sym (take_more all i 0 below)) in
-    let whole : ((text ++ take i all) ++ get_or all i 0 ∷ []) ++ drop (i + 1) all ≡ text ++ all =
-    ap (λ t. t ++ drop (i + 1) all) front ∙ append_assoc text (take (i + 1) all) (drop (i + 1) all) ∙ ap (λ t. text ++ t) (take-append-drop (i + 1) all) in
+begins-chunk {serves} {meets} {K} {ps} text all done part rest held w is b =
+    let longer = begins-longer ((text ++ done) ++ part) rest held w b in
+    let whole : ((text ++ done) ++ part) ++ rest ≡ text ++ all = ap (λ t. t ++ rest) (append_assoc text done part) ∙ append_assoc text (done ++ part) rest ∙ ap (λ t. text ++ t) (sym is) in
     subst (λ t. Beginning serves meets K ps (ended (Some []) t) held w) whole longer
 
 -- ---- turns

@@ -1,7 +1,7 @@
 -- what a script over lanes has told, line by line
-use Rattle.std.proofs.Common.{◌≡◌, ℕ, ◌+◌, List, [], ◌∷◌, ◌++◌, length, map, true, false, cond, eqb, Bool, ◌||◌, Option, Some, Result, Ok, Err, refl, sym, ap, subst, ◌∙◌, append_assoc, arith}
+use Rattle.std.proofs.Common.{◌≡◌, ℕ, ◌+◌, List, [], ◌∷◌, ◌++◌, length, map, true, false, cond, Bool, ◌||◌, Option, Some, Result, Ok, Err, refl, sym, ap, subst, ◌∙◌, append_assoc, arith}
 use Rattle.std.proofs.lemmas.List.{append-nil, length-append, length-map, map-append}
-use Rattle.std.proofs.lemmas.Bool.{eqb-true, false_from_ne_true, or_from, or_parts, true≢false}
+use Rattle.std.proofs.lemmas.Bool.{or_from, or_parts, true≢false}
 use Rattle.std.specs.List.{list_any}
 use Rattle.std.specs.Io.KnownBytes.{Appends}
 use Rattle.wf_event_values.specs.declared.refusal.Refusal.{Refusal}
@@ -13,9 +13,10 @@ use Rattle.wire_requests.specs.declared.calls.Asked.TheVariants.{Barrier as a_ba
 use Rattle.script.specs.Asked.{asked}
 use Rattle.script.specs.Lines.{Line, all_lines}
 use Rattle.script.specs.Output.{numbered_from}
-use Rattle.script.specs.Pending.{ended, left, longer, is_empty_line}
+use Rattle.script.specs.Pending.{ended, grown, has_feed, left, is_empty_line}
 use Rattle.script.specs.Serving.{is_refusal}
 use Rattle.script.proofs.LineLemmas.{ended-all}
+use Rattle.script.proofs.PartLemmas.{ended-free, ended-line as line-ended, left-free, left-line}
 use Rattle.script.proofs.Steps.{ended-append, left-append}
 use Rattle.wire_counted.proofs.Known.{Appends-none, Appends-then}
 use Rattle.lanes.specs.declared.print.Place.{Place}
@@ -143,51 +144,55 @@ told-ended {serves} {meets} {K} {ps} text lines s s' held w w' all c h =
 
 -- ---- texts
 
--- the lines that end in a text with a line feed more
-pub lines-end : (text : List ℕ) (byte : ℕ) → byte ≡ 10 → ended (Some []) (text ++ byte ∷ []) ≡ ended (Some []) text ++ left (Some []) text ∷ []
-unfolding ended left
-lines-end text byte is =
-    let ends : eqb byte 10 ≡ true = ap (λ b. eqb b 10) is in
-    ended-append (Some []) text (byte ∷ []) ∙ ap (λ b. ended (Some []) text ++ cond b (left (Some []) text ∷ []) []) ends
+-- the lines that end in a text with a part and its line feed more
+pub lines-end : (text part : List ℕ) → has_feed part ≡ false → ended (Some []) (text ++ (part ++ 10 ∷ [])) ≡ ended (Some []) text ++ grown (left (Some []) text) part ∷ []
+lines-end text part free = ended-append (Some []) text (part ++ 10 ∷ []) ∙ ap (λ ls. ended (Some []) text ++ ls) (line-ended (left (Some []) text) part free)
 
--- a byte that ends a line
-pub text-line : {serves : Serves} {meets : Meets} {K : Settings} {ps : List Pass} (text : List ℕ) (byte : ℕ) (s s' : Script) (held w w' : Option (List ℕ)) → byte ≡ 10 → s'.line ≡ Some []
-    → TellsLine serves meets K s.line s s' w w' → TextTold serves meets K ps text s held w → TextTold serves meets K ps (text ++ byte ∷ []) s' held w'
-unfolding ended left
-text-line {serves} {meets} {K} {ps} text byte s s' held w w' is empty step h =
-    let ends : eqb byte 10 ≡ true = ap (λ b. eqb b 10) is in
-    let lines : ended (Some []) (text ++ byte ∷ []) ≡ ended (Some []) text ++ s.line ∷ [] = lines-end text byte is ∙ ap (λ l. ended (Some []) text ++ l ∷ []) (sym h.line) in
+-- what was told of lines is told of them while the line behind them grows
+pub told-longer : {serves : Serves} {meets : Meets} {K : Settings} {ps : List Pass} (lines : List Line) (s s' : Script) (held w : Option (List ℕ)) → s'.lanes ≡ s.lanes → s'.places ≡ s.places → s'.first ≡ s.first → s'.refused ≡ s.refused
+    → Told serves meets K ps lines s held w → Told serves meets K ps lines s' held w
+told-longer {serves} {meets} {K} {ps} lines s s' held w lanes places first refused h = record {
+  done = h.done;
+  waits = h.waits;
+  replies = h.replies;
+  parts = h.parts;
+  course = subst (λ x. Course serves meets ps h.done h.replies (passes_of x.items)) (sym lanes) h.course;
+  waiting = subst (λ x. Waiting h.waits x.items s'.lanes.items) (sym places) (subst (λ x. Waiting h.waits s.places.items x.items) (sym lanes) h.waiting);
+  plain = h.plain;
+  written = h.written;
+  number = first ∙ h.number;
+  refused_is = refused ∙ h.refused_is;
+}
+
+-- a part that ends a line
+pub text-line : {serves : Serves} {meets : Meets} {K : Settings} {ps : List Pass} (text part : List ℕ) (s s1 s' : Script) (held w w' : Option (List ℕ)) → has_feed part ≡ false → s1.line ≡ grown s.line part
+    → s1.lanes ≡ s.lanes → s1.places ≡ s.places → s1.first ≡ s.first → s1.refused ≡ s.refused → s'.line ≡ Some []
+    → TellsLine serves meets K s1.line s1 s' w w' → TextTold serves meets K ps text s held w → TextTold serves meets K ps (text ++ (part ++ 10 ∷ [])) s' held w'
+text-line {serves} {meets} {K} {ps} text part s s1 s' held w w' free grows lanes places first refused empty step h =
+    let line : s1.line ≡ grown (left (Some []) text) part = grows ∙ ap (λ l. grown l part) h.line in
+    let lines : ended (Some []) (text ++ (part ++ 10 ∷ [])) ≡ ended (Some []) text ++ s1.line ∷ [] = lines-end text part free ∙ ap (λ l. ended (Some []) text ++ l ∷ []) (sym line) in
     record {
-      line = empty ∙ sym (left-append (Some []) text (byte ∷ []) ∙ ap (λ b. cond b (Some []) (longer (left (Some []) text) byte)) ends);
-      told = subst (λ ls. Told serves meets K ps ls s' held w') (sym lines) (step ps (ended (Some []) text) held h.told);
+      line = empty ∙ sym (left-append (Some []) text (part ++ 10 ∷ []) ∙ left-line (left (Some []) text) part);
+      told = subst (λ ls. Told serves meets K ps ls s' held w') (sym lines) (step ps (ended (Some []) text) held (told-longer (ended (Some []) text) s s1 held w lanes places first refused h.told));
     }
 
--- a byte within a line
-pub text-byte : {serves : Serves} {meets : Meets} {K : Settings} {ps : List Pass} (text : List ℕ) (byte : ℕ) (s s' : Script) (held w : Option (List ℕ)) → ¬ (byte ≡ 10) → s'.line ≡ longer s.line byte
-    → s'.lanes ≡ s.lanes → s'.places ≡ s.places → s'.first ≡ s.first → s'.refused ≡ s.refused → TextTold serves meets K ps text s held w → TextTold serves meets K ps (text ++ byte ∷ []) s' held w
-unfolding ended left
-text-byte {serves} {meets} {K} {ps} text byte s s' held w other line lanes places first refused h =
-    let within : eqb byte 10 ≡ false = false_from_ne_true (eqb byte 10) (λ e. other (eqb-true byte 10 e)) in
-    let lines : ended (Some []) (text ++ byte ∷ []) ≡ ended (Some []) text =
-    ended-append (Some []) text (byte ∷ []) ∙ ap (λ b. ended (Some []) text ++ cond b (left (Some []) text ∷ []) []) within ∙ append-nil (ended (Some []) text) in
+-- a part within a line
+text-part : {serves : Serves} {meets : Meets} {K : Settings} {ps : List Pass} (text part : List ℕ) (s s' : Script) (held w : Option (List ℕ)) → has_feed part ≡ false → s'.line ≡ grown s.line part
+    → s'.lanes ≡ s.lanes → s'.places ≡ s.places → s'.first ≡ s.first → s'.refused ≡ s.refused → TextTold serves meets K ps text s held w → TextTold serves meets K ps (text ++ part) s' held w
+text-part {serves} {meets} {K} {ps} text part s s' held w free grows lanes places first refused h =
+    let so_far = left (Some []) text in
+    let lines : ended (Some []) (text ++ part) ≡ ended (Some []) text =
+    ended-append (Some []) text part ∙ ap (λ ls. ended (Some []) text ++ ls) (ended-free so_far part free) ∙ append-nil (ended (Some []) text) in
     record {
-      line = line ∙ ap (λ l. longer l byte) h.line ∙ sym (left-append (Some []) text (byte ∷ []) ∙ ap (λ b. cond b (Some []) (longer (left (Some []) text) byte)) within);
-      told = subst (λ ls. Told serves meets K ps ls s' held w) (sym lines) (told-same (ended (Some []) text) s s' held w lanes places first refused h.told);
+      line = grows ∙ ap (λ l. grown l part) h.line ∙ sym (left-append (Some []) text part ∙ left-free so_far part free);
+      told = subst (λ ls. Told serves meets K ps ls s' held w) (sym lines) (told-longer (ended (Some []) text) s s' held w lanes places first refused h.told);
     }
-  where
-    told-same : (lines : List Line) (s s' : Script) (held w : Option (List ℕ)) → s'.lanes ≡ s.lanes → s'.places ≡ s.places → s'.first ≡ s.first → s'.refused ≡ s.refused → Told serves meets K ps lines s held w → Told serves meets K ps lines s' held w
-    told-same lines s s' held w lanes places first refused h = record {
-      done = h.done;
-      waits = h.waits;
-      replies = h.replies;
-      parts = h.parts;
-      course = subst (λ x. Course serves meets ps h.done h.replies (passes_of x.items)) (sym lanes) h.course;
-      waiting = subst (λ x. Waiting h.waits x.items s'.lanes.items) (sym places) (subst (λ x. Waiting h.waits s.places.items x.items) (sym lanes) h.waiting);
-      plain = h.plain;
-      written = h.written;
-      number = first ∙ h.number;
-      refused_is = refused ∙ h.refused_is;
-    }
+
+-- a chunk whose parts so far were told of, and the rest within a line
+pub text-whole : {serves : Serves} {meets : Meets} {K : Settings} {ps : List Pass} (text chunk done rest : List ℕ) (s s' : Script) (held w : Option (List ℕ)) → chunk ≡ done ++ rest → has_feed rest ≡ false → s'.line ≡ grown s.line rest
+    → s'.lanes ≡ s.lanes → s'.places ≡ s.places → s'.first ≡ s.first → s'.refused ≡ s.refused → TextTold serves meets K ps (text ++ done) s held w → TextTold serves meets K ps (text ++ chunk) s' held w
+text-whole {serves} {meets} {K} {ps} text chunk done rest s s' held w is free grows lanes places first refused h =
+    subst (λ t. TextTold serves meets K ps t s' held w) (append_assoc text done rest ∙ ap (λ t. text ++ t) (sym is)) (text-part (text ++ done) rest s s' held w free grows lanes places first refused h)
 
 -- all lines of a text behind a line feed
 pub lines-clean : (text : List ℕ) (line : Line) → line ≡ left (Some []) text → is_empty_line line ≡ true → ended (Some []) text ≡ all_lines text

@@ -63,21 +63,21 @@ free_all (b ∷ text) none = rw (false_from_ne_true (eqb b 10) (none 0 (omega ar
 
 -- ---- a part without a line feed
 
-left-free : (p : Line) (part : List ℕ) → has_feed part ≡ false → left p part ≡ grown p part
+pub left-free : (p : Line) (part : List ℕ) → has_feed part ≡ false → left p part ≡ grown p part
 unfolding left
 left-free p [] free = refl
 left-free p (b ∷ part) free = let q = or_parts (eqb b 10) (has_feed part) free in rw q.0 (left-free (longer p b) part q.1)
 
-ended-free : (p : Line) (part : List ℕ) → has_feed part ≡ false → ended p part ≡ []
+pub ended-free : (p : Line) (part : List ℕ) → has_feed part ≡ false → ended p part ≡ []
 unfolding ended
 ended-free p [] free = refl
 ended-free p (b ∷ part) free = let q = or_parts (eqb b 10) (has_feed part) free in rw q.0 (ended-free (longer p b) part q.1)
 
-left-line : (p : Line) (part : List ℕ) → left p (part ++ 10 ∷ []) ≡ Some []
+pub left-line : (p : Line) (part : List ℕ) → left p (part ++ 10 ∷ []) ≡ Some []
 unfolding left
 left-line p part = left-append p part (10 ∷ [])
 
-ended-line : (p : Line) (part : List ℕ) → has_feed part ≡ false → ended p (part ++ 10 ∷ []) ≡ grown p part ∷ []
+pub ended-line : (p : Line) (part : List ℕ) → has_feed part ≡ false → ended p (part ++ 10 ∷ []) ≡ grown p part ∷ []
 unfolding ended
 ended-line p part free = ended-append p part (10 ∷ []) ∙ ap (λ ls. ls ++ left p part ∷ []) (ended-free p part free) ∙ ap (λ l. l ∷ []) (left-free p part free)
 

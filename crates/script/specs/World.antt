@@ -1,28 +1,32 @@
--- The sequential service as a whole: its shards, and the hints that wait in its task queues. A step is its shard's; a poll and a dispatch turn are made of steps and of what they take from a queue or put into it.
-use Rattle.std.specs.Prelude.{ℕ, ◌*◌, List, [], ◌∷◌, ◌++◌, length, nat_lt, if◌then◌else◌, replicate, slice_index_or, slice_set, Option, None, Some, Result, Ok, Err}
+-- The sequential service as a whole: its shards, and the hints that wait in its task queues. A step is its shard's; a poll and a dispatch turn are made of steps and of what they take from a queue or put into it, a transfer turn of steps.
+use Rattle.std.specs.Prelude.{ℕ, ◌*◌, Bool, true, false, List, [], ◌∷◌, ◌++◌, length, nat_lt, if◌then◌else◌, replicate, slice_index_or, slice_set, Option, None, Some, Result, Ok, Err}
 use Rattle.wf_event_values.specs.declared.policies.TaskKind.{TaskKind}
 use Rattle.wf_event_values.specs.declared.refusal.Refusal.{Refusal}
 use Rattle.wf_event_values.specs.declared.refusal.Refusal.TheVariants.{QueueFull, UnknownTaskQueue}
 use Rattle.service_model.specs.declared.answer.Answer.TheVariants as answered
 use Rattle.service_model.specs.declared.answer.NumberedDispatch.{NumberedDispatch}
 use Rattle.service_model.specs.declared.call.Call.{Call}
-use Rattle.service_model.specs.declared.call.Call.TheVariants.{Step, Poll, DispatchTurn}
+use Rattle.service_model.specs.declared.call.Call.TheVariants.{Step, Poll, DispatchTurn, TransferTurn}
 use Rattle.service_model.specs.declared.call.DispatchTurn.{DispatchTurn as ADispatchTurn}
 use Rattle.service_model.specs.declared.call.Poll.{Poll as APoll}
 use Rattle.service_model.specs.declared.call.StepCall.{StepCall}
 use Rattle.service_model.specs.declared.call.Stop.{Stop}
 use Rattle.service_model.specs.declared.call.Stop.TheVariants.{AtEnd, AfterFirstPart, AfterSecondPart}
+use Rattle.service_model.specs.declared.call.TransferTurn.{TransferTurn as ATransferTurn}
 use Rattle.service_model.specs.declared.content.Content.{Content}
 use Rattle.service_model.specs.declared.request.Hint.{Hint}
 use Rattle.service_model.specs.declared.request.Request.{Request}
 use Rattle.service_model.specs.declared.settings.Settings.{Settings}
+use Rattle.service_model.specs.declared.transfer.Transfer.{Transfer}
 use Rattle.service_model.specs.Calls.{request_of}
 use Rattle.service_model.specs.Counts.{dispatch_of}
 use Rattle.service_model.specs.Outcome.{Reply}
 use Rattle.service_model.specs.Service.{after, answer, opening}
+use Rattle.service_model.specs.TransferReplies.{transfer_of}
 use Rattle.matching.specs.Named.{place_in, slot_of}
-use Rattle.service.specs.Asks.{to_dispatched, to_next_dispatch, to_start_task}
-use Rattle.service.specs.Contents.{opening_contents, refusal_of_step, setup_of, shard_refusal, slot_of_step}
+use Rattle.service.specs.Asks.{to_acknowledge, to_deliver, to_dispatched, to_next_dispatch, to_next_transfer, to_start_task}
+use Rattle.service.specs.Contents.{ends_refusal, opening_contents, refusal_of_step, setup_of, shard_refusal, slot_of_step}
+use Rattle.service.specs.TransferTurns.{goes_on}
 
 pub record World : Type 0 where
   -- the shards' contents, by the shards' numbers
@@ -113,8 +117,36 @@ turn K W t =
     unless (shard_refusal K t.shard) W
     (let next = stepped K W t.shard (to_next_dispatch t.at) in after_next K t next.reply (dispatch_of next.reply) next.world)
 
+-- the last part of a transfer turn, where it comes to that, acknowledges the transfer; the reply stays the delivery's
+abbrev pub acknowledged : Settings → ATransferTurn → ℕ → Bool → Came → Came
+acknowledged K t number true c = record c { world = (stepped K c.world t.from (to_acknowledge t.at t.to number)).world }
+acknowledged K t number false c = c
+
+-- the second part delivers that very transfer
+abbrev pub delivered : Settings → ATransferTurn → Transfer → World → Came
+delivered K t transfer W =
+    let c = stepped K W t.to (to_deliver t.at transfer) in acknowledged K t transfer.number (goes_on t.stop c.reply) c
+
+-- the turn may be told to end before
+abbrev pub transferred : Settings → ATransferTurn → Stop → Transfer → World → Came
+transferred K t AtEnd transfer W = delivered K t transfer W
+transferred K t AfterFirstPart transfer W = record { reply = Ok (answered.Taken transfer.number); world = W }
+transferred K t AfterSecondPart transfer W = delivered K t transfer W
+
+-- what follows the first part: where its reply has no transfer, that is the turn's
+abbrev pub after_reading : Settings → ATransferTurn → Reply → Option Transfer → World → Came
+after_reading K t reply None W = record { reply = reply; world = W }
+after_reading K t reply (Some transfer) W = transferred K t t.stop transfer W
+
+-- the first part of a transfer turn reads the next transfer from the one shard to the other
+abbrev pub transfer_turn : Settings → World → ATransferTurn → Came
+transfer_turn K W t =
+    unless (ends_refusal K t.from t.to) W
+    (let next = stepped K W t.from (to_next_transfer t.at t.to) in after_reading K t next.reply (transfer_of next.reply) next.world)
+
 -- what a call comes to
 unfoldable pub served : Settings → World → Call → Came
 served K W (Step c) = step K W c
 served K W (Poll q) = poll K W q
 served K W (DispatchTurn t) = turn K W t
+served K W (TransferTurn t) = transfer_turn K W t

@@ -13,7 +13,7 @@ mod script;
 mod serving;
 
 pub use fault::ScriptFault;
-pub use line::{LINE_LIMIT, Line};
+pub use line::{LINE_LIMIT, Line, cut};
 pub use reading::asked;
 pub use run::{Outcome, run_one};
 pub use serving::opening_fault;

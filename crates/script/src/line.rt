@@ -1,7 +1,7 @@
 //! A line as it comes in, by parts.
 
 ghost use Rattle.std.specs.Prelude.{◌≡◌, [], ◌∷◌, ◌++◌, false, Some, IfSome, IfNone, OnOk, option_map};
-ghost use Rattle.script.specs.Pending.{longer, grown, is_empty_line, has_feed};
+ghost use Rattle.script.specs.Pending.{grown, is_empty_line, has_feed};
 
 use memchr::memchr;
 use std::alloc::{AllocError, Global};
@@ -31,20 +31,6 @@ impl Line {
         Line {
             bytes: Some(Vec::new(alloc)),
         }
-    }
-
-    /// One byte more. A line that grows past the limit gives its memory up.
-    pub fn push(&mut self, byte: u8) -> Result<(), AllocError>
-        ensures { OnOk result (self.new ≡ longer self.old byte) }
-    {
-        if let Some(bytes) = &mut self.bytes {
-            if bytes.len() < LINE_LIMIT {
-                bytes.push(byte)?;
-            } else {
-                self.bytes = None;
-            }
-        }
-        Ok(())
     }
 
     /// More bytes. A line that grows past the limit gives its memory up.
@@ -96,7 +82,7 @@ impl Line {
 }
 
 /// What stands before the first line feed and what stands behind it, where there is one.
-pub(crate) fn cut(text: &[u8]) -> Option<(&[u8], &[u8])>
+pub fn cut(text: &[u8]) -> Option<(&[u8], &[u8])>
     ensures parts { IfSome result (λ p. text.now ≡ p.0.now ++ 10 ∷ p.1.now) }
     ensures first { IfSome result (λ p. has_feed p.0.now ≡ false) }
     ensures none { IfNone result (has_feed text.now ≡ false) }

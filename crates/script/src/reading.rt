@@ -7,18 +7,23 @@ use crate::line::Line;
 use service_model::settings::Settings;
 use std::alloc::Global;
 use wf_event_values::{Field, Refusal};
-use wire_requests::{Asked, read_line};
+use wire_requests::{Asked, LineReader};
 
 /// What a line asks for. A line that is too long, or whose bytes are no UTF-8, is refused here; what is
 /// text is read as JSON.
-pub fn asked(alloc: Global, settings: &Settings, line: &Line) -> Result<Asked, Refusal>
+pub fn asked(
+    reader: &mut LineReader,
+    alloc: Global,
+    settings: &Settings,
+    line: &Line,
+) -> Result<Asked, Refusal>
     ensures { Gives result (asked settings.now line.now) }
 {
     let Some(bytes) = line.bytes() else {
         return Err(Refusal::InvalidArgument(Field::Line));
     };
     match str::from_utf8(bytes) {
-        Ok(text) => read_line(alloc, settings, text),
+        Ok(text) => reader.read(alloc, settings, text),
         Err(_) => Err(Refusal::InvalidArgument(Field::Json)),
     }
 }

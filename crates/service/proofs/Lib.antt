@@ -2,3 +2,4 @@ pub mod CloseLemmas
 pub mod OpenLemmas
 pub mod ServedLemmas
 mod TurnLemmas
+mod TransferLemmas

@@ -4,7 +4,9 @@ use Rattle.std.proofs.lemmas.Bool.Decides.{nat_tests}
 use Rattle.std.proofs.lemmas.Nat.{mod_below}
 use Rattle.std.specs.Prelude.{map, slice_get, unwrap_or, if◌then◌else◌, nat_lt, ◌&&◌, Result}
 use Rattle.std.specs.List.{range_with_len}
+use Rattle.wf_event_values.specs.declared.field.Field.TheVariants as field
 use Rattle.wf_event_values.specs.declared.refusal.Refusal.{Refusal}
+use Rattle.wf_event_values.specs.declared.refusal.Refusal.TheVariants.{InvalidArgument}
 use Rattle.service_model.specs.declared.call.StepCall.{StepCall}
 use Rattle.service_model.specs.declared.call.StepCall.TheVariants as call
 use Rattle.service_model.specs.declared.content.Content.{Content}
@@ -20,7 +22,7 @@ use Rattle.gate.specs.declared.view.View.{View}
 use Rattle.gate.specs.Passes as gate
 use Rattle.service.specs.declared.service.Service.{Service}
 use Rattle.service.specs.declared.service.Pass.{Pass}
-use Rattle.service.specs.Contents.{setup_of, opening_contents, is_token, refusal_of, refusal_of_step, shard_of, shard_refusal, slot_of_step}
+use Rattle.service.specs.Contents.{setup_of, opening_contents, ends_refusal, is_token, refusal_of, refusal_of_step, shard_of, shard_refusal, slot_of_step}
 use Rattle.service.specs.Services.{known_by, Answered, IsPassOf, IsServedAtLast, IsServedOn}
 
 get-range : {X : Type 0} (f : ℕ → X) (a n k : ℕ) → k < n → slice_get (map f (range_with_len a n)) k ≡ Some (f (a + k))
@@ -64,12 +66,24 @@ shard-below K (operation.Heartbeat q) some none = token-below K q.task (unrefuse
 shard-below K (operation.History q) some none = mod_below (hash_of q.workflow_id) K.shards (omega (arith, some))
 shard-below K (operation.Describe q) some none = mod_below (hash_of q.workflow_id) K.shards (omega (arith, some))
 shard-below K operation.TimerTurn some none = absurd (cc)
+shard-below K (operation.NextTransfer to) some none = absurd (cc)
+shard-below K (operation.Deliver t) some none = absurd (cc)
+shard-below K (operation.Acknowledge q) some none = absurd (cc)
 shard-below K operation.NextDispatch some none = absurd (cc)
 shard-below K (operation.Dispatched number) some none = absurd (cc)
 
 -- a shard that nothing refuses is there
 pub named-below : (K : Settings) (shard : ℕ) → shard_refusal K shard ≡ None → shard < K.shards
 named-below K shard none = let there : nat_lt shard K.shards ≡ true = unrefused _ _ _ none in grind (arith, nat_tests)
+
+-- so are those that a transfer turn names
+pub ends-below : (K : Settings) (from to : ℕ) → ends_refusal K from to ≡ None → (from < K.shards) × (to < K.shards)
+ends-below K from to none = by_tests (nat_lt from K.shards) refl (nat_lt to K.shards) refl none
+  where
+    by_tests : (a : Bool) → nat_lt from K.shards ≡ a → (b : Bool) → nat_lt to K.shards ≡ b → ◌≡◌ {A = Option Refusal} (if a then (if b then None else Some (InvalidArgument field.To)) else Some (InvalidArgument field.From)) None → (from < K.shards) × (to < K.shards)
+    by_tests true a true b none = (grind (arith, nat_tests), grind (arith, nat_tests))
+    by_tests true a false b none = absurd (cc)
+    by_tests false a b is none = absurd (cc)
 
 -- so is the shard of a call
 pub call-below : (K : Settings) (c : StepCall) → 1 ≤ K.shards → refusal_of_step K c ≡ None → slot_of_step K c < K.shards

@@ -13,6 +13,7 @@ use Rattle.service_model.specs.declared.request.CompleteWorkflowTask.{CompleteWo
 use Rattle.service_model.specs.declared.request.FailWorkflowTask.{FailWorkflowTask}
 use Rattle.service_model.specs.declared.request.ActivityText.{ActivityText}
 use Rattle.service_model.specs.declared.request.FailActivity.{FailActivity}
+use Rattle.service_model.specs.declared.transfer.Transfer.{Transfer}
 
 abbrev pub to_start : ℕ → Start → Request
 to_start at q = record { at = at; operation = operation.Start q }
@@ -58,6 +59,15 @@ to_describe at q = record { at = at; operation = operation.Describe q }
 
 abbrev pub to_turn_timers : ℕ → Request
 to_turn_timers at = record { at = at; operation = operation.TimerTurn }
+
+abbrev pub to_next_transfer : ℕ → ℕ → Request
+to_next_transfer at to = record { at = at; operation = operation.NextTransfer to }
+
+abbrev pub to_deliver : ℕ → Transfer → Request
+to_deliver at t = record { at = at; operation = operation.Deliver t }
+
+abbrev pub to_acknowledge : ℕ → ℕ → ℕ → Request
+to_acknowledge at to number = record { at = at; operation = operation.Acknowledge (record { to = to; number = number }) }
 
 abbrev pub to_next_dispatch : ℕ → Request
 to_next_dispatch at = record { at = at; operation = operation.NextDispatch }

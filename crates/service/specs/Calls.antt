@@ -2,7 +2,7 @@
 use Rattle.std.specs.Prelude.{◌≡◌, Option, None, Some, Result, Ok, Err}
 use Rattle.service_model.specs.declared.answer.Answer.TheVariants as answer
 use Rattle.service_model.specs.declared.call.Call.{Call}
-use Rattle.service_model.specs.declared.call.Call.TheVariants.{Step, Poll, DispatchTurn}
+use Rattle.service_model.specs.declared.call.Call.TheVariants.{Step, Poll, DispatchTurn, TransferTurn}
 use Rattle.service_model.specs.declared.call.DispatchTurn.{DispatchTurn as ADispatchTurn}
 use Rattle.service_model.specs.declared.call.Poll.{Poll as APoll}
 use Rattle.service_model.specs.declared.request.Hint.{Hint}
@@ -15,6 +15,7 @@ use Rattle.service.specs.declared.service.Pass.{Pass}
 use Rattle.service.specs.declared.service.Service.{Service}
 use Rattle.service.specs.Contents.{refusal_of_step, slot_of_step}
 use Rattle.service.specs.Services.{ServedOnAtLast, hints_by, known_by}
+use Rattle.service.specs.TransferTurns.{TransferKept, TransferTurns}
 use Rattle.service.specs.Turns.{Polls, PollKept, Turns, TurnKept, place_of}
 
 -- the reply of a poll: where no hint waited, the task queue was empty
@@ -42,14 +43,16 @@ pub record TurnServed (x : Service) (p p' : Pass) (q : ADispatchTurn) (r : Reply
   pub reply : r ≡ reply_of_turn turned
   pub turns : Turns x q.shard q.at q.stop (known_by p) (known_by p') (hints_by p) (hints_by p') turned
 
--- a call was answered so: a step on its shard, which leaves what the pass knows of hints; a poll and a dispatch turn part by part
+-- a call was answered so: a step on its shard, which leaves what the pass knows of hints, as a transfer turn does; a poll and the turns part by part
 abbrev pub CallServed : Service → Pass → Pass → Call → Reply → Type 0
 CallServed x p p' (Step c) r = ServedOnAtLast x p p' (refusal_of_step x.settings c) (slot_of_step x.settings c) (request_of c) r × (hints_by p' ≡ hints_by p)
 CallServed x p p' (Poll q) r = PollServed x p p' q r
 CallServed x p p' (DispatchTurn q) r = TurnServed x p p' q r
+CallServed x p p' (TransferTurn q) r = TransferTurns x q (known_by p) (known_by p') r × (hints_by p' ≡ hints_by p)
 
--- a call was refused for memory: a step did nothing, a poll had popped a hint and made no step, a dispatch turn keeps the parts that were done
+-- a call was refused for memory: a step did nothing, a poll had popped a hint and made no step, a turn keeps the parts that were done
 abbrev pub CallKept : Service → Pass → Pass → Call → Type 0
 CallKept x p p' (Step c) = Waited (known_by p) (known_by p') (slot_of_step x.settings c) × (hints_by p' ≡ hints_by p)
 CallKept x p p' (Poll q) = (h : Hint) × PollKept (place_of x q.task_queue) q.kind (known_by p) (known_by p') (hints_by p) (hints_by p') h
 CallKept x p p' (DispatchTurn q) = TurnKept x q.shard q.at (known_by p) (known_by p') (hints_by p) (hints_by p')
+CallKept x p p' (TransferTurn q) = TransferKept x q (known_by p) (known_by p') × (hints_by p' ≡ hints_by p)

@@ -34,6 +34,11 @@ is_token K t = nat_lt t.shard K.shards && (nat_le 1 t.run && (nat_le 1 t.event &
 abbrev pub shard_refusal : Settings → ℕ → Option Refusal
 shard_refusal K shard = if nat_lt shard K.shards then None else Some (InvalidArgument field.Shard)
 
+-- a transfer turn names the shard that sends and the one that receives: each has to be there
+abbrev pub ends_refusal : Settings → ℕ → ℕ → Option Refusal
+ends_refusal K from to =
+    if nat_lt from K.shards then (if nat_lt to K.shards then None else Some (InvalidArgument field.To)) else Some (InvalidArgument field.From)
+
 abbrev pub token_refusal : Settings → TakenTask → Option Refusal
 token_refusal K t = if is_token K t then None else Some InvalidToken
 
@@ -58,6 +63,9 @@ refusal_of K (operation.Heartbeat q) = token_refusal K q.task
 refusal_of K (operation.History q) = None
 refusal_of K (operation.Describe q) = None
 refusal_of K operation.TimerTurn = Some (InvalidArgument field.Shard)
+refusal_of K (operation.NextTransfer to) = Some (InvalidArgument field.Shard)
+refusal_of K (operation.Deliver t) = Some (InvalidArgument field.Shard)
+refusal_of K (operation.Acknowledge q) = Some (InvalidArgument field.Shard)
 refusal_of K operation.NextDispatch = Some (InvalidArgument field.Shard)
 refusal_of K (operation.Dispatched number) = Some (InvalidArgument field.Shard)
 
@@ -82,6 +90,9 @@ shard_of K (operation.Heartbeat q) = q.task.shard
 shard_of K (operation.History q) = shard_of_id K q.workflow_id
 shard_of K (operation.Describe q) = shard_of_id K q.workflow_id
 shard_of K operation.TimerTurn = 0
+shard_of K (operation.NextTransfer to) = 0
+shard_of K (operation.Deliver t) = 0
+shard_of K (operation.Acknowledge q) = 0
 shard_of K operation.NextDispatch = 0
 shard_of K (operation.Dispatched number) = 0
 

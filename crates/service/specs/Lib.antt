@@ -6,4 +6,5 @@ pub mod Helds
 pub mod Laid
 pub mod Ranges
 pub mod Services
+pub mod TransferTurns
 pub mod Turns

@@ -17,12 +17,13 @@ impl Service {
 
     /// Serves a call of any kind: a step as [`Service::serve_step`] does, a poll as
     /// [`Service::poll_workflow_task`] or [`Service::poll_activity_task`], a dispatch turn as
-    /// [`Service::dispatch_turn`]. A poll that finds no hint is answered `Empty`. It may wait for ever.
+    /// [`Service::dispatch_turn`], a transfer turn as [`Service::transfer_turn`]. A poll that finds no
+    /// hint is answered `Empty`. It may wait for ever.
     ///
     /// # Errors
     /// Where a growth was refused. A step has done nothing then, a poll has popped a hint and made no
-    /// step, and a dispatch turn keeps the parts that were done. The call by its own name hands back
-    /// what it was given or popped.
+    /// step, and a turn keeps the parts that were done. The call by its own name hands back what it was
+    /// given or popped.
     pub fn serve_call<R: Wait>(
         &self,
         rt: &R,
@@ -39,6 +40,9 @@ impl Service {
             Call::Step(step) => self.step_replied(rt, pass, step),
             Call::Poll(poll) => self.poll_replied(rt, pass, poll),
             Call::DispatchTurn(turn) => self.turn_replied(rt, pass, turn),
+            Call::TransferTurn(turn) => {
+                self.transfer_turn(rt, pass, turn.from, turn.to, turn.stop, turn.at)
+            }
         }
     }
 

@@ -21,6 +21,7 @@ mod polls;
 mod route;
 mod service;
 mod tasks;
+mod transfer_turns;
 mod turns;
 mod workflows;
 

@@ -151,7 +151,7 @@ fn open_shard(alloc: Global, settings: &Settings, shard: u64) -> Result<Shard, R
     ensures err { IfErr result (λ e. e ≢ Refusal.NoMemory → ⊥) }
 {
     let queues = settings.copy_queues(alloc)?;
-    Ok(Shard::new(
+    let fresh = Shard::new(
         alloc,
         Setup {
             service: settings.service,
@@ -159,7 +159,8 @@ fn open_shard(alloc: Global, settings: &Settings, shard: u64) -> Result<Shard, R
             shards: settings.shards as u16,
             queues,
         },
-    ))
+    )?;
+    Ok(fresh)
 }
 
 /// The passes of the gate with those of the queues.

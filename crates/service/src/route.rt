@@ -1,7 +1,7 @@
 //! To which shard a request goes, and which requests go to none.
 
 ghost use Rattle.std.specs.Prelude.{◌≡◌, ◌<◌};
-ghost use Rattle.service.specs.Contents.{completion_refusal, is_token, refusal_of, refusal_of_step, shard_of_id, shard_refusal, slot_of_step, token_refusal};
+ghost use Rattle.service.specs.Contents.{completion_refusal, ends_refusal, is_token, refusal_of, refusal_of_step, shard_of_id, shard_refusal, slot_of_step, token_refusal};
 
 use crate::service::Service;
 use service_model::call::StepCall;
@@ -15,7 +15,7 @@ impl Service {
     ghost use Rattle.service.specs.Services.{settings_of, shard_of_request};
 
     /// As what an operation is refused before any shard is entered, where it is. A timer turn and the
-    /// parts of a dispatch turn name no shard: they are served for a call that does.
+    /// parts of other turns don't name their shard: they are served for a call that does.
     pub(crate) fn refusal_of(&self, operation: &Operation) -> Option<Refusal>
         ensures { result ≡ refusal_of (settings_of self.now) operation.now }
     {
@@ -34,9 +34,12 @@ impl Service {
             | Operation::Terminate(_)
             | Operation::History(_)
             | Operation::Describe(_) => None,
-            Operation::TimerTurn | Operation::NextDispatch | Operation::Dispatched(_) => {
-                Some(Refusal::InvalidArgument(Field::Shard))
-            }
+            Operation::TimerTurn
+            | Operation::NextTransfer(_)
+            | Operation::Deliver(_)
+            | Operation::Acknowledge(_)
+            | Operation::NextDispatch
+            | Operation::Dispatched(_) => Some(Refusal::InvalidArgument(Field::Shard)),
         }
     }
 
@@ -63,7 +66,12 @@ impl Service {
             | Operation::CancelActivity(asked)
             | Operation::Heartbeat(asked) => usize::from(asked.task.shard),
             Operation::FailActivity(asked) => usize::from(asked.task.shard),
-            Operation::TimerTurn | Operation::NextDispatch | Operation::Dispatched(_) => 0,
+            Operation::TimerTurn
+            | Operation::NextTransfer(_)
+            | Operation::Deliver(_)
+            | Operation::Acknowledge(_)
+            | Operation::NextDispatch
+            | Operation::Dispatched(_) => 0,
         }
     }
 
@@ -107,6 +115,19 @@ pub(crate) fn shard_refusal(settings: &Settings, shard: u16) -> Option<Refusal>
     } else {
         Some(Refusal::InvalidArgument(Field::Shard))
     }
+}
+
+/// The shards that a transfer turn names have to be there, first the one that sends.
+pub(crate) fn ends_refusal(settings: &Settings, from: u16, to: u16) -> Option<Refusal>
+    ensures { result ≡ ends_refusal settings.now from to }
+{
+    if u64::from(from) >= settings.shards {
+        return Some(Refusal::InvalidArgument(Field::From));
+    }
+    if u64::from(to) >= settings.shards {
+        return Some(Refusal::InvalidArgument(Field::To));
+    }
+    None
 }
 
 /// Whether a token may name the task: its shard is there, and its run, event and attempt count

@@ -12,13 +12,13 @@ use Rattle.service_model.specs.declared.content.Dispatch.{Dispatch}
 use Rattle.service_model.specs.declared.content.Setup.{Setup}
 use Rattle.service_model.specs.declared.journal.Fact.{Fact}
 use Rattle.service_model.specs.declared.request.Request.{Request}
-use Rattle.service_model.specs.declared.request.Operation.TheVariants as served
+use Rattle.service_model.specs.declared.request.Operation.TheVariants as operation
 use Rattle.service_model.specs.Deadlines.{scheduled_fields}
 use Rattle.service_model.specs.Counts.{dispatch_answer, dispatch_of, next_dispatch}
 use Rattle.service_model.specs.Issued.{dispatch_by, task_dispatch, row_dispatch, ready_dispatch, dispatches_of, queued_again}
 use Rattle.service_model.specs.Outcome.{Added, Counting, CountsNothing, AcceptsFrom, AcknowledgesTo, CountsDispatch, Outcome}
 use Rattle.service_model.specs.RunState.{RunState, ActivityRow, row_of, state_of}
-use Rattle.service_model.specs.Service.{Entry, after, answer as answer_of, content_after, dispatched_for, dispatched_new, entries, journal_at, moment_of, opening, outcome, outcome_of, with_count}
+use Rattle.service_model.specs.Service.{Entry, after, answer as answer_of, content_after, dispatched_for, dispatched_new, entries, journal_at, moment_of, opening, outcome, with_count}
 
 -- a dispatch of a shard's task
 abbrev pub IsOf : ℕ → Dispatch → Type 0
@@ -97,7 +97,7 @@ of-step shard S moment o h =
 
 pub names-after : (shard : ℕ) (S : Content) (q : Request) → NamesShard shard S → NamesShard shard (after S q)
 unfolding after
-names-after shard S q h = of-step shard S (moment_of S q.at) (outcome_of S (moment_of S q.at) q.operation) h
+names-after shard S q h = of-step shard S (moment_of S q.at) (outcome S (moment_of S q.at) q.operation) h
 
 pub names-opening : (setup : Setup) → NamesShard setup.shard (opening setup)
 names-opening setup = record { own = refl; all = tt }
@@ -112,8 +112,8 @@ found-of shard number (x ∷ xs) zero d all is = subst (IsOf shard) (ap named is
 found-of shard number (x ∷ xs) (suc n) d all is = found-of shard number xs n d all.1 is
 
 -- the next dispatch of such a content names the shard
-pub next-named : (shard : ℕ) (S : Content) (at : ℕ) (d : NumberedDispatch) → NamesShard shard S → dispatch_of (answer_of S (record { at = at; operation = served.NextDispatch })) ≡ Some d → d.dispatch.hint.shard ≡ shard
-unfolding answer_of outcome_of outcome next_dispatch
+pub next-named : (shard : ℕ) (S : Content) (at : ℕ) (d : NumberedDispatch) → NamesShard shard S → dispatch_of (answer_of S (record { at = at; operation = operation.NextDispatch })) ≡ Some d → d.dispatch.hint.shard ≡ shard
+unfolding answer_of outcome next_dispatch
 next-named shard S at d h is = found-of shard (S.dispatched + 1) S.dispatches S.dispatched d h.all is
 
 -- all contents of a shard's record do

@@ -11,7 +11,7 @@ use Rattle.wf_event_values.specs.declared.policies.ConflictPolicy.TheVariants.{F
 use Rattle.wf_event_values.specs.declared.policies.CancelSource.TheVariants.{Client}
 use Rattle.wf_event_values.specs.declared.policies.Status.TheVariants.{ContinuedAsNew, Terminated}
 use Rattle.wf_event_values.specs.declared.refusal.Refusal.TheVariants.{AlreadyStarted, CancellationAlreadyRequested, NotFound}
-use Rattle.service_model.specs.Service.{ToStart, ToSignalWithStart, ToRequestCancel, ToTerminate, ToDescribe}
+use Rattle.service_model.specs.declared.request.Operation.TheVariants as operation
 use Rattle.wf_event.specs.Role.{role, opens, settles, closing_status}
 use Rattle.service_model.specs.Windows.{placed, first_closing}
 use Rattle.service_model.specs.Shown.{key_of, put_in_order, put_all, cancels, is_canceled_firing, numbered}
@@ -41,7 +41,7 @@ pub conflict_policies :
     (reply_behind conflict_policies_script (0, start_of a (codes "r2")) ≡ Err (AlreadyStarted (run 1)))
     × (reply_behind conflict_policies_script (0, start_with a (codes "r3") AllowDuplicate UseExisting 0) ≡ Ok (says.Existing (run 1)))
     × (reply_behind conflict_policies_script (0, start_with a (codes "r4") AllowDuplicate TerminateExisting 0) ≡ Ok (says.Started (run 2)))
-    × (reply_behind (conflict_policies_script ++ (0, start_with a (codes "r4") AllowDuplicate TerminateExisting 0) ∷ []) (0, ToDescribe (record { workflow_id = a; run = Some (run 1) })) ≡ described Terminated 3 0)
+    × (reply_behind (conflict_policies_script ++ (0, start_with a (codes "r4") AllowDuplicate TerminateExisting 0) ∷ []) (0, operation.Describe (record { workflow_id = a; run = Some (run 1) })) ≡ described Terminated 3 0)
 unfolding role opens settles closing_status placed first_closing key_of put_in_order put_all cancels is_canceled_firing numbered is_in_use in_use phase attempt last_noted last_details was_cancel_requested task beginning signal_requests cancel_request no_run wait verdict dues decide latest_run start signal signal_with_start request_cancel terminate history describe pending_so_far in_use_so_far judge_fields_good judge judge_all failed_task completed_task start_task complete_workflow_task fail_workflow_task complete_activity cancel_activity fail_activity heartbeat least fire timer_turn next_transfer acknowledge next_dispatch dispatched effect deliver outcome
 conflict_policies = (refl, refl, refl, refl)
 
@@ -53,19 +53,19 @@ pub reuse_policies :
     (reply_behind reuse_policies_script (0, start_with a (codes "r2") AllowDuplicateFailedOnly Fail 0) ≡ Err (AlreadyStarted (run 1)))
     × (reply_behind reuse_policies_script start_a ≡ Ok (says.Existing (run 1)))
     × (reply_behind reuse_policies_script (0, start_of a (codes "r3")) ≡ Ok (says.Started (run 2)))
-    × (reply_behind (reuse_policies_script ++ (0, start_of a (codes "r3")) ∷ (0, ToTerminate (record { workflow_id = a; run = None; reason = [] })) ∷ []) (0, start_with a (codes "r4") AllowDuplicateFailedOnly Fail 0) ≡ Ok (says.Started (run 3)))
-    × (reply_behind (reuse_policies_script ++ (0, start_of a (codes "r3")) ∷ (0, ToTerminate (record { workflow_id = a; run = None; reason = [] })) ∷ (0, start_with a (codes "r4") AllowDuplicateFailedOnly Fail 0) ∷ []) start_a ≡ Err (AlreadyStarted (run 3)))
+    × (reply_behind (reuse_policies_script ++ (0, start_of a (codes "r3")) ∷ (0, operation.Terminate (record { workflow_id = a; run = None; reason = [] })) ∷ []) (0, start_with a (codes "r4") AllowDuplicateFailedOnly Fail 0) ≡ Ok (says.Started (run 3)))
+    × (reply_behind (reuse_policies_script ++ (0, start_of a (codes "r3")) ∷ (0, operation.Terminate (record { workflow_id = a; run = None; reason = [] })) ∷ (0, start_with a (codes "r4") AllowDuplicateFailedOnly Fail 0) ∷ []) start_a ≡ Err (AlreadyStarted (run 3)))
 unfolding role opens settles closing_status placed first_closing key_of put_in_order put_all cancels is_canceled_firing numbered is_in_use in_use phase attempt last_noted last_details was_cancel_requested task beginning signal_requests cancel_request no_run wait verdict dues decide latest_run start signal signal_with_start request_cancel terminate history describe pending_so_far in_use_so_far judge_fields_good judge judge_all failed_task completed_task start_task complete_workflow_task fail_workflow_task complete_activity cancel_activity fail_activity heartbeat least fire timer_turn next_transfer acknowledge next_dispatch dispatched effect deliver outcome
 reuse_policies = (refl, refl, refl, refl, refl)
 
 -- a second request to cancel is repeated, or refused
 abbrev pub cancel_requests_script : List Step
-cancel_requests_script = start_a ∷ (0, ToRequestCancel (record { workflow_id = a; run = None; request_id = Some (codes "c1") })) ∷ []
+cancel_requests_script = start_a ∷ (0, operation.RequestCancel (record { workflow_id = a; run = None; request_id = Some (codes "c1") })) ∷ []
 
 pub cancel_requests :
-    (reply_behind (start_a ∷ []) (0, ToRequestCancel (record { workflow_id = a; run = None; request_id = Some (codes "c1") })) ≡ Ok says.CancelRequested)
-    × (reply_behind cancel_requests_script (0, ToRequestCancel (record { workflow_id = a; run = None; request_id = Some (codes "c1") })) ≡ Ok says.Repeated)
-    × (reply_behind cancel_requests_script (0, ToRequestCancel (record { workflow_id = a; run = None; request_id = Some (codes "c2") })) ≡ Err CancellationAlreadyRequested)
+    (reply_behind (start_a ∷ []) (0, operation.RequestCancel (record { workflow_id = a; run = None; request_id = Some (codes "c1") })) ≡ Ok says.CancelRequested)
+    × (reply_behind cancel_requests_script (0, operation.RequestCancel (record { workflow_id = a; run = None; request_id = Some (codes "c1") })) ≡ Ok says.Repeated)
+    × (reply_behind cancel_requests_script (0, operation.RequestCancel (record { workflow_id = a; run = None; request_id = Some (codes "c2") })) ≡ Err CancellationAlreadyRequested)
     × (history_behind cancel_requests_script 1 ≡ begun (event_at 3 0 (event.WorkflowExecutionCancelRequested Client) ∷ []))
 unfolding role opens settles closing_status placed first_closing key_of put_in_order put_all cancels is_canceled_firing numbered is_in_use in_use phase attempt last_noted last_details was_cancel_requested task beginning signal_requests cancel_request no_run wait verdict dues decide latest_run start signal signal_with_start request_cancel terminate history describe pending_so_far in_use_so_far judge_fields_good judge judge_all failed_task completed_task start_task complete_workflow_task fail_workflow_task complete_activity cancel_activity fail_activity heartbeat least fire timer_turn next_transfer acknowledge next_dispatch dispatched effect deliver outcome
 cancel_requests = (refl, refl, refl, refl)
@@ -83,11 +83,11 @@ continue_as_new = (refl, refl, refl)
 
 -- a start with a signal, and the same again
 abbrev pub signals_with_start_script : List Step
-signals_with_start_script = (0, ToSignalWithStart (record { start = record { workflow_id = a; workflow_type = codes "w"; task_queue = main; input = []; request_id = Some (codes "r"); reuse = AllowDuplicate; conflict = Fail; run_timeout = 0; task_timeout = 0 }; name = codes "s"; signal_input = [] })) ∷ []
+signals_with_start_script = (0, operation.SignalWithStart (record { start = record { workflow_id = a; workflow_type = codes "w"; task_queue = main; input = []; request_id = Some (codes "r"); reuse = AllowDuplicate; conflict = Fail; run_timeout = 0; task_timeout = 0 }; name = codes "s"; signal_input = [] })) ∷ []
 
 pub signals_with_start :
-    (reply_behind [] (0, ToSignalWithStart (record { start = record { workflow_id = a; workflow_type = codes "w"; task_queue = main; input = []; request_id = Some (codes "r"); reuse = AllowDuplicate; conflict = Fail; run_timeout = 0; task_timeout = 0 }; name = codes "s"; signal_input = [] })) ≡ Ok (says.Started (run 1)))
-    × (reply_behind signals_with_start_script (0, ToSignalWithStart (record { start = record { workflow_id = a; workflow_type = codes "w"; task_queue = main; input = []; request_id = Some (codes "r"); reuse = AllowDuplicate; conflict = Fail; run_timeout = 0; task_timeout = 0 }; name = codes "s"; signal_input = [] })) ≡ Ok (says.RepeatedRun (run 1)))
+    (reply_behind [] (0, operation.SignalWithStart (record { start = record { workflow_id = a; workflow_type = codes "w"; task_queue = main; input = []; request_id = Some (codes "r"); reuse = AllowDuplicate; conflict = Fail; run_timeout = 0; task_timeout = 0 }; name = codes "s"; signal_input = [] })) ≡ Ok (says.Started (run 1)))
+    × (reply_behind signals_with_start_script (0, operation.SignalWithStart (record { start = record { workflow_id = a; workflow_type = codes "w"; task_queue = main; input = []; request_id = Some (codes "r"); reuse = AllowDuplicate; conflict = Fail; run_timeout = 0; task_timeout = 0 }; name = codes "s"; signal_input = [] })) ≡ Ok (says.RepeatedRun (run 1)))
     × (history_behind signals_with_start_script 1 ≡ started_with a 0 ∷ signaled 2 0 (codes "s") ∷ scheduled 3 0 1 ∷ [])
 unfolding role opens settles closing_status placed first_closing key_of put_in_order put_all cancels is_canceled_firing numbered is_in_use in_use phase attempt last_noted last_details was_cancel_requested task beginning signal_requests cancel_request no_run wait verdict dues decide latest_run start signal signal_with_start request_cancel terminate history describe pending_so_far in_use_so_far judge_fields_good judge judge_all failed_task completed_task start_task complete_workflow_task fail_workflow_task complete_activity cancel_activity fail_activity heartbeat least fire timer_turn next_transfer acknowledge next_dispatch dispatched effect deliver outcome
 signals_with_start = (refl, refl, refl)
@@ -103,18 +103,18 @@ rejected = (refl, refl, refl, refl)
 
 -- absent request ids are the same, and an absent one is another than one that is given
 abbrev pub cancel_without_id : Step
-cancel_without_id = (0, ToRequestCancel (record { workflow_id = a; run = None; request_id = None }))
+cancel_without_id = (0, operation.RequestCancel (record { workflow_id = a; run = None; request_id = None }))
 
 pub absent_ids :
     (reply_behind (start_a ∷ cancel_without_id ∷ []) cancel_without_id ≡ Ok says.Repeated)
-    × (reply_behind (start_a ∷ cancel_without_id ∷ []) (0, ToRequestCancel (record { workflow_id = a; run = None; request_id = Some (codes "c1") })) ≡ Err CancellationAlreadyRequested)
+    × (reply_behind (start_a ∷ cancel_without_id ∷ []) (0, operation.RequestCancel (record { workflow_id = a; run = None; request_id = Some (codes "c1") })) ≡ Err CancellationAlreadyRequested)
     × (reply_behind cancel_requests_script cancel_without_id ≡ Err CancellationAlreadyRequested)
 unfolding role opens settles closing_status placed first_closing key_of put_in_order put_all cancels is_canceled_firing numbered is_in_use in_use phase attempt last_noted last_details was_cancel_requested task beginning signal_requests cancel_request no_run wait verdict dues decide latest_run start signal signal_with_start request_cancel terminate history describe pending_so_far in_use_so_far judge_fields_good judge judge_all failed_task completed_task start_task complete_workflow_task fail_workflow_task complete_activity cancel_activity fail_activity heartbeat least fire timer_turn next_transfer acknowledge next_dispatch dispatched effect deliver outcome
 absent_ids = (refl, refl, refl)
 
 -- what was held back comes before the termination, and a run that has closed is not found
 abbrev pub terminate_a : Step
-terminate_a = (9, ToTerminate (record { workflow_id = a; run = None; reason = codes "m" }))
+terminate_a = (9, operation.Terminate (record { workflow_id = a; run = None; reason = codes "m" }))
 
 abbrev pub terminated_script : List Step
 terminated_script = start_a ∷ (5, take_task 1 2 1) ∷ (7, signal_of (codes "s") None) ∷ terminate_a ∷ []
@@ -127,7 +127,7 @@ terminated = (refl, refl)
 
 -- what a continued run is given, and what it keeps; a task timeout of 0 is the default one
 abbrev pub continued_with : Option ℕ → List Step
-continued_with timeout = (0, ToStart (record { workflow_id = a; workflow_type = codes "w"; task_queue = main; input = []; request_id = Some (codes "r1"); reuse = AllowDuplicate; conflict = Fail; run_timeout = 50; task_timeout = 70 }))
+continued_with timeout = (0, operation.Start (record { workflow_id = a; workflow_type = codes "w"; task_queue = main; input = []; request_id = Some (codes "r1"); reuse = AllowDuplicate; conflict = Fail; run_timeout = 50; task_timeout = 70 }))
     ∷ (0, take_task 1 2 1) ∷ (0, complete 1 2 1 (command.ContinueAsNewWorkflowExecution (record { workflow_type = Some (codes "v"); task_queue = None; input = codes "i"; run_timeout = Some 60; task_timeout = timeout }) ∷ [])) ∷ []
 
 abbrev pub again_with : ℕ → List Event
@@ -139,7 +139,7 @@ continued_fields = (refl, refl, refl)
 
 -- a start with a signal of a workflow ID whose run has closed: where it bears that run's request id, nothing is signaled
 abbrev pub signal_with_start_of : List ℕ → Step
-signal_with_start_of request = (0, ToSignalWithStart (record { start = record { workflow_id = a; workflow_type = codes "w"; task_queue = main; input = []; request_id = Some request; reuse = AllowDuplicate; conflict = Fail; run_timeout = 0; task_timeout = 0 }; name = codes "s"; signal_input = [] }))
+signal_with_start_of request = (0, operation.SignalWithStart (record { start = record { workflow_id = a; workflow_type = codes "w"; task_queue = main; input = []; request_id = Some request; reuse = AllowDuplicate; conflict = Fail; run_timeout = 0; task_timeout = 0 }; name = codes "s"; signal_input = [] }))
 
 pub signals_with_start_closed :
     (reply_behind reuse_policies_script (signal_with_start_of (codes "r1")) ≡ Ok (says.Existing (run 1)))

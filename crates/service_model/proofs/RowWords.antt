@@ -23,7 +23,9 @@ use Rattle.service_model.specs.declared.request.TakenTask.{TakenTask}
 use Rattle.service_model.specs.declared.transfer.TransferContent.{TransferContent}
 use Rattle.service_model.specs.Shown.{shown}
 use Rattle.service_model.specs.Outcome.{Reply}
-use Rattle.service_model.specs.Service.{Asked, ToStart, ToSignal, ToStartTask, ToCompleteWorkflowTask, ToFailActivity, ToDescribe, ToDeliver, ToAcknowledge, after_asking, answer_to, opening, journal_at}
+use Rattle.service_model.specs.declared.request.Operation.TheVariants as operation
+use Rattle.service_model.specs.declared.request.Operation.{Operation}
+use Rattle.service_model.specs.Service.{after_asking, answer_to, opening, journal_at}
 
 abbrev pub a : List ℕ
 a = codes "a"
@@ -46,7 +48,7 @@ run n = run_on 0 n
 
 -- a step: its moment, and what is asked
 abbrev pub Step : Type 0
-Step = ℕ × Asked
+Step = ℕ × Operation
 
 abbrev pub after_from : Content → List Step → Content
 after_from S [] = S
@@ -64,34 +66,34 @@ reply_behind ss s = answer_to (after_all ss) s.0 s.1
 abbrev pub history_behind : List Step → ℕ → List Event
 history_behind ss n = shown (journal_at (after_all ss).runs n)
 
-abbrev pub start_with : List ℕ → List ℕ → ReusePolicy → ConflictPolicy → ℕ → Asked
-start_with id request reuse conflict run_timeout = ToStart (record { workflow_id = id; workflow_type = codes "w"; task_queue = main; input = []; request_id = Some request; reuse = reuse; conflict = conflict; run_timeout = run_timeout; task_timeout = 0 })
+abbrev pub start_with : List ℕ → List ℕ → ReusePolicy → ConflictPolicy → ℕ → Operation
+start_with id request reuse conflict run_timeout = operation.Start (record { workflow_id = id; workflow_type = codes "w"; task_queue = main; input = []; request_id = Some request; reuse = reuse; conflict = conflict; run_timeout = run_timeout; task_timeout = 0 })
 
-abbrev pub start_of : List ℕ → List ℕ → Asked
+abbrev pub start_of : List ℕ → List ℕ → Operation
 start_of id request = start_with id request AllowDuplicate Fail 0
 
 abbrev pub start_a : Step
 start_a = (0, start_of a (codes "r1"))
 
-abbrev pub signal_of : List ℕ → Option (List ℕ) → Asked
-signal_of name request = ToSignal (record { workflow_id = a; run = None; name = name; input = []; request_id = request })
+abbrev pub signal_of : List ℕ → Option (List ℕ) → Operation
+signal_of name request = operation.Signal (record { workflow_id = a; run = None; name = name; input = []; request_id = request })
 
-abbrev pub hint : TaskKind → ℕ → ℕ → ℕ → Asked
-hint kind run event attempt = ToStartTask (record { kind = kind; shard = 0; run = run; event = event; attempt = attempt })
+abbrev pub hint : TaskKind → ℕ → ℕ → ℕ → Operation
+hint kind run event attempt = operation.StartTask (record { kind = kind; shard = 0; run = run; event = event; attempt = attempt })
 
 -- the workflow task that this event scheduled is taken
-abbrev pub take_task : ℕ → ℕ → ℕ → Asked
+abbrev pub take_task : ℕ → ℕ → ℕ → Operation
 take_task run event attempt = hint Workflow run event attempt
 
 -- the activity's attempt is taken
-abbrev pub take_activity : ℕ → ℕ → Asked
+abbrev pub take_activity : ℕ → ℕ → Operation
 take_activity event attempt = hint Activity 1 event attempt
 
 abbrev pub token : ℕ → ℕ → ℕ → TakenTask
 token run event attempt = record { shard = 0; run = run; event = event; attempt = attempt }
 
-abbrev pub complete : ℕ → ℕ → ℕ → List Command → Asked
-complete run event attempt commands = ToCompleteWorkflowTask (record { task = token run event attempt; commands = commands })
+abbrev pub complete : ℕ → ℕ → ℕ → List Command → Operation
+complete run event attempt commands = operation.CompleteWorkflowTask (record { task = token run event attempt; commands = commands })
 
 abbrev pub timer : List ℕ → ℕ → Command
 timer id duration = command.StartTimer (record { timer_id = id; duration = duration })
@@ -103,11 +105,11 @@ activity start_to_close schedule_to_close heartbeat policy = command.ScheduleAct
 abbrev pub policy : ℕ → ℕ → ℕ → PolicyFields
 policy initial factor attempts = record { attempts = attempts; factor = factor; initial = initial; maximum = 0; non_retryable = [] }
 
-abbrev pub fail_attempt : ℕ → ℕ → Asked
-fail_attempt event attempt = ToFailActivity (record { task = token 1 event attempt; message = []; error_type = None; non_retryable = false })
+abbrev pub fail_attempt : ℕ → ℕ → Operation
+fail_attempt event attempt = operation.FailActivity (record { task = token 1 event attempt; message = []; error_type = None; non_retryable = false })
 
 abbrev pub describe_a : Step
-describe_a = (0, ToDescribe (record { workflow_id = a; run = None }))
+describe_a = (0, operation.Describe (record { workflow_id = a; run = None }))
 
 abbrev pub event_at : ℕ → ℕ → Attributes → Event
 event_at id moment attributes = record { id = id; at = moment; attributes = attributes }
@@ -138,8 +140,8 @@ abbrev pub described : Status → ℕ → ℕ → Reply
 described status length children = Ok (says.Described (record { activities = 0; cancels = 0; children = children; held = 0; length = length; run = run 1; signals = 0; status = status; timers = 0 }))
 
 -- the transfer with that number from shard 0
-abbrev pub deliver_it : ℕ → TransferContent → Asked
-deliver_it number content = ToDeliver (record { from = 0; number = number; content = content })
+abbrev pub deliver_it : ℕ → TransferContent → Operation
+deliver_it number content = operation.Deliver (record { from = 0; number = number; content = content })
 
-abbrev pub acknowledge_it : ℕ → Asked
-acknowledge_it number = ToAcknowledge (record { to = 0; number = number })
+abbrev pub acknowledge_it : ℕ → Operation
+acknowledge_it number = operation.Acknowledge (record { to = 0; number = number })

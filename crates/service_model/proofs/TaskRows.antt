@@ -8,7 +8,7 @@ use Rattle.service_model.specs.declared.answer.Answer.TheVariants as says
 use Rattle.wf_event_values.specs.declared.policies.Cause.TheVariants.{UnhandledCommand, CommandAfterClose, WorkflowWorkerUnhandledFailure}
 use Rattle.wf_event_values.specs.declared.policies.Status.TheVariants.{Completed}
 use Rattle.wf_event_values.specs.declared.refusal.Refusal.TheVariants.{NotFound}
-use Rattle.service_model.specs.Service.{ToFailWorkflowTask, ToShowHistory}
+use Rattle.service_model.specs.declared.request.Operation.TheVariants as operation
 use Rattle.wf_event.specs.Role.{role, opens, settles, closing_status}
 use Rattle.service_model.specs.Windows.{placed, first_closing}
 use Rattle.service_model.specs.Shown.{key_of, put_in_order, put_all, cancels, is_canceled_firing, numbered}
@@ -37,7 +37,7 @@ start_and_history_script = start_a ∷ []
 pub start_and_history :
     (reply_behind [] start_a ≡ Ok (says.Started (run 1)))
     × (history_behind start_and_history_script 1 ≡ begun [])
-    × (reply_behind start_and_history_script (0, ToShowHistory (record { workflow_id = a; run = None })) ≡ Ok (says.History (record { run = run 1; events = begun [] })))
+    × (reply_behind start_and_history_script (0, operation.History (record { workflow_id = a; run = None })) ≡ Ok (says.History (record { run = run 1; events = begun [] })))
 unfolding role opens settles closing_status placed first_closing key_of put_in_order put_all cancels is_canceled_firing numbered is_in_use in_use phase attempt last_noted last_details was_cancel_requested task beginning signal_requests cancel_request no_run wait verdict dues decide latest_run start signal signal_with_start request_cancel terminate history describe pending_so_far in_use_so_far judge_fields_good judge judge_all failed_task completed_task start_task complete_workflow_task fail_workflow_task complete_activity cancel_activity fail_activity heartbeat least fire timer_turn next_transfer acknowledge next_dispatch dispatched effect deliver outcome
 start_and_history = (refl, refl, refl)
 
@@ -94,7 +94,7 @@ signal_held_then_flushed = refl
 
 -- a command behind a closing one fails the completion; then the worker fails the next task
 abbrev pub command_after_close_script : List Step
-command_after_close_script = start_a ∷ (0, take_task 1 2 1) ∷ (0, complete 1 2 1 (command.CompleteWorkflowExecution [] ∷ command.RecordMarker (record { name = codes "m"; details = [] }) ∷ [])) ∷ (0, take_task 1 5 2) ∷ (0, ToFailWorkflowTask (record { task = token 1 5 2; message = codes "m" })) ∷ []
+command_after_close_script = start_a ∷ (0, take_task 1 2 1) ∷ (0, complete 1 2 1 (command.CompleteWorkflowExecution [] ∷ command.RecordMarker (record { name = codes "m"; details = [] }) ∷ [])) ∷ (0, take_task 1 5 2) ∷ (0, operation.FailWorkflowTask (record { task = token 1 5 2; message = codes "m" })) ∷ []
 
 pub command_after_close :
     (history_behind command_after_close_script 1 ≡ begun (taken 3 0 2 ∷ event_at 4 0 (event.WorkflowTaskFailed (record { scheduled = 2; started = 3; cause = CommandAfterClose; message = [] })) ∷ scheduled 5 0 2 ∷ taken 6 0 5 ∷ event_at 7 0 (event.WorkflowTaskFailed (record { scheduled = 5; started = 6; cause = WorkflowWorkerUnhandledFailure; message = codes "m" })) ∷ scheduled 8 0 3 ∷ []))

@@ -10,7 +10,7 @@ use Rattle.wf_event_values.specs.declared.policies.ConflictPolicy.TheVariants.{F
 use Rattle.wf_event_values.specs.declared.policies.Cause.TheVariants.{StartTimerDuplicateId}
 use Rattle.wf_event_values.specs.declared.policies.Status.TheVariants.{Running, TimedOut}
 use Rattle.wf_event_values.specs.declared.policies.DeadlineClass.TheVariants.{RunTimeout, WorkflowTask, UserTimer}
-use Rattle.service_model.specs.Service.{ToTurnTimers}
+use Rattle.service_model.specs.declared.request.Operation.TheVariants as operation
 use Rattle.wf_event.specs.Role.{role, opens, settles, closing_status}
 use Rattle.service_model.specs.Windows.{placed, first_closing}
 use Rattle.service_model.specs.Shown.{key_of, put_in_order, put_all, cancels, is_canceled_firing, numbered}
@@ -37,8 +37,8 @@ abbrev pub canceled_firing_script : List Step
 canceled_firing_script = start_a ∷ (0, take_task 1 2 1) ∷ (0, complete 1 2 1 (timer (codes "t") 10 ∷ [])) ∷ (1, signal_of (codes "s") None) ∷ (2, take_task 1 7 1) ∷ (5, signal_of (codes "u") None) ∷ []
 
 pub canceled_firing :
-    (reply_behind canceled_firing_script (10, ToTurnTimers) ≡ fired UserTimer 10 1 5)
-    × (history_behind (canceled_firing_script ++ (10, ToTurnTimers) ∷ (12, complete 1 7 1 (command.CancelTimer (codes "t") ∷ [])) ∷ []) 1 ≡ begun (taken 3 0 2 ∷ completed 4 0 2 ∷ event_at 5 0 (event.TimerStarted (record { timer_id = codes "t"; duration = 10 })) ∷ signaled 6 1 (codes "s") ∷ scheduled 7 1 1 ∷ taken 8 2 7 ∷ completed 9 12 7 ∷ event_at 10 12 (event.TimerCanceled (record { timer_id = codes "t"; started = 5 })) ∷ signaled 11 5 (codes "u") ∷ scheduled 12 12 1 ∷ []))
+    (reply_behind canceled_firing_script (10, operation.TimerTurn) ≡ fired UserTimer 10 1 5)
+    × (history_behind (canceled_firing_script ++ (10, operation.TimerTurn) ∷ (12, complete 1 7 1 (command.CancelTimer (codes "t") ∷ [])) ∷ []) 1 ≡ begun (taken 3 0 2 ∷ completed 4 0 2 ∷ event_at 5 0 (event.TimerStarted (record { timer_id = codes "t"; duration = 10 })) ∷ signaled 6 1 (codes "s") ∷ scheduled 7 1 1 ∷ taken 8 2 7 ∷ completed 9 12 7 ∷ event_at 10 12 (event.TimerCanceled (record { timer_id = codes "t"; started = 5 })) ∷ signaled 11 5 (codes "u") ∷ scheduled 12 12 1 ∷ []))
 unfolding role opens settles closing_status placed first_closing key_of put_in_order put_all cancels is_canceled_firing numbered is_in_use in_use phase attempt last_noted last_details was_cancel_requested task beginning signal_requests cancel_request no_run wait verdict dues decide latest_run start signal signal_with_start request_cancel terminate history describe pending_so_far in_use_so_far judge_fields_good judge judge_all failed_task completed_task start_task complete_workflow_task fail_workflow_task complete_activity cancel_activity fail_activity heartbeat least fire timer_turn next_transfer acknowledge next_dispatch dispatched effect deliver outcome
 canceled_firing = (refl, refl)
 
@@ -57,9 +57,9 @@ abbrev pub workflow_task_timeout_script : List Step
 workflow_task_timeout_script = start_a ∷ (5, take_task 1 2 1) ∷ (7, signal_of (codes "s") None) ∷ []
 
 pub workflow_task_timeout :
-    (reply_behind workflow_task_timeout_script (10004, ToTurnTimers) ≡ Ok says.NothingDue)
-    × (reply_behind workflow_task_timeout_script (10005, ToTurnTimers) ≡ fired WorkflowTask 10005 1 2)
-    × (history_behind (workflow_task_timeout_script ++ (10005, ToTurnTimers) ∷ []) 1 ≡ begun (taken 3 5 2 ∷ event_at 4 10005 (event.WorkflowTaskTimedOut (record { scheduled = 2; started = 3 })) ∷ signaled 5 7 (codes "s") ∷ scheduled 6 10005 2 ∷ []))
+    (reply_behind workflow_task_timeout_script (10004, operation.TimerTurn) ≡ Ok says.NothingDue)
+    × (reply_behind workflow_task_timeout_script (10005, operation.TimerTurn) ≡ fired WorkflowTask 10005 1 2)
+    × (history_behind (workflow_task_timeout_script ++ (10005, operation.TimerTurn) ∷ []) 1 ≡ begun (taken 3 5 2 ∷ event_at 4 10005 (event.WorkflowTaskTimedOut (record { scheduled = 2; started = 3 })) ∷ signaled 5 7 (codes "s") ∷ scheduled 6 10005 2 ∷ []))
 unfolding role opens settles closing_status placed first_closing key_of put_in_order put_all cancels is_canceled_firing numbered is_in_use in_use phase attempt last_noted last_details was_cancel_requested task beginning signal_requests cancel_request no_run wait verdict dues decide latest_run start signal signal_with_start request_cancel terminate history describe pending_so_far in_use_so_far judge_fields_good judge judge_all failed_task completed_task start_task complete_workflow_task fail_workflow_task complete_activity cancel_activity fail_activity heartbeat least fire timer_turn next_transfer acknowledge next_dispatch dispatched effect deliver outcome
 workflow_task_timeout = (refl, refl, refl)
 
@@ -68,9 +68,9 @@ abbrev pub run_timeout_while_task_started_script : List Step
 run_timeout_while_task_started_script = (0, start_with a (codes "r1") AllowDuplicate Fail 100) ∷ (5, take_task 1 2 1) ∷ (7, signal_of (codes "s") None) ∷ []
 
 pub run_timeout_while_task_started :
-    (reply_behind run_timeout_while_task_started_script (100, ToTurnTimers) ≡ fired RunTimeout 100 1 1)
-    × (history_behind (run_timeout_while_task_started_script ++ (100, ToTurnTimers) ∷ []) 1 ≡ started_with a 100 ∷ scheduled 2 0 1 ∷ taken 3 5 2 ∷ signaled 4 7 (codes "s") ∷ event_at 5 100 event.WorkflowExecutionTimedOut ∷ [])
-    × (reply_behind (run_timeout_while_task_started_script ++ (100, ToTurnTimers) ∷ []) describe_a ≡ described TimedOut 5 0)
+    (reply_behind run_timeout_while_task_started_script (100, operation.TimerTurn) ≡ fired RunTimeout 100 1 1)
+    × (history_behind (run_timeout_while_task_started_script ++ (100, operation.TimerTurn) ∷ []) 1 ≡ started_with a 100 ∷ scheduled 2 0 1 ∷ taken 3 5 2 ∷ signaled 4 7 (codes "s") ∷ event_at 5 100 event.WorkflowExecutionTimedOut ∷ [])
+    × (reply_behind (run_timeout_while_task_started_script ++ (100, operation.TimerTurn) ∷ []) describe_a ≡ described TimedOut 5 0)
 unfolding role opens settles closing_status placed first_closing key_of put_in_order put_all cancels is_canceled_firing numbered is_in_use in_use phase attempt last_noted last_details was_cancel_requested task beginning signal_requests cancel_request no_run wait verdict dues decide latest_run start signal signal_with_start request_cancel terminate history describe pending_so_far in_use_so_far judge_fields_good judge judge_all failed_task completed_task start_task complete_workflow_task fail_workflow_task complete_activity cancel_activity fail_activity heartbeat least fire timer_turn next_transfer acknowledge next_dispatch dispatched effect deliver outcome
 run_timeout_while_task_started = (refl, refl, refl)
 
@@ -79,11 +79,11 @@ abbrev pub deadlines_in_order_script : List Step
 deadlines_in_order_script = start_a ∷ (0, start_with b (codes "r2") AllowDuplicate Fail 5000) ∷ (0, take_task 1 2 1) ∷ (0, complete 1 2 1 (timer (codes "t1") 5000 ∷ timer (codes "t2") 5000 ∷ [])) ∷ []
 
 pub deadlines_in_order :
-    (reply_behind deadlines_in_order_script (5000, ToTurnTimers) ≡ fired UserTimer 5000 1 5)
-    × (reply_behind (deadlines_in_order_script ++ (5000, ToTurnTimers) ∷ []) (5000, ToTurnTimers) ≡ fired UserTimer 5000 1 6)
-    × (reply_behind (deadlines_in_order_script ++ (5000, ToTurnTimers) ∷ (5000, ToTurnTimers) ∷ []) (5000, ToTurnTimers) ≡ fired RunTimeout 5000 2 1)
-    × (reply_behind (deadlines_in_order_script ++ (5000, ToTurnTimers) ∷ (5000, ToTurnTimers) ∷ (5000, ToTurnTimers) ∷ []) (5000, ToTurnTimers) ≡ Ok says.NothingDue)
-    × (drop 6 (history_behind (deadlines_in_order_script ++ (5000, ToTurnTimers) ∷ (5000, ToTurnTimers) ∷ (5000, ToTurnTimers) ∷ []) 1) ≡ event_at 7 5000 (event.TimerFired (record { timer_id = codes "t1"; started = 5 })) ∷ scheduled 8 5000 1 ∷ event_at 9 5000 (event.TimerFired (record { timer_id = codes "t2"; started = 6 })) ∷ [])
-    × (history_behind (deadlines_in_order_script ++ (5000, ToTurnTimers) ∷ (5000, ToTurnTimers) ∷ (5000, ToTurnTimers) ∷ []) 2 ≡ started_with b 5000 ∷ scheduled 2 0 1 ∷ event_at 3 5000 event.WorkflowExecutionTimedOut ∷ [])
+    (reply_behind deadlines_in_order_script (5000, operation.TimerTurn) ≡ fired UserTimer 5000 1 5)
+    × (reply_behind (deadlines_in_order_script ++ (5000, operation.TimerTurn) ∷ []) (5000, operation.TimerTurn) ≡ fired UserTimer 5000 1 6)
+    × (reply_behind (deadlines_in_order_script ++ (5000, operation.TimerTurn) ∷ (5000, operation.TimerTurn) ∷ []) (5000, operation.TimerTurn) ≡ fired RunTimeout 5000 2 1)
+    × (reply_behind (deadlines_in_order_script ++ (5000, operation.TimerTurn) ∷ (5000, operation.TimerTurn) ∷ (5000, operation.TimerTurn) ∷ []) (5000, operation.TimerTurn) ≡ Ok says.NothingDue)
+    × (drop 6 (history_behind (deadlines_in_order_script ++ (5000, operation.TimerTurn) ∷ (5000, operation.TimerTurn) ∷ (5000, operation.TimerTurn) ∷ []) 1) ≡ event_at 7 5000 (event.TimerFired (record { timer_id = codes "t1"; started = 5 })) ∷ scheduled 8 5000 1 ∷ event_at 9 5000 (event.TimerFired (record { timer_id = codes "t2"; started = 6 })) ∷ [])
+    × (history_behind (deadlines_in_order_script ++ (5000, operation.TimerTurn) ∷ (5000, operation.TimerTurn) ∷ (5000, operation.TimerTurn) ∷ []) 2 ≡ started_with b 5000 ∷ scheduled 2 0 1 ∷ event_at 3 5000 event.WorkflowExecutionTimedOut ∷ [])
 unfolding role opens settles closing_status placed first_closing key_of put_in_order put_all cancels is_canceled_firing numbered is_in_use in_use phase attempt last_noted last_details was_cancel_requested task beginning signal_requests cancel_request no_run wait verdict dues decide latest_run start signal signal_with_start request_cancel terminate history describe pending_so_far in_use_so_far judge_fields_good judge judge_all failed_task completed_task start_task complete_workflow_task fail_workflow_task complete_activity cancel_activity fail_activity heartbeat least fire timer_turn next_transfer acknowledge next_dispatch dispatched effect deliver outcome
 deadlines_in_order = (refl, refl, refl, refl, refl, refl)

@@ -1,4 +1,5 @@
 pub mod Laws
+pub mod TransferLaws
 pub mod Limits
 pub mod Journal
 pub mod Windows
@@ -24,3 +25,4 @@ pub mod Service
 pub mod Grounds
 pub mod Growth
 pub mod Calls
+pub mod TransferReplies

@@ -1,34 +1,18 @@
 -- one shard of the sequential service: what each request is answered, and the content that it leaves
 use Rattle.std.specs.Prelude.{ℕ, ◌+◌, ◌-◌, max, cond, ◌==◌, List, [], ◌∷◌, ◌++◌, length, map, filter, Option, None, Some, replicate, slice_index_or, slice_set}
-use Rattle.wf_event_values.specs.declared.field.Field.TheVariants as field
-use Rattle.wf_event_values.specs.declared.refusal.Refusal.TheVariants.{InvalidArgument}
-use Rattle.std.specs.List.{list_all, fold}
-pub use Rattle.wf_command.specs.Served.{is_served}
+use Rattle.std.specs.List.{fold}
 use Rattle.service_model.specs.declared.content.Content.{Content}
 use Rattle.service_model.specs.declared.content.Setup.{Setup}
 use Rattle.service_model.specs.declared.content.Dispatch.{Dispatch}
 use Rattle.service_model.specs.declared.content.Outgoing.{Outgoing}
 use Rattle.service_model.specs.declared.journal.Fact.{Fact}
 use Rattle.service_model.specs.declared.request.Operation.{Operation}
-use Rattle.service_model.specs.declared.request.Operation.TheVariants as served
+use Rattle.service_model.specs.declared.request.Operation.TheVariants as operation
 use Rattle.service_model.specs.declared.request.Request.{Request}
-use Rattle.service_model.specs.declared.request.Start.{Start}
-use Rattle.service_model.specs.declared.request.Signal.{Signal}
-use Rattle.service_model.specs.declared.request.SignalWithStart.{SignalWithStart}
-use Rattle.service_model.specs.declared.request.RequestCancel.{RequestCancel}
-use Rattle.service_model.specs.declared.request.Terminate.{Terminate}
-use Rattle.service_model.specs.declared.request.Read.{Read}
-use Rattle.service_model.specs.declared.request.Hint.{Hint}
-use Rattle.service_model.specs.declared.request.CompleteWorkflowTask.{CompleteWorkflowTask}
-use Rattle.service_model.specs.declared.request.FailWorkflowTask.{FailWorkflowTask}
-use Rattle.service_model.specs.declared.request.ActivityText.{ActivityText}
-use Rattle.service_model.specs.declared.request.FailActivity.{FailActivity}
-use Rattle.service_model.specs.declared.request.Acknowledge.{Acknowledge}
-use Rattle.service_model.specs.declared.transfer.Transfer.{Transfer}
 use Rattle.service_model.specs.Journal.{Journal}
 use Rattle.service_model.specs.RunState.{state_of}
 use Rattle.service_model.specs.declared.transfer.Sent.{Sent}
-use Rattle.service_model.specs.Outcome.{Outcome, Added, Counting, CountsNothing, AcceptsFrom, AcknowledgesTo, CountsDispatch, Reply, Runs, refused}
+use Rattle.service_model.specs.Outcome.{Outcome, Added, Counting, CountsNothing, AcceptsFrom, AcknowledgesTo, CountsDispatch, Reply, Runs}
 use Rattle.service_model.specs.Issued.{dispatches_of, transfers_of}
 use Rattle.service_model.specs.Starts.{start}
 use Rattle.service_model.specs.Signals.{signal, signal_with_start}
@@ -40,79 +24,32 @@ use Rattle.service_model.specs.TimerTurns.{timer_turn}
 use Rattle.service_model.specs.Counts.{next_transfer, acknowledge, next_dispatch, dispatched}
 use Rattle.service_model.specs.Deliveries.{deliver}
 
--- all that a shard can be asked; what is served so far is an Operation
-pub data Asked : Type 0 where
-  ToStart : Start → Asked
-  ToSignal : Signal → Asked
-  ToSignalWithStart : SignalWithStart → Asked
-  ToRequestCancel : RequestCancel → Asked
-  ToTerminate : Terminate → Asked
-  ToStartTask : Hint → Asked
-  ToCompleteWorkflowTask : CompleteWorkflowTask → Asked
-  ToFailWorkflowTask : FailWorkflowTask → Asked
-  ToCompleteActivity : ActivityText → Asked
-  ToFailActivity : FailActivity → Asked
-  ToCancelActivity : ActivityText → Asked
-  ToHeartbeat : ActivityText → Asked
-  ToShowHistory : Read → Asked
-  ToDescribe : Read → Asked
-  ToTurnTimers : Asked
-  ToShowTransfer : ℕ → Asked
-  ToDeliver : Transfer → Asked
-  ToAcknowledge : Acknowledge → Asked
-  ToShowDispatch : Asked
-  ToCountDispatch : ℕ → Asked
-
 -- what requests are decided on
 abbrev pub runs_of : Content → Runs
 runs_of S = record { setup = S.setup; states = map state_of S.runs }
 
--- what a request does, at the step's moment
-unfoldable pub outcome : Content → ℕ → Asked → Outcome
-outcome S m (ToStart q) = start (runs_of S) q
-outcome S m (ToSignal q) = signal (runs_of S) q
-outcome S m (ToSignalWithStart q) = signal_with_start (runs_of S) q
-outcome S m (ToRequestCancel q) = request_cancel (runs_of S) q
-outcome S m (ToTerminate q) = terminate (runs_of S) q
-outcome S m (ToStartTask h) = start_task (runs_of S) h
-outcome S m (ToCompleteWorkflowTask q) = complete_workflow_task (runs_of S) q
-outcome S m (ToFailWorkflowTask q) = fail_workflow_task (runs_of S) q
-outcome S m (ToCompleteActivity q) = complete_activity (runs_of S) q
-outcome S m (ToFailActivity q) = fail_activity (runs_of S) m q
-outcome S m (ToCancelActivity q) = cancel_activity (runs_of S) q
-outcome S m (ToHeartbeat q) = heartbeat (runs_of S) q
-outcome S m (ToShowHistory q) = history (runs_of S) q
-outcome S m (ToDescribe q) = describe (runs_of S) q
-outcome S m ToTurnTimers = timer_turn (runs_of S) m
-outcome S m (ToShowTransfer to) = next_transfer S.setup S.outgoing to
-outcome S m (ToDeliver t) = deliver (runs_of S) S.accepted t
-outcome S m (ToAcknowledge q) = acknowledge S.setup S.outgoing q
-outcome S m ToShowDispatch = next_dispatch S.dispatches S.dispatched
-outcome S m (ToCountDispatch number) = dispatched S.dispatches S.dispatched number
-
--- completions are served with commands of these types so far, and others are refused
-abbrev pub at_served_commands : CompleteWorkflowTask → Outcome → Outcome
-at_served_commands q rest = cond (list_all is_served q.commands) rest (refused (InvalidArgument field.Type))
-
 -- what an operation does, at the step's moment
-unfoldable pub outcome_of : Content → ℕ → Operation → Outcome
-outcome_of S m (served.Start q) = outcome S m (ToStart q)
-outcome_of S m (served.Signal q) = outcome S m (ToSignal q)
-outcome_of S m (served.SignalWithStart q) = outcome S m (ToSignalWithStart q)
-outcome_of S m (served.RequestCancel q) = outcome S m (ToRequestCancel q)
-outcome_of S m (served.Terminate q) = outcome S m (ToTerminate q)
-outcome_of S m (served.StartTask h) = outcome S m (ToStartTask h)
-outcome_of S m (served.CompleteWorkflowTask q) = at_served_commands q (outcome S m (ToCompleteWorkflowTask q))
-outcome_of S m (served.FailWorkflowTask q) = outcome S m (ToFailWorkflowTask q)
-outcome_of S m (served.CompleteActivity q) = outcome S m (ToCompleteActivity q)
-outcome_of S m (served.FailActivity q) = outcome S m (ToFailActivity q)
-outcome_of S m (served.CancelActivity q) = outcome S m (ToCancelActivity q)
-outcome_of S m (served.Heartbeat q) = outcome S m (ToHeartbeat q)
-outcome_of S m (served.History q) = outcome S m (ToShowHistory q)
-outcome_of S m (served.Describe q) = outcome S m (ToDescribe q)
-outcome_of S m served.TimerTurn = outcome S m ToTurnTimers
-outcome_of S m served.NextDispatch = outcome S m ToShowDispatch
-outcome_of S m (served.Dispatched number) = outcome S m (ToCountDispatch number)
+unfoldable pub outcome : Content → ℕ → Operation → Outcome
+outcome S m (operation.Start q) = start (runs_of S) q
+outcome S m (operation.Signal q) = signal (runs_of S) q
+outcome S m (operation.SignalWithStart q) = signal_with_start (runs_of S) q
+outcome S m (operation.RequestCancel q) = request_cancel (runs_of S) q
+outcome S m (operation.Terminate q) = terminate (runs_of S) q
+outcome S m (operation.StartTask h) = start_task (runs_of S) h
+outcome S m (operation.CompleteWorkflowTask q) = complete_workflow_task (runs_of S) q
+outcome S m (operation.FailWorkflowTask q) = fail_workflow_task (runs_of S) q
+outcome S m (operation.CompleteActivity q) = complete_activity (runs_of S) q
+outcome S m (operation.FailActivity q) = fail_activity (runs_of S) m q
+outcome S m (operation.CancelActivity q) = cancel_activity (runs_of S) q
+outcome S m (operation.Heartbeat q) = heartbeat (runs_of S) q
+outcome S m (operation.History q) = history (runs_of S) q
+outcome S m (operation.Describe q) = describe (runs_of S) q
+outcome S m operation.TimerTurn = timer_turn (runs_of S) m
+outcome S m (operation.NextTransfer to) = next_transfer S.setup S.outgoing to
+outcome S m (operation.Deliver t) = deliver (runs_of S) S.accepted t
+outcome S m (operation.Acknowledge q) = acknowledge S.setup S.outgoing q
+outcome S m operation.NextDispatch = next_dispatch S.dispatches S.dispatched
+outcome S m (operation.Dispatched number) = dispatched S.dispatches S.dispatched number
 
 -- facts as entries of a step, by their places from n on
 abbrev pub entries : ℕ → ℕ → ℕ → List Fact → Journal
@@ -189,20 +126,20 @@ abbrev pub moment_of : Content → ℕ → ℕ
 moment_of S at = max at S.last_moment
 
 -- what is answered when this is asked at a moment
-abbrev pub answer_to : Content → ℕ → Asked → Reply
+abbrev pub answer_to : Content → ℕ → Operation → Reply
 answer_to S at a = (outcome S (moment_of S at) a).reply
 
 -- the content that it leaves
-abbrev pub after_asking : Content → ℕ → Asked → Content
+abbrev pub after_asking : Content → ℕ → Operation → Content
 after_asking S at a = content_after S (moment_of S at) (outcome S (moment_of S at) a)
 
 -- what a request is answered
 unfoldable pub answer : Content → Request → Reply
-answer S q = (outcome_of S (moment_of S q.at) q.operation).reply
+answer S q = answer_to S q.at q.operation
 
 -- the content that a request leaves
 unfoldable pub after : Content → Request → Content
-after S q = content_after S (moment_of S q.at) (outcome_of S (moment_of S q.at) q.operation)
+after S q = after_asking S q.at q.operation
 
 -- the content at opening
 abbrev pub opening : Setup → Content

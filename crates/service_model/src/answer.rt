@@ -2,6 +2,7 @@
 
 ghost use Rattle.std.specs.Prelude.{◌≡◌, MatchResult, None, Ok, Some};
 ghost use Rattle.service_model.specs.Counts.{dispatch_of};
+ghost use Rattle.service_model.specs.TransferReplies.{is_delivered, transfer_of};
 
 use crate::content::Dispatch;
 use crate::transfer::Transfer;
@@ -139,8 +140,8 @@ pub enum Acknowledged {
     OutOfOrder,
 }
 
-/// What a call answers. The last four are a poll's and a dispatch turn's; the others are answers of one
-/// step on one shard.
+/// What a call answers. The last four are those of polls and turns; the others are answers of one step
+/// on one shard.
 pub enum Answer {
     Started(RunId),
     Existing(RunId),
@@ -175,7 +176,7 @@ pub enum Answer {
     NoDispatch,
     /// No task waited in the task queue.
     Empty,
-    /// The number of the dispatch that a turn read, and left.
+    /// The number of the dispatch or the transfer that a turn read, and left.
     Taken(u64),
     /// The number of the dispatch whose hint was pushed, and that is not counted yet.
     Pushed(u64),
@@ -233,6 +234,26 @@ impl Answer {
         match self {
             Answer::Dispatch(dispatch) => Ok(dispatch),
             other => Err(other),
+        }
+    }
+
+    /// The transfer that it has, or the answer where it has none.
+    pub fn into_transfer(self) -> Result<Transfer, Answer>
+        ensures { MatchResult result (λ t. transfer_of (Ok self) ≡ Some t) (λ a. (a ≡ self) × (transfer_of (Ok self) ≡ None)) }
+    {
+        match self {
+            Answer::Transfer(transfer) => Ok(transfer),
+            other => Err(other),
+        }
+    }
+
+    /// Whether it says of a transfer that it took effect, now or before.
+    pub fn is_delivered(&self) -> bool
+        ensures { result ≡ is_delivered (Ok self.now) }
+    {
+        match self {
+            Answer::Accepted(_) | Answer::AlreadyDelivered(_) => true,
+            _ => false,
         }
     }
 }

@@ -78,10 +78,20 @@ pub struct DispatchTurn {
     pub at: Moment,
 }
 
+/// Delivers the next transfer that a shard issued for another one, as far as it is told.
+#[derive(Clone, Copy)]
+pub struct TransferTurn {
+    pub from: u16,
+    pub to: u16,
+    pub stop: Stop,
+    pub at: Moment,
+}
+
 /// What a client asks of a service.
 #[derive(Drop)]
 pub enum Call {
     Step(StepCall),
     Poll(Poll),
     DispatchTurn(DispatchTurn),
+    TransferTurn(TransferTurn),
 }

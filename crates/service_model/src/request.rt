@@ -1,4 +1,5 @@
 //! What a shard is asked.
+use crate::transfer::Transfer;
 use wf_command::Command;
 use wf_event_values::{
     ConflictPolicy, Id, Items, Moment, ReusePolicy, RunId, Span, TaskKind, Text,
@@ -231,9 +232,16 @@ pub enum Operation {
     /// Lets the shard's first deadline fire, if it is due. It names no shard, so a service makes it
     /// of a call that does.
     TimerTurn,
-    /// Asks for the first dispatch that is not counted. It names no shard either.
+    /// Asks for the first transfer to a shard that is not acknowledged. It names the shard that it is
+    /// to, and not the one that is asked; nor do the four that follow.
+    NextTransfer(u16),
+    /// Delivers a transfer.
+    Deliver(Transfer),
+    /// Counts on the transfers to a shard.
+    Acknowledge(Acknowledge),
+    /// Asks for the first dispatch that is not counted.
     NextDispatch,
-    /// Counts the dispatch of that number, which was pushed. It names no shard either.
+    /// Counts the dispatch of that number, which was pushed.
     Dispatched(u64),
 }
 
@@ -255,6 +263,9 @@ impl Drop for Operation {
             Operation::History(_) => {}
             Operation::Describe(_) => {}
             Operation::TimerTurn => {}
+            Operation::NextTransfer(_) => {}
+            Operation::Deliver(_) => {}
+            Operation::Acknowledge(_) => {}
             Operation::NextDispatch => {}
             Operation::Dispatched(_) => {}
         }

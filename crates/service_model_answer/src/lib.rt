@@ -31,7 +31,8 @@ pub fn answer(
     requires { IsSetup setup }
     ensures { IfOk result (λ reply. reply ≡ answer (replay setup record.now) request.now) }
 {
-    answer_by(Shard::<JournalRun>::new(alloc, setup), record, request)
+    let shard = Shard::<JournalRun>::new(alloc, setup)?;
+    answer_by(shard, record, request)
 }
 
 /// What a shard answers that has served nothing before the record, whatever keeps its runs.

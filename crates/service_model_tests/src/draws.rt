@@ -14,18 +14,18 @@ impl Draws {
     pub(crate) fn new(seed: u64) -> Draws {
         Draws {
             state: seed,
-            ends: seed > 10,
-            timers: seed > 20,
+            ends: seed % 32 > 10,
+            timers: seed % 32 > 20,
         }
     }
 
-    /// Whether runs are asked to cancel, terminated, continued as new, and started by signals. With seeds to 10 they are not,
+    /// Whether runs are asked to cancel, terminated, continued as new, and started by signals. With the first 10 of 32 seeds they are not,
     /// since runs that end early seldom come to the rarer ends of activities.
     pub(crate) fn has_ends(&self) -> bool {
         self.ends
     }
 
-    /// Whether half of the commands start and cancel timers. With seeds to 20 few do, and a timer is seldom in
+    /// Whether half of the commands start and cancel timers. With the first 20 of 32 seeds few do, and a timer is seldom in
     /// use when it is to be canceled.
     pub(crate) fn has_timers(&self) -> bool {
         self.timers

@@ -1,6 +1,5 @@
 //! Drawn requests: few workflow IDs and request ids, moments that go back, unknown queues, run ids
-//! of this shard and of others, now and then a policy or a command that isn't served, and tasks that
-//! wait, were taken, or were ended long ago. Durations are such that many deadlines are due.
+//! of this shard and of others, and tasks that wait, were taken, or were ended long ago. Durations are such that many deadlines are due.
 
 ghost use Rattle.std.specs.Prelude.{◌≡◌, ◌<◌};
 
@@ -130,8 +129,8 @@ fn completion(
     })
 }
 
-/// A marker, a timer or an activity most of the time, seldom a command that isn't served, and else one
-/// that closes.
+/// A marker, a timer or an activity most of the time, seldom one that asks another workflow to cancel,
+/// and else one that closes.
 fn command(alloc: Global, draws: &mut Draws, asked: u64) -> Result<Command, Refusal> {
     if draws.has_timers() && draws.one_in(2) {
         return timer_command(alloc, draws);

@@ -5,7 +5,7 @@ use std::alloc::{AllocError, Global};
 use wf_event_values::{DeadlineClass, Field, Refusal};
 
 /// All kinds of reply that drawn requests get.
-pub(crate) const REPLIES: [&str; 42] = [
+pub(crate) const REPLIES: [&str; 41] = [
     "started",
     "existing",
     "signaled",
@@ -46,7 +46,6 @@ pub(crate) const REPLIES: [&str; 42] = [
     "unknown task queue",
     "cancellation already requested",
     "another shard's workflow",
-    "type not served",
     "bad token",
 ];
 
@@ -232,7 +231,6 @@ fn refusal_name(refusal: &Refusal) -> Option<&'static str> {
         Refusal::UnknownTaskQueue => Some("unknown task queue"),
         Refusal::CancellationAlreadyRequested => Some("cancellation already requested"),
         Refusal::InvalidArgument(Field::WorkflowId) => Some("another shard's workflow"),
-        Refusal::InvalidArgument(Field::Type) => Some("type not served"),
         Refusal::InvalidArgument(Field::Token) => Some("bad token"),
         _ => None,
     }

@@ -19,4 +19,6 @@ mod refusals;
 #[cfg(test)]
 mod threads;
 #[cfg(test)]
+mod transfers;
+#[cfg(test)]
 mod workflows;

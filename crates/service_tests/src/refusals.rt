@@ -121,6 +121,8 @@ fn what_is_refused_enters_no_shard(rt: HostRuntime) {
     assert_refused(&rt, &service, &mut first, hint, "shard");
     // The requests of turns name no shard.
     assert_refused(&rt, &service, &mut first, Operation::TimerTurn, "shard");
+    let next = Operation::NextTransfer(1);
+    assert_refused(&rt, &service, &mut first, next, "shard");
     assert_refused(&rt, &service, &mut first, Operation::NextDispatch, "shard");
     assert_refused(&rt, &service, &mut first, Operation::Dispatched(1), "shard");
     let records = close_two(&rt, service, first, second);

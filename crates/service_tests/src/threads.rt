@@ -47,6 +47,9 @@ fn workflow_of(request: &Request) -> &str {
         | Operation::CancelActivity(_)
         | Operation::Heartbeat(_)
         | Operation::TimerTurn
+        | Operation::NextTransfer(_)
+        | Operation::Deliver(_)
+        | Operation::Acknowledge(_)
         | Operation::NextDispatch
         | Operation::Dispatched(_) => "",
     }

@@ -41,9 +41,9 @@ free-behind v old at n plan facts same there change opened over one =
 -- a plan that closes the run and makes another
 pub both-fits : {T : Type 0} (v old : ShardView) (at n : ℕ) (plan : MorePlan) (facts : List Fact) (b : NewBeginning) (new : NewRun T) (reply : Reply) (o : Outcome) → state v ≡ state old → 1 ≤ n → n - 1 < length v.runs → IsNoted v.changed → plan.change ≡ record { moment = at; facts = facts } → length plan.change.facts ≤ room_at v.runs (n - 1) →
     FitStep at (run_at (runs_in old) n) facts → is_open (run_at (runs_in old) n) ≡ true → is_open (after_step at facts (run_at (runs_in old) n)) ≡ false → id_of (run_at (runs_in old) n) ≡ b.started.workflow_id → IsMade v at new b →
-    o.added ≡ Some (record { run = n; facts = facts }) → o.created ≡ Some (first_facts b) → reply ≡ o.reply → o.counting ≡ CountsNothing →
-    FitsStep v (record { moment = at; change = record { added = Some (record { index = n - 1; plan = plan }); created = Some new; count = count.Nothing }; reply = reply }) at o
-both-fits v old at n plan facts b new reply o same low there noted change room fits opened over named made added created replies counts =
+    o.added ≡ Some (record { run = n; facts = facts }) → o.created ≡ Some (first_facts b) → reply ≡ o.reply → o.counting ≡ CountsNothing → o.answers ≡ [] →
+    FitsStep v (record { moment = at; change = record { added = Some (record { index = n - 1; plan = plan }); created = Some new; count = count.Nothing; answer = None }; reply = reply }) at o
+both-fits v old at n plan facts b new reply o same low there noted change room fits opened over named made added created replies counts answers =
     let place : n ≡ n - 1 + 1 = omega (arith, low) in
     let runs = runs_added (Some (record { index = n - 1; plan = plan })) (states v.runs) in
     record {
@@ -53,6 +53,7 @@ both-fits v old at n plan facts b new reply o same low there noted change room f
         added = (facts, added ∙ ap (λ k. Some (record { run = k; facts = facts })) place, fits-more v old at n plan facts same there noted change room fits);
         created = (b, created, made);
         count = counts;
+        answer = answers;
         free = λ one. subst (HasClosed runs) (named ∙ sym (made-named v at b new made)) (free-behind v old at n plan facts same there change opened over one);
       };
     }

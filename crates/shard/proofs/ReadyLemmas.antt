@@ -7,19 +7,19 @@ use Rattle.service_model.specs.declared.request.Operation.TheVariants as served
 use Rattle.service_model.specs.declared.request.Request.{Request}
 use Rattle.service_model.specs.Growth.{KeepsHistories}
 use Rattle.service_model.specs.Outcome.{Outcome}
-use Rattle.service_model.specs.Service.{after, moment_of, outcome, outcome_of, runs_of}
-use Rattle.shard_steps.specs.Issuing.{waiting_in}
+use Rattle.service_model.specs.Service.{after, moment_of, outcome}
 use Rattle.shard_steps.proofs.DispatchLemmas.{count-is, next-is}
 use Rattle.shard_store.specs.Fitting.{FitsStep, state_after}
-use Rattle.shard_store.specs.View.{ShardView, runs_in, state}
+use Rattle.shard_store.specs.View.{ShardView, state}
 use Rattle.shard_store.specs.declared.plan.Plan.{Plan}
 use Rattle.shard_store.proofs.KeptLemmas.{keeps-after}
 use Rattle.shard_store.proofs.StepLemmas.{stands-after}
 use Rattle.shard.specs.Deciding.{outcome_in}
 use Rattle.shard.specs.Standing.{IsReady, StandsFor}
+use Rattle.shard_store.specs.Standing.{known}
 
-outcome-in : (S : Content) (m : ℕ) (op : Operation) → S.dispatched ≤ length S.dispatches → outcome_of S m op ≡ outcome_in (waiting_in S) (runs_of S) m op
-unfolding outcome outcome_of
+outcome-in : (S : Content) (m : ℕ) (op : Operation) → S.dispatched ≤ length S.dispatches → outcome S m op ≡ outcome_in (known S) m op
+unfolding outcome
 outcome-in S m (served.Start q) low = refl
 outcome-in S m (served.Signal q) low = refl
 outcome-in S m (served.SignalWithStart q) low = refl
@@ -35,25 +35,28 @@ outcome-in S m (served.Heartbeat q) low = refl
 outcome-in S m (served.History q) low = refl
 outcome-in S m (served.Describe q) low = refl
 outcome-in S m served.TimerTurn low = refl
+outcome-in S m (served.NextTransfer to) low = refl
+outcome-in S m (served.Deliver t) low = refl
+outcome-in S m (served.Acknowledge q) low = refl
 outcome-in S m served.NextDispatch low = next-is S
 outcome-in S m (served.Dispatched number) low = count-is S number low
 
 -- what was prepared on a shard that stands for a content is ready for it
-pub prepared : {T : Type 0} (v w : ShardView) (S : Content) (q : Request) (plan : Plan T) → StandsFor v S → state w ≡ state v → FitsStep w plan (max q.at v.last) (outcome_in v.waiting (runs_in v) (max q.at v.last) q.operation) → IsReady w S q plan
+pub prepared : {T : Type 0} (v w : ShardView) (S : Content) (q : Request) (plan : Plan T) → StandsFor v S → state w ≡ state v → FitsStep w plan (max q.at v.last) (outcome_in (state v) (max q.at v.last) q.operation) → IsReady w S q plan
 prepared v w S q plan h same fits =
     let m : max q.at v.last ≡ moment_of S q.at = ap (λ s. max q.at s.last) h.says in
-    let o : outcome_in v.waiting (runs_in v) (max q.at v.last) q.operation ≡ outcome_of S (moment_of S q.at) q.operation =
-    ap (λ s. outcome_in s.waiting (record { setup = s.setup; states = s.runs }) (max q.at s.last) q.operation) h.says ∙ sym (outcome-in S (moment_of S q.at) q.operation h.counted) in
-    let M : ℕ → Type 0 = λ t. FitsStep w plan t (outcome_in v.waiting (runs_in v) (max q.at v.last) q.operation) in
+    let o : outcome_in (state v) (max q.at v.last) q.operation ≡ outcome S (moment_of S q.at) q.operation =
+    ap (λ s. outcome_in s (max q.at s.last) q.operation) h.says ∙ sym (outcome-in S (moment_of S q.at) q.operation h.counted) in
+    let M : ℕ → Type 0 = λ t. FitsStep w plan t (outcome_in (state v) (max q.at v.last) q.operation) in
     let O : Outcome → Type 0 = λ t. FitsStep w plan (moment_of S q.at) t in
     record { stands = record { says = same ∙ h.says; formed = h.formed; counted = h.counted }; fits = subst O o (subst M m fits) }
 
 -- a shard that did what is ready stands for the content after the request
 pub ready-stands : {T : Type 0} (v w : ShardView) (S : Content) (q : Request) (plan : Plan T) → IsReady v S q plan → state w ≡ state_after plan (state v) → StandsFor w (after S q)
 unfolding after
-ready-stands v w S q plan ready did = stands-after v w S (moment_of S q.at) (outcome_of S (moment_of S q.at) q.operation) plan ready.stands ready.fits did
+ready-stands v w S q plan ready did = stands-after v w S (moment_of S q.at) (outcome S (moment_of S q.at) q.operation) plan ready.stands ready.fits did
 
 -- and that content keeps of the one before what every content does
 pub ready-keeps : {T : Type 0} (v w : ShardView) (S : Content) (q : Request) (plan : Plan T) → IsReady v S q plan → state w ≡ state_after plan (state v) → KeepsHistories S (after S q)
 unfolding after
-ready-keeps v w S q plan ready did = keeps-after v w S (moment_of S q.at) (outcome_of S (moment_of S q.at) q.operation) plan ready.stands ready.fits did
+ready-keeps v w S q plan ready did = keeps-after v w S (moment_of S q.at) (outcome S (moment_of S q.at) q.operation) plan ready.stands ready.fits did

@@ -1,4 +1,4 @@
--- what each request does to the runs that a shard has, and to the dispatches that wait
+-- what each request does to a shard, by what is known of it
 use Rattle.std.specs.Prelude.{ℕ, ◌∷◌, [], List, Option, unwrap_or}
 use Rattle.service_model.specs.declared.journal.Fact.{Fact}
 use Rattle.service_model.specs.declared.request.SignalWithStart.{SignalWithStart}
@@ -12,9 +12,11 @@ use Rattle.service_model.specs.Cancels.{request_cancel, terminate}
 use Rattle.service_model.specs.Reads.{history, describe}
 use Rattle.service_model.specs.Tasks.{start_task, complete_workflow_task, fail_workflow_task}
 use Rattle.service_model.specs.Activities.{complete_activity, fail_activity, cancel_activity, heartbeat}
-use Rattle.service_model.specs.Service.{at_served_commands}
 use Rattle.service_model.specs.TimerTurns.{timer_turn}
-use Rattle.shard_steps.specs.Issuing.{Waiting, next_waiting, count_waiting}
+use Rattle.service_model.specs.Counts.{acknowledge, next_transfer}
+use Rattle.service_model.specs.Deliveries.{deliver}
+use Rattle.shard_steps.specs.Issuing.{next_waiting, count_waiting}
+use Rattle.shard_store.specs.View.{ShardState}
 
 -- what a start of a known queue does, by the workflow ID's latest run
 abbrev pub decided_by : Runs → Start → Option ℕ → Outcome
@@ -31,22 +33,29 @@ signaled_facts q = started_fact q.start ∷ signal_fact q.start.request_id q.nam
 abbrev pub signaled_by : Runs → SignalWithStart → Option ℕ → Outcome
 signaled_by R q latest_one = by_decision R (unwrap_or latest_one 0) (signaled_facts q) (decision R (with_fail q.start) latest_one)
 
--- what an operation does to the runs that a shard has, and to the dispatches that wait, at the step's moment
-abbrev pub outcome_in : Waiting → Runs → ℕ → Operation → Outcome
-outcome_in w R at (served.Start q) = start R q
-outcome_in w R at (served.Signal q) = signal R q
-outcome_in w R at (served.SignalWithStart q) = signal_with_start R q
-outcome_in w R at (served.RequestCancel q) = request_cancel R q
-outcome_in w R at (served.Terminate q) = terminate R q
-outcome_in w R at (served.StartTask h) = start_task R h
-outcome_in w R at (served.CompleteWorkflowTask q) = at_served_commands q (complete_workflow_task R q)
-outcome_in w R at (served.FailWorkflowTask q) = fail_workflow_task R q
-outcome_in w R at (served.CompleteActivity q) = complete_activity R q
-outcome_in w R at (served.FailActivity q) = fail_activity R at q
-outcome_in w R at (served.CancelActivity q) = cancel_activity R q
-outcome_in w R at (served.Heartbeat q) = heartbeat R q
-outcome_in w R at (served.History q) = history R q
-outcome_in w R at (served.Describe q) = describe R q
-outcome_in w R at served.TimerTurn = timer_turn R at
-outcome_in w R at served.NextDispatch = next_waiting w
-outcome_in w R at (served.Dispatched number) = count_waiting w number
+-- the runs that requests are decided on
+abbrev pub runs_known : ShardState → Runs
+runs_known s = record { setup = s.setup; states = s.runs }
+
+-- what an operation does to a shard of which this is known, at the step's moment
+abbrev pub outcome_in : ShardState → ℕ → Operation → Outcome
+outcome_in s at (served.Start q) = start (runs_known s) q
+outcome_in s at (served.Signal q) = signal (runs_known s) q
+outcome_in s at (served.SignalWithStart q) = signal_with_start (runs_known s) q
+outcome_in s at (served.RequestCancel q) = request_cancel (runs_known s) q
+outcome_in s at (served.Terminate q) = terminate (runs_known s) q
+outcome_in s at (served.StartTask h) = start_task (runs_known s) h
+outcome_in s at (served.CompleteWorkflowTask q) = complete_workflow_task (runs_known s) q
+outcome_in s at (served.FailWorkflowTask q) = fail_workflow_task (runs_known s) q
+outcome_in s at (served.CompleteActivity q) = complete_activity (runs_known s) q
+outcome_in s at (served.FailActivity q) = fail_activity (runs_known s) at q
+outcome_in s at (served.CancelActivity q) = cancel_activity (runs_known s) q
+outcome_in s at (served.Heartbeat q) = heartbeat (runs_known s) q
+outcome_in s at (served.History q) = history (runs_known s) q
+outcome_in s at (served.Describe q) = describe (runs_known s) q
+outcome_in s at served.TimerTurn = timer_turn (runs_known s) at
+outcome_in s at (served.NextTransfer to) = next_transfer s.setup s.outgoing to
+outcome_in s at (served.Deliver t) = deliver (runs_known s) s.accepted t
+outcome_in s at (served.Acknowledge q) = acknowledge s.setup s.outgoing q
+outcome_in s at served.NextDispatch = next_waiting s.waiting
+outcome_in s at (served.Dispatched number) = count_waiting s.waiting number

@@ -14,13 +14,12 @@ ghost use Rattle.shard_store.specs.Fitting.{FitsStep};
 ghost use Rattle.shard_store.specs.View.{state, runs_in};
 
 use crate::more::prepare_more;
-use crate::prepare::answered;
 use mutable_state_keeper::KeepsRun;
 use service_model::answer::{ActivityTask, Answer};
 use service_model::journal::Note;
 use service_model::request::Hint;
 use shard_steps::{attempt_task, note_facts};
-use shard_store::{Plan, Store};
+use shard_store::{Plan, Store, answered};
 use std::alloc::AllocError;
 use wf_event_values::Moment;
 

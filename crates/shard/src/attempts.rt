@@ -13,13 +13,12 @@ ghost use Rattle.shard_steps.specs.Attempts.{ended_activity};
 
 use crate::activities::run_of;
 use crate::more::prepare_more;
-use crate::prepare::refused;
 use mutable_state::Activity;
 use mutable_state_keeper::KeepsRun;
 use service_model::answer::Answer;
 use service_model::request::{ActivityText, TakenTask};
 use shard_steps::{ended_facts, is_running};
-use shard_store::{Plan, Store};
+use shard_store::{Plan, Store, refused};
 use std::alloc::AllocError;
 use wf_event::Attributes;
 use wf_event::payloads::{ActivityTaskCanceled, ActivityTaskCompleted};

@@ -6,11 +6,10 @@ ghost use Rattle.shard_steps.specs.Issuing.{next_waiting, count_waiting};
 ghost use Rattle.shard_store.specs.Fitting.{FitsStep};
 ghost use Rattle.shard_store.specs.View.{state};
 
-use crate::prepare::answered;
 use mutable_state_keeper::KeepsRun;
 use service_model::answer::{Acknowledged, Answer, NumberedDispatch};
 use service_model::content::Dispatch;
-use shard_store::{Change, Count, Plan, Store};
+use shard_store::{Change, Count, Plan, Store, answered};
 use std::alloc::AllocError;
 use wf_event_values::Moment;
 
@@ -59,6 +58,7 @@ pub(crate) fn prepare_dispatched<T: KeepsRun>(
             added: None,
             created: None,
             count: Count::Dispatch,
+            answer: None,
         },
         reply: Ok(Answer::Counted(Acknowledged::Acknowledged)),
     })

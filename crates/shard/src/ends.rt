@@ -8,13 +8,12 @@ ghost use Rattle.shard_store.specs.View.{state, runs_in};
 ghost use Rattle.shard_store.specs.Fitting.{FitsStep};
 
 use crate::more::prepare_more;
-use crate::prepare::{answered, refused};
 use mutable_state_keeper::KeepsRun;
 use service_model::answer::Answer;
 use service_model::journal::CancelRequest;
 use service_model::request::{RequestCancel, Terminate};
 use shard_steps::{cancel_facts, is_repeated, terminated_facts};
-use shard_store::{Plan, Store};
+use shard_store::{Plan, Store, answered, refused};
 use std::alloc::AllocError;
 use wf_event_values::{Field, Moment, Refusal};
 

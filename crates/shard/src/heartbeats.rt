@@ -10,13 +10,12 @@ ghost use Rattle.shard_store.specs.View.{state, runs_in};
 
 use crate::attempts::attempt_running;
 use crate::more::prepare_more;
-use crate::prepare::refused;
 use mutable_state_keeper::KeepsRun;
 use service_model::answer::Answer;
 use service_model::journal::Note;
 use service_model::request::{ActivityText, TakenTask};
 use shard_steps::note_facts;
-use shard_store::{Plan, Store};
+use shard_store::{Plan, Store, refused};
 use std::alloc::AllocError;
 use wf_event_values::{Moment, Refusal};
 

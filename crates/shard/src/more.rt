@@ -35,6 +35,7 @@ pub(crate) fn prepare_more<T: KeepsRun>(
             added: Some(MoreOf { index: n - 1, plan }),
             created: None,
             count: Count::Nothing,
+            answer: None,
         },
         reply: Ok(answer),
     })

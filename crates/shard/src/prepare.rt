@@ -1,9 +1,8 @@
 //! The first half of a step: what each request needs made.
 
 ghost use Rattle.std.specs.Prelude.{◌≡◌, max, IfOk};
-ghost use Rattle.service_model.specs.Outcome.{answered, refused};
-ghost use Rattle.shard_store.specs.View.{state, runs_in};
-ghost use Rattle.shard_store.specs.Fitting.{FitsStep, nothing};
+ghost use Rattle.shard_store.specs.View.{state};
+ghost use Rattle.shard_store.specs.Fitting.{FitsStep};
 ghost use Rattle.shard.specs.Deciding.{outcome_in};
 
 use crate::attempts::{prepare_cancel_activity, prepare_complete_activity};
@@ -18,11 +17,10 @@ use crate::tasks::{prepare_completion, prepare_failure, prepare_start_task};
 use crate::turns::prepare_timer_turn;
 use crate::verdicts::prepare_fail_activity;
 use mutable_state_keeper::KeepsRun;
-use service_model::answer::Answer;
 use service_model::request::{Operation, Request};
-use shard_store::{Change, Count, Plan, Store};
+use shard_deliveries::{prepare_acknowledge, prepare_delivery, prepare_next_transfer};
+use shard_store::{Plan, Store};
 use std::alloc::AllocError;
-use wf_event_values::{Moment, Refusal};
 
 /// Makes all that the request's step needs. The shard stands for the same contents, whatever the
 /// result.
@@ -30,8 +28,8 @@ pub fn prepare<T: KeepsRun>(store: &mut Store<T>, request: &Request) -> Result<P
     ensures same { state store.new ≡ state store.old }
     ensures plan { IfOk result (λ plan. FitsStep store.new plan
         (max request.now.at store.old.last)
-        (outcome_in store.old.waiting (runs_in store.old)
-        (max request.now.at store.old.last) request.now.operation)) }
+        (outcome_in (state store.old) (max request.now.at store.old.last)
+        request.now.operation)) }
 {
     let moment = request.at.later(store.last());
     match &request.operation {
@@ -50,45 +48,10 @@ pub fn prepare<T: KeepsRun>(store: &mut Store<T>, request: &Request) -> Result<P
         Operation::CancelActivity(end) => prepare_cancel_activity(store, moment, end),
         Operation::Heartbeat(beat) => prepare_heartbeat(store, moment, beat),
         Operation::TimerTurn => prepare_timer_turn(store, moment),
+        Operation::NextTransfer(to) => prepare_next_transfer(store, moment, *to),
+        Operation::Deliver(transfer) => prepare_delivery(store, moment, transfer),
+        Operation::Acknowledge(number) => prepare_acknowledge(store, moment, number),
         Operation::NextDispatch => prepare_next_dispatch(store, moment),
         Operation::Dispatched(number) => prepare_dispatched(store, moment, *number),
-    }
-}
-
-/// A step that changes no run, and answers.
-pub fn answered<T: KeepsRun>(moment: Moment, answer: Answer) -> Plan<T>
-    ensures { result ≡ record {
-      moment = moment;
-      change = nothing;
-      reply = (answered answer).reply;
-    } }
-{
-    Plan {
-        moment,
-        change: Change {
-            added: None,
-            created: None,
-            count: Count::Nothing,
-        },
-        reply: Ok(answer),
-    }
-}
-
-/// A step that changes no run, and refuses.
-pub fn refused<T: KeepsRun>(moment: Moment, refusal: Refusal) -> Plan<T>
-    ensures { result ≡ record {
-      moment = moment;
-      change = nothing;
-      reply = (refused refusal).reply;
-    } }
-{
-    Plan {
-        moment,
-        change: Change {
-            added: None,
-            created: None,
-            count: Count::Nothing,
-        },
-        reply: Err(refusal),
     }
 }

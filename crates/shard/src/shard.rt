@@ -1,14 +1,15 @@
 //! A shard, and its two halves of a step.
 
-ghost use Rattle.std.specs.Prelude.{◌≡◌, []};
+ghost use Rattle.std.specs.Prelude.{◌≡◌, [], IfOk, replicate};
 ghost use Rattle.service_model.specs.Service.{opening};
 ghost use Rattle.shard.specs.Standing.{StandsFor};
 ghost use Rattle.shard_store.specs.View.{IsSetup, state};
+ghost use Rattle.transfer.specs.Outboxes.{nothing};
 
 use mutable_state_keeper::KeepsRun;
 use service_model::content::Setup;
 use shard_store::Store;
-use std::alloc::Global;
+use std::alloc::{AllocError, Global};
 use std::marker::Model;
 
 /// A shard of a workflow service, whose runs are kept by `T`.
@@ -32,20 +33,22 @@ impl<T: KeepsRun> Model for Shard<T> {
 
 impl<T: KeepsRun> Shard<T> {
     /// A shard without runs.
-    pub fn new(alloc: Global, setup: Setup) -> Shard<T>
+    pub fn new(alloc: Global, setup: Setup) -> Result<Shard<T>, AllocError>
         requires { IsSetup setup }
-        ensures state { state result ≡ record {
+        ensures state { IfOk result (λ shard. state shard ≡ record {
           setup = setup;
           runs = [];
           last = 0;
           waiting = record { dispatches = []; counted = 0 };
-        } }
+          outgoing = replicate setup.shards nothing;
+          accepted = replicate setup.shards 0;
+        }) }
 
         // It stands for the content that every shard opens with.
-        ensures stands { StandsFor result (opening setup) }
+        ensures stands { IfOk result (λ shard. StandsFor shard (opening setup)) }
     {
-        Shard {
-            store: Store::new(alloc, setup),
-        }
+        Ok(Shard {
+            store: Store::new(alloc, setup)?,
+        })
     }
 }

@@ -9,7 +9,6 @@ ghost use Rattle.shard_store.specs.View.{state, states, runs_in};
 ghost use Rattle.shard_store.specs.Fitting.{FitsStep, IsFree};
 ghost use Rattle.shard.specs.Deciding.{signaled_by, signaled_facts};
 
-use crate::prepare::{answered, refused};
 use crate::signals::{SignalAnswers, prepare_signal_of};
 use crate::starts::{decision_by, prepare_new_run};
 use id_policy::Decision;
@@ -17,7 +16,7 @@ use mutable_state_keeper::KeepsRun;
 use service_model::answer::Answer;
 use service_model::request::SignalWithStart;
 use shard_steps::signaled_beginning;
-use shard_store::{Plan, Store};
+use shard_store::{Plan, Store, answered, refused};
 use std::alloc::AllocError;
 use wf_event_values::{ConflictPolicy, Field, Moment, Refusal};
 

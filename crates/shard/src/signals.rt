@@ -8,12 +8,11 @@ ghost use Rattle.shard_store.specs.View.{state, runs_in};
 ghost use Rattle.shard_store.specs.Fitting.{FitsStep};
 
 use crate::more::prepare_more;
-use crate::prepare::{answered, refused};
 use mutable_state_keeper::KeepsRun;
 use service_model::answer::Answer;
 use service_model::request::Signal;
 use shard_steps::signal_facts;
-use shard_store::{Plan, Store};
+use shard_store::{Plan, Store, answered, refused};
 use std::alloc::AllocError;
 use wf_event_values::{Field, Id, Moment, Refusal, Text};
 

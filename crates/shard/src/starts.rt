@@ -11,14 +11,13 @@ ghost use Rattle.shard_steps.specs.Starts.{first_facts, MayBegin};
 ghost use Rattle.shard_store.specs.Fitting.{FitsStep, IsFree};
 ghost use Rattle.shard.specs.Deciding.{decided, decided_by};
 
-use crate::prepare::{answered, refused};
 use id_policy::{Decision, Latest, decide};
 use mutable_state::Change as MoreFacts;
 use mutable_state_keeper::KeepsRun;
 use service_model::answer::Answer;
 use service_model::request::Start;
 use shard_steps::{Beginning, beginning_of, replaced_reason, terminated_facts};
-use shard_store::{Change, Count, MoreOf, Plan, Store};
+use shard_store::{Change, Count, MoreOf, Plan, Store, answered, refused};
 use std::alloc::AllocError;
 use wf_event_values::{ConflictPolicy, Field, Moment, Refusal};
 
@@ -138,6 +137,7 @@ pub(crate) fn prepare_new_run<T: KeepsRun>(
             added: None,
             created: Some(made),
             count: Count::Nothing,
+            answer: None,
         },
         reply: Ok(Answer::Started(store.run_id(ordinal))),
     })
@@ -172,6 +172,7 @@ fn prepare_replaced<T: KeepsRun>(
             added: Some(MoreOf { index: n - 1, plan }),
             created: Some(made),
             count: Count::Nothing,
+            answer: None,
         },
         reply: Ok(Answer::Started(store.run_id(ordinal))),
     })

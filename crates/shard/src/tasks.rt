@@ -1,30 +1,27 @@
 //! Taking a workflow task, and its end.
 
 ghost use Rattle.std.specs.Prelude.{◌≡◌, ◌≤◌, ◌<◌, ◌+◌, [], length, map, true, is_some, IfOk, IfSome};
-ghost use Rattle.std.specs.List.{list_all};
 ghost use Rattle.wf_event_values.specs.declared.policies.Cause.TheVariants.{WorkflowWorkerUnhandledFailure};
 ghost use Rattle.service_model.specs.declared.answer.Answer.TheVariants.{Failed};
 ghost use Rattle.service_model.specs.Completion.{judge_all, failed_task};
 ghost use Rattle.service_model.specs.Journal.{plain};
 ghost use Rattle.service_model.specs.Outcome.{adds, next_ordinal, run_at, run_id};
 ghost use Rattle.service_model.specs.RunState.{is_open};
-ghost use Rattle.service_model.specs.Service.{at_served_commands, is_served};
 ghost use Rattle.service_model.specs.Tasks.{start_task, take_workflow, waits_workflow, runs_workflow, complete_workflow_task, complete_judged, fail_workflow_task};
 ghost use Rattle.shard_store.specs.View.{state, runs_in};
 ghost use Rattle.shard_store.specs.Fitting.{FitsStep};
 
 use crate::activities::take_activity;
 use crate::followers::prepare_follower;
-use crate::prepare::{answered, refused};
 use mutable_state::Change as MoreFacts;
 use mutable_state_keeper::KeepsRun;
 use service_model::answer::{Answer, WorkflowTask};
 use service_model::request::{CompleteWorkflowTask, FailWorkflowTask, Hint, TakenTask};
-use shard_steps::{are_served, ended, started_facts};
-use shard_store::{Change, Count, MoreOf, Plan, Store};
+use shard_steps::{ended, started_facts};
+use shard_store::{Change, Count, MoreOf, Plan, Store, answered, refused};
 use std::alloc::AllocError;
 use task_completion::Completion;
-use wf_event_values::{Field, Moment, Refusal, TaskKind};
+use wf_event_values::{Moment, Refusal, TaskKind};
 
 /// A task is taken, where it waits.
 #[tactic(auto, unfolding(service_model::specs::Tasks::start_task))]
@@ -90,6 +87,7 @@ fn prepare_taken<T: KeepsRun>(
             added: Some(MoreOf { index: n - 1, plan }),
             created: None,
             count: Count::Nothing,
+            answer: None,
         },
         reply: Ok(Answer::WorkflowTask(task)),
     })
@@ -135,31 +133,13 @@ fn running<T: KeepsRun>(store: &Store<T>, taken: TakenTask) -> Result<Option<usi
     }
 }
 
-/// A workflow task is completed. Commands of other types than those served so far are refused.
+/// A workflow task is completed.
+#[tactic(auto, unfolding(service_model::specs::Tasks::complete_workflow_task))]
 pub(crate) fn prepare_completion<T: KeepsRun>(
     store: &mut Store<T>,
     moment: Moment,
     request: &CompleteWorkflowTask,
 ) -> Result<Plan<T>, AllocError>
-    ensures same { state store.new ≡ state store.old }
-    ensures plan { IfOk result (λ plan. FitsStep store.new plan moment
-        (at_served_commands request.now
-        (complete_workflow_task (runs_in store.old) request.now))) }
-{
-    if !are_served(request.commands.as_slice()) {
-        return Ok(refused(moment, Refusal::InvalidArgument(Field::Type)));
-    }
-    prepare_completion_here(store, moment, request)
-}
-
-/// The completion of a task by commands that are served.
-#[tactic(auto, unfolding(service_model::specs::Tasks::complete_workflow_task))]
-fn prepare_completion_here<T: KeepsRun>(
-    store: &mut Store<T>,
-    moment: Moment,
-    request: &CompleteWorkflowTask,
-) -> Result<Plan<T>, AllocError>
-    requires served { list_all is_served request.now.commands ≡ true }
     ensures same { state store.new ≡ state store.old }
     ensures plan { IfOk result (λ plan. FitsStep store.new plan moment
         (complete_workflow_task (runs_in store.old) request.now)) }
@@ -182,7 +162,6 @@ fn prepare_completed<T: KeepsRun>(
     requires to { n ≤ length store.old.runs }
     requires run { n ≡ request.now.task.run }
     requires runs { runs_workflow (runs_in store.old) request.now.task ≡ true }
-    requires served { list_all is_served request.now.commands ≡ true }
     ensures same { state store.new ≡ state store.old }
     ensures plan { IfOk result (λ plan. FitsStep store.new plan moment
         (complete_judged (runs_in store.old) request.now
@@ -198,6 +177,7 @@ fn prepare_completed<T: KeepsRun>(
             added: Some(MoreOf { index: n - 1, plan }),
             created,
             count: Count::Nothing,
+            answer: None,
         },
         reply: Ok(ended(fault)),
     })
@@ -245,6 +225,7 @@ fn prepare_failed<T: KeepsRun>(
             added: Some(MoreOf { index: n - 1, plan }),
             created: None,
             count: Count::Nothing,
+            answer: None,
         },
         reply: Ok(Answer::Failed),
     })

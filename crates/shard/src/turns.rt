@@ -8,11 +8,10 @@ ghost use Rattle.shard_store.specs.View.{state, states, runs_in};
 ghost use Rattle.shard_store.specs.Fitting.{FitsStep};
 
 use crate::more::prepare_more;
-use crate::prepare::answered;
 use mutable_state_keeper::KeepsRun;
 use service_model::answer::{Answer, Fired};
 use shard_steps::fired_facts;
-use shard_store::{Plan, Store};
+use shard_store::{Plan, Store, answered};
 use std::alloc::AllocError;
 use timeouts::Due;
 use wf_event_values::Moment;

@@ -11,7 +11,6 @@ ghost use Rattle.shard_steps.specs.Attempts.{HasNext};
 
 use crate::attempts::{attempt_running, end_activity};
 use crate::heartbeats::note_attempt;
-use crate::prepare::refused;
 use mutable_state::Activity;
 use mutable_state_keeper::KeepsRun;
 use retry::{Ended, Verdict};
@@ -19,7 +18,7 @@ use service_model::answer::{Answer, Retrying};
 use service_model::journal::Note;
 use service_model::request::FailActivity;
 use shard_steps::{failure, verdict_of};
-use shard_store::{Plan, Store};
+use shard_store::{Plan, Store, refused};
 use std::alloc::AllocError;
 use wf_event_values::{Moment, Refusal};
 

@@ -19,7 +19,7 @@ use Rattle.service_model.specs.RunState.{RunState, no_run, row_of, held_attribut
 use Rattle.service_model.specs.Tasks.{is_started_task, pending_row}
 use Rattle.mutable_state.specs.Steps.{Place, IsFirst, FitFrom, FitStep, MayQueue, after_step, all_written, noted_of, place_after, step_ended, with_event, with_noted}
 use Rattle.shard_steps.specs.Issuing.{DispatchesView, Waiting, all_waiting, count_waiting, issued_first, issued_since, next_waiting, of_grown, of_made, queued_dispatch, readied, waiting_in, with_issued}
-use Rattle.shard_steps.specs.Kept.{HasShown, IsNoted, unchanged}
+use Rattle.shard_steps.specs.Kept.{AreNoted, HasShown, unchanged}
 use Rattle.shard_steps.specs.declared.changed.Changed.{Changed}
 use Rattle.shard_steps.proofs.EachLemmas.{index-push, shown-at}
 
@@ -100,7 +100,7 @@ count-is S number low =
     ap (λ n. acknowledges n S.dispatched number CountsDispatch) all
 
 -- where no run changed, all that waits was looked up
-pub all-looked-up : (setup : Setup) (d : DispatchesView) (changed : Changed) (runs : List RunState) → IsNoted changed → all_waiting setup d changed runs ≡ d.waiting
+pub all-looked-up : (setup : Setup) (d : DispatchesView) (changed : Changed) (runs : List RunState) → AreNoted changed → all_waiting setup d changed runs ≡ d.waiting
 all-looked-up setup d changed runs noted =
     let W : List Dispatch → Waiting = λ l. record { dispatches = l; counted = d.waiting.counted } in
     ap (λ g. with_issued (with_issued d.waiting (of_grown setup d g runs)) (of_made setup changed.made runs)) noted.grown
@@ -113,7 +113,7 @@ get-at (r ∷ runs) zero h = refl
 get-at (r ∷ runs) (suc n) h = get-at runs n (omega arith)
 
 -- a run grew by the facts of a step
-pub grown-waits : (setup : Setup) (d d' : DispatchesView) (changed : Changed) (runs now : List RunState) (n at : ℕ) (facts : List Fact) → IsNoted changed → d'.waiting ≡ d.waiting → d'.shown ≡ d.shown → d'.ready ≡ readied facts → n < length runs → FitStep at (slice_index_or runs n no_run) facts →
+pub grown-waits : (setup : Setup) (d d' : DispatchesView) (changed : Changed) (runs now : List RunState) (n at : ℕ) (facts : List Fact) → AreNoted changed → d'.waiting ≡ d.waiting → d'.shown ≡ d.shown → d'.ready ≡ readied facts → n < length runs → FitStep at (slice_index_or runs n no_run) facts →
     now ≡ slice_set runs n (after_step at facts (slice_index_or runs n no_run)) → HasShown d.shown changed runs →
     all_waiting setup d' (record { grown = Some n; made = None }) now ≡ with_issued (all_waiting setup d changed runs) (dispatches_of setup (n + 1) (slice_index_or runs n no_run) (after_step at facts (slice_index_or runs n no_run)) facts)
 grown-waits setup d d' changed runs now n at facts noted same counts readies there fits is h =
@@ -133,7 +133,7 @@ at-end : {A : Type 0} (d : A) (xs : List A) (x : A) → slice_index_or (xs ++ x 
 at-end d [] x = refl
 at-end d (y ∷ xs) x = at-end d xs x
 
-still-there : {A : Type 0} (d : A) (xs : List A) (x : A) (n : ℕ) → n < length xs → slice_index_or (xs ++ x ∷ []) n d ≡ slice_index_or xs n d
+pub still-there : {A : Type 0} (d : A) (xs : List A) (x : A) (n : ℕ) → n < length xs → slice_index_or (xs ++ x ∷ []) n d ≡ slice_index_or xs n d
 still-there d [] x n h = absurd (omega arith)
 still-there d (y ∷ xs) x zero h = refl
 still-there d (y ∷ xs) x (suc n) h = still-there d xs x n (omega arith)

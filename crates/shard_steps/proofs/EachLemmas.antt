@@ -6,7 +6,7 @@ use Rattle.std.specs.Prelude.{slice_get, unwrap_or}
 use Rattle.service_model.specs.RunState.{RunState}
 use Rattle.timeouts.specs.Firsts.{first_due, KeepsFirsts}
 use Rattle.timeouts.specs.declared.due.Due.{Due}
-use Rattle.shard_steps.specs.Kept.{IsNoted, KeepsEach, HasFirsts, HasShown, unchanged}
+use Rattle.shard_steps.specs.Kept.{AreNoted, KeepsEach, HasFirsts, HasShown, unchanged}
 use Rattle.shard_steps.specs.declared.changed.Changed.{Changed}
 
 same-or-apart : (m n : ℕ) → (m ≡ n) ⊎ (m ≢ n)
@@ -41,7 +41,7 @@ no-place : (o : Option ℕ) (k : ℕ) → o ≡ None → o ≢ Some k
 no-place o k none e = let clash = sym none ∙ e in cc
 
 -- all first deadlines are kept, where no run changed
-pub firsts-kept : (slots : List (Option Due)) (changed : Changed) (runs : List RunState) → IsNoted changed → HasFirsts slots changed runs → KeepsFirsts 1 slots runs
+pub firsts-kept : (slots : List (Option Due)) (changed : Changed) (runs : List RunState) → AreNoted changed → HasFirsts slots changed runs → KeepsFirsts 1 slots runs
 firsts-kept slots changed runs noted h = record {
   count = h.count;
   first = λ k s there. let next : k + 1 ≡ 1 + k = omega arith in h.each k s there (no-place changed.grown k noted.grown) (no-place changed.made k noted.made) ∙ ap (λ n. first_due n s) next;
@@ -79,7 +79,7 @@ made-noted {says = says} {fact = fact} {none = none} slots n runs s x there is h
 }
 
 -- a run grew
-pub each-grown : {A B : Type 0} {says : A → B} {fact : ℕ → RunState → B} {d : A} (slots : List A) (changed : Changed) (n : ℕ) (runs : List RunState) (s : RunState) → IsNoted changed → n < length runs →
+pub each-grown : {A B : Type 0} {says : A → B} {fact : ℕ → RunState → B} {d : A} (slots : List A) (changed : Changed) (n : ℕ) (runs : List RunState) (s : RunState) → AreNoted changed → n < length runs →
     KeepsEach says fact d slots changed runs → KeepsEach says fact d slots (record { grown = Some n; made = None }) (slice_set runs n s)
 each-grown slots changed n runs s noted there h = record {
   count = h.count ∙ sym (length-set runs n s);
@@ -111,5 +111,5 @@ pub each-same : {A B : Type 0} {says : A → B} {fact : ℕ → RunState → B} 
 each-same {says = says} {fact = fact} {d = d} slots changed runs now is h = subst (λ l. KeepsEach says fact d slots changed l) (sym is) h
 
 -- so many events as a run showed, that had not changed
-pub shown-at : (counts : List ℕ) (changed : Changed) (runs : List RunState) (n : ℕ) (s : RunState) → IsNoted changed → slice_get runs n ≡ Some s → HasShown counts changed runs → slice_index_or counts n 0 ≡ length s.shown
+pub shown-at : (counts : List ℕ) (changed : Changed) (runs : List RunState) (n : ℕ) (s : RunState) → AreNoted changed → slice_get runs n ≡ Some s → HasShown counts changed runs → slice_index_or counts n 0 ≡ length s.shown
 shown-at counts changed runs n s noted there h = h.each n s there (no-place changed.grown n noted.grown) (no-place changed.made n noted.made)

@@ -7,3 +7,4 @@ mod ActivityTurnLemmas
 pub mod TurnLemmas
 pub mod EachLemmas
 pub mod DispatchLemmas
+pub mod SendingLemmas

@@ -4,16 +4,37 @@ use Rattle.service_model.specs.RunState.{RunState}
 use Rattle.timeouts.specs.Firsts.{first_due}
 use Rattle.timeouts.specs.Slots.{run_due}
 use Rattle.timeouts.specs.declared.due.Due.{Due}
+use Rattle.service_model.specs.declared.transfer.Sent.{Sent}
+use Rattle.shard_steps.specs.Sending.{TransfersView}
 use Rattle.shard_steps.specs.declared.changed.Changed.{Changed}
+use Rattle.shard_steps.specs.declared.transfers.Unsent.{Unsent}
 
 -- no run changed
 abbrev pub unchanged : Changed
 unchanged = record { grown = None; made = None }
 
 -- all runs that changed were looked up
-pub record IsNoted (c : Changed) : Type 0 where
+pub record AreNoted (c : Changed) : Type 0 where
   pub grown : c.grown ≡ None
   pub made : c.made ≡ None
+
+-- what was not looked up since the last step: the run to which it added, the run that it made, the events whose transfers were not issued, and the answer to a transfer that was not issued
+pub record Unnoted : Type 0 where
+  pub grown : Option ℕ
+  pub made : Option ℕ
+  pub unsent : Option Unsent
+  pub answer : Option Sent
+
+-- the same, of the runs that changed and of the transfers
+abbrev pub unnoted : Changed → TransfersView → Unnoted
+unnoted c t = record { grown = c.grown; made = c.made; unsent = t.unsent; answer = t.answer }
+
+-- all was looked up
+pub record IsNoted (u : Unnoted) : Type 0 where
+  pub grown : u.grown ≡ None
+  pub made : u.made ≡ None
+  pub unsent : u.unsent ≡ None
+  pub answer : u.answer ≡ None
 
 -- something of each run is kept at its place, but for the runs that changed
 pub record KeepsEach {A B : Type 0} (says : A → B) (fact : ℕ → RunState → B) (none : A) (slots : List A) (changed : Changed) (runs : List RunState) : Type 0 where

@@ -11,7 +11,7 @@ use std::alloc::{AllocError, Global};
 use wf_event_values::Items;
 
 /// Facts from outside, and a workflow task where none is scheduled or started.
-pub(crate) fn from_outside<T: KeepsRun>(
+pub fn from_outside<T: KeepsRun>(
     alloc: Global,
     run: &Run<T>,
     facts: Vec<Fact>,

@@ -1,17 +1,14 @@
 //! The start of a workflow task, and what its end asks and answers.
 
 ghost use Rattle.std.specs.Prelude.{◌≡◌, ◌∷◌, [], IfOk};
-ghost use Rattle.std.specs.List.{list_all};
 ghost use Rattle.wf_event.specs.declared.attributes.Attributes.TheVariants.{WorkflowTaskStarted};
 ghost use Rattle.service_model.specs.Journal.{plain};
-ghost use Rattle.service_model.specs.Service.{is_served};
 ghost use Rattle.shard_steps.specs.Tasks.{ended};
 
 use mutable_state::plain;
 use service_model::answer::Answer;
 use service_model::journal::Fact;
 use std::alloc::{AllocError, Global};
-use wf_command::{Command, is_served};
 use wf_event::Attributes;
 use wf_event_values::{Cause, Items};
 
@@ -22,13 +19,6 @@ pub fn started_facts(alloc: Global, scheduled: u64) -> Result<Items<Fact>, Alloc
     let mut facts = Vec::new(alloc);
     facts.push(plain(Attributes::WorkflowTaskStarted(scheduled)))?;
     Ok(Items::from_vec(facts))
-}
-
-/// Whether the commands are served so far.
-pub fn are_served(commands: &[Command]) -> bool
-    ensures { result ≡ list_all is_served commands.now }
-{
-    commands.iter().all(is_served)
 }
 
 /// What the end of a task answers.

@@ -2,3 +2,4 @@ pub mod IndexLemmas
 pub mod StepLemmas
 pub mod OpenLemmas
 pub mod KeptLemmas
+pub mod OutgoingLemmas

@@ -7,13 +7,16 @@ use Rattle.wf_event.specs.declared.event.Event.{Event}
 use Rattle.wf_event.specs.declared.payloads.WorkflowExecutionStarted.{WorkflowExecutionStarted as StartedAttributes}
 use Rattle.service_model.specs.declared.content.Content.{Content}
 use Rattle.service_model.specs.declared.content.Dispatch.{Dispatch}
+use Rattle.service_model.specs.declared.content.Outgoing.{Outgoing}
+use Rattle.service_model.specs.declared.content.Setup.{Setup}
 use Rattle.service_model.specs.declared.journal.Fact.{Fact}
 use Rattle.service_model.specs.declared.journal.Fact.TheVariants.{Event as an_event, Note as a_note}
+use Rattle.service_model.specs.declared.transfer.Sent.{Sent}
 use Rattle.service_model.specs.Journal.{Journal}
 use Rattle.service_model.specs.RunState.{RunState, Beginning, state_of, no_run, id_of, is_open}
 use Rattle.service_model.specs.Outcome.{Outcome, Added, Counting, CountsNothing, AcceptsFrom, AcknowledgesTo, CountsDispatch}
-use Rattle.service_model.specs.Issued.{dispatches_of, ready_dispatch, task_dispatch}
-use Rattle.service_model.specs.Service.{dispatched_for, dispatched_new, entries, with_added, with_created, with_count, content_after}
+use Rattle.service_model.specs.Issued.{dispatches_of, ready_dispatch, task_dispatch, transfers_of}
+use Rattle.service_model.specs.Service.{dispatched_for, dispatched_new, entries, one_more_acknowledged, sent_for, with_added, with_all_sent, with_created, with_count, content_after}
 use Rattle.service_model.specs.Shown.{shown, numbered, put_all}
 use Rattle.service_model.specs.Windows.{placed}
 use Rattle.mutable_state.specs.declared.change.Change.{Change as MoreFacts}
@@ -22,7 +25,7 @@ use Rattle.mutable_state.specs.Steps.{begun, after_step, FitStep, IsLater}
 use Rattle.mutable_state.proofs.GrowthLemmas.{Begins, step-begins, beginning-stays}
 use Rattle.mutable_state.proofs.JournalLemmas.{formed-later, stands-next, stands-begun}
 use Rattle.shard_store.specs.View.{ShardView, ShardState, state, states}
-use Rattle.shard_store.specs.Fitting.{FitsAdded, FitsChange, FitsCount, FitsCreated, FitsMore, FitsStep, IsMade, after_added, after_change, after_count, counted_by, grown, issued_for, issued_new, runs_added, runs_created, state_after, state_at, waiting_added, waiting_created}
+use Rattle.shard_store.specs.Fitting.{FitsAdded, FitsAnswer, FitsChange, FitsCount, FitsCreated, FitsMore, FitsStep, IsMade, accepted_by, acknowledged_by, after_added, after_answer, after_change, after_count, counted_by, grown, issued_for, issued_new, outgoing_added, outgoing_answered, runs_added, runs_created, state_after, state_at, transfers_for, waiting_added, waiting_created}
 use Rattle.shard_steps.specs.Issuing.{Waiting, one_counted, queued_dispatch, waiting_in, with_issued}
 use Rattle.shard_steps.specs.Starts.{first_facts, new_run}
 use Rattle.shard_steps.specs.declared.starts.Beginning.{Beginning as NewBeginning}
@@ -35,6 +38,7 @@ use Rattle.shard_store.specs.declared.plan.NewRun.{NewRun}
 use Rattle.shard_store.specs.declared.plan.Plan.{Plan}
 use Rattle.shard_steps.proofs.DispatchLemmas.{ready-facts}
 use Rattle.shard_store.proofs.IndexLemmas.{length-states}
+use Rattle.transfer.proofs.ContentLemmas.{acknowledged-sent, with_all_sent-behind, with_all_sent-nil}
 
 -- a later step changes nothing of the runs that it leaves alone
 all-later : (steps : ℕ) (Js : List Journal) → AllByRecursion (IsFormed steps) Js → AllByRecursion (IsFormed (steps + 1)) Js
@@ -233,18 +237,32 @@ record Waits (S : Content) (w : Waiting) : Type 0 where
   says : waiting_in S ≡ w
   counted : S.dispatched ≤ length S.dispatches
 
--- more was issued, and a count was moved on
-counted-waits : (S : Content) (v : ShardView) (k : Count) (o : Counting) (B : Content) (X : List Dispatch) → StandsFor v S → FitsCount v k o → B.dispatches ≡ S.dispatches ++ X → B.dispatched ≡ S.dispatched → Waits (with_count o B) (with_issued (counted_by k v.waiting) X)
-counted-waits S v count.Nothing o B X h is all so_far =
+-- more was issued, and no dispatch was counted
+left-waits : (S : Content) (v : ShardView) (B : Content) (X : List Dispatch) → StandsFor v S → B.dispatches ≡ S.dispatches ++ X → B.dispatched ≡ S.dispatched → Waits B (with_issued v.waiting X)
+left-waits S v B X h all so_far =
     let W : List Dispatch → ℕ → Waiting = λ l k. record { dispatches = l; counted = k } in
     let were : v.waiting ≡ waiting_in S = ap (λ s. s.waiting) h.says in
-    let P : Counting → Type 0 = λ c. Waits (with_count c B) (with_issued v.waiting X) in
-    subst P (sym is) (record {
+    record {
       says = ap (λ l. W (drop B.dispatched l) B.dispatched) all ∙ ap (λ k. W (drop k (S.dispatches ++ X)) k) so_far
           ∙ ap (λ l. W l S.dispatched) (drop-append-le S.dispatched S.dispatches X h.counted)
           ∙ ap (λ (w : Waiting). W (w.dispatches ++ X) w.counted) (sym were);
       counted = omega (arith, h.counted, so_far, ap length all, length-append S.dispatches X);
-    })
+    }
+
+-- more was issued, and a count was moved on
+counted-waits : (S : Content) (v : ShardView) (k : Count) (o : Counting) (B : Content) (X : List Dispatch) → StandsFor v S → FitsCount v k o → B.dispatches ≡ S.dispatches ++ X → B.dispatched ≡ S.dispatched → Waits (with_count o B) (with_issued (counted_by k v.waiting) X)
+counted-waits S v count.Nothing o B X h is all so_far =
+    let w = left-waits S v B X h all so_far in
+    let P : Counting → Type 0 = λ c. Waits (with_count c B) (with_issued v.waiting X) in
+    subst P (sym is) (record { says = w.says; counted = w.counted })
+counted-waits S v (count.Accepts from) o B X h (is, counts) all so_far =
+    let w = left-waits S v B X h all so_far in
+    let P : Counting → Type 0 = λ c. Waits (with_count c B) (with_issued v.waiting X) in
+    subst P (sym is) (record { says = w.says; counted = w.counted })
+counted-waits S v (count.Acknowledges to) o B X h (is, counts) all so_far =
+    let w = left-waits S v B X h all so_far in
+    let P : Counting → Type 0 = λ c. Waits (with_count c B) (with_issued v.waiting X) in
+    subst P (sym is) (record { says = w.says; counted = w.counted })
 counted-waits S v count.Dispatch o B X h (is, counts) all so_far =
     let W : List Dispatch → ℕ → Waiting = λ l k. record { dispatches = l; counted = k } in
     let were : v.waiting ≡ waiting_in S = ap (λ s. s.waiting) h.says in
@@ -264,7 +282,7 @@ all-waits : {T : Type 0} (S : Content) (v : ShardView) (moment : ℕ) (c : Chang
 all-waits S v moment c o B h fits all so_far =
     let w = counted_by c.count v.waiting in
     let s = after_count c.count (state v) in
-    let t = after_added c.added s in
+    let t = after_answer c.answer (after_added c.added s) in
     let X = issued_added c.added s in
     let Y = issued_created c.created t in
     let known-runs : length (states v.runs) ≡ length S.runs = ap (λ s. length s.runs) h.says ∙ length-map S.runs in
@@ -275,6 +293,72 @@ all-waits S v moment c o B h fits all so_far =
     waiting-created c.created t ∙ ap (λ x. with_issued x Y) (waiting-added c.added s) ∙ ap (λ l. record { dispatches = l; counted = w.counted }) (append_assoc w.dispatches X Y) in
     subst (Waits (with_count o.counting B)) (sym is) (counted-waits S v c.count o.counting B (X ++ Y) h fits.count issued so_far)
 
+-- the transfers of the run to which a step adds
+abbrev sent_added : Option MoreOf → ShardState → List Sent
+sent_added None s = []
+sent_added (Some m) s = transfers_for m s
+
+sent-added : (S : Content) (v : ShardView) (moment : ℕ) (m : Option MoreOf) (o : Option Added) → StandsFor v S → FitsAdded v moment m o → sent_for S (S.steps + 1) moment o ≡ sent_added m (state v)
+sent-added S v moment None o h none = ap (sent_for S (S.steps + 1) moment) none
+sent-added S v moment (Some m) o h (facts, added, fits) =
+    let n = m.index in
+    let step = S.steps + 1 in
+    let place : m.index + 1 - 1 ≡ n = omega arith in
+    let J : ℕ → Journal = λ k. slice_index_or S.runs k [] in
+    let K : ℕ → Journal = λ k. J k ++ entries step moment 0 facts in
+    let stands = added-stands S v moment m facts h fits in
+    let s = state_at (states v.runs) n in
+    let setup : S.setup ≡ v.setup = ap (λ t. t.setup) (sym h.says) in
+    ap (sent_for S step moment) added
+    ∙ ap (λ k. transfers_of S.setup (n + 1) (state_of (J k)) (state_of (K k))) place
+    ∙ ap (λ t. transfers_of t (n + 1) (state_of (J n)) (state_of (K n))) setup
+    ∙ ap (λ t. transfers_of v.setup (n + 1) t (state_of (K n))) stands.before
+    ∙ ap (λ t. transfers_of v.setup (n + 1) s t) stands.behind.says
+    ∙ ap (λ (c : MoreFacts). transfers_of v.setup (n + 1) s (after_step c.moment c.facts s)) (sym fits.change)
+
+-- what is issued after a change, by what was sent
+outgoing-added : (m : Option MoreOf) (s : ShardState) → outgoing_added m s ≡ with_all_sent (sent_added m s) 0 s.outgoing
+outgoing-added None s = sym (with_all_sent-nil 0 s.outgoing)
+outgoing-added (Some m) s = refl
+
+outgoing-answered : (a : Option Sent) (all : List Outgoing) → outgoing_answered a all ≡ with_all_sent (option_to_list a) 0 all
+outgoing-answered None all = sym (with_all_sent-nil 0 all)
+outgoing-answered (Some a) all = refl
+
+sent-counted : (m : Option MoreOf) (k : Count) (s : ShardState) → sent_added m (after_count k s) ≡ sent_added m s
+sent-counted None k s = refl
+sent-counted (Some m) k s = refl
+
+answer-is : (v : ShardView) (a : Option Sent) (o : List Sent) → FitsAnswer v a o → o ≡ option_to_list a
+answer-is v None o is = is
+answer-is v (Some a) o (is, counts) = is
+
+-- more was sent, and a count was moved on
+counted-sends : (v : ShardView) (k : Count) (o : Counting) (B : Content) (X : List Sent) (all : List Outgoing) → FitsCount v k o → B.outgoing ≡ with_all_sent X 0 all → (with_count o B).outgoing ≡ with_all_sent X 0 (acknowledged_by k all)
+counted-sends v count.Nothing o B X all is sent = ap (λ c. (with_count c B).outgoing) is ∙ sent
+counted-sends v count.Dispatch o B X all (is, counts) sent = ap (λ c. (with_count c B).outgoing) is ∙ sent
+counted-sends v (count.Accepts from) o B X all (is, counts) sent = ap (λ c. (with_count c B).outgoing) is ∙ sent
+counted-sends v (count.Acknowledges to) o B X all (is, counts) sent = ap (λ c. (with_count c B).outgoing) is ∙ ap (λ l. one_more_acknowledged l to) sent ∙ acknowledged-sent X all to
+
+counted-accepts : (v : ShardView) (k : Count) (o : Counting) (B : Content) → FitsCount v k o → (with_count o B).accepted ≡ accepted_by k B.accepted
+counted-accepts v count.Nothing o B is = ap (λ c. (with_count c B).accepted) is
+counted-accepts v count.Dispatch o B (is, counts) = ap (λ c. (with_count c B).accepted) is
+counted-accepts v (count.Accepts from) o B (is, counts) = ap (λ c. (with_count c B).accepted) is
+counted-accepts v (count.Acknowledges to) o B (is, counts) = ap (λ c. (with_count c B).accepted) is
+
+-- what is issued to each shard after a step that was planned
+all-sends : {T : Type 0} (S : Content) (v : ShardView) (moment : ℕ) (c : Change T) (o : Outcome) (B : Content) → StandsFor v S → FitsChange v moment c o →
+    B.outgoing ≡ with_all_sent (sent_for S (S.steps + 1) moment o.added ++ o.answers) 0 S.outgoing → (with_count o.counting B).outgoing ≡ (after_change c (state v)).outgoing
+all-sends S v moment c o B h fits all =
+    let s = after_count c.count (state v) in
+    let X = sent_added c.added s in
+    let Y = option_to_list c.answer in
+    let first : sent_for S (S.steps + 1) moment o.added ≡ X = sent-added S v moment c.added o.added h fits.added ∙ sym (sent-counted c.added c.count (state v)) in
+    let sent : B.outgoing ≡ with_all_sent (X ++ Y) 0 v.outgoing = all ∙ ap (λ l. with_all_sent (l ++ o.answers) 0 S.outgoing) first ∙ ap (λ l. with_all_sent (X ++ l) 0 S.outgoing) (answer-is v c.answer o.answers fits.answer)
+    ∙ ap (with_all_sent (X ++ Y) 0) (sym (ap (λ t. t.outgoing) h.says)) in
+    counted-sends v c.count o.counting B (X ++ Y) v.outgoing fits.count sent
+    ∙ with_all_sent-behind X Y s.outgoing ∙ ap (with_all_sent Y 0) (sym (outgoing-added c.added s)) ∙ sym (outgoing-answered c.answer (outgoing_added c.added s))
+
 -- the content after a step of that outcome, but for its counts
 step_content : Content → ℕ → Outcome → Content
 step_content S moment o = content_after S moment (record o { counting = CountsNothing })
@@ -284,20 +368,25 @@ pub stands-after : {T : Type 0} (v w : ShardView) (S : Content) (m : ℕ) (o : O
 unfolding runs_of_step step_content
 stands-after v w S m o plan stands fits did =
     let B = step_content S m o in
+    let C = content_after S m o in
+    let D = after_change plan.change (state v) in
     let keeps = counted_alone o.counting B in
     let runs = done S v m plan.change o stands fits.change in
-    let waits : Waits (content_after S m o) (after_change plan.change (state v)).waiting = all-waits S v m plan.change o B stands fits.change refl refl in
-    let P : List Journal → Type 0 = λ Js. AllByRecursion (IsFormed (content_after S m o).steps) Js in
+    let waits : Waits C D.waiting = all-waits S v m plan.change o B stands fits.change refl refl in
+    let sends : C.outgoing ≡ D.outgoing = all-sends S v m plan.change o B stands fits.change refl in
+    let accepts : C.accepted ≡ D.accepted = counted-accepts v plan.change.count o.counting B fits.change.count ∙ ap (accepted_by plan.change.count) (sym (ap (λ s. s.accepted) stands.says)) in
+    let P : List Journal → Type 0 = λ Js. AllByRecursion (IsFormed C.steps) Js in
     let Q : ℕ → Type 0 = λ k. AllByRecursion (IsFormed k) (runs_of_step S m o) in
-    let now = runs_created plan.change.created (runs_added plan.change.added (states v.runs)) in
-    let all = (after_change plan.change (state v)).waiting in
+    let K : Setup → List RunState → ℕ → Waiting → List Outgoing → List ℕ → ShardState = λ setup rs last w out acc. record { setup = setup; runs = rs; last = last; waiting = w; outgoing = out; accepted = acc } in
     record {
       says = did
-          ∙ ap (λ t. record { setup = v.setup; runs = now; last = t; waiting = all }) fits.moment
-          ∙ ap (λ t. record { setup = t; runs = now; last = m; waiting = all }) (ap (λ s. s.setup) stands.says ∙ sym keeps.setup)
-          ∙ ap (λ t. record { setup = (content_after S m o).setup; runs = t; last = m; waiting = all }) (sym runs.says ∙ ap (map state_of) (sym keeps.runs))
-          ∙ ap (λ t. record { setup = (content_after S m o).setup; runs = map state_of (content_after S m o).runs; last = t; waiting = all }) (sym keeps.last)
-          ∙ ap (λ t. record { setup = (content_after S m o).setup; runs = map state_of (content_after S m o).runs; last = (content_after S m o).last_moment; waiting = t }) (sym waits.says);
+          ∙ ap (λ t. K v.setup D.runs t D.waiting D.outgoing D.accepted) fits.moment
+          ∙ ap (λ t. K t D.runs m D.waiting D.outgoing D.accepted) (ap (λ s. s.setup) stands.says ∙ sym keeps.setup)
+          ∙ ap (λ t. K C.setup t m D.waiting D.outgoing D.accepted) (sym runs.says ∙ ap (map state_of) (sym keeps.runs))
+          ∙ ap (λ t. K C.setup (map state_of C.runs) t D.waiting D.outgoing D.accepted) (sym keeps.last)
+          ∙ ap (λ t. K C.setup (map state_of C.runs) C.last_moment t D.outgoing D.accepted) (sym waits.says)
+          ∙ ap (λ t. K C.setup (map state_of C.runs) C.last_moment (waiting_in C) t D.accepted) (sym sends)
+          ∙ ap (λ t. K C.setup (map state_of C.runs) C.last_moment (waiting_in C) C.outgoing t) (sym accepts);
       formed = subst P (sym keeps.runs) (subst Q (sym keeps.steps) runs.formed);
       counted = waits.counted;
     }

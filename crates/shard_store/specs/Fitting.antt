@@ -2,10 +2,15 @@
 use Rattle.std.specs.Prelude.{◌≡◌, ℕ, ◌+◌, ◌-◌, ◌<◌, ◌≤◌, ◌^◌, false, IfSome, ◌∷◌, ◌++◌, [], List, Option, None, Some, length, slice_index_or, slice_set}
 use Rattle.std.specs.Prelude.{string_bytes}
 use Rattle.service_model.specs.declared.content.Dispatch.{Dispatch}
+use Rattle.service_model.specs.declared.content.Outgoing.{Outgoing}
 use Rattle.service_model.specs.declared.journal.Fact.{Fact}
+use Rattle.service_model.specs.declared.transfer.Sent.{Sent}
+use Rattle.service_model.specs.Counts.{outgoing_to}
+use Rattle.service_model.specs.Deliveries.{accepted_from}
 use Rattle.service_model.specs.RunState.{RunState, no_run, id_of, is_open}
-use Rattle.service_model.specs.Issued.{dispatches_of}
-use Rattle.service_model.specs.Outcome.{Outcome, Added, Counting, CountsNothing, CountsDispatch, latest_run}
+use Rattle.service_model.specs.Issued.{dispatches_of, transfers_of}
+use Rattle.service_model.specs.Outcome.{Outcome, Added, Counting, CountsNothing, AcceptsFrom, AcknowledgesTo, CountsDispatch, latest_run}
+use Rattle.service_model.specs.Service.{one_more_acknowledged, with_all_sent}
 use Rattle.mutable_state.specs.View.{RunView}
 use Rattle.mutable_state.specs.Steps.{after_step, FitStep}
 use Rattle.shard_steps.specs.Issuing.{Waiting, issued_first, one_counted, with_issued}
@@ -50,7 +55,7 @@ pub record IsMade {T : Type 0} (v : ShardView) (at : ℕ) (n : NewRun T) (b : Be
   pub made : n.run.state ≡ new_run at b
   pub begins : MayBegin at b
 
--- the run at that place has room for the facts in the plan, they may come, and all runs that changed were looked up
+-- the run at that place has room for the facts in the plan, they may come, and all was looked up
 pub record HasRoom (v : ShardView) (m : MoreOf) : Type 0 where
   pub there : m.index < length v.runs
   pub noted : IsNoted v.changed
@@ -62,11 +67,22 @@ pub record FitsMore (v : ShardView) (at : ℕ) (m : MoreOf) (facts : List Fact) 
   pub has_room : HasRoom v m
   pub change : m.plan.change ≡ record { moment = at; facts = facts }
 
--- there is a dispatch to be counted, which no run that changed has still to show
+-- there is a dispatch to be counted, and all was looked up
 pub record CountsFirst (v : ShardView) : Type 0 where
   pub noted : IsNoted v.changed
   pub some : 0 < length v.waiting.dispatches
   pub few : v.waiting.counted + 1 < 2 ^ 64
+
+-- there is a shard of this number, and one more can be accepted from it
+pub record CountsAccepted (v : ShardView) (from : ℕ) : Type 0 where
+  pub there : from < v.setup.shards
+  pub few : accepted_from v.accepted from + 1 < 2 ^ 64
+
+-- there is a shard of this number, a transfer to it is not acknowledged, and all was looked up
+pub record CountsAcknowledged (v : ShardView) (to : ℕ) : Type 0 where
+  pub noted : IsNoted v.changed
+  pub there : to < v.setup.shards
+  pub issued : (outgoing_to v.outgoing to).acknowledged < length (outgoing_to v.outgoing to).issued
 
 -- the plan for an older run is what is added
 abbrev pub FitsAdded : ShardView → ℕ → Option MoreOf → Option Added → Type 0
@@ -82,6 +98,13 @@ FitsCreated v at (Some n) o = (b : Beginning) × (o ≡ Some (first_facts b)) ×
 abbrev pub FitsCount : ShardView → Count → Counting → Type 0
 FitsCount v count.Nothing o = o ≡ CountsNothing
 FitsCount v count.Dispatch o = (o ≡ CountsDispatch) × CountsFirst v
+FitsCount v (count.Accepts from) o = (o ≡ AcceptsFrom from) × CountsAccepted v from
+FitsCount v (count.Acknowledges to) o = (o ≡ AcknowledgesTo to) × CountsAcknowledged v to
+
+-- the transfer in the plan is the answer, and the last one that was given was issued
+abbrev pub FitsAnswer : ShardView → Option Sent → List Sent → Type 0
+FitsAnswer v None o = o ≡ []
+FitsAnswer v (Some a) o = (o ≡ a ∷ []) × (v.changed.answer ≡ None)
 
 -- the state of the run to which a step adds, behind it
 abbrev pub grown : MoreOf → List RunState → RunState
@@ -107,6 +130,7 @@ pub record FitsChange {T : Type 0} (v : ShardView) (at : ℕ) (c : Change T) (o 
   pub added : FitsAdded v at c.added o.added
   pub created : FitsCreated v at c.created o.created
   pub count : FitsCount v c.count o.counting
+  pub answer : FitsAnswer v c.answer o.answers
   pub free : IsOneOpen (states v.runs) → IsFreeFor c.created (runs_added c.added (states v.runs))
 
 -- the plan is what the outcome does at the moment
@@ -117,11 +141,11 @@ pub record FitsStep {T : Type 0} (v : ShardView) (plan : Plan T) (at : ℕ) (o :
 
 -- a change that changes nothing
 abbrev pub nothing : {T : Type 0} → Change T
-nothing = record { added = None; created = None; count = count.Nothing }
+nothing = record { added = None; created = None; count = count.Nothing; answer = None }
 
 -- a change that adds to an older run alone
 abbrev pub adding : {T : Type 0} → MoreOf → Change T
-adding m = record { added = Some m; created = None; count = count.Nothing }
+adding m = record { added = Some m; created = None; count = count.Nothing; answer = None }
 
 -- the dispatches that are issued for the run to which a step adds
 abbrev pub issued_for : MoreOf → ShardState → List Dispatch
@@ -131,10 +155,25 @@ issued_for m s = dispatches_of s.setup (m.index + 1) (state_at s.runs m.index) (
 abbrev pub issued_new : {T : Type 0} → NewRun T → ShardState → List Dispatch
 issued_new n s = issued_first s.setup (length s.runs + 1) n.run.state
 
+-- the transfers that are issued for the run to which a step adds
+abbrev pub transfers_for : MoreOf → ShardState → List Sent
+transfers_for m s = transfers_of s.setup (m.index + 1) (state_at s.runs m.index) (grown m s.runs)
+
 -- what waits once a count was moved on
 abbrev pub counted_by : Count → Waiting → Waiting
 counted_by count.Nothing w = w
 counted_by count.Dispatch w = one_counted w
+counted_by _ w = w
+
+-- how many are accepted from each shard then
+abbrev pub accepted_by : Count → List ℕ → List ℕ
+accepted_by (count.Accepts from) all = slice_set all from (slice_index_or all from 0 + 1)
+accepted_by _ all = all
+
+-- what is issued to each shard, and acknowledged by it then
+abbrev pub acknowledged_by : Count → List Outgoing → List Outgoing
+acknowledged_by (count.Acknowledges to) all = one_more_acknowledged all to
+acknowledged_by _ all = all
 
 -- what waits with what is issued for an older run
 abbrev pub waiting_added : Option MoreOf → ShardState → Waiting
@@ -146,13 +185,27 @@ abbrev pub waiting_created : {T : Type 0} → Option (NewRun T) → ShardState �
 waiting_created None s = s.waiting
 waiting_created (Some n) s = with_issued s.waiting (issued_new n s)
 
+-- what is issued to each shard with what an older run sends
+abbrev pub outgoing_added : Option MoreOf → ShardState → List Outgoing
+outgoing_added None s = s.outgoing
+outgoing_added (Some m) s = with_all_sent (transfers_for m s) 0 s.outgoing
+
+-- what is issued to each shard with what answers a transfer
+abbrev pub outgoing_answered : Option Sent → List Outgoing → List Outgoing
+outgoing_answered None all = all
+outgoing_answered (Some a) all = with_all_sent (a ∷ []) 0 all
+
 -- what is known of a shard once a count was moved on
 abbrev pub after_count : Count → ShardState → ShardState
-after_count k s = record s { waiting = counted_by k s.waiting }
+after_count k s = record s { waiting = counted_by k s.waiting; outgoing = acknowledged_by k s.outgoing; accepted = accepted_by k s.accepted }
 
 -- and once facts were added to an older run
 abbrev pub after_added : Option MoreOf → ShardState → ShardState
-after_added m s = record s { runs = runs_added m s.runs; waiting = waiting_added m s }
+after_added m s = record s { runs = runs_added m s.runs; waiting = waiting_added m s; outgoing = outgoing_added m s }
+
+-- and once a transfer was answered
+abbrev pub after_answer : Option Sent → ShardState → ShardState
+after_answer a s = record s { outgoing = outgoing_answered a s.outgoing }
 
 -- and once a new run was added
 abbrev pub after_created : {T : Type 0} → Option (NewRun T) → ShardState → ShardState
@@ -160,20 +213,26 @@ after_created n s = record s { runs = runs_created n s.runs; waiting = waiting_c
 
 -- and after a change
 abbrev pub after_change : {T : Type 0} → Change T → ShardState → ShardState
-after_change c s = after_created c.created (after_added c.added (after_count c.count s))
+after_change c s = after_created c.created (after_answer c.answer (after_added c.added (after_count c.count s)))
 
 -- and after a plan was done
 abbrev pub state_after : {T : Type 0} → Plan T → ShardState → ShardState
 state_after plan s = record (after_change plan.change s) { last = plan.moment }
 
--- what carrying out asks of a count, of what is added, and of a new run
+-- what carrying out asks of a count, of what is added, of an answer, and of a new run
 abbrev pub MayCount : ShardView → Count → Type 0
 MayCount v count.Nothing = Unit {0}
 MayCount v count.Dispatch = CountsFirst v
+MayCount v (count.Accepts from) = CountsAccepted v from
+MayCount v (count.Acknowledges to) = CountsAcknowledged v to
 
 abbrev pub MayGrow : ShardView → Option MoreOf → Type 0
 MayGrow v None = Unit {0}
 MayGrow v (Some m) = HasRoom v m
+
+abbrev pub MayAnswer : ShardView → Option Sent → Type 0
+MayAnswer v None = Unit {0}
+MayAnswer v (Some a) = v.changed.answer ≡ None
 
 abbrev pub MayAdd : {T : Type 0} → ShardView → Option (NewRun T) → Type 0
 MayAdd v None = Unit {0}

@@ -10,9 +10,9 @@ use Rattle.shard_store.specs.View.{ShardView, ShardState, state}
 
 -- what can be known of a content
 abbrev pub known : Content → ShardState
-known S = record { setup = S.setup; runs = map state_of S.runs; last = S.last_moment; waiting = waiting_in S }
+known S = record { setup = S.setup; runs = map state_of S.runs; last = S.last_moment; waiting = waiting_in S; outgoing = S.outgoing; accepted = S.accepted }
 
--- the shard says what the content's journals and dispatches say, each journal is formed as steps form it, and what was counted was issued
+-- the shard says what the content's journals, dispatches and transfers say, each journal is formed as steps form it, and what was counted was issued
 pub record StandsFor (v : ShardView) (S : Content) : Type 0 where
   pub says : state v ≡ known S
   pub formed : AllByRecursion (IsFormed S.steps) S.runs

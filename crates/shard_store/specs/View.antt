@@ -1,20 +1,23 @@
--- a shard as contracts see it: what it says of its journals and of its dispatches, which runs changed last, and for how many more runs there is room
+-- a shard as contracts see it: what it says of its journals, its dispatches and its transfers, what was not looked up since the last step, and for how many more runs there is room
 use Rattle.std.specs.Prelude.{◌≡◌, ℕ, ◌<◌, ◌^◌, List, map, Option}
+use Rattle.service_model.specs.declared.content.Outgoing.{Outgoing}
 use Rattle.service_model.specs.declared.content.Setup.{Setup}
 use Rattle.service_model.specs.RunState.{RunState}
 use Rattle.service_model.specs.Outcome.{Runs, latest_run}
 use Rattle.mutable_state.specs.View.{RunView}
 use Rattle.shard_steps.specs.Issuing.{Waiting}
-use Rattle.shard_steps.specs.declared.changed.Changed.{Changed}
+use Rattle.shard_steps.specs.Kept.{Unnoted}
 
--- a shard: its setup, its runs in the order of their ordinals, which runs changed since their deadlines and dispatches were looked up, its last moment, for how many more runs there is room, and its dispatches
+-- a shard: its setup, its runs in the order of their ordinals, what was not looked up since the last step, its last moment, for how many more runs there is room, its dispatches, all transfers that it issued to each shard, and how many it accepted from each
 pub record ShardView : Type 0 where
   pub setup : Setup
   pub runs : List RunView
-  pub changed : Changed
+  pub changed : Unnoted
   pub last : ℕ
   pub room : ℕ
   pub waiting : Waiting
+  pub outgoing : List Outgoing
+  pub accepted : List ℕ
 
 -- what is known of the runs
 abbrev pub states : List RunView → List RunState
@@ -26,9 +29,11 @@ pub record ShardState : Type 0 where
   pub runs : List RunState
   pub last : ℕ
   pub waiting : Waiting
+  pub outgoing : List Outgoing
+  pub accepted : List ℕ
 
 abbrev pub state : ShardView → ShardState
-state v = record { setup = v.setup; runs = states v.runs; last = v.last; waiting = v.waiting }
+state v = record { setup = v.setup; runs = states v.runs; last = v.last; waiting = v.waiting; outgoing = v.outgoing; accepted = v.accepted }
 
 -- what requests are decided on
 abbrev pub runs_in : ShardView → Runs

@@ -3,15 +3,16 @@
 ghost use Rattle.std.specs.Prelude.{◌≡◌, ℕ, Some, length};
 ghost use Rattle.service_model.specs.Outcome.{Outcome};
 ghost use Rattle.shard_store.specs.View.{state};
-ghost use Rattle.shard_store.specs.Fitting.{FitsChange, after_added, after_change, after_created, counted_by, HasPlace, HasRoom, MayAdd, MayCount, MayGrow};
+ghost use Rattle.shard_store.specs.Fitting.{FitsChange, after_added, after_answer, after_change, after_count, after_created, HasPlace, HasRoom, MayAdd, MayAnswer, MayCount, MayGrow};
 
 use crate::plan::{Change, Count, MoreOf, NewRun};
 use crate::store::Store;
 use mutable_state_keeper::KeepsRun;
+use service_model::transfer::Sent;
 use shard_steps::{Changed, readied};
 
 impl<T: KeepsRun> Store<T> {
-    /// Moves on a count, adds to an older run, and adds a new one.
+    /// Moves on a count, adds to an older run, answers a transfer, and adds a new run.
     pub(crate) fn carry_out(&mut self, change: Change<T>)
         requires { (at : ℕ) × (o : Outcome) × FitsChange self.old at change o }
         ensures { state self.new ≡ after_change change (state self.old) }
@@ -20,20 +21,27 @@ impl<T: KeepsRun> Store<T> {
             added,
             created,
             count,
+            answer,
         } = change;
         self.move_on(count);
         self.grow_by(added);
+        self.answer_by(answer);
         self.add_new(created);
     }
 
     /// Moves a count on.
     fn move_on(&mut self, count: Count)
         requires { MayCount self.old count }
-        ensures { self.new ≡ record self.old { waiting = counted_by count self.old.waiting } }
+        ensures state { state self.new ≡ after_count count (state self.old) }
+        ensures runs { self.new.runs ≡ self.old.runs }
+        ensures changed { self.new.changed ≡ self.old.changed }
+        ensures room { self.new.room ≡ self.old.room }
     {
         match count {
             Count::Nothing => {}
             Count::Dispatch => self.dispatches.count_first(),
+            Count::Accepts(from) => self.transfers.accept(from),
+            Count::Acknowledges(to) => self.transfers.acknowledge(to),
         }
     }
 
@@ -43,10 +51,25 @@ impl<T: KeepsRun> Store<T> {
         ensures state { state self.new ≡ after_added added (state self.old) }
         ensures count { length self.new.runs ≡ length self.old.runs }
         ensures made { self.new.changed.made ≡ self.old.changed.made }
+        ensures answer { self.new.changed.answer ≡ self.old.changed.answer }
         ensures room { self.new.room ≡ self.old.room }
     {
         match added {
             Some(more) => self.grow(more),
+            None => {}
+        }
+    }
+
+    /// Notes the answer to a transfer, if the step gives one.
+    fn answer_by(&mut self, answer: Option<Sent>)
+        requires { MayAnswer self.old answer }
+        ensures state { state self.new ≡ after_answer answer (state self.old) }
+        ensures runs { self.new.runs ≡ self.old.runs }
+        ensures made { self.new.changed.made ≡ self.old.changed.made }
+        ensures room { self.new.room ≡ self.old.room }
+    {
+        match answer {
+            Some(answer) => self.transfers.note_answer(answer),
             None => {}
         }
     }
@@ -57,13 +80,16 @@ impl<T: KeepsRun> Store<T> {
         ensures state { state self.new ≡ after_added (Some more) (state self.old) }
         ensures count { length self.new.runs ≡ length self.old.runs }
         ensures made { self.new.changed.made ≡ self.old.changed.made }
+        ensures answer { self.new.changed.answer ≡ self.old.changed.answer }
         ensures room { self.new.room ≡ self.old.room }
     {
         let MoreOf { index, plan } = more;
         let ready = readied(plan.change.facts.as_slice());
+        let shown = self.dispatches.shown(index);
         let run = &mut self.runs[index];
         run.commit(plan);
         self.dispatches.note(ready);
+        self.transfers.note_grown(index, shown);
         self.changed = Changed {
             grown: Some(index),
             made: None,

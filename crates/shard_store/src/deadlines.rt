@@ -13,14 +13,15 @@ use timeouts::Due;
 use wf_event_values::Moment;
 
 impl<T: KeepsRun> Store<T> {
-    /// Looks up the first deadlines and the dispatches of the runs that changed since.
+    /// Looks up the first deadlines, the dispatches and the transfers of the runs that changed since.
     pub fn note_change(&mut self) -> Result<(), AllocError>
         ensures same { state self.new ≡ state self.old }
         ensures runs { self.new.runs ≡ self.old.runs }
         ensures noted { OnOk result (IsNoted self.new.changed) }
     {
         self.note_grown()?;
-        self.note_made()
+        self.note_made()?;
+        self.note_sent()
     }
 
     /// Looks up those of the run to which the last step added.
@@ -47,7 +48,8 @@ impl<T: KeepsRun> Store<T> {
         requires { self.old.changed.grown ≡ None }
         ensures same { state self.new ≡ state self.old }
         ensures runs { self.new.runs ≡ self.old.runs }
-        ensures noted { OnOk result (IsNoted self.new.changed) }
+        ensures grown { self.new.changed.grown ≡ None }
+        ensures made { OnOk result (self.new.changed.made ≡ None) }
     {
         let Some(index) = self.changed.made else {
             return Ok(());

@@ -1,6 +1,7 @@
 //! The runs that a request names.
 
 ghost use Rattle.std.specs.Prelude.{◌≡◌, ◌+◌, ◌≤◌, length, IfSome, Some};
+ghost use Rattle.service_model.specs.Deliveries.{own_run};
 ghost use Rattle.service_model.specs.Outcome.{named_run, latest_run, open_run, run_id};
 ghost use Rattle.shard_store.specs.View.{states, runs_in};
 
@@ -23,7 +24,7 @@ impl<T: KeepsRun> Store<T> {
         ensures within { IfSome result (λ n. (1 ≤ n) × (n ≤ length self.now.runs)) }
     {
         match run {
-            Some(run) => self.own(id, run),
+            Some(run) => self.own_named(id, run),
             None => self.latest(id),
         }
     }
@@ -41,8 +42,25 @@ impl<T: KeepsRun> Store<T> {
         }
     }
 
-    /// The ordinal of a run of this shard, where the workflow ID is its.
-    fn own(&self, id: &Id, run: RunId) -> Option<usize>
+    /// The ordinal of a run of this shard.
+    pub fn own(&self, run: RunId) -> Option<usize>
+        ensures found { result ≡ own_run (runs_in self.now) run }
+        ensures within { IfSome result (λ n. (1 ≤ n) × (n ≤ length self.now.runs)) }
+    {
+        let n = run.ordinal() as usize;
+        if run.service() == self.setup.service
+            && run.shard() == self.setup.shard
+            && 1 <= n
+            && n <= self.runs.len()
+        {
+            Some(n)
+        } else {
+            None
+        }
+    }
+
+    /// The same, where the workflow ID is its.
+    fn own_named(&self, id: &Id, run: RunId) -> Option<usize>
         ensures found { result ≡ named_run (runs_in self.now) id.now (Some run) }
         ensures within { IfSome result (λ n. (1 ≤ n) × (n ≤ length self.now.runs)) }
     {

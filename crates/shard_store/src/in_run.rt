@@ -1,12 +1,10 @@
 //! Plans for one run, and room for them in it.
 
-ghost use Rattle.std.specs.Prelude.{◌≡◌, ◌≤◌, ◌<◌, ◌+◌, [], length, true, IfOk, OnOk};
-ghost use Rattle.std.specs.List.{list_all};
+ghost use Rattle.std.specs.Prelude.{◌≡◌, ◌≤◌, ◌<◌, ◌+◌, [], length, IfOk, OnOk};
 ghost use Rattle.wf_event_values.specs.declared.policies.Cause.TheVariants.{WorkflowWorkerUnhandledFailure};
 ghost use Rattle.service_model.specs.Completion.{judge_all, failed_task};
 ghost use Rattle.service_model.specs.Outcome.{run_id};
 ghost use Rattle.service_model.specs.Pending.{IsStarted};
-ghost use Rattle.service_model.specs.Service.{is_served};
 ghost use Rattle.task_completion.specs.Ends.{IsPlanned, IsCompletion};
 ghost use Rattle.shard_steps.specs.Kept.{IsNoted};
 ghost use Rattle.shard_store.specs.View.{state, states};
@@ -49,7 +47,6 @@ impl<T: KeepsRun> Store<T> {
     ) -> Result<Completion, AllocError>
         requires there { index < length self.old.runs }
         requires started { (state_at (states self.old.runs) index).task ≡ IsStarted }
-        requires served { list_all is_served commands.now ≡ true }
         ensures same { state self.new ≡ state self.old }
         ensures there { index < length self.new.runs }
         ensures noted { OnOk result (IsNoted self.new.changed) }

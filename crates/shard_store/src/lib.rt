@@ -1,5 +1,5 @@
 //! What a shard keeps in memory: its runs, the index of their workflow IDs, their first deadlines,
-//! and the dispatches that wait. A plan says what a step does to it, with all that it needs made;
+//! the dispatches that wait, and its transfers. A plan says what a step does to it, with all that it needs made;
 //! `commit` only moves what was made, so it can't fail.
 //!
 //! What a request asks for, the crate above decides.
@@ -12,6 +12,7 @@ mod in_run;
 mod made;
 mod plan;
 mod store;
+mod transfers;
 
-pub use plan::{Change, Count, MoreOf, NewRun, Plan};
+pub use plan::{Change, Count, MoreOf, NewRun, Plan, answered, refused};
 pub use store::Store;

@@ -1,10 +1,13 @@
 //! What a step will do to a shard, with all that it needs made.
 
 ghost use Rattle.std.specs.Prelude.{◌≡◌};
+ghost use Rattle.service_model.specs.Outcome.{answered, refused};
+ghost use Rattle.shard_store.specs.Fitting.{nothing};
 
 use mutable_state_keeper::{KeepsRun, Run};
-use service_model::answer::Reply;
-use wf_event_values::Moment;
+use service_model::answer::{Answer, Reply};
+use service_model::transfer::Sent;
+use wf_event_values::{Moment, Refusal};
 
 /// A run that a step makes, and its workflow ID as the index keeps it.
 #[derive(Drop)]
@@ -26,15 +29,20 @@ pub enum Count {
     Nothing,
     /// The first dispatch that waits is counted.
     Dispatch,
+    /// The next transfer of a shard is accepted.
+    Accepts(u16),
+    /// The first transfer to a shard that is not acknowledged is.
+    Acknowledges(u16),
 }
 
-/// What a step does to a shard: what an older run gets, the run that is made, and the count that is
-/// moved on.
+/// What a step does to a shard: what an older run gets, the run that is made, the count that is
+/// moved on, and the transfer that answers another one.
 #[derive(Drop)]
 pub struct Change<T: KeepsRun> {
     pub added: Option<MoreOf>,
     pub created: Option<NewRun<T>>,
     pub count: Count,
+    pub answer: Option<Sent>,
 }
 
 /// A step that can't fail any more.
@@ -64,5 +72,46 @@ impl<T: KeepsRun> Plan<T> {
             reply,
         } = self;
         (moment, change, reply)
+    }
+}
+
+/// A step that changes nothing, and answers.
+pub fn answered<T: KeepsRun>(moment: Moment, answer: Answer) -> Plan<T>
+    ensures { result ≡ record {
+      moment = moment;
+      change = nothing;
+      reply = (answered answer).reply;
+    } }
+{
+    Plan {
+        moment,
+        change: nothing(),
+        reply: Ok(answer),
+    }
+}
+
+/// A step that changes nothing, and refuses.
+pub fn refused<T: KeepsRun>(moment: Moment, refusal: Refusal) -> Plan<T>
+    ensures { result ≡ record {
+      moment = moment;
+      change = nothing;
+      reply = (refused refusal).reply;
+    } }
+{
+    Plan {
+        moment,
+        change: nothing(),
+        reply: Err(refusal),
+    }
+}
+
+fn nothing<T: KeepsRun>() -> Change<T>
+    ensures { result ≡ nothing }
+{
+    Change {
+        added: None,
+        created: None,
+        count: Count::Nothing,
+        answer: None,
     }
 }

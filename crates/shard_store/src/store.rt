@@ -1,20 +1,21 @@
 //! What a shard keeps in memory.
 
-ghost use Rattle.std.specs.Prelude.{◌≡◌, ◌<◌, ◌≤◌, ◌^◌, [], length, option_copied, slice_get};
+ghost use Rattle.std.specs.Prelude.{◌≡◌, ◌<◌, ◌≤◌, ◌^◌, [], IfOk, length, option_copied, replicate, slice_get};
 ghost use Rattle.service_model.specs.Outcome.{Outcome, run_at};
 ghost use Rattle.service_model.specs.Service.{opening};
 ghost use Rattle.shard_steps.specs.Kept.{IsNoted};
 ghost use Rattle.shard_store.specs.View.{IsSetup, runs_in, state, states};
 ghost use Rattle.shard_store.specs.Fitting.{FitsChange, state_after};
 ghost use Rattle.shard_store.specs.Standing.{Grows, StandsFor};
+ghost use Rattle.transfer.specs.Outboxes.{nothing};
 
 use crate::plan::Plan;
 use indexmap::IndexMap;
 use mutable_state_keeper::{KeepsRun, Run};
 use service_model::answer::Reply;
 use service_model::content::{Dispatch, Setup};
-use shard_steps::{Changed, Dispatches};
-use std::alloc::Global;
+use shard_steps::{Changed, Dispatches, Transfers};
+use std::alloc::{AllocError, Global};
 use std::marker::Model;
 use timeouts::Deadlines;
 use wf_event_values::Moment;
@@ -30,6 +31,8 @@ pub struct Store<T: KeepsRun> {
     pub(crate) deadlines: Deadlines,
     /// The tasks that are to be handed to their queues.
     pub(crate) dispatches: Dispatches,
+    /// What other shards are to be told, and how much of what they told was accepted.
+    pub(crate) transfers: Transfers,
     /// The places of the runs that the last step changed, where their deadlines and dispatches were
     /// not looked up since: that may take memory, so the next step does it.
     pub(crate) changed: Changed,
@@ -45,6 +48,7 @@ impl<T: KeepsRun> Drop for Store<T> {
             index: _,
             deadlines: _,
             dispatches: _,
+            transfers: _,
             changed: _,
             last: _,
         } = self;
@@ -56,51 +60,59 @@ impl<T: KeepsRun> Model for Store<T> {
     ghost use Rattle.indexmap.specs.IndexMap.{get_by_text, spare};
     ghost use Rattle.shard_store.specs.View.{ShardView, IsIndexed, IsSetup, states};
     ghost use Rattle.shard_steps.specs.Issuing.{all_waiting};
-    ghost use Rattle.shard_steps.specs.Kept.{HasFirsts, HasShown};
+    ghost use Rattle.shard_steps.specs.Kept.{HasFirsts, HasShown, unnoted};
+    ghost use Rattle.shard_steps.specs.Sending.{all_outgoing, KeepsTransfers};
 
     ghost Value = { ShardView };
 
     ghost view = { λ a. record {
       setup = a.setup;
       runs = a.runs.items;
-      changed = a.changed;
+      changed = unnoted a.changed a.transfers;
       last = a.last;
       room = min (vec_capacity a.runs - vec_len a.runs)
           (min (spare a.index) (min a.deadlines.room a.dispatches.room));
       waiting = all_waiting a.setup a.dispatches a.changed (states a.runs.items);
+      outgoing = all_outgoing a.setup a.transfers (states a.runs.items);
+      accepted = a.transfers.accepted;
     } };
 
     ghost invariant = { λ a. IsSetup a.setup
         × IsIndexed (get_by_text a.index) a.runs.items
         × (length a.runs.items < 2 ^ 60)
         × HasFirsts a.deadlines.slots a.changed (states a.runs.items)
-        × HasShown a.dispatches.shown a.changed (states a.runs.items) };
+        × HasShown a.dispatches.shown a.changed (states a.runs.items)
+        × KeepsTransfers a.setup.shards (length a.runs.items) a.transfers };
 }
 
 impl<T: KeepsRun> Store<T> {
     /// What a shard without runs keeps.
-    pub fn new(alloc: Global, setup: Setup) -> Store<T>
+    pub fn new(alloc: Global, setup: Setup) -> Result<Store<T>, AllocError>
         requires { IsSetup setup }
-        ensures state { state result ≡ record {
+        ensures state { IfOk result (λ store. state store ≡ record {
           setup = setup;
           runs = [];
           last = 0;
           waiting = record { dispatches = []; counted = 0 };
-        } }
+          outgoing = replicate setup.shards nothing;
+          accepted = replicate setup.shards 0;
+        }) }
 
         // It stands for the content that every shard opens with.
-        ensures stands { StandsFor result (opening setup) }
+        ensures stands { IfOk result (λ store. StandsFor store (opening setup)) }
     {
-        Store {
+        let transfers = Transfers::new(alloc, setup.shards)?;
+        Ok(Store {
             alloc,
             setup,
             runs: Vec::new(alloc),
             index: IndexMap::new(alloc),
             deadlines: Deadlines::new(alloc),
             dispatches: Dispatches::new(alloc),
+            transfers,
             changed: Changed::none(),
             last: Moment::zero(),
-        }
+        })
     }
 
     /// The allocator of all that steps make.

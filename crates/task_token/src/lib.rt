@@ -4,5 +4,5 @@
 mod run;
 mod token;
 
-pub use run::RunText;
+pub use run::{RUN_TEXT_LENGTH, RunText};
 pub use token::TaskToken;

@@ -1,14 +1,16 @@
 //! The texts of run ids.
 
-ghost use Rattle.std.specs.Prelude.{◌≡◌, ◌↔◌, Ok, IfOk, length, string_bytes};
+ghost use Rattle.std.specs.Prelude.{◌≡◌, ◌↔◌, Ok, length};
 ghost use Rattle.std.specs.Option.{ok_or};
 ghost use Rattle.wf_event_values.specs.declared.refusal.Refusal.TheVariants.{NotFound};
 ghost use Rattle.wf_event_values.specs.Run.{Run, IsRun};
 ghost use Rattle.task_token.specs.RunTexts.{run_bytes, run_in, run_text, run_named};
 
-use std::alloc::{AllocError, Global};
 use uuid::Uuid;
 use wf_event_values::{Refusal, RunId};
+
+/// How many bytes a run id's text has.
+pub const RUN_TEXT_LENGTH: usize = 36;
 
 /// The UUID's first half before the service's number and the shard are set: version 8 and no more.
 const HIGH_HALF: u64 = 0x8000;
@@ -70,9 +72,9 @@ pub trait RunText: Sized {
     /// The value whose text this is.
     ghost named: { List ℕ → Option Self };
 
-    /// The value's text.
-    fn write(&self, alloc: Global) -> Result<String, AllocError>
-        ensures { IfOk result (λ s. string_bytes s ≡ text_of self.now) };
+    /// The value's text, written into the buffer.
+    fn write<'b>(&self, buffer: &'b mut [u8; RUN_TEXT_LENGTH]) -> &'b str
+        ensures { result.now ≡ text_of self.now };
 
     /// The value whose text this is; every other text is `NotFound`.
     fn read(text: &str) -> Result<Self, Refusal>
@@ -84,13 +86,11 @@ impl RunText for RunId {
 
     ghost named = { run_named };
 
-    /// The run id's text.
-    fn write(&self, alloc: Global) -> Result<String, AllocError>
-        ensures { IfOk result (λ s. string_bytes s ≡ run_text self.now) }
+    /// The run id's text, written into the buffer.
+    fn write<'b>(&self, buffer: &'b mut [u8; RUN_TEXT_LENGTH]) -> &'b str
+        ensures { result.now ≡ run_text self.now }
     {
-        let mut buffer = Uuid::encode_buffer();
-        let text = uuid_of(*self).hyphenated().encode_lower(&mut buffer);
-        String::from_str(alloc, text)
+        uuid_of(*self).hyphenated().encode_lower(buffer)
     }
 
     /// The run id whose text this is, whatever service, shard and ordinal it names; every other text is `NotFound`.

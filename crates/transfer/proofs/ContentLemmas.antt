@@ -15,6 +15,10 @@ use Rattle.transfer.specs.Outboxes.{issued_to, acknowledged_to, nothing}
 pub accepted_from-entry : (all : List ℕ) (from : ℕ) → accepted_from all from ≡ slice_index_or all from 0
 accepted_from-entry all from = unwrap_or-slice_get all from 0
 
+-- the count of the content, as an inbox moves it on
+pub accepted_from-counts : (all : List ℕ) (from : ℕ) → slice_set all from (accepted_from all from + 1) ≡ slice_set all from (slice_index_or all from 0 + 1)
+accepted_from-counts all from = ap (λ n. slice_set all from (n + 1)) (accepted_from-entry all from)
+
 -- an acknowledgement that does not count on changes nothing
 pub acknowledged_to-already : (all : List Outgoing) (to : ℕ) → acknowledged_to all to Already ≡ all
 acknowledged_to-already all to = ap (slice_set all to) (unwrap_or-slice_get all to nothing) ∙ set-get_or all to nothing

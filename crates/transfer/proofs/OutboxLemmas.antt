@@ -1,5 +1,5 @@
 -- one destination's log is replaced by another
-use Rattle.std.proofs.Common.{◌≡◌, ◌≢◌, ℕ, ◌+◌, ◌<◌, ◌≤◌, Bool, true, false, List, [], ◌∷◌, ◌++◌, length, map, refl, sym, ap, subst, ◌∙◌, arith, get_or-set_same, get_or-set_other}
+use Rattle.std.proofs.Common.{◌≡◌, ◌≢◌, ℕ, ◌+◌, ◌<◌, ◌≤◌, Bool, true, false, cond, List, [], ◌∷◌, ◌++◌, length, map, refl, sym, ap, subst, ◌∙◌, arith, get_or-set_same, get_or-set_other}
 use Rattle.std.specs.Prelude.{Some, option_map, slice_get, slice_set, slice_index_or, unwrap_or, ◌==◌, if◌then◌else◌}
 use Rattle.std.proofs.lemmas.Grind.{get_or-set_at}
 use Rattle.std.proofs.lemmas.Bool.Decides.{nat_tests}
@@ -11,7 +11,8 @@ use Rattle.service_model.specs.declared.content.Outgoing.{Outgoing}
 use Rattle.service_model.specs.declared.transfer.TransferContent.{TransferContent}
 use Rattle.service_model.specs.Counts.{outgoing_to}
 use Rattle.transfer.specs.Logs.{Log, counted}
-use Rattle.transfer.specs.Outboxes.{outgoing_of, outgoing, room_to, issued_to, acknowledged_to, nothing}
+use Rattle.service_model.specs.declared.transfer.Sent.{Sent}
+use Rattle.transfer.specs.Outboxes.{outgoing_of, outgoing, room_to, issued_to, acknowledged_to, nothing, sent_to, HasRoomFor}
 
 -- the transfers to a destination are those of its log
 pub outgoing_to-log : (logs : List (Log TransferContent)) (to : ℕ) (old : Log TransferContent) → slice_get logs to ≡ Some old → outgoing_to (outgoing logs) to ≡ outgoing_of old
@@ -93,3 +94,18 @@ module _ (logs items : List (Log TransferContent)) (to at : ℕ) (old new : Log 
   -- the room to each destination, where the log loses none
   pub room_to-kept : old.room ≤ new.room → (k : ℕ) → room_to logs k ≤ room_to (slice_set items at new) k
   room_to-kept less k = nothing-less _ _ (k == to) (room_to-less 0 (omega arith) k)
+
+-- where all had room, those behind the first still have room once it was issued
+pub room-behind : (logs now : List (Log TransferContent)) (s : Sent) (rest : List Sent) → length now ≡ length logs → ((k : ℕ) → room_to logs k ≤ room_to now k + (if k == s.to then 1 else 0)) → HasRoomFor logs (s ∷ rest) → HasRoomFor now rest
+room-behind logs now s rest count less has = λ k within. by_test k (s.to == k) refl (has k (omega (arith, within, count))) (less k)
+  where
+    by_test : (k : ℕ) (b : Bool) → (s.to == k) ≡ b → length (cond b (s ∷ sent_to rest k) (sent_to rest k)) ≤ room_to logs k → room_to logs k ≤ room_to now k + (if k == s.to then 1 else 0) → length (sent_to rest k) ≤ room_to now k
+    by_test k true e fits l = let most : (if k == s.to then 1 else 0) ≤ 1 = at_most (k == s.to) in omega (arith, fits, l, most)
+      where
+        at_most : (b : Bool) → (if b then 1 else 0) ≤ 1
+        at_most true = omega arith
+        at_most false = omega arith
+    by_test k false e fits l =
+        let other : (k == s.to) ≡ false = grind (arith, nat_tests) in
+        let same : room_to logs k ≤ room_to now k + 0 = subst (λ (b : Bool). room_to logs k ≤ room_to now k + (if b then 1 else 0)) other l in
+        omega (arith, fits, same)

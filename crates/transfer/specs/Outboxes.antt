@@ -1,7 +1,8 @@
 -- the transfers that a shard issued to each destination
-use Rattle.std.specs.Prelude.{ℕ, List, [], ◌∷◌, ◌++◌, map, slice_index, slice_set}
+use Rattle.std.specs.Prelude.{ℕ, ◌<◌, ◌≤◌, ◌==◌, List, [], ◌∷◌, ◌++◌, filter, length, map, slice_index, slice_set}
 use Rattle.service_model.specs.declared.answer.Acknowledged.{Acknowledged}
 use Rattle.service_model.specs.declared.content.Outgoing.{Outgoing}
+use Rattle.service_model.specs.declared.transfer.Sent.{Sent}
 use Rattle.service_model.specs.declared.transfer.TransferContent.{TransferContent}
 use Rattle.service_model.specs.Counts.{outgoing_to}
 use Rattle.transfer.specs.Logs.{Log, counted}
@@ -29,3 +30,11 @@ issued_to all to content = let o = outgoing_to all to in slice_set all to (recor
 -- a destination acknowledged a number
 abbrev pub acknowledged_to : List Outgoing → ℕ → Acknowledged → List Outgoing
 acknowledged_to all to answer = let o = outgoing_to all to in slice_set all to (record { issued = o.issued; acknowledged = counted answer o.acknowledged })
+
+-- those of these that are for a destination
+abbrev pub sent_to : List Sent → ℕ → List Sent
+sent_to sent to = filter (λ (s : Sent). s.to == to) sent
+
+-- each destination has room for those of these that are for it
+abbrev pub HasRoomFor : List (Log TransferContent) → List Sent → Type 0
+HasRoomFor logs sent = (to : ℕ) → to < length logs → length (sent_to sent to) ≤ room_to logs to

@@ -1,12 +1,13 @@
 //! The transfers that a shard issued.
 
-ghost use Rattle.std.specs.Prelude.{◌≡◌, ℕ, ◌+◌, ◌<◌, ◌≤◌, ◌==◌, length, slice_get, option_map, replicate, IfOk, OnOk, IfSome, if◌then◌else◌};
+ghost use Rattle.std.specs.Prelude.{◌≡◌, ℕ, ◌+◌, ◌<◌, ◌≤◌, ◌==◌, length, slice_get, option_map, replicate, IfOk, OnErr, OnOk, IfSome, if◌then◌else◌};
 ghost use Rattle.service_model.specs.Counts.{outgoing_to, acknowledgement_of};
-ghost use Rattle.transfer.specs.Outboxes.{outgoing, room_to, issued_to, acknowledged_to, nothing};
+ghost use Rattle.service_model.specs.Service.{with_all_sent};
+ghost use Rattle.transfer.specs.Outboxes.{outgoing, room_to, issued_to, acknowledged_to, nothing, sent_to, HasRoomFor};
 
 use crate::issue_log::IssueLog;
 use service_model::answer::Acknowledged;
-use service_model::transfer::TransferContent;
+use service_model::transfer::{Sent, TransferContent};
 use std::alloc::{AllocError, Global};
 use std::marker::Model;
 
@@ -52,7 +53,17 @@ impl Outbox {
         ensures ok { OnOk result (additional ≤ room_to self.new to) }
         ensures room { (shard : ℕ) → room_to self.old shard ≤ room_to self.new shard }
     {
-        let log = &mut self.logs[usize::from(to)];
+        self.reserve_at(usize::from(to), additional)
+    }
+
+    fn reserve_at(&mut self, to: usize, additional: usize) -> Result<(), AllocError>
+        requires { to < length self.old }
+        ensures same { outgoing self.new ≡ outgoing self.old }
+        ensures shards { length self.new ≡ length self.old }
+        ensures ok { OnOk result (additional ≤ room_to self.new to) }
+        ensures room { (shard : ℕ) → room_to self.old shard ≤ room_to self.new shard }
+    {
+        let log = &mut self.logs[to];
         log.reserve(additional)
     }
 
@@ -66,6 +77,59 @@ impl Outbox {
     {
         let log = &mut self.logs[usize::from(to)];
         log.issue(content);
+    }
+
+    /// Issues all of these, in their order, or none of them where memory is refused. One for a
+    /// destination that isn't there is dropped.
+    pub fn send_all(&mut self, sent: Vec<Sent>) -> Result<(), AllocError>
+        ensures ok { OnOk result
+            (outgoing self.new ≡ with_all_sent sent.items 0 (outgoing self.old)) }
+        ensures err { OnErr result (outgoing self.new ≡ outgoing self.old) }
+        ensures shards { length self.new ≡ length self.old }
+    {
+        self.make_room(sent.as_slice())?;
+        self.send_each(sent);
+        Ok(())
+    }
+
+    /// Makes room for all of these. Where memory is refused, the transfers stay as they were.
+    pub fn make_room(&mut self, sent: &[Sent]) -> Result<(), AllocError>
+        ensures same { outgoing self.new ≡ outgoing self.old }
+        ensures shards { length self.new ≡ length self.old }
+        ensures ok { OnOk result (HasRoomFor self.new sent.now) }
+    {
+        if sent.len() == 0 {
+            return Ok(());
+        }
+        for to in 0..self.logs.len() {
+            self.reserve_at(to, count_to(sent, to))?;
+        }
+        Ok(())
+    }
+
+    /// Issues all of these, in reserved room.
+    fn send_each(&mut self, sent: Vec<Sent>)
+        requires { HasRoomFor self.old sent.items }
+        ensures sent { outgoing self.new ≡ with_all_sent sent.items 0 (outgoing self.old) }
+        ensures shards { length self.new ≡ length self.old }
+    {
+        for one in sent {
+            self.send(one);
+        }
+    }
+
+    /// Issues one, in reserved room, where its destination is there.
+    pub fn send(&mut self, one: Sent)
+        requires { one.to < length self.old → 0 < room_to self.old one.to }
+        ensures issued { outgoing self.new ≡ issued_to (outgoing self.old) one.to one.content }
+        ensures shards { length self.new ≡ length self.old }
+        ensures room { (shard : ℕ) → room_to self.old shard
+            ≤ room_to self.new shard + (if shard == one.to then 1 else 0) }
+    {
+        let (to, content) = one.into_parts();
+        if usize::from(to) < self.logs.len() {
+            self.issue(to, content);
+        }
     }
 
     /// The first transfer to a destination that is not acknowledged, with its number.
@@ -113,4 +177,11 @@ impl Outbox {
         let log = &mut self.logs[usize::from(to)];
         log.acknowledge_next();
     }
+}
+
+/// How many of these are for a destination.
+fn count_to(sent: &[Sent], to: usize) -> usize
+    ensures { result ≡ length (sent_to sent.now to) }
+{
+    sent.iter().filter(|one| usize::from(one.to) == to).count()
 }

@@ -10,8 +10,10 @@ use Rattle.wf_event_values.specs.declared.policies.ReusePolicy.{ReusePolicy}
 use Rattle.wf_event_values.specs.declared.policies.ReusePolicy.TheVariants.{AllowDuplicate, AllowDuplicateFailedOnly, RejectDuplicate}
 use Rattle.wf_event_values.specs.declared.policies.ConflictPolicy.{ConflictPolicy}
 use Rattle.wf_event_values.specs.declared.policies.ConflictPolicy.TheVariants.{Fail, UseExisting, TerminateExisting}
+use Rattle.wf_event_values.specs.declared.policies.ParentClosePolicy.{ParentClosePolicy}
+use Rattle.wf_event_values.specs.declared.policies.ParentClosePolicy.TheVariants.{Terminate, Abandon, RequestCancel}
 use Rattle.wf_event_values.specs.Limits.{text_in, id_in, moment_in, span_in}
-use Rattle.wf_event_values.specs.Names.{reuse_name, conflict_name}
+use Rattle.wf_event_values.specs.Names.{reuse_name, conflict_name, parent_close_name}
 use Rattle.wf_event_values.specs.Run.{Run}
 use Rattle.task_token.specs.RunTexts.{run_named}
 use Rattle.task_token.specs.TokenTexts.{token_named}
@@ -88,3 +90,10 @@ conflict_named = named conflict_name (Fail ∷ UseExisting ∷ TerminateExisting
 
 abbrev pub conflict_of : Field → Data → Result ConflictPolicy Refusal
 conflict_of field d = string_of field d >>= (λ text. ok_or (conflict_named text) (InvalidArgument field))
+
+-- what becomes of a child as its parent closes, by name
+abbrev pub parent_close_named : List ℕ → Option ParentClosePolicy
+parent_close_named = named parent_close_name (Terminate ∷ Abandon ∷ RequestCancel ∷ [])
+
+abbrev pub parent_close_of : Field → Data → Result ParentClosePolicy Refusal
+parent_close_of field d = string_of field d >>= (λ text. ok_or (parent_close_named text) (InvalidArgument field))

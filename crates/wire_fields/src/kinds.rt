@@ -5,12 +5,14 @@ ghost use Rattle.std.specs.Option.{ok_or};
 ghost use Rattle.serde_json.specs.View.{view};
 ghost use Rattle.wf_event_values.specs.Gives.{Gives};
 ghost use Rattle.wf_event_values.specs.declared.refusal.Refusal.TheVariants.{InvalidArgument};
-ghost use Rattle.wire_fields.specs.Kinds.{string_of, text_of, id_of, number_of, moment_of, span_of, flag_of, run_of, token_of, array_of, elements_of, reuse_of, reuse_named, conflict_of, conflict_named};
+ghost use Rattle.wire_fields.specs.Kinds.{string_of, text_of, id_of, number_of, moment_of, span_of, flag_of, run_of, token_of, array_of, elements_of, reuse_of, reuse_named, conflict_of, conflict_named, parent_close_of, parent_close_named};
 
 use serde_json::Value;
 use std::alloc::Global;
 use task_token::{RunText, TaskToken};
-use wf_event_values::{ConflictPolicy, Field, Id, Moment, Refusal, ReusePolicy, RunId, Span, Text};
+use wf_event_values::{
+    ConflictPolicy, Field, Id, Moment, ParentClosePolicy, Refusal, ReusePolicy, RunId, Span, Text,
+};
 
 /// A type that a field's value is read as.
 pub trait FieldValue: Sized {
@@ -158,5 +160,28 @@ impl FieldValue for ConflictPolicy {
 
     fn from_value(_alloc: Global, field: Field, value: &Value) -> Result<ConflictPolicy, Refusal> {
         conflict_named(string(field, value)?).ok_or(Refusal::InvalidArgument(field))
+    }
+}
+
+fn parent_close_named(name: &str) -> Option<ParentClosePolicy>
+    ensures { result ≡ parent_close_named name.now }
+{
+    match name {
+        "Terminate" => Some(ParentClosePolicy::Terminate),
+        "Abandon" => Some(ParentClosePolicy::Abandon),
+        "RequestCancel" => Some(ParentClosePolicy::RequestCancel),
+        _ => None,
+    }
+}
+
+impl FieldValue for ParentClosePolicy {
+    ghost value_of = { parent_close_of };
+
+    fn from_value(
+        _alloc: Global,
+        field: Field,
+        value: &Value,
+    ) -> Result<ParentClosePolicy, Refusal> {
+        parent_close_named(string(field, value)?).ok_or(Refusal::InvalidArgument(field))
     }
 }

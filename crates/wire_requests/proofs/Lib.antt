@@ -1,1 +1,2 @@
 mod ElementLemmas
+mod FlatLemmas

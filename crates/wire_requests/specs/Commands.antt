@@ -16,8 +16,9 @@ use Rattle.wire_fields.specs.Steps.{◌>>=◌, for_each}
 use Rattle.wire_fields.specs.Kinds.{string_of, text_of, id_of, number_of, span_of, named, elements_of}
 use Rattle.wire_fields.specs.Fields.{required, or_default, optional}
 use Rattle.wire_requests.specs.ActivityCommands.{activity_of}
+use Rattle.wire_requests.specs.ExternalCommands.{child_of, external_cancel_of, external_signal_of}
 use Rattle.wire_requests.specs.declared.commands.CommandType.{CommandType}
-use Rattle.wire_requests.specs.declared.commands.CommandType.TheVariants.{ScheduleActivityTask, RequestCancelActivityTask, StartTimer, CancelTimer, RecordMarker, CompleteWorkflowExecution, FailWorkflowExecution, CancelWorkflowExecution, ContinueAsNewWorkflowExecution}
+use Rattle.wire_requests.specs.declared.commands.CommandType.TheVariants.{ScheduleActivityTask, RequestCancelActivityTask, StartTimer, CancelTimer, RecordMarker, CompleteWorkflowExecution, FailWorkflowExecution, CancelWorkflowExecution, ContinueAsNewWorkflowExecution, StartChildWorkflowExecution, SignalExternalWorkflowExecution, RequestCancelExternalWorkflowExecution}
 
 -- the name of a type of command
 abbrev pub type_name : CommandType → List ℕ
@@ -30,10 +31,13 @@ type_name CompleteWorkflowExecution = codes "CompleteWorkflowExecution"
 type_name FailWorkflowExecution = codes "FailWorkflowExecution"
 type_name CancelWorkflowExecution = codes "CancelWorkflowExecution"
 type_name ContinueAsNewWorkflowExecution = codes "ContinueAsNewWorkflowExecution"
+type_name StartChildWorkflowExecution = codes "StartChildWorkflowExecution"
+type_name SignalExternalWorkflowExecution = codes "SignalExternalWorkflowExecution"
+type_name RequestCancelExternalWorkflowExecution = codes "RequestCancelExternalWorkflowExecution"
 
--- the type that has this name, of those that are served so far
+-- the type that has this name
 abbrev pub type_named : List ℕ → Option CommandType
-type_named = named type_name (ScheduleActivityTask ∷ RequestCancelActivityTask ∷ StartTimer ∷ CancelTimer ∷ RecordMarker ∷ CompleteWorkflowExecution ∷ FailWorkflowExecution ∷ CancelWorkflowExecution ∷ ContinueAsNewWorkflowExecution ∷ [])
+type_named = named type_name (ScheduleActivityTask ∷ RequestCancelActivityTask ∷ StartTimer ∷ CancelTimer ∷ RecordMarker ∷ CompleteWorkflowExecution ∷ FailWorkflowExecution ∷ CancelWorkflowExecution ∷ ContinueAsNewWorkflowExecution ∷ StartChildWorkflowExecution ∷ SignalExternalWorkflowExecution ∷ RequestCancelExternalWorkflowExecution ∷ [])
 
 abbrev pub type_of : Field → Data → Result CommandType Refusal
 type_of field d = string_of field d >>= (λ text. ok_or (type_named text) (InvalidArgument field))
@@ -73,6 +77,9 @@ fields_of CompleteWorkflowExecution d = or_default text_of [] field.Result d >>=
 fields_of FailWorkflowExecution d = or_default text_of [] field.Message d >>= (λ x. Ok (command.FailWorkflowExecution x))
 fields_of CancelWorkflowExecution d = or_default text_of [] field.Details d >>= (λ x. Ok (command.CancelWorkflowExecution x))
 fields_of ContinueAsNewWorkflowExecution d = continue_of d >>= (λ x. Ok (command.ContinueAsNewWorkflowExecution x))
+fields_of StartChildWorkflowExecution d = child_of d >>= (λ x. Ok (command.StartChildWorkflowExecution x))
+fields_of SignalExternalWorkflowExecution d = external_signal_of d >>= (λ x. Ok (command.SignalExternalWorkflowExecution x))
+fields_of RequestCancelExternalWorkflowExecution d = external_cancel_of d >>= (λ x. Ok (command.RequestCancelExternalWorkflowExecution x))
 
 -- a command: its type, and the fields of that type
 unfoldable pub command_of : Data → Result Command Refusal

@@ -23,7 +23,7 @@ use Rattle.wire_requests.specs.Ends.{request_cancel_of, terminate_of}
 use Rattle.wire_requests.specs.Polls.{poll_of}
 use Rattle.wire_requests.specs.Starts.{start_of, signal_with_start_of}
 use Rattle.wire_requests.specs.Tasks.{workflow_task_in}
-use Rattle.wire_requests.specs.Turns.{dispatch_turn_of, timer_turn_of}
+use Rattle.wire_requests.specs.Turns.{dispatch_turn_of, timer_turn_of, transfer_turn_of}
 use Rattle.wire_requests.specs.declared.op.Op.{Op}
 use Rattle.wire_requests.specs.declared.op.Op.TheVariants as op
 
@@ -81,3 +81,4 @@ call_of settings op.TimerTurn at line = timer_turn_of settings at line >>= (λ x
 call_of settings op.PollWorkflowTask at line = poll_of Workflow at line >>= (λ x. Ok (call.Poll x))
 call_of settings op.PollActivityTask at line = poll_of Activity at line >>= (λ x. Ok (call.Poll x))
 call_of settings op.DispatchTurn at line = dispatch_turn_of settings at line >>= (λ x. Ok (call.DispatchTurn x))
+call_of settings op.TransferTurn at line = transfer_turn_of settings at line >>= (λ x. Ok (call.TransferTurn x))

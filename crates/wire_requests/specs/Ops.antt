@@ -8,7 +8,7 @@ use Rattle.wf_event_values.specs.declared.refusal.Refusal.TheVariants.{InvalidAr
 use Rattle.wire_fields.specs.Kinds.{string_of, named}
 use Rattle.wire_fields.specs.Steps.{◌>>=◌}
 use Rattle.wire_requests.specs.declared.op.Op.{Op}
-use Rattle.wire_requests.specs.declared.op.Op.TheVariants.{Start, Signal, SignalWithStart, RequestCancel, Terminate, CompleteWorkflowTask, FailWorkflowTask, CompleteActivity, FailActivity, CancelActivity, Heartbeat, History, Describe, TimerTurn, PollWorkflowTask, PollActivityTask, DispatchTurn}
+use Rattle.wire_requests.specs.declared.op.Op.TheVariants.{Start, Signal, SignalWithStart, RequestCancel, Terminate, CompleteWorkflowTask, FailWorkflowTask, CompleteActivity, FailActivity, CancelActivity, Heartbeat, History, Describe, TimerTurn, PollWorkflowTask, PollActivityTask, DispatchTurn, TransferTurn}
 
 -- the name of an operation
 abbrev pub op_name : Op → List ℕ
@@ -29,10 +29,11 @@ op_name TimerTurn = codes "timer_turn"
 op_name PollWorkflowTask = codes "poll_workflow_task"
 op_name PollActivityTask = codes "poll_activity_task"
 op_name DispatchTurn = codes "dispatch_turn"
+op_name TransferTurn = codes "transfer_turn"
 
 -- the operation that has this name
 abbrev pub op_named : List ℕ → Option Op
-op_named = named op_name (Start ∷ Signal ∷ SignalWithStart ∷ RequestCancel ∷ Terminate ∷ CompleteWorkflowTask ∷ FailWorkflowTask ∷ CompleteActivity ∷ FailActivity ∷ CancelActivity ∷ Heartbeat ∷ History ∷ Describe ∷ TimerTurn ∷ PollWorkflowTask ∷ PollActivityTask ∷ DispatchTurn ∷ [])
+op_named = named op_name (Start ∷ Signal ∷ SignalWithStart ∷ RequestCancel ∷ Terminate ∷ CompleteWorkflowTask ∷ FailWorkflowTask ∷ CompleteActivity ∷ FailActivity ∷ CancelActivity ∷ Heartbeat ∷ History ∷ Describe ∷ TimerTurn ∷ PollWorkflowTask ∷ PollActivityTask ∷ DispatchTurn ∷ TransferTurn ∷ [])
 
 abbrev pub op_of : Field → Data → Result Op Refusal
 op_of field d = string_of field d >>= (λ text. ok_or (op_named text) (InvalidArgument field))

@@ -5,8 +5,10 @@ ghost use Rattle.serde_json.specs.View.{view};
 ghost use Rattle.wf_event_values.specs.Gives.{Gives};
 ghost use Rattle.wire_requests.specs.Calls.{is_barrier, lane_in, lane_call_of, asked_of_object, asked_of_line};
 
+use crate::flat::flat_object;
 use crate::op::Op;
 use crate::operations::call_of;
+use json::Scratch;
 use serde_json::Value;
 use service_model::call::Call;
 use service_model::settings::Settings;
@@ -103,5 +105,30 @@ pub fn read_line(alloc: Global, settings: &Settings, line: &str) -> Result<Asked
         Ok(tree) if tree.is_object() => asked_of_object(alloc, settings, &tree),
         Err(error) if error.is_memory() => Err(Refusal::NoMemory),
         _ => Err(Refusal::InvalidArgument(Field::Json)),
+    }
+}
+
+/// Reads lines as `read_line` does, in memory that it keeps from line to line.
+#[derive(Drop)]
+pub struct LineReader {
+    scratch: Scratch,
+}
+
+impl LineReader {
+    pub fn new(alloc: Global) -> LineReader {
+        LineReader {
+            scratch: Scratch::new(alloc),
+        }
+    }
+
+    /// What a line asks for, or the line's first fault.
+    pub fn read(&mut self, alloc: Global, settings: &Settings, line: &str) -> Result<Asked, Refusal>
+        ensures { Gives result (asked_of_line settings.now line.now) }
+    {
+        match flat_object(alloc, line, &mut self.scratch) {
+            Ok(Some(tree)) if tree.is_object() => asked_of_object(alloc, settings, &tree),
+            Ok(_) => read_line(alloc, settings, line),
+            Err(_) => Err(Refusal::NoMemory),
+        }
     }
 }

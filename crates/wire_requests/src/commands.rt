@@ -9,6 +9,7 @@ ghost use Rattle.wire_fields.specs.Fields.{or_default};
 ghost use Rattle.wire_requests.specs.Commands.{type_named, type_of, timer_of, marker_of, continue_of, fields_of, command_of, commands_of};
 
 use crate::activity_commands::activity;
+use crate::external_commands::{child, external_cancel, external_signal};
 use serde_json::Value;
 use service_model::limits::MOST_COMMANDS;
 use std::alloc::Global;
@@ -18,7 +19,7 @@ use wf_command::command::{ContinueAsNew, RecordMarker, StartTimer};
 use wf_event_values::{Field, Items, Refusal, Span, Text};
 use wire_fields::{FieldValue, elements, optional, or_default, required};
 
-/// The types of command that are served so far.
+/// The types of command.
 #[derive(Clone, Copy)]
 enum CommandType {
     ScheduleActivityTask,
@@ -30,6 +31,9 @@ enum CommandType {
     FailWorkflowExecution,
     CancelWorkflowExecution,
     ContinueAsNewWorkflowExecution,
+    StartChildWorkflowExecution,
+    SignalExternalWorkflowExecution,
+    RequestCancelExternalWorkflowExecution,
 }
 
 fn type_named(name: &str) -> Option<CommandType>
@@ -45,6 +49,11 @@ fn type_named(name: &str) -> Option<CommandType>
         "FailWorkflowExecution" => Some(CommandType::FailWorkflowExecution),
         "CancelWorkflowExecution" => Some(CommandType::CancelWorkflowExecution),
         "ContinueAsNewWorkflowExecution" => Some(CommandType::ContinueAsNewWorkflowExecution),
+        "StartChildWorkflowExecution" => Some(CommandType::StartChildWorkflowExecution),
+        "SignalExternalWorkflowExecution" => Some(CommandType::SignalExternalWorkflowExecution),
+        "RequestCancelExternalWorkflowExecution" => Some(
+            CommandType::RequestCancelExternalWorkflowExecution,
+        ),
         _ => None,
     }
 }
@@ -137,6 +146,15 @@ fn fields(alloc: Global, of: CommandType, object: &Value) -> Result<Command, Ref
         }
         CommandType::ContinueAsNewWorkflowExecution => {
             Ok(Command::ContinueAsNewWorkflowExecution(continue_as_new(alloc, object)?))
+        }
+        CommandType::StartChildWorkflowExecution => {
+            Ok(Command::StartChildWorkflowExecution(child(alloc, object)?))
+        }
+        CommandType::SignalExternalWorkflowExecution => {
+            Ok(Command::SignalExternalWorkflowExecution(external_signal(alloc, object)?))
+        }
+        CommandType::RequestCancelExternalWorkflowExecution => {
+            Ok(Command::RequestCancelExternalWorkflowExecution(external_cancel(alloc, object)?))
         }
     }
 }

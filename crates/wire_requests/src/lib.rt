@@ -6,6 +6,8 @@ mod activity_commands;
 mod calls;
 mod commands;
 mod ends;
+mod external_commands;
+mod flat;
 mod op;
 mod operations;
 mod polls;
@@ -14,4 +16,4 @@ mod starts;
 mod tasks;
 mod turns;
 
-pub use calls::{Asked, LaneCall, read_line};
+pub use calls::{Asked, LaneCall, LineReader, read_line};

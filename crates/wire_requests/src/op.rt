@@ -28,6 +28,7 @@ pub(crate) enum Op {
     PollWorkflowTask,
     PollActivityTask,
     DispatchTurn,
+    TransferTurn,
 }
 
 fn op_named(name: &str) -> Option<Op>
@@ -51,6 +52,7 @@ fn op_named(name: &str) -> Option<Op>
         "poll_workflow_task" => Some(Op::PollWorkflowTask),
         "poll_activity_task" => Some(Op::PollActivityTask),
         "dispatch_turn" => Some(Op::DispatchTurn),
+        "transfer_turn" => Some(Op::TransferTurn),
         _ => None,
     }
 }

@@ -12,7 +12,7 @@ use crate::op::Op;
 use crate::polls::poll;
 use crate::starts::{signal_with_start, start};
 use crate::tasks::workflow_task_in;
-use crate::turns::{dispatch_turn, timer_turn};
+use crate::turns::{dispatch_turn, timer_turn, transfer_turn};
 use serde_json::Value;
 use service_model::call::{Call, StepCall};
 use service_model::request::{
@@ -145,6 +145,10 @@ pub(crate) fn call_of(
         Op::DispatchTurn => {
             let turn = dispatch_turn(alloc, settings, at, line)?;
             Ok(Call::DispatchTurn(turn))
+        }
+        Op::TransferTurn => {
+            let turn = transfer_turn(alloc, settings, at, line)?;
+            Ok(Call::TransferTurn(turn))
         }
     }
 }

@@ -3,22 +3,22 @@
 ghost use Rattle.std.specs.Prelude.{◌≡◌};
 ghost use Rattle.serde_json.specs.View.{view};
 ghost use Rattle.wf_event_values.specs.Gives.{Gives};
-ghost use Rattle.wire_requests.specs.Turns.{dispatch_turn_of, shard_in, stop_in, timer_turn_of};
+ghost use Rattle.wire_requests.specs.Turns.{dispatch_turn_of, shard_in, stop_in, timer_turn_of, transfer_turn_of};
 
 use serde_json::Value;
-use service_model::call::{DispatchTurn, Stop, TimerTurn};
+use service_model::call::{DispatchTurn, Stop, TimerTurn, TransferTurn};
 use service_model::settings::Settings;
 use std::alloc::Global;
 use wf_event_values::{Field, Moment, Refusal};
 use wire_fields::{or_default, required};
 
-/// The shard that a number names: one that is there.
-fn shard_in(settings: &Settings, number: u64) -> Result<u16, Refusal>
-    ensures { result ≡ shard_in settings.now number }
+/// The shard that a number names: one that is there, else this field is at fault.
+fn shard_in(settings: &Settings, field: Field, number: u64) -> Result<u16, Refusal>
+    ensures { result ≡ shard_in settings.now field number }
 {
     match u16::try_from(number) {
         Ok(shard) if number < settings.shards => Ok(shard),
-        _ => Err(Refusal::InvalidArgument(Field::Shard)),
+        _ => Err(Refusal::InvalidArgument(field)),
     }
 }
 
@@ -43,7 +43,7 @@ pub(crate) fn timer_turn(
 ) -> Result<TimerTurn, Refusal>
     ensures { Gives result (timer_turn_of settings.now at (view line.now)) }
 {
-    let shard = shard_in(settings, required(alloc, line, Field::Shard)?)?;
+    let shard = shard_in(settings, Field::Shard, required(alloc, line, Field::Shard)?)?;
     Ok(TimerTurn { shard, at })
 }
 
@@ -56,7 +56,22 @@ pub(crate) fn dispatch_turn(
 ) -> Result<DispatchTurn, Refusal>
     ensures { Gives result (dispatch_turn_of settings.now at (view line.now)) }
 {
-    let shard = shard_in(settings, required(alloc, line, Field::Shard)?)?;
+    let shard = shard_in(settings, Field::Shard, required(alloc, line, Field::Shard)?)?;
     let stop = stop_in(or_default(alloc, line, Field::Stop, 0)?)?;
     Ok(DispatchTurn { shard, stop, at })
+}
+
+#[tactic(auto, unfolding(crate::specs::Turns::transfer_turn_of))]
+pub(crate) fn transfer_turn(
+    alloc: Global,
+    settings: &Settings,
+    at: Moment,
+    line: &Value,
+) -> Result<TransferTurn, Refusal>
+    ensures { Gives result (transfer_turn_of settings.now at (view line.now)) }
+{
+    let from = shard_in(settings, Field::From, required(alloc, line, Field::From)?)?;
+    let to = shard_in(settings, Field::To, required(alloc, line, Field::To)?)?;
+    let stop = stop_in(or_default(alloc, line, Field::Stop, 0)?)?;
+    Ok(TransferTurn { from, to, stop, at })
 }

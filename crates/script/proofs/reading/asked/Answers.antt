@@ -18,7 +18,7 @@ asked-bytes : (K : Settings) (line : Option (List ℕ)) (bytes : List ℕ) → S
 asked-bytes K line bytes is none = rw (← is, false_from_ne_true (is_utf8 bytes) (λ e. none (IsUtf8-from_is_utf8 bytes e))) refl
 
 pub returns-in-Ok : goal.returns-in-Ok
-returns-in-Ok c = rw (asked-text c.args.settings.now c.args.line.now c.in-Some.bytes.now c.in-Ok.text.now c.in-Some.ensures c.in-Ok.ensures.cases.0 c.in-Ok.ensures.cases.1) c.read_line.ensures
+returns-in-Ok c = rw (asked-text c.args.settings.now c.args.line.now c.in-Some.bytes.now c.in-Ok.text.now c.in-Some.ensures c.in-Ok.ensures.cases.0 c.in-Ok.ensures.cases.1) c.read.ensures
 
 pub returns-in-Err : goal.returns-in-Err
 returns-in-Err c = λ _. asked-bytes c.args.settings.now c.args.line.now c.in-Some.bytes.now c.in-Some.ensures c.in-Err.ensures.cases.0

@@ -1,4 +1,4 @@
 use Rattle.service_model_tests.proofs.compared.compare.Goals as goal
 
 pub loop-number-init : goal.loop-number-init
-loop-number-init g c = (_, c.new-object.ensures.stands)
+loop-number-init g c = (_, c.in_ok-object.ensures.stands)

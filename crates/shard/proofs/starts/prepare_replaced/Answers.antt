@@ -40,4 +40,4 @@ returns-clause-plan g c =
     let id = c.run_id.ensures ∙ ap (λ s. run_id s.setup (c.count-ordinal.result + 1)) same ∙ ap (λ k. run_id R.setup (k + 1)) count in
     both-fits v c.args.store.now c.args.moment n plan facts b c.in_ok-made.made (Ok (Started c.run_id.result)) (by_decision R n (started_fact q ∷ first_task q.task_queue ∷ []) TerminateThenNew) same c.requires.from there c.in_ok-made.ensures.noted change room
     (terminate-fits c.args.moment s reason c.requires.open) c.requires.open (terminated-behind c.args.moment s reason) (c.requires.named ∙ sym (ap (λ (x : Beginning). x.started.workflow_id) c.in_ok-beginning.ensures)) c.in_ok-made.ensures.made
-    refl (ap (λ x. Some (first_facts x)) (sym c.in_ok-beginning.ensures)) (ap (λ r. Ok (Started r)) id) refl
+    refl (ap (λ x. Some (first_facts x)) (sym c.in_ok-beginning.ensures)) (ap (λ r. Ok (Started r)) id) refl refl

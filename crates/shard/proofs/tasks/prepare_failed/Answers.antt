@@ -23,4 +23,4 @@ returns-clause-plan g c =
     let M : List ℕ → Type 0 = λ m. IsPlanned (view_at v.runs (c.args.n - 1)) c.args.moment (failed_task (run_at R c.args.n) WorkflowWorkerUnhandledFailure m) c.in_ok-plan.plan in
     let o : Outcome = adds q.task.run (map plain (failed_task (run_at R q.task.run) WorkflowWorkerUnhandledFailure q.message)) Failed in
     ended-fits {T = g.row.T.Denot} v c.args.store.now c.args.moment c.args.n c.in_ok-plan.plan (failed_task (run_at R c.args.n) WorkflowWorkerUnhandledFailure q.message) (Ok Failed) o c.in_ok-plan.ensures.same c.requires.from c.in_ok-plan.ensures.there c.in_ok-plan.ensures.noted
-    (subst M c.in_ok-message.ensures.cases c.in_ok-plan.ensures.plan) (ap (λ k. Some (record { run = k; facts = map plain (failed_task (run_at R k) WorkflowWorkerUnhandledFailure q.message) })) (sym c.requires.run)) refl refl refl
+    (subst M c.in_ok-message.ensures.cases c.in_ok-plan.ensures.plan) (ap (λ k. Some (record { run = k; facts = map plain (failed_task (run_at R k) WorkflowWorkerUnhandledFailure q.message) })) (sym c.requires.run)) refl refl refl refl

@@ -33,6 +33,6 @@ returns-clause-plan g c =
     let change = c.in_ok-plan.ensures.made ∙ ap (λ (l : List Fact). record { moment = c.args.moment; facts = l }) c.in_ok-facts.ensures in
     let o : Outcome = adds h.run facts (WorkflowTask (record { attempt = h.attempt; run = run_id c.args.store.now.setup h.run; scheduled = h.event; started = length s.shown + 1; workflow_id = id_of s })) in
     let fits = more-fits {T = g.row.T.Denot} c.prepare_in.new.self c.args.store.now c.args.moment c.args.n c.in_ok-plan.plan facts (T c.run_id.result (c.in_ok-shown.shown + 1) c.in_ok-clone.field-0) o c.in_ok-plan.ensures.same c.requires.from c.in_ok-plan.ensures.there c.in_ok-plan.ensures.noted change c.in_ok-plan.ensures.room
-    (take-fits c.args.moment h.event (run_at R c.args.n) c.requires.open (ap (λ (x : RunState). x.task) named ∙ waiting-scheduled R h c.requires.waits)) (ap (λ k. Some (record { run = k; facts = facts })) (sym c.requires.run)) refl task refl in
+    (take-fits c.args.moment h.event (run_at R c.args.n) c.requires.open (ap (λ (x : RunState). x.task) named ∙ waiting-scheduled R h c.requires.waits)) (ap (λ k. Some (record { run = k; facts = facts })) (sym c.requires.run)) refl task refl refl in
     let P : Outcome → Type 0 = λ x. FitsStep {T = g.row.T.Denot} c.prepare_in.new.self (record { moment = c.args.moment; change = adding (record { index = c.args.n - 1; plan = c.in_ok-plan.plan }); reply = T c.run_id.result (c.in_ok-shown.shown + 1) c.in_ok-clone.field-0 }) c.args.moment x in
     subst P (sym (ap (λ b. cond b o (answered Stale)) c.requires.waits)) fits

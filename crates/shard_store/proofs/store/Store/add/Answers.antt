@@ -1,14 +1,18 @@
-use Rattle.std.proofs.Common.{◌≡◌, ℕ, ◌+◌, length, length-append, List, [], ◌∷◌, ◌++◌, sym, ap, subst, ◌∙◌, arith, Option, Some, None, cond}
+use Rattle.std.proofs.Common.{◌≡◌, ℕ, ◌+◌, length, length-append, List, [], ◌∷◌, ◌++◌, sym, ap, subst, ◌∙◌, arith, Option, Some, None, IfSome, cond, ◌<◌}
 use Rattle.std.specs.Prelude.{bytes_eq, string_bytes}
 use Rattle.std.proofs.lemmas.Map.Text.{hash_map_updates_text}
 use Rattle.indexmap.specs.IndexMap.{get_by_text}
 use Rattle.service_model.specs.Outcome.{latest_run}
-use Rattle.shard_store.specs.View.{ShardView, state, states}
+use Rattle.service_model.specs.declared.content.Outgoing.{Outgoing}
+use Rattle.shard_steps.specs.Sending.{all_outgoing}
+use Rattle.shard_steps.specs.declared.transfers.Unsent.{Unsent}
+use Rattle.shard_steps.proofs.SendingLemmas.{added-sends, keeps-more}
+use Rattle.shard_store.specs.View.{ShardState, ShardView, state, states}
 use Rattle.timeouts.specs.declared.due.Due.{Due}
 use Rattle.shard_steps.specs.Kept.{HasFirsts, HasShown}
 use Rattle.service_model.specs.RunState.{RunState}
 use Rattle.shard_store.specs.Fitting.{after_created}
-use Rattle.shard_steps.specs.Issuing.{Waiting, all_waiting}
+use Rattle.shard_steps.specs.Issuing.{Waiting, all_waiting, issued_first, with_issued}
 use Rattle.shard_steps.proofs.DispatchLemmas.{added-waits}
 use Rattle.shard_steps.proofs.EachLemmas.{each-added, each-same}
 use Rattle.shard_store.proofs.IndexLemmas.{latest_run-push, length-states, states-push}
@@ -37,6 +41,7 @@ invariant_of-self g c =
           (subst (λ n. HasShown (c.self.inside.dispatches.shown ++ 0 ∷ []) (record { grown = c.self.inside.changed.grown; made = Some n }) (states c.push.new.self.items)) (sym states-count)
           (each-same _ _ _ _ (ap states pushed ∙ states-push c.self.inside.runs.items c.args.created.run)
           (each-added _ _ (states c.self.inside.runs.items) c.args.created.run.state (ap (λ v. v.changed.made) c.self.view_is ∙ c.requires.noted) c.self.invariant.4))),
+      keeps-more _ _ (length c.push.new.self.items) c.self.inside.transfers (omega (arith, ap length pushed, length-append c.self.inside.runs.items (c.args.created.run ∷ []))) c.self.invariant.5,
     )
 
 pub returns : goal.returns
@@ -49,6 +54,11 @@ returns g c =
     let now = ap states pushed ∙ states-push before.runs.items c.args.created.run in
     let waits = added-waits before.setup before.dispatches c.add_run.new.self before.changed runs (states c.push.new.self.items) c.len-index.result s
     (ap (λ v. v.changed.made) c.self.view_is ∙ c.requires.noted) c.add_run.ensures.waiting c.add_run.ensures.shown c.add_run.ensures.ready count now c.self.invariant.4 in
-    ap (λ (r : List RunState). record { setup = before.setup; runs = r; last = before.last; waiting = all_waiting before.setup c.add_run.new.self (record { grown = before.changed.grown; made = Some c.len-index.result }) (states c.push.new.self.items) }) now
-    ∙ ap (λ (w : Waiting). record { setup = before.setup; runs = runs ++ s ∷ []; last = before.last; waiting = w }) waits
+    let low : IfSome before.transfers.unsent (λ u. u.index < length runs) = subst (λ n. IfSome before.transfers.unsent (λ (u : Unsent). u.index < n)) (sym (length-states before.runs.items)) c.self.invariant.5.unsent in
+    let sends = added-sends before.setup before.transfers runs (states c.push.new.self.items) s now low in
+    let S : List RunState → Waiting → List Outgoing → ShardState = λ r w o. record { setup = before.setup; runs = r; last = before.last; waiting = w; outgoing = o; accepted = before.transfers.accepted } in
+    let later = states c.push.new.self.items in
+    ap (λ r. S r (all_waiting before.setup c.add_run.new.self (record { grown = before.changed.grown; made = Some c.len-index.result }) later) (all_outgoing before.setup before.transfers later)) now
+    ∙ ap (λ w. S (runs ++ s ∷ []) w (all_outgoing before.setup before.transfers later)) waits
+    ∙ ap (λ o. S (runs ++ s ∷ []) (with_issued (all_waiting before.setup before.dispatches before.changed runs) (issued_first before.setup (length runs + 1) s)) o) sends
     ∙ ap (λ (v : ShardView). after_created (Some c.args.created) (state v)) c.self.view_is

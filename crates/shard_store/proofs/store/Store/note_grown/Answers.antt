@@ -5,6 +5,7 @@ use Rattle.mutable_state.specs.View.{RunView}
 use Rattle.timeouts.specs.declared.due.Due.{Due}
 use Rattle.shard_steps.specs.Issuing.{all_waiting, issued_since}
 use Rattle.shard_steps.specs.Kept.{HasFirsts, HasShown}
+use Rattle.shard_steps.specs.Sending.{all_outgoing}
 use Rattle.shard_steps.specs.declared.changed.Changed.{Changed}
 use Rattle.shard_store.specs.View.{state, states}
 use Rattle.shard_steps.proofs.EachLemmas.{grown-noted}
@@ -29,6 +30,7 @@ invariant_of-self-2 g c =
       c.self.invariant.2,
       subst (λ (l : List (Option Due)). HasFirsts l now runs) (sym c.set.ensures.slots) (grown-noted c.self.inside.deadlines.slots n made runs s c.in_ok-due.due there c.in_ok-due.ensures firsts),
       subst (λ l. HasShown l now runs) (sym c.in_ok-issue.ensures.shown) (grown-noted c.self.inside.dispatches.shown n made runs s c.in_ok-shown.shown there c.in_ok-shown.ensures.count counts),
+      c.self.invariant.5,
     )
 
 pub returns-clause-same : goal.returns-clause-same
@@ -44,4 +46,4 @@ returns-clause-same g c =
     let here : slice_index_or runs n no_run ≡ c.index-run.result.now.state = states-at c.self.inside.runs.items n c.index-run.result.now low ∙ ap (λ (v : RunView). v.state) (sym c.index-run.ensures) in
     let issued = c.in_ok-issued.ensures ∙ ap (issued_since setup (slice_index_or d.shown n 0) d.ready (n + 1)) (sym here) in
     let waits = grown-looked-up setup d c.issue.new.self made runs n c.in_ok-issued.issued.items issued c.in_ok-issue.ensures.waiting ∙ ap (λ o. all_waiting setup d (C o) runs) (sym c.in-Some.is) in
-    ap (λ w. record { setup = setup; runs = runs; last = c.self.inside.last; waiting = w }) waits ∙ ap state c.self.view_is
+    ap (λ w. record { setup = setup; runs = runs; last = c.self.inside.last; waiting = w; outgoing = all_outgoing setup c.self.inside.transfers runs; accepted = c.self.inside.transfers.accepted }) waits ∙ ap state c.self.view_is

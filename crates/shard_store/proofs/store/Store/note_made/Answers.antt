@@ -5,6 +5,7 @@ use Rattle.mutable_state.specs.View.{RunView}
 use Rattle.timeouts.specs.declared.due.Due.{Due}
 use Rattle.shard_steps.specs.Issuing.{all_waiting, issued_first}
 use Rattle.shard_steps.specs.Kept.{HasFirsts, HasShown}
+use Rattle.shard_steps.specs.Sending.{all_outgoing}
 use Rattle.shard_steps.specs.declared.changed.Changed.{Changed}
 use Rattle.shard_store.specs.View.{state, states}
 use Rattle.shard_steps.proofs.EachLemmas.{made-noted}
@@ -30,6 +31,7 @@ invariant_of-self-2 g c =
       c.self.invariant.2,
       subst (λ o. P c.set.new.self.slots o) (sym grown) (subst (λ l. P l None) (sym c.set.ensures.slots) (made-noted c.self.inside.deadlines.slots n runs s c.in_ok-due.due there c.in_ok-due.ensures firsts)),
       subst (λ o. Q c.issue.new.self.shown o) (sym grown) (subst (λ l. Q l None) (sym c.in_ok-issue.ensures.shown) (made-noted c.self.inside.dispatches.shown n runs s c.in_ok-shown.shown there c.in_ok-shown.ensures.count counts)),
+      c.self.invariant.5,
     )
 
 pub returns-clause-same : goal.returns-clause-same
@@ -46,4 +48,4 @@ returns-clause-same g c =
     let issued = c.in_ok-issued.ensures ∙ ap (issued_first setup (n + 1)) (sym here) in
     let waits = ap (λ o. all_waiting setup c.issue.new.self (C o None) runs) grown ∙ made-looked-up setup d c.issue.new.self runs n c.in_ok-issued.issued.items issued c.in_ok-issue.ensures.waiting
     ∙ ap (λ o. all_waiting setup d (C None o) runs) (sym c.in-Some.is) ∙ ap (λ o. all_waiting setup d (C o c.self.inside.changed.made) runs) (sym grown) in
-    ap (λ w. record { setup = setup; runs = runs; last = c.self.inside.last; waiting = w }) waits ∙ ap state c.self.view_is
+    ap (λ w. record { setup = setup; runs = runs; last = c.self.inside.last; waiting = w; outgoing = all_outgoing setup c.self.inside.transfers runs; accepted = c.self.inside.transfers.accepted }) waits ∙ ap state c.self.view_is

@@ -1,0 +1,76 @@
+#!/usr/bin/env python3
+"""How many instructions a line costs the built program and the floor, counted by callgrind.
+
+Usage: bench/instructions.py [--parts N]
+
+Each case runs at two sizes, and a line's instructions are those by which the sum grows from one size
+to the next: they don't depend on the machine's load, and what is done once falls away. A read is
+counted by the events that it writes. `--parts N` prints the N functions that take most of a line,
+with what they call. Valgrind has to be there; `rt run` in crates/wfserve and crates/line_floor builds
+both programs.
+"""
+import os
+import re
+import subprocess
+import sys
+import tempfile
+
+import first_path
+
+CASES = [("a start", first_path.starts, 5_000, 10_000),
+         ("a start that replaces a run", first_path.replacements, 5_000, 10_000),
+         ("a signal", first_path.signals, 5_000, 10_000)]
+READS = 10
+COUNT = re.compile(r"^ *([\d,]+) \([ \d.]+%\) +(?:\S*:)?(.*?)(?: \[.*\])?$")
+
+
+def counted(words, path, folder):
+    """The instructions of each function of one run with all that it calls, and of all."""
+    kept = os.path.join(folder, "counted")
+    with open(path, "rb") as lines:
+        subprocess.run(["valgrind", "--tool=callgrind", f"--callgrind-out-file={kept}", *words],
+                       stdin=lines, stdout=subprocess.PIPE, stderr=subprocess.DEVNULL, check=True)
+    told = subprocess.run(["callgrind_annotate", "--inclusive=yes", "--threshold=100", kept],
+                          capture_output=True, text=True, check=True).stdout
+    parts = {}
+    for line in told.splitlines():
+        found = COUNT.match(line)
+        if found:
+            name = found.group(2)
+            parts[name] = parts.get(name, 0) + int(found.group(1).replace(",", ""))
+    return parts
+
+
+def grown(words, lines, path, folder):
+    """The counts at each of two sizes."""
+    counts = []
+    for some in lines:
+        first_path.write_lines(some, path)
+        counts.append(counted(words, path, folder))
+    return counts
+
+
+def told(name, counts, steps, most):
+    before, after = counts
+    whole = (after["PROGRAM TOTALS"] - before["PROGRAM TOTALS"]) / steps
+    print(f"{name}: {whole:,.0f} instructions", flush=True)
+    shares = {part: (after[part] - before.get(part, 0)) / steps for part in after if part != "PROGRAM TOTALS"}
+    for part, share in sorted(shares.items(), key=lambda kept: -kept[1])[:most]:
+        print(f"    {share:10,.0f} {part}")
+
+
+def main():
+    most = int(sys.argv[2]) if sys.argv[1:2] == ["--parts"] else 0
+    with tempfile.TemporaryDirectory() as folder:
+        path = os.path.join(folder, "lines")
+        for name, case, small, large in CASES:
+            lines = [case(small), case(large)]
+            told(name, grown([first_path.PROGRAM], lines, path, folder), large - small, most)
+            told(f"the floor of {name}", grown([first_path.FLOOR, "80", "0"], lines, path, folder), large - small, 0)
+        signals = first_path.signals(5_000)
+        reads = [signals + [{"op": "history", "workflow_id": "order"}] * count for count in (READS, 2 * READS)]
+        told("an event of a read", grown([first_path.PROGRAM], reads, path, folder), READS * 5_002, most)
+
+
+if __name__ == "__main__":
+    main()

@@ -1,0 +1,108 @@
+//! Steps of a delivery that is accepted.
+
+ghost use Rattle.std.specs.Prelude.{◌≡◌, ◌≤◌, ◌∷◌, [], IfOk, None, Some, length, option_to_list};
+ghost use Rattle.service_model.specs.Deliveries.{accepts, accepts_only, adds_outside};
+ghost use Rattle.service_model.specs.Outcome.{run_at};
+ghost use Rattle.mutable_state.specs.Steps.{FitStep};
+ghost use Rattle.shard_store.specs.Fitting.{FitsStep};
+ghost use Rattle.shard_store.specs.View.{state, runs_in};
+ghost use Rattle.shard_deliveries.specs.Accepting.{IsFromOutside, MayAccept};
+
+use crate::events::event_facts;
+use mutable_state::Change as MoreFacts;
+use mutable_state_keeper::KeepsRun;
+use service_model::answer::Answer;
+use service_model::journal::Fact;
+use service_model::transfer::{Sent, Transfer};
+use shard_store::{Change, Count, MoreOf, Plan, Store};
+use std::alloc::AllocError;
+use wf_event::Attributes;
+use wf_event_values::{Items, Moment};
+
+/// A delivery that changes no run, and is answered so by a transfer, if by one.
+pub(crate) fn accept_with<T: KeepsRun>(
+    store: &Store<T>,
+    moment: Moment,
+    transfer: &Transfer,
+    answer: Option<Sent>,
+) -> Plan<T>
+    requires { MayAccept store.now transfer.now }
+    ensures { FitsStep store.now result moment
+        (accepts transfer.now None None (option_to_list answer)) }
+{
+    Plan {
+        moment,
+        change: Change {
+            added: None,
+            created: None,
+            answer,
+            count: Count::Accepts(transfer.from),
+        },
+        reply: Ok(Answer::Accepted(transfer.number)),
+    }
+}
+
+/// A delivery that changes nothing but the count.
+pub(crate) fn accept_only<T: KeepsRun>(
+    store: &Store<T>,
+    moment: Moment,
+    transfer: &Transfer,
+) -> Plan<T>
+    requires { MayAccept store.now transfer.now }
+    ensures { FitsStep store.now result moment (accepts_only transfer.now) }
+{
+    accept_with(store, moment, transfer, None)
+}
+
+/// A delivery that adds facts to the run with that ordinal.
+pub(crate) fn accept_facts<T: KeepsRun>(
+    store: &mut Store<T>,
+    moment: Moment,
+    transfer: &Transfer,
+    n: usize,
+    facts: Items<Fact>,
+    answer: Option<Sent>,
+) -> Result<Plan<T>, AllocError>
+    requires accepts { MayAccept store.old transfer.now }
+    requires from { 1 ≤ n }
+    requires to { n ≤ length store.old.runs }
+    requires fits { FitStep moment (run_at (runs_in store.old) n) facts }
+    ensures same { state store.new ≡ state store.old }
+    ensures plan { IfOk result (λ plan. FitsStep store.new plan moment
+        (accepts transfer.now (Some (record { run = n; facts = facts })) None
+        (option_to_list answer))) }
+{
+    let plan = store.prepare_in(n - 1, MoreFacts { moment, facts })?;
+    Ok(Plan {
+        moment,
+        change: Change {
+            added: Some(MoreOf { index: n - 1, plan }),
+            created: None,
+            answer,
+            count: Count::Accepts(transfer.from),
+        },
+        reply: Ok(Answer::Accepted(transfer.number)),
+    })
+}
+
+/// A delivery that adds an event to the open run with that ordinal.
+pub(crate) fn accept_event<T: KeepsRun>(
+    store: &mut Store<T>,
+    moment: Moment,
+    transfer: &Transfer,
+    n: usize,
+    event: Attributes,
+    answer: Option<Sent>,
+) -> Result<Plan<T>, AllocError>
+    requires accepts { MayAccept store.old transfer.now }
+    requires from { 1 ≤ n }
+    requires to { n ≤ length store.old.runs }
+    requires outside { IsFromOutside (run_at (runs_in store.old) n) event }
+    ensures same { state store.new ≡ state store.old }
+    ensures plan { IfOk result (λ plan. FitsStep store.new plan moment
+        (accepts transfer.now (adds_outside (runs_in store.old) n (event ∷ [])) None
+        (option_to_list answer))) }
+{
+    let facts = event_facts(store.alloc(), store.run(n), event)?;
+    accept_facts(store, moment, transfer, n, facts, answer)
+}

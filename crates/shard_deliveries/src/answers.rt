@@ -1,0 +1,129 @@
+//! Transfers that answer a request of one of this shard's runs. They have an effect only while the
+//! request is pending.
+
+ghost use Rattle.std.specs.Prelude.{◌≡◌, IfOk, [], None};
+ghost use Rattle.service_model.specs.Deliveries.{effect, external_class};
+ghost use Rattle.service_model.specs.declared.transfer.TransferContent.TheVariants as content;
+ghost use Rattle.mutable_state.specs.Opens.{class_in};
+ghost use Rattle.shard_store.specs.Fitting.{FitsStep};
+ghost use Rattle.shard_store.specs.View.{state, runs_in};
+ghost use Rattle.shard_deliveries.specs.Accepting.{MayAccept};
+
+use crate::accepts::{accept_event, accept_only};
+use crate::events::{child_closed_event, external_event};
+use crate::pending::pending_request;
+use mutable_state::Class;
+use mutable_state_keeper::KeepsRun;
+use service_model::transfer::{
+    ChildClosed, ChildStartFailed, ChildStarted, ExternalDoneTransfer, ExternalKind, Transfer,
+};
+use shard_store::{Plan, Store};
+use std::alloc::AllocError;
+use wf_event::Attributes;
+use wf_event::payloads::{ChildWorkflowExecutionStarted, StartChildWorkflowExecutionFailed};
+use wf_event_values::{Cause, Moment};
+
+/// A child was started.
+#[tactic(auto, unfolding(service_model::specs::Deliveries::effect))]
+pub(crate) fn prepare_child_started<T: KeepsRun>(
+    store: &mut Store<T>,
+    moment: Moment,
+    transfer: &Transfer,
+    child: &ChildStarted,
+) -> Result<Plan<T>, AllocError>
+    requires { MayAccept store.old transfer.now }
+    ensures same { state store.new ≡ state store.old }
+    ensures plan { IfOk result (λ plan. FitsStep store.new plan moment
+        (effect (runs_in store.old) transfer.now (content.ChildStarted child.now))) }
+{
+    let run = child.parent_run;
+    let Some(asked) = pending_request(store, run, Class::Child, child.initiated)? else {
+        return Ok(accept_only(store, moment, transfer));
+    };
+    let n = asked.ordinal;
+    let event = Attributes::ChildWorkflowExecutionStarted(ChildWorkflowExecutionStarted {
+        initiated: child.initiated,
+        workflow_id: asked.workflow_id,
+        run: child.run,
+    });
+    accept_event(store, moment, transfer, n, event, None)
+}
+
+/// A child was not started.
+#[tactic(auto, unfolding(service_model::specs::Deliveries::effect))]
+pub(crate) fn prepare_child_start_failed<T: KeepsRun>(
+    store: &mut Store<T>,
+    moment: Moment,
+    transfer: &Transfer,
+    child: &ChildStartFailed,
+) -> Result<Plan<T>, AllocError>
+    requires { MayAccept store.old transfer.now }
+    ensures same { state store.new ≡ state store.old }
+    ensures plan { IfOk result (λ plan. FitsStep store.new plan moment
+        (effect (runs_in store.old) transfer.now (content.ChildStartFailed child.now))) }
+{
+    let run = child.parent_run;
+    let Some(asked) = pending_request(store, run, Class::Child, child.initiated)? else {
+        return Ok(accept_only(store, moment, transfer));
+    };
+    let n = asked.ordinal;
+    let event = Attributes::StartChildWorkflowExecutionFailed(StartChildWorkflowExecutionFailed {
+        initiated: child.initiated,
+        workflow_id: asked.workflow_id,
+        cause: Cause::WorkflowAlreadyExists,
+    });
+    accept_event(store, moment, transfer, n, event, None)
+}
+
+/// A child closed.
+#[tactic(auto, unfolding(service_model::specs::Deliveries::effect))]
+pub(crate) fn prepare_child_closed<T: KeepsRun>(
+    store: &mut Store<T>,
+    moment: Moment,
+    transfer: &Transfer,
+    child: &ChildClosed,
+) -> Result<Plan<T>, AllocError>
+    requires { MayAccept store.old transfer.now }
+    ensures same { state store.new ≡ state store.old }
+    ensures plan { IfOk result (λ plan. FitsStep store.new plan moment
+        (effect (runs_in store.old) transfer.now (content.ChildClosed child.now))) }
+{
+    let run = child.parent_run;
+    let Some(asked) = pending_request(store, run, Class::Child, child.initiated)? else {
+        return Ok(accept_only(store, moment, transfer));
+    };
+    let event = child_closed_event(child)?;
+    accept_event(store, moment, transfer, asked.ordinal, event, None)
+}
+
+/// An external request was done, or failed.
+#[tactic(auto, unfolding(service_model::specs::Deliveries::effect))]
+pub(crate) fn prepare_external_done<T: KeepsRun>(
+    store: &mut Store<T>,
+    moment: Moment,
+    transfer: &Transfer,
+    done: &ExternalDoneTransfer,
+) -> Result<Plan<T>, AllocError>
+    requires { MayAccept store.old transfer.now }
+    ensures same { state store.new ≡ state store.old }
+    ensures plan { IfOk result (λ plan. FitsStep store.new plan moment
+        (effect (runs_in store.old) transfer.now (content.ExternalDone done.now))) }
+{
+    let class = external_class(done.kind);
+    let Some(asked) = pending_request(store, done.to_run, class, done.initiated)? else {
+        return Ok(accept_only(store, moment, transfer));
+    };
+    let n = asked.ordinal;
+    let event = external_event(done, asked.workflow_id);
+    accept_event(store, moment, transfer, n, event, None)
+}
+
+/// The class of what an external request made pending.
+fn external_class(kind: ExternalKind) -> Class
+    ensures { class_in result ≡ external_class kind }
+{
+    match kind {
+        ExternalKind::Signal => Class::Signal,
+        ExternalKind::Cancel => Class::Cancel,
+    }
+}

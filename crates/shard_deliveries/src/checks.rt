@@ -1,0 +1,50 @@
+//! Whether a transfer may be delivered to a shard at all.
+
+ghost use Rattle.std.specs.Prelude.{◌≡◌, ◌<◌, ◌==◌, ◌&&◌};
+ghost use Rattle.service_model.specs.Deliveries.{comes_from, is_for_shard};
+ghost use Rattle.service_model.specs.Outcome.{shard_of};
+
+use service_model::content::Setup;
+use service_model::transfer::{Transfer, TransferContent};
+use wf_event_values::{Id, RunId};
+
+/// Whether the run that asks is one of this service and of the shard that sent it.
+pub(crate) fn comes_from(setup: &Setup, transfer: &Transfer) -> bool
+    ensures { result ≡ comes_from setup.now transfer.now transfer.now.content }
+{
+    match &transfer.content {
+        TransferContent::StartChild(child) => is_run_of(setup, transfer.from, child.parent_run),
+        TransferContent::SignalExternal(ask) => is_run_of(setup, transfer.from, ask.from_run),
+        TransferContent::CancelExternal(ask) => is_run_of(setup, transfer.from, ask.from_run),
+        _ => true,
+    }
+}
+
+/// Whether a run is one of this service on that shard.
+fn is_run_of(setup: &Setup, shard: u16, run: RunId) -> bool
+    ensures { result ≡ (run.service == setup.now.service) && (run.shard == shard) }
+{
+    run.service() == setup.service && run.shard() == shard
+}
+
+/// Whether a transfer is for this shard, by its workflow ID or by the run that it answers.
+pub(crate) fn is_for_shard(setup: &Setup, content: &TransferContent) -> bool
+    requires { 0 < setup.now.shards }
+    ensures { result ≡ is_for_shard setup.now content.now }
+{
+    match content {
+        TransferContent::StartChild(child) => is_home_of(setup, &child.workflow_id),
+        TransferContent::CloseChild(child) => is_home_of(setup, &child.workflow_id),
+        TransferContent::SignalExternal(ask) => is_home_of(setup, &ask.workflow_id),
+        TransferContent::CancelExternal(ask) => is_home_of(setup, &ask.workflow_id),
+        _ => true,
+    }
+}
+
+/// Whether a workflow ID belongs to this shard.
+fn is_home_of(setup: &Setup, id: &Id) -> bool
+    requires { 0 < setup.now.shards }
+    ensures { result ≡ (shard_of setup.now id.now == setup.now.shard) }
+{
+    setup.shard_of(id) == setup.shard
+}

@@ -1,0 +1,111 @@
+//! What a parent that closed does to its children, by their parent close policy (Temporal, Parent close
+//! policy).
+
+ghost use Rattle.std.specs.Prelude.{◌≡◌, ◌≤◌, IfOk, length, true};
+ghost use Rattle.service_model.specs.Deliveries.{asked_before, close_by, effect, is_child_of};
+ghost use Rattle.service_model.specs.Outcome.{run_at};
+ghost use Rattle.service_model.specs.RunState.{is_open, parent_of};
+ghost use Rattle.service_model.specs.declared.transfer.TransferContent.TheVariants as content;
+ghost use Rattle.shard_store.specs.Fitting.{FitsStep};
+ghost use Rattle.shard_store.specs.View.{state, runs_in};
+ghost use Rattle.shard_deliveries.specs.Accepting.{MayAccept};
+
+use crate::accepts::{accept_event, accept_facts, accept_only};
+use crate::events::parent_reason;
+use mutable_state_keeper::{KeepsRun, Run};
+use service_model::transfer::{CloseChild, Transfer};
+use shard_steps::terminated_facts;
+use shard_store::{Plan, Store};
+use std::alloc::AllocError;
+use wf_event::Attributes;
+use wf_event_values::{CancelSource, Moment, ParentClosePolicy, RunId};
+
+/// The parent closed: its child is closed by the policy, where it is still that parent's.
+#[tactic(auto, unfolding(service_model::specs::Deliveries::effect))]
+pub(crate) fn prepare_close_child<T: KeepsRun>(
+    store: &mut Store<T>,
+    moment: Moment,
+    transfer: &Transfer,
+    child: &CloseChild,
+) -> Result<Plan<T>, AllocError>
+    requires { MayAccept store.old transfer.now }
+    ensures same { state store.new ≡ state store.old }
+    ensures plan { IfOk result (λ plan. FitsStep store.new plan moment
+        (effect (runs_in store.old) transfer.now (content.CloseChild child.now))) }
+{
+    let Some(n) = store.named_open(&child.workflow_id, None) else {
+        return Ok(accept_only(store, moment, transfer));
+    };
+    if !is_child_of(store.run(n), child.parent_run, child.initiated) {
+        return Ok(accept_only(store, moment, transfer));
+    }
+    match child.policy {
+        ParentClosePolicy::Terminate => prepare_end(store, moment, transfer, n),
+        ParentClosePolicy::RequestCancel => prepare_cancel(store, moment, transfer, n),
+        ParentClosePolicy::Abandon => Ok(accept_only(store, moment, transfer)),
+    }
+}
+
+/// Whether the event of that id in a run asked for this run as its child.
+fn is_child_of<T: KeepsRun>(run: &Run<T>, parent: RunId, initiated: u64) -> bool
+    ensures { result ≡ is_child_of parent initiated (parent_of run.now.state) }
+{
+    match &run.started().parent {
+        Some(own) => {
+            own.run.service() == parent.service()
+                && own.run.shard() == parent.shard()
+                && own.run.ordinal() == parent.ordinal()
+                && own.event == initiated
+        }
+        None => false,
+    }
+}
+
+/// The child is terminated.
+fn prepare_end<T: KeepsRun>(
+    store: &mut Store<T>,
+    moment: Moment,
+    transfer: &Transfer,
+    n: usize,
+) -> Result<Plan<T>, AllocError>
+    requires accepts { MayAccept store.old transfer.now }
+    requires from { 1 ≤ n }
+    requires to { n ≤ length store.old.runs }
+    requires open { is_open (run_at (runs_in store.old) n) ≡ true }
+    ensures same { state store.new ≡ state store.old }
+    ensures plan { IfOk result (λ plan. FitsStep store.new plan moment
+        (close_by (runs_in store.old) transfer.now n ParentClosePolicy.Terminate)) }
+{
+    let reason = parent_reason(store.alloc())?;
+    let facts = terminated_facts(store.alloc(), reason)?;
+    accept_facts(store, moment, transfer, n, facts, None)
+}
+
+/// The child is asked to cancel, unless it was before.
+fn prepare_cancel<T: KeepsRun>(
+    store: &mut Store<T>,
+    moment: Moment,
+    transfer: &Transfer,
+    n: usize,
+) -> Result<Plan<T>, AllocError>
+    requires accepts { MayAccept store.old transfer.now }
+    requires from { 1 ≤ n }
+    requires to { n ≤ length store.old.runs }
+    requires open { is_open (run_at (runs_in store.old) n) ≡ true }
+    ensures same { state store.new ≡ state store.old }
+    ensures plan { IfOk result (λ plan. FitsStep store.new plan moment
+        (close_by (runs_in store.old) transfer.now n ParentClosePolicy.RequestCancel)) }
+{
+    if is_asked(store.run(n))? {
+        return Ok(accept_only(store, moment, transfer));
+    }
+    let event = Attributes::WorkflowExecutionCancelRequested(CancelSource::Parent);
+    accept_event(store, moment, transfer, n, event, None)
+}
+
+/// Whether a run was asked to cancel.
+pub(crate) fn is_asked<T: KeepsRun>(run: &Run<T>) -> Result<bool, AllocError>
+    ensures { IfOk result (λ asked. asked ≡ asked_before run.now.state) }
+{
+    Ok(run.cancel_request()?.is_some())
+}

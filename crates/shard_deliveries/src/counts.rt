@@ -1,0 +1,73 @@
+//! Reading and counting the transfers that a shard issued.
+
+ghost use Rattle.std.specs.Prelude.{◌≡◌, ◌<◌, IfOk};
+ghost use Rattle.service_model.specs.Counts.{acknowledge, next_transfer};
+ghost use Rattle.shard_store.specs.Fitting.{FitsStep};
+ghost use Rattle.shard_store.specs.View.{state};
+
+use mutable_state_keeper::KeepsRun;
+use service_model::answer::{Acknowledged, Answer};
+use service_model::request::Acknowledge;
+use service_model::transfer::Transfer;
+use shard_store::{Change, Count, Plan, Store, answered, refused};
+use std::alloc::AllocError;
+use transfer::copied;
+use wf_event_values::{Field, Moment, Refusal};
+
+/// The first transfer to a shard that is not acknowledged. A shard that is not there is an invalid
+/// argument `to`.
+#[tactic(auto, unfolding(service_model::specs::Counts::next_transfer))]
+pub fn prepare_next_transfer<T: KeepsRun>(
+    store: &mut Store<T>,
+    moment: Moment,
+    to: u16,
+) -> Result<Plan<T>, AllocError>
+    ensures same { state store.new ≡ state store.old }
+    ensures plan { IfOk result (λ plan. FitsStep store.new plan moment
+        (next_transfer store.old.setup store.old.outgoing to)) }
+{
+    if to >= store.setup().shards {
+        return Ok(refused(moment, Refusal::InvalidArgument(Field::To)));
+    }
+    store.note_change()?;
+    let Some((number, content)) = store.next_transfer(to) else {
+        return Ok(answered(moment, Answer::NoTransfer));
+    };
+    let content = copied(content)?;
+    let from = store.setup().shard;
+    let next = Transfer::restored(from, number, content);
+    Ok(answered(moment, Answer::Transfer(next)))
+}
+
+/// A transfer to a shard was delivered: it is counted, where it is the first that was not. A shard that
+/// is not there is an invalid argument `to`.
+#[tactic(auto, unfolding(service_model::specs::Counts::acknowledge))]
+pub fn prepare_acknowledge<T: KeepsRun>(
+    store: &mut Store<T>,
+    moment: Moment,
+    request: &Acknowledge,
+) -> Result<Plan<T>, AllocError>
+    ensures same { state store.new ≡ state store.old }
+    ensures plan { IfOk result (λ plan. FitsStep store.new plan moment
+        (acknowledge store.old.setup store.old.outgoing request.now)) }
+{
+    if request.to >= store.setup().shards {
+        return Ok(refused(moment, Refusal::InvalidArgument(Field::To)));
+    }
+    store.note_change()?;
+    let judgement = store.judge_acknowledgement(request.to, request.number);
+    let count = match judgement {
+        Acknowledged::Acknowledged => Count::Acknowledges(request.to),
+        _ => Count::Nothing,
+    };
+    Ok(Plan {
+        moment,
+        change: Change {
+            added: None,
+            created: None,
+            answer: None,
+            count,
+        },
+        reply: Ok(Answer::Counted(judgement)),
+    })
+}

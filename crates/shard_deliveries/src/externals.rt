@@ -1,0 +1,141 @@
+//! Signals and requests to cancel from other workflows.
+
+ghost use Rattle.std.specs.Prelude.{◌≡◌, ◌≤◌, IfOk, Some, length, true, option_to_list};
+ghost use Rattle.service_model.specs.Deliveries.{cancel_external, effect, external_done, signal_external};
+ghost use Rattle.service_model.specs.Outcome.{run_at};
+ghost use Rattle.service_model.specs.RunState.{is_open};
+ghost use Rattle.service_model.specs.declared.transfer.TransferContent.TheVariants as content;
+ghost use Rattle.shard_store.specs.Fitting.{FitsStep};
+ghost use Rattle.shard_store.specs.View.{state, runs_in};
+ghost use Rattle.shard_deliveries.specs.Accepting.{MayAccept};
+
+use crate::accepts::{accept_event, accept_with};
+use crate::children::is_asked;
+use mutable_state_keeper::KeepsRun;
+use service_model::transfer::{
+    CancelExternalTransfer, ExternalDoneTransfer, ExternalKind, Sent, SignalExternalTransfer,
+    Transfer, TransferContent,
+};
+use shard_store::{Plan, Store};
+use std::alloc::AllocError;
+use wf_event::Attributes;
+use wf_event::payloads::WorkflowExecutionSignaled;
+use wf_event_values::{CancelSource, Moment, RunId};
+
+/// A signal from another workflow.
+#[tactic(auto, unfolding(service_model::specs::Deliveries::effect))]
+pub(crate) fn prepare_signal_external<T: KeepsRun>(
+    store: &mut Store<T>,
+    moment: Moment,
+    transfer: &Transfer,
+    ask: &SignalExternalTransfer,
+) -> Result<Plan<T>, AllocError>
+    requires { MayAccept store.old transfer.now }
+    ensures same { state store.new ≡ state store.old }
+    ensures plan { IfOk result (λ plan. FitsStep store.new plan moment
+        (effect (runs_in store.old) transfer.now (content.SignalExternal ask.now))) }
+{
+    match store.named_open(&ask.workflow_id, ask.run) {
+        Some(n) => prepare_signal_of(store, moment, transfer, n, ask),
+        None => {
+            let answer = external_done(ask.from_run, ask.initiated, ExternalKind::Signal, false);
+            Ok(accept_with(store, moment, transfer, Some(answer)))
+        }
+    }
+}
+
+/// A signal from another workflow to the open run with that ordinal.
+fn prepare_signal_of<T: KeepsRun>(
+    store: &mut Store<T>,
+    moment: Moment,
+    transfer: &Transfer,
+    n: usize,
+    ask: &SignalExternalTransfer,
+) -> Result<Plan<T>, AllocError>
+    requires accepts { MayAccept store.old transfer.now }
+    requires from { 1 ≤ n }
+    requires to { n ≤ length store.old.runs }
+    requires open { is_open (run_at (runs_in store.old) n) ≡ true }
+    ensures same { state store.new ≡ state store.old }
+    ensures plan { IfOk result (λ plan. FitsStep store.new plan moment
+        (signal_external (runs_in store.old) transfer.now ask.now (Some n))) }
+{
+    let answer = external_done(ask.from_run, ask.initiated, ExternalKind::Signal, true);
+    let event = Attributes::WorkflowExecutionSignaled(WorkflowExecutionSignaled {
+        name: ask.name.clone()?,
+        input: ask.input.clone()?,
+    });
+    accept_event(store, moment, transfer, n, event, Some(answer))
+}
+
+/// A request to cancel from another workflow.
+#[tactic(auto, unfolding(service_model::specs::Deliveries::effect))]
+pub(crate) fn prepare_cancel_external<T: KeepsRun>(
+    store: &mut Store<T>,
+    moment: Moment,
+    transfer: &Transfer,
+    request: &CancelExternalTransfer,
+) -> Result<Plan<T>, AllocError>
+    requires { MayAccept store.old transfer.now }
+    ensures same { state store.new ≡ state store.old }
+    ensures plan { IfOk result (λ plan. FitsStep store.new plan moment
+        (effect (runs_in store.old) transfer.now (content.CancelExternal request.now))) }
+{
+    match store.named_open(&request.workflow_id, request.run) {
+        Some(n) => prepare_cancel_of(store, moment, transfer, n, request),
+        None => {
+            let answer = external_done(
+                request.from_run,
+                request.initiated,
+                ExternalKind::Cancel,
+                false,
+            );
+            Ok(accept_with(store, moment, transfer, Some(answer)))
+        }
+    }
+}
+
+/// A request to cancel of the open run with that ordinal. Where it was asked before, that counts as
+/// done.
+fn prepare_cancel_of<T: KeepsRun>(
+    store: &mut Store<T>,
+    moment: Moment,
+    transfer: &Transfer,
+    n: usize,
+    request: &CancelExternalTransfer,
+) -> Result<Plan<T>, AllocError>
+    requires accepts { MayAccept store.old transfer.now }
+    requires from { 1 ≤ n }
+    requires to { n ≤ length store.old.runs }
+    requires open { is_open (run_at (runs_in store.old) n) ≡ true }
+    ensures same { state store.new ≡ state store.old }
+    ensures plan { IfOk result (λ plan. FitsStep store.new plan moment
+        (cancel_external (runs_in store.old) transfer.now request.now (Some n))) }
+{
+    let answer = external_done(
+        request.from_run,
+        request.initiated,
+        ExternalKind::Cancel,
+        true,
+    );
+    if is_asked(store.run(n))? {
+        return Ok(accept_with(store, moment, transfer, Some(answer)));
+    }
+    let event = Attributes::WorkflowExecutionCancelRequested(CancelSource::External);
+    accept_event(store, moment, transfer, n, event, Some(answer))
+}
+
+/// The answer to an external request.
+fn external_done(run: RunId, initiated: u64, kind: ExternalKind, done: bool) -> Sent
+    ensures { option_to_list (Some result) ≡ external_done run initiated kind done }
+{
+    Sent {
+        to: run.shard(),
+        content: TransferContent::ExternalDone(ExternalDoneTransfer {
+            to_run: run,
+            initiated,
+            kind,
+            done,
+        }),
+    }
+}

@@ -1,0 +1,41 @@
+use Rattle.std.proofs.Common.{◌<◌, ◌∙◌, ap, sym, subst, length, List}
+use Rattle.service_model.specs.Counts.{outgoing_to}
+use Rattle.service_model.specs.declared.content.Outgoing.{Outgoing}
+use Rattle.shard_steps.specs.Issuing.{all_waiting}
+use Rattle.shard_steps.specs.Sending.{TransfersView, KeepsTransfers}
+use Rattle.shard_steps.proofs.SendingLemmas.{acknowledged-sends, length-acknowledged}
+use Rattle.shard_store.specs.Fitting.{MayCount, after_count}
+use Rattle.shard_store.specs.View.{ShardView, state, states}
+use Rattle.shard_store.specs.declared.plan.Count.TheVariants.{Acknowledges}
+use Rattle.shard_store.proofs.OutgoingLemmas.{all-issued, both-moved}
+use Rattle.shard_store.proofs.store.Store.move_on.Goals as goal
+
+pub acknowledge-requires-clause-issued : goal.acknowledge-requires-clause-issued
+acknowledge-requires-clause-issued g c =
+    let t = c.self.inside in
+    let to = c.in-Acknowledges.to in
+    let may = subst (MayCount c.args.self.now) c.in-Acknowledges.is c.requires in
+    let all = all-issued t.setup t.transfers (states t.runs.items) (ap (λ v. v.changed) c.self.view_is) (ap (λ v. v.outgoing) c.self.view_is) may.noted in
+    subst (λ (l : List Outgoing). (outgoing_to l to).acknowledged < length (outgoing_to l to).issued) (sym all) may.issued
+
+pub invariant_of-self-in-Acknowledges : goal.invariant_of-self-in-Acknowledges
+invariant_of-self-in-Acknowledges g c =
+    let t = c.self.inside in
+    let h = c.self.invariant in (
+      h.0,
+      h.1,
+      h.2,
+      h.3,
+      h.4,
+      subst (KeepsTransfers t.setup.shards (length t.runs.items)) (sym c.acknowledge.ensures)
+          (record { sent = length-acknowledged t.transfers.sent c.in-Acknowledges.to ∙ h.5.sent; accepted = h.5.accepted; unsent = h.5.unsent }),
+    )
+
+pub returns-in-Acknowledges-clause-state : goal.returns-in-Acknowledges-clause-state
+returns-in-Acknowledges-clause-state g c =
+    let t = c.self.inside in
+    let runs = states t.runs.items in
+    let to = c.in-Acknowledges.to in
+    both-moved t.setup runs t.last (all_waiting t.setup t.dispatches t.changed runs) (acknowledged-sends t.setup t.transfers c.acknowledge.new.self runs to c.acknowledge.ensures) (ap (λ (x : TransfersView). x.accepted) c.acknowledge.ensures)
+    ∙ ap (λ (v : ShardView). after_count (Acknowledges to) (state v)) c.self.view_is
+    ∙ ap (λ k. after_count k (state c.args.self.now)) (sym c.in-Acknowledges.is)

@@ -1,0 +1,80 @@
+//! The transfers that a shard issued to others, and those that it accepted from them.
+
+ghost use Rattle.std.specs.Prelude.{◌≡◌, ◌+◌, ◌<◌, ◌^◌, None, IfSome, OnOk, length, option_map, slice_get};
+ghost use Rattle.service_model.specs.Counts.{acknowledgement_of, outgoing_to};
+ghost use Rattle.service_model.specs.Deliveries.{accepted_from, delivery_of};
+ghost use Rattle.service_model.specs.declared.transfer.Delivery.TheVariants.{Accepted as IsNext};
+ghost use Rattle.shard_steps.specs.Kept.{IsNoted};
+ghost use Rattle.shard_store.specs.View.{state};
+
+use crate::store::Store;
+use mutable_state_keeper::KeepsRun;
+use service_model::answer::Acknowledged;
+use service_model::transfer::{Delivery, Transfer, TransferContent};
+use std::alloc::AllocError;
+
+impl<T: KeepsRun> Store<T> {
+    /// Issues the transfers of the last step.
+    pub(crate) fn note_sent(&mut self) -> Result<(), AllocError>
+        requires grown { self.old.changed.grown ≡ None }
+        requires made { self.old.changed.made ≡ None }
+        ensures same { state self.new ≡ state self.old }
+        ensures runs { self.new.runs ≡ self.old.runs }
+        ensures noted { OnOk result (IsNoted self.new.changed) }
+    {
+        self.note_unsent()?;
+        self.transfers.send_answer()?;
+        Ok(())
+    }
+
+    /// Issues those of the run to which it added.
+    fn note_unsent(&mut self) -> Result<(), AllocError>
+        ensures same { state self.new ≡ state self.old }
+        ensures runs { self.new.runs ≡ self.old.runs }
+        ensures grown { self.new.changed.grown ≡ self.old.changed.grown }
+        ensures made { self.new.changed.made ≡ self.old.changed.made }
+        ensures noted { OnOk result (self.new.changed.unsent ≡ None) }
+    {
+        let Some(unsent) = self.transfers.unsent() else {
+            return Ok(());
+        };
+        let id = self.run_id(unsent.index + 1);
+        let run = &self.runs[unsent.index];
+        let sent = run.transfers(self.alloc, &self.setup, id, unsent.shown)?;
+        self.transfers.send(sent)?;
+        Ok(())
+    }
+
+    /// The first transfer to a shard that is not acknowledged, with its number.
+    pub fn next_transfer(&self, to: u16) -> Option<(u64, &TransferContent)>
+        requires noted { IsNoted self.now.changed }
+        requires there { to < self.now.setup.shards }
+        ensures content { let o = outgoing_to self.now.outgoing to in
+            option_map (λ f. f.1.now) result ≡ slice_get o.issued o.acknowledged }
+        ensures number { IfSome result (λ f.
+            f.0 ≡ (outgoing_to self.now.outgoing to).acknowledged + 1) }
+    {
+        self.transfers.first_to(to)
+    }
+
+    /// What an acknowledgement of this number by a shard would be.
+    pub fn judge_acknowledgement(&self, to: u16, number: u64) -> Acknowledged
+        requires noted { IsNoted self.now.changed }
+        requires there { to < self.now.setup.shards }
+        ensures { let o = outgoing_to self.now.outgoing to in
+            result ≡ acknowledgement_of (length o.issued) o.acknowledged number }
+    {
+        self.transfers.judge_acknowledgement(to, number)
+    }
+
+    /// What the shard would say of a transfer.
+    pub fn judge_delivery(&self, transfer: &Transfer) -> Delivery
+        requires { transfer.now.from < self.now.setup.shards }
+        ensures value { result
+            ≡ delivery_of (accepted_from self.now.accepted transfer.now.from) transfer.now.number }
+        ensures countable { result ≡ IsNext
+            → accepted_from self.now.accepted transfer.now.from + 1 < 2 ^ 64 }
+    {
+        self.transfers.judge_delivery(transfer)
+    }
+}
