@@ -1,7 +1,7 @@
 //! Cases as they are written.
 
 use crate::transcript::push_line;
-use service_model::request::Hint;
+use service_model_types::request::Hint;
 use std::alloc::{AllocError, Global};
 use wf_event_values::{Field, Moment, TaskKind};
 

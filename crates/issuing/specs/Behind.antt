@@ -3,8 +3,8 @@ use Rattle.std.specs.Prelude.{ℕ, Bool, cond, List, [], ◌++◌, drop, filter_
 use Rattle.wf_event.specs.declared.event.Event.{Event}
 use Rattle.wf_event.specs.declared.payloads.Parent.{Parent}
 use Rattle.wf_event_values.specs.Run.{Run}
-use Rattle.service_model.specs.declared.content.Setup.{Setup}
-use Rattle.service_model.specs.declared.transfer.Sent.{Sent}
+use Rattle.service_model_types.specs.declared.content.Setup.{Setup}
+use Rattle.service_model_types.specs.declared.transfer.Sent.{Sent}
 use Rattle.service_model.specs.Issued.{requests_of, close_transfer, children_left, closed_transfer}
 
 -- those of its closing, where these are all its events, and those the later ones

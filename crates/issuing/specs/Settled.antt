@@ -4,8 +4,8 @@ use Rattle.std.specs.List.{list_any}
 use Rattle.wf_event.specs.declared.event.Event.{Event}
 use Rattle.wf_event.specs.Role.{Class, AChild, Settled}
 use Rattle.wf_event_values.specs.Run.{Run}
-use Rattle.service_model.specs.declared.content.Setup.{Setup}
-use Rattle.service_model.specs.declared.transfer.Sent.{Sent}
+use Rattle.service_model_types.specs.declared.content.Setup.{Setup}
+use Rattle.service_model_types.specs.declared.transfer.Sent.{Sent}
 use Rattle.service_model.specs.Issued.{is_left, close_transfer}
 use Rattle.service_model.specs.Pending.{is_settled}
 

@@ -8,8 +8,8 @@ ghost use Rattle.service_model.specs.Issued.{is_abandon, close_by, close_transfe
 
 use crate::left::{is_left, settled_children};
 use indexmap::IndexSet;
-use service_model::content::Setup;
-use service_model::transfer::{ChildClosed, ChildStatus, CloseChild, Sent, TransferContent};
+use service_model_types::content::Setup;
+use service_model_types::transfer::{ChildClosed, ChildStatus, CloseChild, Sent, TransferContent};
 use std::alloc::{AllocError, Global};
 use wf_event::payloads::{Parent, StartChildWorkflowExecutionInitiated};
 use wf_event::{Attributes, Event};

@@ -4,8 +4,8 @@ ghost use Rattle.std.specs.Prelude.{◌≡◌, ◌<◌, IfOk, Some};
 ghost use Rattle.wf_event.specs.declared.attributes.Attributes.TheVariants.{StartChildWorkflowExecutionInitiated as a_child, SignalExternalWorkflowExecutionInitiated as a_signal, RequestCancelExternalWorkflowExecutionInitiated as a_cancel};
 ghost use Rattle.service_model.specs.Issued.{request_by, request_transfer, requests_of};
 
-use service_model::content::Setup;
-use service_model::transfer::{
+use service_model_types::content::Setup;
+use service_model_types::transfer::{
     CancelExternalTransfer, Sent, SignalExternalTransfer, StartChildTransfer, TransferContent,
 };
 use std::alloc::{AllocError, Global};

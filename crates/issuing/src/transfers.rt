@@ -5,8 +5,8 @@ ghost use Rattle.issuing.specs.Behind.{closings_behind, transfers_behind};
 
 use crate::closings::{closed_transfers, left_transfers};
 use crate::requests::requests_of;
-use service_model::content::Setup;
-use service_model::transfer::Sent;
+use service_model_types::content::Setup;
+use service_model_types::transfer::Sent;
 use std::alloc::{AllocError, Global};
 use wf_event::Event;
 use wf_event::payloads::Parent;

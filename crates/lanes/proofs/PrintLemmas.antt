@@ -5,7 +5,7 @@ use Rattle.std.specs.List.{list_any}
 use Rattle.std.specs.Io.KnownBytes.{Keeps}
 use Rattle.wire_counted.specs.Written.{AppendsBeginning}
 use Rattle.wire_counted.proofs.Known.{Appends-keeps, Appends-none, Appends-then, beginning_behind, beginning_of_all, beginning_of_nothing}
-use Rattle.service_model.specs.Outcome.{Reply}
+use Rattle.service_model_types.specs.Replies.{Reply}
 use Rattle.script.specs.Serving.{is_refusal, text_of}
 use Rattle.script.specs.Output.{numbered_from}
 use Rattle.lanes.specs.declared.lane.Lane.{Lane}

@@ -3,7 +3,7 @@ use Rattle.std.specs.Prelude.{◌≡◌, ℕ, List, take, Bool, Option}
 use Rattle.std.specs.List.{list_any}
 use Rattle.std.specs.Io.KnownBytes.{Appends}
 use Rattle.wire_counted.specs.Written.{AppendsBeginning}
-use Rattle.service_model.specs.Outcome.{Reply}
+use Rattle.service_model_types.specs.Replies.{Reply}
 use Rattle.script.specs.Serving.{is_refusal, text_of}
 use Rattle.script.specs.Output.{numbered_from}
 use Rattle.lanes.specs.declared.lane.Lane.{Lane}

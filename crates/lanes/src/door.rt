@@ -6,16 +6,16 @@ ghost use Rattle.service.specs.Calls.{CallServed};
 ghost use Rattle.lanes.specs.Meetings.{PassesMet};
 
 use service::{Pass, Service};
-use service_model::answer::Reply;
-use service_model::call::Call;
+use service_model_types::answer::Reply;
+use service_model_types::call::Call;
 use std::alloc::AllocError;
 use std::sync::Wait;
 
 /// What serves the calls of passes that are its own.
 pub trait Door {
     ghost use Rattle.service.specs.declared.service.Pass.{Pass};
-    ghost use Rattle.service_model.specs.declared.call.Call.{Call};
-    ghost use Rattle.service_model.specs.Outcome.{Reply};
+    ghost use Rattle.service_model_types.specs.declared.call.Call.{Call};
+    ghost use Rattle.service_model_types.specs.Replies.{Reply};
 
     // The pass is one of this door's.
     ghost admits: { Self → Pass → Type 0 };

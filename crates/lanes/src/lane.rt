@@ -5,8 +5,8 @@ ghost use Rattle.lanes.specs.Lanes.{AnsweredOne, Worked};
 
 use crate::door::Door;
 use service::Pass;
-use service_model::answer::Reply;
-use service_model::call::Call;
+use service_model_types::answer::Reply;
+use service_model_types::call::Call;
 use std::alloc::{AllocError, Global};
 use std::collections::VecDeque;
 use std::mem;

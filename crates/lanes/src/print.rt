@@ -8,7 +8,7 @@ ghost use Rattle.lanes.specs.Printed.{Begun, Printed, PrintedOne};
 
 use crate::lane::Lane;
 use script::ScriptFault;
-use service_model::answer::Reply;
+use service_model_types::answer::Reply;
 use std::alloc::Global;
 use std::io::Write;
 use wf_event_values::{Field, Refusal};

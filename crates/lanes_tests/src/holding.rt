@@ -2,10 +2,10 @@
 
 use lanes::{Door, run_lanes};
 use service::{Pass, Service};
-use service_model::answer::{Answer, Reply};
-use service_model::call::Call;
-use service_model::limits::DEFAULT_CAPACITY;
-use service_model::settings::{Settings, main_queue};
+use service_model_types::answer::{Answer, Reply};
+use service_model_types::call::Call;
+use service_model_types::limits::DEFAULT_CAPACITY;
+use service_model_types::settings::{Settings, main_queue};
 use std::alloc::{AllocError, AllocGlobal};
 use std::process::Abort;
 use std::sync::Wait;

@@ -2,8 +2,8 @@
 
 ghost use Rattle.std.specs.Prelude.{◌<◌, length};
 
-use service_model::answer::Acknowledged;
-use service_model::transfer::{ChildStartFailed, Delivery, Transfer, TransferContent};
+use service_model_types::answer::Acknowledged;
+use service_model_types::transfer::{ChildStartFailed, Delivery, Transfer, TransferContent};
 use std::test::Fail;
 use transfer::{Inbox, Outbox};
 use wf_event_values::RunId;

@@ -1,6 +1,6 @@
 -- What each step on a queue tells the pass that makes it.
 use Rattle.std.specs.Prelude.{◌≡◌, ℕ, ◌+◌, ◌<◌, List, [], ◌∷◌, ◌++◌, length}
-use Rattle.service_model.specs.declared.request.Hint.{Hint}
+use Rattle.service_model_types.specs.declared.request.Hint.{Hint}
 use Rattle.matching.specs.declared.view.View.{View}
 use Rattle.matching.specs.declared.view.Holder.TheVariants.{Nobody, Pass, Maker}
 use Rattle.matching.specs.Entries.{Entry}

@@ -8,7 +8,7 @@ ghost use Rattle.crossbeam_queue.specs.Passes.{view as seen_by, IsPassOf as IsSe
 ghost use Rattle.crossbeam_queue.specs.Fifo.{Held};
 
 use crate::rule::{Deals, Line, Plans, Popped, Pushed, Seat, Sizes};
-use service_model::request::Hint;
+use service_model_types::request::Hint;
 use std::alloc::{AllocError, Global};
 use std::marker::Brand;
 use std::sync::Wait;

@@ -4,7 +4,7 @@ ghost use Rattle.std.specs.Prelude.{◌≡◌, ℕ, ◌+◌, ◌*◌, ◌^◌, �
 ghost use Rattle.matching.specs.Named.{place_in, slot_of, at, StoodAt, PutAt, TakenAt, Pushes, Pops};
 
 use crate::queue::{HintPass, HintQueue};
-use service_model::request::Hint;
+use service_model_types::request::Hint;
 use std::alloc::{AllocError, Global};
 use std::sync::Wait;
 use wf_event_values::{Id, Refusal, TaskKind};

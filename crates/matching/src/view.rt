@@ -1,5 +1,5 @@
 //! What the holder of a pass at a queue knows. No value of these types is made.
-use service_model::request::Hint;
+use service_model_types::request::Hint;
 use std::collections::LinkedList;
 
 /// Whose a view is.

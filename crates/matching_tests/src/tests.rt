@@ -5,7 +5,7 @@ ghost use Rattle.std.specs.Thread.{IsSync};
 ghost use Rattle.matching.specs.Named.{IsPassOf, shards_of};
 
 use matching::{Queues, QueuesPass};
-use service_model::request::Hint;
+use service_model_types::request::Hint;
 use std::alloc::AllocGlobal;
 use std::process::Abort;
 use std::sync::Wait;

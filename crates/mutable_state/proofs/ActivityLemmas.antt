@@ -6,7 +6,7 @@ use Rattle.wf_event.specs.declared.event.Event.{Event}
 use Rattle.wf_event.specs.declared.attributes.Attributes.{Attributes}
 use Rattle.wf_event.specs.Role.{Role, Closes, role, is_closing_role, is_outside_role, AnActivity, opens, settles, closing_status}
 use Rattle.wf_event_values.specs.declared.policies.Status.{Status}
-use Rattle.service_model.specs.declared.journal.CancelRequest.{CancelRequest}
+use Rattle.service_model_types.specs.declared.journal.CancelRequest.{CancelRequest}
 use Rattle.service_model.specs.Pending.{Task, class_number, is_settled}
 use Rattle.service_model.specs.RunState.{ActivityRow, is_open_status}
 use Rattle.service_model.specs.Tasks.{pending_row, is_started_task}

@@ -10,7 +10,7 @@ use Rattle.wf_event.specs.declared.attributes.Attributes.TheVariants.{WorkflowEx
 use Rattle.wf_event.specs.declared.payloads.WorkflowExecutionStarted.{WorkflowExecutionStarted as StartedAttributes}
 use Rattle.wf_event_values.specs.declared.policies.DeadlineClass.TheVariants.{RunTimeout, WorkflowTask as TaskTimeout}
 use Rattle.wf_event.specs.Role.{AnActivity, ATimer}
-use Rattle.service_model.specs.declared.journal.CancelRequest.{CancelRequest}
+use Rattle.service_model_types.specs.declared.journal.CancelRequest.{CancelRequest}
 use Rattle.service_model.specs.Deadlines.{Due, dues, due_after, run_timeout_dues, workflow_task_dues, task_timeout, activity_dues, timer_dues, pending_rows}
 use Rattle.service_model.specs.RunState.{RunState, ActivityRow, Beginning, LastTask, beginning_by, is_open, last_task, pending}
 use Rattle.wf_event_values.specs.declared.policies.Status.{Status}

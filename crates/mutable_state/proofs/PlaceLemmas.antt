@@ -5,7 +5,7 @@ use Rattle.std.specs.List.{position, position_or_len}
 use Rattle.std.proofs.Math.ListN.{get_or}
 use Rattle.std.proofs.lemmas.Bool.Decides.{nat_tests}
 use Rattle.std.proofs.lemmas.List.Quantifiers.{position-Some}
-use Rattle.service_model.specs.declared.journal.NoteFact.{NoteFact}
+use Rattle.service_model_types.specs.declared.journal.NoteFact.{NoteFact}
 use Rattle.mutable_state.specs.declared.open.Open.{Open}
 use Rattle.mutable_state.specs.Noted.{noted}
 use Rattle.mutable_state.specs.Opens.{activity_of, is_one, noted_in}

@@ -8,8 +8,8 @@ use Rattle.std.proofs.lemmas.List.Elements.{filter_map-append}
 use Rattle.wf_event.specs.declared.event.Event.{Event}
 use Rattle.wf_event.specs.Role.{Class}
 use Rattle.wf_event_values.specs.declared.policies.Status.{Status}
-use Rattle.service_model.specs.declared.journal.CancelRequest.{CancelRequest}
-use Rattle.service_model.specs.declared.journal.NewEvent.{NewEvent}
+use Rattle.service_model_types.specs.declared.journal.CancelRequest.{CancelRequest}
+use Rattle.service_model_types.specs.declared.journal.NewEvent.{NewEvent}
 use Rattle.service_model.specs.Pending.{is_settled}
 use Rattle.buffered.specs.Buffers.{Buffer}
 use Rattle.mutable_state.specs.declared.open.Open.{Open}

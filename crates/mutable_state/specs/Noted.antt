@@ -1,8 +1,8 @@
 -- what is kept of the notes on an activity, and of its requests to cancel
 use Rattle.std.specs.Prelude.{ℕ, ◌+◌, Bool, false, ◌||◌, None, Some}
 use Rattle.wf_event.specs.declared.event.Event.{Event}
-use Rattle.service_model.specs.declared.journal.Note.{Note}
-use Rattle.service_model.specs.declared.journal.Note.TheVariants.{Taken, Ended, Ready, Beat}
+use Rattle.service_model_types.specs.declared.journal.Note.{Note}
+use Rattle.service_model_types.specs.declared.journal.Note.TheVariants.{Taken, Ended, Ready, Beat}
 use Rattle.service_model.specs.Pending.{Phase, IsQueued, IsRunning, IsWaiting}
 use Rattle.service_model.specs.RunState.{ActivityRow}
 use Rattle.mutable_state.specs.declared.notes.ActivityPhase.{ActivityPhase}

@@ -5,7 +5,7 @@ use Rattle.wf_event.specs.declared.event.Event.{Event}
 use Rattle.wf_event.specs.declared.attributes.Attributes.{Attributes}
 use Rattle.wf_event.specs.declared.attributes.Attributes.TheVariants.{ActivityTaskCancelRequested}
 use Rattle.wf_event.specs.Role.{Role, TimerCancels, role, is_closing_role, Class, AnActivity, ATimer, AChild, ASignal, ACancel, opens, Settled, settles}
-use Rattle.service_model.specs.declared.journal.NoteFact.{NoteFact}
+use Rattle.service_model_types.specs.declared.journal.NoteFact.{NoteFact}
 use Rattle.service_model.specs.Pending.{Task, class_number, is_settling, is_settled}
 use Rattle.service_model.specs.RunState.{ActivityRow, is_open_status}
 use Rattle.wf_event_values.specs.declared.policies.Status.{Status}

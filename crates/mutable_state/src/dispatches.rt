@@ -5,8 +5,8 @@ ghost use Rattle.service_model.specs.Issued.{task_dispatch, row_dispatch};
 ghost use Rattle.mutable_state.specs.Activities.{row_said};
 
 use crate::activity::Activity;
-use service_model::content::{Dispatch, Setup};
-use service_model::request::Hint;
+use service_model_types::content::{Dispatch, Setup};
+use service_model_types::request::Hint;
 use std::alloc::{AllocError, Global};
 use wf_event::{Attributes, Event};
 use wf_event_values::TaskKind;

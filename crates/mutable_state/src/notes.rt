@@ -5,7 +5,7 @@ ghost use Rattle.service_model.specs.Completion.{is_running_phase};
 ghost use Rattle.service_model.specs.Pending.{is_ended};
 ghost use Rattle.mutable_state.specs.Noted.{no_notes, noted, phase_said};
 
-use service_model::journal::Note;
+use service_model_types::journal::Note;
 use std::alloc::AllocError;
 use wf_event_values::{Moment, Text};
 

@@ -11,7 +11,7 @@ use Rattle.script.specs.Progress.{Progress, Stopped}
 use Rattle.script.specs.Endings.{Ran, Halted, IfSetting, IsDeviceFault, IsScriptFault, IsWriteFault}
 use Rattle.script.specs.declared.fault.ScriptFault.{ScriptFault}
 use Rattle.script.specs.declared.fault.ScriptFault.TheVariants.{Memory, Read, Write, Setting}
-use Rattle.service_model.specs.declared.settings.Settings.{Settings}
+use Rattle.service_model_types.specs.declared.settings.Settings.{Settings}
 use Rattle.script.proofs.LineLemmas.{ended-whole, ended-all}
 use Rattle.script.proofs.OutputLemmas.{lines_text-is, refused-is}
 use Rattle.script.proofs.Steps.{after_lines-append, lines_text-append}

@@ -5,10 +5,10 @@ use Rattle.std.proofs.lemmas.List.FromFn.{get_or-map-range_with_len}
 use Rattle.std.specs.Prelude.{map, ◌==◌, if◌then◌else◌, Err}
 use Rattle.std.specs.List.{range_with_len}
 use Rattle.wf_event_values.specs.declared.refusal.Refusal.{Refusal}
-use Rattle.service_model.specs.declared.content.Content.{Content}
-use Rattle.service_model.specs.declared.request.Request.{Request}
-use Rattle.service_model.specs.declared.settings.Settings.{Settings}
-use Rattle.service_model.specs.Outcome.{Reply}
+use Rattle.service_model_types.specs.declared.content.Content.{Content}
+use Rattle.service_model_types.specs.declared.request.Request.{Request}
+use Rattle.service_model_types.specs.declared.settings.Settings.{Settings}
+use Rattle.service_model_types.specs.Replies.{Reply}
 use Rattle.service_model.specs.Service.{answer, after, opening}
 use Rattle.gate.specs.declared.view.View.{View}
 use Rattle.gate.specs.Passes as gate

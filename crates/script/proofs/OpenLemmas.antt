@@ -4,9 +4,9 @@ use Rattle.std.specs.Prelude.{map, slice_get}
 use Rattle.std.specs.List.{range_with_len}
 use Rattle.std.proofs.lemmas.List.{length-map}
 use Rattle.std.proofs.lemmas.Option.{slice_get-get_or}
-use Rattle.service_model.specs.declared.content.Content.{Content}
-use Rattle.service_model.specs.declared.request.Hint.{Hint}
-use Rattle.service_model.specs.declared.settings.Settings.{Settings}
+use Rattle.service_model_types.specs.declared.content.Content.{Content}
+use Rattle.service_model_types.specs.declared.request.Hint.{Hint}
+use Rattle.service_model_types.specs.declared.settings.Settings.{Settings}
 use Rattle.service_model.specs.Service.{after, opening}
 use Rattle.service_model.proofs.ListLemmas.{get-map}
 use Rattle.gate.specs.Passes as gate

@@ -7,7 +7,7 @@ use Rattle.wf_event_values.specs.declared.field.Field.TheVariants as field
 use Rattle.wf_event_values.specs.declared.refusal.Refusal.{Refusal}
 use Rattle.wf_event_values.specs.declared.refusal.Refusal.TheVariants.{InvalidArgument}
 use Rattle.wf_event_values.specs.Names.{field_name}
-use Rattle.service_model.specs.declared.settings.Settings.{Settings}
+use Rattle.service_model_types.specs.declared.settings.Settings.{Settings}
 use Rattle.service.specs.Ranges.{are_queues, range_fault}
 use Rattle.script.specs.Serving.{IsOutOfRange}
 

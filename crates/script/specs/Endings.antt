@@ -11,7 +11,7 @@ use Rattle.script.specs.declared.fault.ScriptFault.TheVariants.{Memory, Read, Wr
 use Rattle.wf_event_values.specs.declared.refusal.Refusal.{Refusal}
 use Rattle.wf_event_values.specs.declared.refusal.Refusal.TheVariants.{InvalidArgument}
 use Rattle.wf_event_values.specs.Names.{field_name}
-use Rattle.service_model.specs.declared.settings.Settings.{Settings}
+use Rattle.service_model_types.specs.declared.settings.Settings.{Settings}
 
 -- the input was read to its end, just its output was written, and `refused` says whether a reply in it is a refusal
 pub record Ran (K : Settings) (unread held unread' held' : Option (List ℕ)) (refused : Bool) : Type 0 where

@@ -1,9 +1,9 @@
 -- a service with one pass: what the pass has seen is all that was done
 use Rattle.std.specs.Prelude.{◌≡◌, ℕ, ◌*◌, ◌<◌, List, [], length, map}
 use Rattle.std.specs.List.{range_with_len}
-use Rattle.service_model.specs.declared.content.Content.{Content}
-use Rattle.service_model.specs.declared.request.Request.{Request}
-use Rattle.service_model.specs.declared.settings.Settings.{Settings}
+use Rattle.service_model_types.specs.declared.content.Content.{Content}
+use Rattle.service_model_types.specs.declared.request.Request.{Request}
+use Rattle.service_model_types.specs.declared.settings.Settings.{Settings}
 use Rattle.service_model.specs.Service.{after, opening}
 use Rattle.gate.specs.declared.view.View.{View}
 use Rattle.gate.specs.Passes.{base, mine, number, passes, seen}

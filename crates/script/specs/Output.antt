@@ -1,11 +1,11 @@
 -- What a script prints: the replies of the sequential service to its lines, one after another.
 use Rattle.std.specs.Prelude.{ℕ, ◌+◌, List, [], ◌∷◌, ◌++◌, Bool, Option}
 use Rattle.std.specs.List.{list_any}
-use Rattle.service_model.specs.Outcome.{Reply}
+use Rattle.service_model_types.specs.Replies.{Reply}
 use Rattle.script.specs.Lines.{Line}
 use Rattle.script.specs.Serving.{is_refusal, reply_to, text_of, world_after}
 use Rattle.script.specs.World.{World, opening_world}
-use Rattle.service_model.specs.declared.settings.Settings.{Settings}
+use Rattle.service_model_types.specs.declared.settings.Settings.{Settings}
 
 -- the replies to lines that are served one after another, where they have one
 abbrev pub replies_from : Settings → World → List Line → List (Option Reply)

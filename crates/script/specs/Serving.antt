@@ -1,8 +1,8 @@
 -- A line as the sequential service serves it.
 use Rattle.std.specs.Prelude.{◌≡◌, ℕ, ◌^◌, ◌<◌, ◌≤◌, ◌⊎◌, List, [], Bool, true, false, codes, Option, None, Some, Result, Ok, Err}
 use Rattle.wf_event_values.specs.declared.refusal.Refusal.{Refusal}
-use Rattle.service_model.specs.declared.settings.Settings.{Settings}
-use Rattle.service_model.specs.Outcome.{Reply}
+use Rattle.service_model_types.specs.declared.settings.Settings.{Settings}
+use Rattle.service_model_types.specs.Replies.{Reply}
 use Rattle.wire_replies.specs.Replies.{reply_line}
 use Rattle.wire_requests.specs.declared.calls.Asked.{Asked}
 use Rattle.wire_requests.specs.declared.calls.Asked.TheVariants.{Barrier, Call as in_a_lane}

@@ -3,26 +3,24 @@ use Rattle.std.specs.Prelude.{ℕ, ◌*◌, Bool, true, false, List, [], ◌∷�
 use Rattle.wf_event_values.specs.declared.policies.TaskKind.{TaskKind}
 use Rattle.wf_event_values.specs.declared.refusal.Refusal.{Refusal}
 use Rattle.wf_event_values.specs.declared.refusal.Refusal.TheVariants.{QueueFull, UnknownTaskQueue}
-use Rattle.service_model.specs.declared.answer.Answer.TheVariants as answered
-use Rattle.service_model.specs.declared.answer.NumberedDispatch.{NumberedDispatch}
-use Rattle.service_model.specs.declared.call.Call.{Call}
-use Rattle.service_model.specs.declared.call.Call.TheVariants.{Step, Poll, DispatchTurn, TransferTurn}
-use Rattle.service_model.specs.declared.call.DispatchTurn.{DispatchTurn as ADispatchTurn}
-use Rattle.service_model.specs.declared.call.Poll.{Poll as APoll}
-use Rattle.service_model.specs.declared.call.StepCall.{StepCall}
-use Rattle.service_model.specs.declared.call.Stop.{Stop}
-use Rattle.service_model.specs.declared.call.Stop.TheVariants.{AtEnd, AfterFirstPart, AfterSecondPart}
-use Rattle.service_model.specs.declared.call.TransferTurn.{TransferTurn as ATransferTurn}
-use Rattle.service_model.specs.declared.content.Content.{Content}
-use Rattle.service_model.specs.declared.request.Hint.{Hint}
-use Rattle.service_model.specs.declared.request.Request.{Request}
-use Rattle.service_model.specs.declared.settings.Settings.{Settings}
-use Rattle.service_model.specs.declared.transfer.Transfer.{Transfer}
-use Rattle.service_model.specs.Calls.{request_of}
-use Rattle.service_model.specs.Counts.{dispatch_of}
-use Rattle.service_model.specs.Outcome.{Reply}
+use Rattle.service_model_types.specs.declared.answer.Answer.TheVariants as answered
+use Rattle.service_model_types.specs.declared.answer.NumberedDispatch.{NumberedDispatch}
+use Rattle.service_model_types.specs.declared.call.Call.{Call}
+use Rattle.service_model_types.specs.declared.call.Call.TheVariants.{Step, Poll, DispatchTurn, TransferTurn}
+use Rattle.service_model_types.specs.declared.call.DispatchTurn.{DispatchTurn as ADispatchTurn}
+use Rattle.service_model_types.specs.declared.call.Poll.{Poll as APoll}
+use Rattle.service_model_types.specs.declared.call.StepCall.{StepCall}
+use Rattle.service_model_types.specs.declared.call.Stop.{Stop}
+use Rattle.service_model_types.specs.declared.call.Stop.TheVariants.{AtEnd, AfterFirstPart, AfterSecondPart}
+use Rattle.service_model_types.specs.declared.call.TransferTurn.{TransferTurn as ATransferTurn}
+use Rattle.service_model_types.specs.declared.content.Content.{Content}
+use Rattle.service_model_types.specs.declared.request.Hint.{Hint}
+use Rattle.service_model_types.specs.declared.request.Request.{Request}
+use Rattle.service_model_types.specs.declared.settings.Settings.{Settings}
+use Rattle.service_model_types.specs.declared.transfer.Transfer.{Transfer}
+use Rattle.service_model_types.specs.Calls.{request_of}
+use Rattle.service_model_types.specs.Replies.{dispatch_of, Reply, transfer_of}
 use Rattle.service_model.specs.Service.{after, answer, opening}
-use Rattle.service_model.specs.TransferReplies.{transfer_of}
 use Rattle.matching.specs.Named.{place_in, slot_of}
 use Rattle.service.specs.Asks.{to_acknowledge, to_deliver, to_dispatched, to_next_dispatch, to_next_transfer, to_start_task}
 use Rattle.service.specs.Contents.{ends_refusal, opening_contents, refusal_of_step, setup_of, shard_refusal, slot_of_step}

@@ -4,7 +4,7 @@ ghost use Rattle.wf_event_values.specs.Gives.{Gives};
 ghost use Rattle.script.specs.Asked.{asked};
 
 use crate::line::Line;
-use service_model::settings::Settings;
+use service_model_types::settings::Settings;
 use std::alloc::Global;
 use wf_event_values::{Field, Refusal};
 use wire_requests::{Asked, LineReader};

@@ -5,7 +5,7 @@ use Rattle.script_settings.specs.CommandLine.{HasNoNumber, IsSetTo, faults_in, m
 use Rattle.script_settings.specs.Queues.{AreSetTo, HasNoNames}
 use Rattle.script_settings.specs.declared.fault.Fault.{Fault}
 use Rattle.script_settings.specs.declared.fault.Fault.TheVariants.{Words, Number, Queues}
-use Rattle.service_model.specs.declared.settings.Settings.{Settings}
+use Rattle.service_model_types.specs.declared.settings.Settings.{Settings}
 
 -- clap takes the words, and each setting and the file is the value of its option among the matches, or its default
 pub record Sets (words : List Text) (s : Settings) (file : Option Text) : Type 0 where

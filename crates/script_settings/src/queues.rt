@@ -9,7 +9,7 @@ ghost use Rattle.script_settings.specs.Settings.{IsQueuesFault};
 
 use crate::fault::Fault;
 use clap::{ArgMatches, Error};
-use service_model::settings::main_queue;
+use service_model_types::settings::main_queue;
 use std::alloc::{AllocError, Global};
 use wf_event_values::{Field, Id, Items, Refusal};
 

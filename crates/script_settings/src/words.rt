@@ -8,8 +8,8 @@ ghost use Rattle.script_settings.specs.Settings.{Sets, IsFaultIn, IsFaultOf};
 use crate::fault::Fault;
 use crate::queues::queues;
 use clap::{Arg, ArgMatches, Command, Error};
-use service_model::limits::DEFAULT_CAPACITY;
-use service_model::settings::Settings;
+use service_model_types::limits::DEFAULT_CAPACITY;
+use service_model_types::settings::Settings;
 use std::alloc::{AllocError, Global};
 
 const ABOUT: &str = "Serves a workflow service's calls: a JSON line in, a reply line out.";

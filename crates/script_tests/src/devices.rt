@@ -3,8 +3,8 @@
 ghost use Rattle.std.specs.Prelude.{◌≡◌};
 
 use script::{ScriptFault, run_one};
-use service_model::limits::DEFAULT_CAPACITY;
-use service_model::settings::{Settings, main_queue};
+use service_model_types::limits::DEFAULT_CAPACITY;
+use service_model_types::settings::{Settings, main_queue};
 use std::alloc::AllocGlobal;
 use std::io::{self, Error, ErrorKind, Read, Write};
 use std::process::Abort;

@@ -6,8 +6,8 @@ use Rattle.std.proofs.lemmas.Bool.Decides.{nat_tests}
 use Rattle.std.specs.Prelude.{length, map, not, slice_get, unwrap_or, if◌then◌else◌, Result, Ok, Err, ◌&&◌, nat_le, nat_lt}
 use Rattle.wf_event_values.specs.declared.refusal.Refusal.{Refusal}
 use Rattle.std.specs.List.{range_with_len, AllByRecursion}
-use Rattle.service_model.specs.declared.request.Request.{Request}
-use Rattle.service_model.specs.declared.settings.Settings.{Settings}
+use Rattle.service_model_types.specs.declared.request.Request.{Request}
+use Rattle.service_model_types.specs.declared.settings.Settings.{Settings}
 use Rattle.service_model.specs.Growth.{KeepsHistories, keeps-same}
 use Rattle.service_model.specs.Service.{opening, after}
 use Rattle.service_model.proofs.ListLemmas.{all-push, map-push}

@@ -7,16 +7,17 @@ use Rattle.std.specs.List.{range_with_len}
 use Rattle.wf_event_values.specs.declared.field.Field.TheVariants as field
 use Rattle.wf_event_values.specs.declared.refusal.Refusal.{Refusal}
 use Rattle.wf_event_values.specs.declared.refusal.Refusal.TheVariants.{InvalidArgument}
-use Rattle.service_model.specs.declared.call.StepCall.{StepCall}
-use Rattle.service_model.specs.declared.call.StepCall.TheVariants as call
-use Rattle.service_model.specs.declared.content.Content.{Content}
-use Rattle.service_model.specs.declared.request.Operation.{Operation}
-use Rattle.service_model.specs.declared.request.Operation.TheVariants as operation
-use Rattle.service_model.specs.declared.request.Request.{Request}
-use Rattle.service_model.specs.declared.request.TakenTask.{TakenTask}
-use Rattle.service_model.specs.declared.settings.Settings.{Settings}
+use Rattle.service_model_types.specs.declared.call.StepCall.{StepCall}
+use Rattle.service_model_types.specs.declared.call.StepCall.TheVariants as call
+use Rattle.service_model_types.specs.declared.content.Content.{Content}
+use Rattle.service_model_types.specs.declared.request.Operation.{Operation}
+use Rattle.service_model_types.specs.declared.request.Operation.TheVariants as operation
+use Rattle.service_model_types.specs.declared.request.Request.{Request}
+use Rattle.service_model_types.specs.declared.request.TakenTask.{TakenTask}
+use Rattle.service_model_types.specs.declared.settings.Settings.{Settings}
 use Rattle.service_model.specs.Growth.{KeepsHistories}
-use Rattle.service_model.specs.Outcome.{Reply, hash_of}
+use Rattle.service_model_types.specs.Replies.{Reply}
+use Rattle.service_model_types.specs.Routing.{hash_of}
 use Rattle.service_model.specs.Service.{answer, after, opening}
 use Rattle.gate.specs.declared.view.View.{View}
 use Rattle.gate.specs.Passes as gate

@@ -1,14 +1,13 @@
 -- the parts of a transfer turn behind its first one
 use Rattle.std.proofs.Common.{◌≡◌, ◌≢◌, true, refl, sym, subst, Some, inr}
 use Rattle.std.specs.Prelude.{Result, Ok, Err, OnErr}
-use Rattle.service_model.specs.declared.call.Stop.{Stop}
-use Rattle.service_model.specs.declared.call.Stop.TheVariants.{AtEnd, AfterFirstPart, AfterSecondPart}
-use Rattle.service_model.specs.declared.call.TransferTurn.{TransferTurn}
-use Rattle.service_model.specs.declared.content.Content.{Content}
-use Rattle.service_model.specs.declared.request.Request.{Request}
-use Rattle.service_model.specs.declared.transfer.Transfer.{Transfer}
-use Rattle.service_model.specs.Outcome.{Reply}
-use Rattle.service_model.specs.TransferReplies.{transfer_of}
+use Rattle.service_model_types.specs.declared.call.Stop.{Stop}
+use Rattle.service_model_types.specs.declared.call.Stop.TheVariants.{AtEnd, AfterFirstPart, AfterSecondPart}
+use Rattle.service_model_types.specs.declared.call.TransferTurn.{TransferTurn}
+use Rattle.service_model_types.specs.declared.content.Content.{Content}
+use Rattle.service_model_types.specs.declared.request.Request.{Request}
+use Rattle.service_model_types.specs.declared.transfer.Transfer.{Transfer}
+use Rattle.service_model_types.specs.Replies.{Reply, transfer_of}
 use Rattle.gate.specs.declared.view.View.{View}
 use Rattle.gate.specs.Passes.{Waited}
 use Rattle.service.specs.declared.service.Service.{Service}

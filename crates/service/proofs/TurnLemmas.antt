@@ -5,12 +5,11 @@ use Rattle.std.specs.Prelude.{nat_lt, if◌then◌else◌, Result, Ok, Err, IfOk
 use Rattle.wf_event_values.specs.declared.field.Field.TheVariants as field
 use Rattle.wf_event_values.specs.declared.policies.TaskKind.{TaskKind}
 use Rattle.wf_event_values.specs.declared.refusal.Refusal.TheVariants.{InvalidArgument}
-use Rattle.service_model.specs.declared.answer.NumberedDispatch.{NumberedDispatch}
-use Rattle.service_model.specs.declared.content.Content.{Content}
-use Rattle.service_model.specs.declared.request.Hint.{Hint}
-use Rattle.service_model.specs.declared.request.Request.{Request}
-use Rattle.service_model.specs.Counts.{dispatch_of}
-use Rattle.service_model.specs.Outcome.{Reply}
+use Rattle.service_model_types.specs.declared.answer.NumberedDispatch.{NumberedDispatch}
+use Rattle.service_model_types.specs.declared.content.Content.{Content}
+use Rattle.service_model_types.specs.declared.request.Hint.{Hint}
+use Rattle.service_model_types.specs.declared.request.Request.{Request}
+use Rattle.service_model_types.specs.Replies.{dispatch_of, Reply}
 use Rattle.service_model.specs.Service.{after}
 use Rattle.service_model.proofs.DispatchLemmas.{NamesShard, names-after, names-opening, next-named}
 use Rattle.gate.specs.declared.view.View.{View}

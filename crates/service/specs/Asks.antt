@@ -1,19 +1,19 @@
 -- the requests that the calls make
 use Rattle.std.specs.Prelude.{ℕ}
-use Rattle.service_model.specs.declared.request.Operation.TheVariants as operation
-use Rattle.service_model.specs.declared.request.Request.{Request}
-use Rattle.service_model.specs.declared.request.Start.{Start}
-use Rattle.service_model.specs.declared.request.Signal.{Signal}
-use Rattle.service_model.specs.declared.request.SignalWithStart.{SignalWithStart}
-use Rattle.service_model.specs.declared.request.RequestCancel.{RequestCancel}
-use Rattle.service_model.specs.declared.request.Terminate.{Terminate}
-use Rattle.service_model.specs.declared.request.Read.{Read}
-use Rattle.service_model.specs.declared.request.Hint.{Hint}
-use Rattle.service_model.specs.declared.request.CompleteWorkflowTask.{CompleteWorkflowTask}
-use Rattle.service_model.specs.declared.request.FailWorkflowTask.{FailWorkflowTask}
-use Rattle.service_model.specs.declared.request.ActivityText.{ActivityText}
-use Rattle.service_model.specs.declared.request.FailActivity.{FailActivity}
-use Rattle.service_model.specs.declared.transfer.Transfer.{Transfer}
+use Rattle.service_model_types.specs.declared.request.Operation.TheVariants as operation
+use Rattle.service_model_types.specs.declared.request.Request.{Request}
+use Rattle.service_model_types.specs.declared.request.Start.{Start}
+use Rattle.service_model_types.specs.declared.request.Signal.{Signal}
+use Rattle.service_model_types.specs.declared.request.SignalWithStart.{SignalWithStart}
+use Rattle.service_model_types.specs.declared.request.RequestCancel.{RequestCancel}
+use Rattle.service_model_types.specs.declared.request.Terminate.{Terminate}
+use Rattle.service_model_types.specs.declared.request.Read.{Read}
+use Rattle.service_model_types.specs.declared.request.Hint.{Hint}
+use Rattle.service_model_types.specs.declared.request.CompleteWorkflowTask.{CompleteWorkflowTask}
+use Rattle.service_model_types.specs.declared.request.FailWorkflowTask.{FailWorkflowTask}
+use Rattle.service_model_types.specs.declared.request.ActivityText.{ActivityText}
+use Rattle.service_model_types.specs.declared.request.FailActivity.{FailActivity}
+use Rattle.service_model_types.specs.declared.transfer.Transfer.{Transfer}
 
 abbrev pub to_start : ℕ → Start → Request
 to_start at q = record { at = at; operation = operation.Start q }

@@ -1,13 +1,13 @@
 -- what a call of any kind comes to
 use Rattle.std.specs.Prelude.{◌≡◌, Option, None, Some, Result, Ok, Err}
-use Rattle.service_model.specs.declared.answer.Answer.TheVariants as answer
-use Rattle.service_model.specs.declared.call.Call.{Call}
-use Rattle.service_model.specs.declared.call.Call.TheVariants.{Step, Poll, DispatchTurn, TransferTurn}
-use Rattle.service_model.specs.declared.call.DispatchTurn.{DispatchTurn as ADispatchTurn}
-use Rattle.service_model.specs.declared.call.Poll.{Poll as APoll}
-use Rattle.service_model.specs.declared.request.Hint.{Hint}
-use Rattle.service_model.specs.Calls.{request_of}
-use Rattle.service_model.specs.Outcome.{Reply}
+use Rattle.service_model_types.specs.declared.answer.Answer.TheVariants as answer
+use Rattle.service_model_types.specs.declared.call.Call.{Call}
+use Rattle.service_model_types.specs.declared.call.Call.TheVariants.{Step, Poll, DispatchTurn, TransferTurn}
+use Rattle.service_model_types.specs.declared.call.DispatchTurn.{DispatchTurn as ADispatchTurn}
+use Rattle.service_model_types.specs.declared.call.Poll.{Poll as APoll}
+use Rattle.service_model_types.specs.declared.request.Hint.{Hint}
+use Rattle.service_model_types.specs.Calls.{request_of}
+use Rattle.service_model_types.specs.Replies.{Reply}
 use Rattle.gate.specs.Passes.{Waited}
 use Rattle.service.specs.declared.dispatch_turns.Turned.{Turned}
 use Rattle.service.specs.declared.dispatch_turns.Turned.TheVariants.{First, Taken, Unpushed, Pushed, Dispatched}

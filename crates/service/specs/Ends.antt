@@ -1,6 +1,6 @@
 -- what is known at the close
 use Rattle.std.specs.Prelude.{ℕ, List}
-use Rattle.service_model.specs.declared.request.Request.{Request}
+use Rattle.service_model_types.specs.declared.request.Request.{Request}
 use Rattle.gate.specs.Gates as of_gate
 use Rattle.service.specs.declared.service.Service.{Service}
 

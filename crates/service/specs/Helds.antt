@@ -1,7 +1,7 @@
 -- what a clause reads of a pass that stays on a shard
-use Rattle.service_model.specs.declared.content.Content.{Content}
-use Rattle.service_model.specs.declared.request.Request.{Request}
-use Rattle.service_model.specs.Outcome.{Reply}
+use Rattle.service_model_types.specs.declared.content.Content.{Content}
+use Rattle.service_model_types.specs.declared.request.Request.{Request}
+use Rattle.service_model_types.specs.Replies.{Reply}
 use Rattle.gate.specs.declared.view.View.{View}
 use Rattle.gate.specs.Helds as of_held
 use Rattle.matching.specs.Named as matching

@@ -1,8 +1,8 @@
 -- the first shards of a service, as they are laid into its gate
 use Rattle.std.specs.Prelude.{◌≡◌, ℕ, List, [], length, map}
 use Rattle.std.specs.List.{range_with_len, AllByRecursion}
-use Rattle.service_model.specs.declared.request.Request.{Request}
-use Rattle.service_model.specs.declared.settings.Settings.{Settings}
+use Rattle.service_model_types.specs.declared.request.Request.{Request}
+use Rattle.service_model_types.specs.declared.settings.Settings.{Settings}
 use Rattle.service_model.specs.Service.{opening}
 use Rattle.matching.specs.Named as matching
 use Rattle.shard.specs.View.{ShardView}

@@ -4,8 +4,8 @@ use Rattle.std.specs.List.{list_any}
 use Rattle.wf_event_values.specs.declared.field.Field.TheVariants.{Shards, Passes, Service, Queues, Capacity}
 use Rattle.wf_event_values.specs.declared.refusal.Refusal.{Refusal}
 use Rattle.wf_event_values.specs.declared.refusal.Refusal.TheVariants.{InvalidArgument}
-use Rattle.service_model.specs.declared.settings.Settings.{Settings}
-use Rattle.service_model.specs.Limits.{most_capacity, most_passes, most_queues, most_shards, service_numbers}
+use Rattle.service_model_types.specs.declared.settings.Settings.{Settings}
+use Rattle.service_model_types.specs.Limits.{most_capacity, most_passes, most_queues, most_shards, service_numbers}
 
 abbrev pub stands_in : List ℕ → List (List ℕ) → Bool
 stands_in name names = list_any (λ other. bytes_eq other name) names

@@ -1,14 +1,14 @@
 -- what a clause reads of a service and of its passes
 use Rattle.std.specs.Prelude.{◌≡◌, ℕ, ◌<◌, ◌≤◌, true, List, [], length, map, Option, None, Some, Err, Result, IfOk, IfErr}
 use Rattle.wf_event_values.specs.declared.refusal.Refusal.{Refusal}
-use Rattle.service_model.specs.declared.call.StepCall.{StepCall}
-use Rattle.service_model.specs.declared.content.Content.{Content}
-use Rattle.service_model.specs.declared.request.Request.{Request}
-use Rattle.service_model.specs.declared.settings.Settings.{Settings}
-use Rattle.service_model.specs.Calls.{request_of}
-use Rattle.service_model.specs.Limits.{most_capacity, most_passes, most_queues, most_shards, service_numbers}
+use Rattle.service_model_types.specs.declared.call.StepCall.{StepCall}
+use Rattle.service_model_types.specs.declared.content.Content.{Content}
+use Rattle.service_model_types.specs.declared.request.Request.{Request}
+use Rattle.service_model_types.specs.declared.settings.Settings.{Settings}
+use Rattle.service_model_types.specs.Calls.{request_of}
+use Rattle.service_model_types.specs.Limits.{most_capacity, most_passes, most_queues, most_shards, service_numbers}
 use Rattle.service_model.specs.Growth.{KeepsHistories}
-use Rattle.service_model.specs.Outcome.{Reply}
+use Rattle.service_model_types.specs.Replies.{Reply}
 use Rattle.service_model.specs.Service.{answer, after, opening}
 use Rattle.gate.specs.declared.object.Refused.{Refused}
 use Rattle.gate.specs.declared.view.View.{View}

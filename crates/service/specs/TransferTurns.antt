@@ -1,14 +1,13 @@
 -- what a transfer turn does, part by part
 use Rattle.std.specs.Prelude.{◌≡◌, ◌⊎◌, ℕ, Bool, true, false, Option, None, Some, Ok}
-use Rattle.service_model.specs.declared.answer.Answer.TheVariants as answer
-use Rattle.service_model.specs.declared.call.Stop.{Stop}
-use Rattle.service_model.specs.declared.call.Stop.TheVariants.{AtEnd, AfterFirstPart, AfterSecondPart}
-use Rattle.service_model.specs.declared.call.TransferTurn.{TransferTurn}
-use Rattle.service_model.specs.declared.content.Content.{Content}
-use Rattle.service_model.specs.declared.request.Request.{Request}
-use Rattle.service_model.specs.declared.transfer.Transfer.{Transfer}
-use Rattle.service_model.specs.Outcome.{Reply}
-use Rattle.service_model.specs.TransferReplies.{is_delivered, transfer_of}
+use Rattle.service_model_types.specs.declared.answer.Answer.TheVariants as answer
+use Rattle.service_model_types.specs.declared.call.Stop.{Stop}
+use Rattle.service_model_types.specs.declared.call.Stop.TheVariants.{AtEnd, AfterFirstPart, AfterSecondPart}
+use Rattle.service_model_types.specs.declared.call.TransferTurn.{TransferTurn}
+use Rattle.service_model_types.specs.declared.content.Content.{Content}
+use Rattle.service_model_types.specs.declared.request.Request.{Request}
+use Rattle.service_model_types.specs.declared.transfer.Transfer.{Transfer}
+use Rattle.service_model_types.specs.Replies.{Reply, is_delivered, transfer_of}
 use Rattle.gate.specs.declared.view.View.{View}
 use Rattle.gate.specs.Passes.{Waited}
 use Rattle.service.specs.declared.service.Service.{Service}

@@ -3,20 +3,19 @@ use Rattle.std.specs.Prelude.{◌≡◌, ◌⊎◌, ℕ, List, Option, None, Som
 use Rattle.wf_event_values.specs.declared.policies.TaskKind.{TaskKind}
 use Rattle.wf_event_values.specs.declared.refusal.Refusal.{Refusal}
 use Rattle.wf_event_values.specs.declared.refusal.Refusal.TheVariants.{UnknownTaskQueue}
-use Rattle.service_model.specs.declared.answer.NumberedDispatch.{NumberedDispatch}
-use Rattle.service_model.specs.declared.content.Content.{Content}
-use Rattle.service_model.specs.declared.request.Hint.{Hint}
-use Rattle.service_model.specs.declared.request.Request.{Request}
-use Rattle.service_model.specs.Counts.{dispatch_of}
-use Rattle.service_model.specs.Outcome.{Reply}
+use Rattle.service_model_types.specs.declared.answer.NumberedDispatch.{NumberedDispatch}
+use Rattle.service_model_types.specs.declared.content.Content.{Content}
+use Rattle.service_model_types.specs.declared.request.Hint.{Hint}
+use Rattle.service_model_types.specs.declared.request.Request.{Request}
+use Rattle.service_model_types.specs.Replies.{dispatch_of, Reply}
 use Rattle.gate.specs.declared.view.View.{View}
 use Rattle.gate.specs.Passes.{Waited}
 use Rattle.matching.specs.declared.view.View.{View as HintView}
 use Rattle.matching.specs.Named as matching
 use Rattle.matching.specs.Named.{place_in, slot_of, StoodAt, TakenAt, Pushes}
 use Rattle.service.specs.declared.service.Service.{Service}
-use Rattle.service_model.specs.declared.call.Stop.{Stop}
-use Rattle.service_model.specs.declared.call.Stop.TheVariants.{AtEnd, AfterFirstPart, AfterSecondPart}
+use Rattle.service_model_types.specs.declared.call.Stop.{Stop}
+use Rattle.service_model_types.specs.declared.call.Stop.TheVariants.{AtEnd, AfterFirstPart, AfterSecondPart}
 use Rattle.service.specs.declared.dispatch_turns.Turned.{Turned}
 use Rattle.service.specs.declared.dispatch_turns.Turned.TheVariants.{First, Taken, Unpushed, Pushed, Dispatched}
 use Rattle.service.specs.Asks.{to_start_task, to_next_dispatch, to_dispatched}

@@ -6,8 +6,8 @@ ghost use Rattle.service.specs.Asks.{to_complete_activity, to_fail_activity, to_
 use crate::calls::request;
 use crate::service::{Pass, Service};
 use gate::Refused;
-use service_model::answer::Reply;
-use service_model::request::{ActivityText, FailActivity, Operation, Request};
+use service_model_types::answer::Reply;
+use service_model_types::request::{ActivityText, FailActivity, Operation, Request};
 use std::alloc::AllocError;
 use std::sync::Wait;
 use wf_event_values::Moment;

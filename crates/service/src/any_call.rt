@@ -2,13 +2,13 @@
 
 ghost use Rattle.std.specs.Prelude.{◌≡◌, IfOk, OnErr};
 ghost use Rattle.gate.specs.Passes.{number};
-ghost use Rattle.service_model.specs.declared.call.Call.TheVariants as a_call;
+ghost use Rattle.service_model_types.specs.declared.call.Call.TheVariants as a_call;
 ghost use Rattle.service.specs.Calls.{CallKept, CallServed, reply_of_poll, reply_of_turn};
 
 use crate::dispatch_turns::Turned;
 use crate::service::{Pass, Service};
-use service_model::answer::{Answer, Reply};
-use service_model::call::{Call, DispatchTurn, Poll, StepCall};
+use service_model_types::answer::{Answer, Reply};
+use service_model_types::call::{Call, DispatchTurn, Poll, StepCall};
 use std::alloc::AllocError;
 use std::sync::Wait;
 

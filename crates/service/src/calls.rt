@@ -5,8 +5,8 @@ ghost use Rattle.service.specs.Asks.{to_start, to_signal, to_show_history, to_de
 
 use crate::service::{Pass, Service};
 use gate::Refused;
-use service_model::answer::Reply;
-use service_model::request::{Operation, Read, Request, Signal, Start};
+use service_model_types::answer::Reply;
+use service_model_types::request::{Operation, Read, Request, Signal, Start};
 use std::alloc::AllocError;
 use std::sync::Wait;
 use wf_event_values::Moment;

@@ -6,8 +6,8 @@ ghost use Rattle.gate.specs.Ends.{IsEnd, HasDone};
 
 use crate::service::{Pass, Service, Shard};
 use gate::Record;
-use service_model::limits::MOST_PASSES;
-use service_model::request::Request;
+use service_model_types::limits::MOST_PASSES;
+use service_model_types::request::Request;
 use std::alloc::{AllocError, Global};
 
 /// Room for all the gate's passes. One takes a byte.

@@ -2,17 +2,17 @@
 
 ghost use Rattle.std.specs.Prelude.{◌≡◌, ◌<◌, Some, None, MatchResult, IfOk, IfErr, OnOk, OnErr};
 ghost use Rattle.gate.specs.Passes.{Waited, number as number_of};
-ghost use Rattle.service_model.specs.declared.answer.NumberedDispatch.{NumberedDispatch};
-ghost use Rattle.service_model.specs.Counts.{dispatch_of};
+ghost use Rattle.service_model_types.specs.declared.answer.NumberedDispatch.{NumberedDispatch};
+ghost use Rattle.service_model_types.specs.Replies.{dispatch_of};
 ghost use Rattle.service.specs.Asks.{to_next_dispatch};
 ghost use Rattle.service.specs.Turns.{AnsweredOn, Counts, TurnKept, Turns};
 
 use crate::calls::request;
 use crate::route::shard_refusal;
 use crate::service::{Pass, Service};
-use service_model::answer::{NumberedDispatch, Reply};
-use service_model::call::Stop;
-use service_model::request::Operation;
+use service_model_types::answer::{NumberedDispatch, Reply};
+use service_model_types::call::Stop;
+use service_model_types::request::Operation;
 use std::alloc::AllocError;
 use std::sync::Wait;
 use wf_event_values::{Moment, Refusal};

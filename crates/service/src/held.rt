@@ -8,8 +8,8 @@ use crate::calls::request;
 use crate::service::{Pass, Service, Shard};
 use gate::Refused;
 use matching::QueuesPass;
-use service_model::answer::Reply;
-use service_model::request::{Operation, Request, Start};
+use service_model_types::answer::Reply;
+use service_model_types::request::{Operation, Request, Start};
 use wf_event_values::Moment;
 
 /// A pass that keeps others from the shard where its start was served. It can't be dropped: `leave`

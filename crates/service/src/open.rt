@@ -20,12 +20,12 @@ use crate::close::PassRoom;
 use crate::service::{Pass, Service, Shard};
 use gate::{Gate, Record};
 use matching::{Queues, QueuesPass};
-use service_model::content::Setup;
-use service_model::limits::{
+use service_model_types::content::Setup;
+use service_model_types::limits::{
     MOST_CAPACITY, MOST_PASSES, MOST_QUEUES, MOST_SHARDS, SERVICE_NUMBERS,
 };
-use service_model::request::Request;
-use service_model::settings::Settings;
+use service_model_types::request::Request;
+use service_model_types::settings::Settings;
 use std::alloc::{AllocError, Global};
 use std::sync::Mutex;
 use wf_event_values::{Field, Id, Refusal};

@@ -8,8 +8,8 @@ ghost use Rattle.service.specs.Turns.{Polls, PollKept, place_of};
 
 use crate::calls::request;
 use crate::service::{Pass, Service};
-use service_model::answer::Reply;
-use service_model::request::{Hint, Operation};
+use service_model_types::answer::Reply;
+use service_model_types::request::{Hint, Operation};
 use std::alloc::AllocError;
 use std::sync::Wait;
 use wf_event_values::{Id, Moment, TaskKind};

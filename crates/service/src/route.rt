@@ -4,11 +4,11 @@ ghost use Rattle.std.specs.Prelude.{◌≡◌, ◌<◌};
 ghost use Rattle.service.specs.Contents.{completion_refusal, ends_refusal, is_token, refusal_of, refusal_of_step, shard_of_id, shard_refusal, slot_of_step, token_refusal};
 
 use crate::service::Service;
-use service_model::call::StepCall;
-use service_model::limits::MOST_COMMANDS;
-use service_model::request::{CompleteWorkflowTask, Operation, Request, TakenTask};
-use service_model::routing::hash_of;
-use service_model::settings::Settings;
+use service_model_types::call::StepCall;
+use service_model_types::limits::MOST_COMMANDS;
+use service_model_types::request::{CompleteWorkflowTask, Operation, Request, TakenTask};
+use service_model_types::routing::hash_of;
+use service_model_types::settings::Settings;
 use wf_event_values::{Field, Id, Refusal};
 
 impl Service {

@@ -5,9 +5,9 @@ ghost use Rattle.std.specs.Prelude.{◌≡◌, ◌<◌, ◌≤◌, None, length,
 use crate::close::PassRoom;
 use gate::{Gate, Record, Refused};
 use matching::{Queues, QueuesPass};
-use service_model::answer::Reply;
-use service_model::request::Request;
-use service_model::settings::Settings;
+use service_model_types::answer::Reply;
+use service_model_types::request::Request;
+use service_model_types::settings::Settings;
 use std::alloc::AllocError;
 use std::sync::{Mutex, Wait};
 use wf_event_values::Refusal;

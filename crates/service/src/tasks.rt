@@ -6,8 +6,10 @@ ghost use Rattle.service.specs.Asks.{to_start_task, to_complete_workflow_task, t
 use crate::calls::request;
 use crate::service::{Pass, Service};
 use gate::Refused;
-use service_model::answer::Reply;
-use service_model::request::{CompleteWorkflowTask, FailWorkflowTask, Hint, Operation, Request};
+use service_model_types::answer::Reply;
+use service_model_types::request::{
+    CompleteWorkflowTask, FailWorkflowTask, Hint, Operation, Request,
+};
 use std::alloc::AllocError;
 use std::sync::Wait;
 use wf_event_values::Moment;

@@ -2,16 +2,16 @@
 
 ghost use Rattle.std.specs.Prelude.{◌≡◌, ◌<◌, Some, None, MatchResult, IfOk, OnOk, OnErr};
 ghost use Rattle.gate.specs.Passes.{Waited, number as number_of};
-ghost use Rattle.service_model.specs.TransferReplies.{transfer_of};
+ghost use Rattle.service_model_types.specs.Replies.{transfer_of};
 ghost use Rattle.service.specs.TransferTurns.{Acknowledges, DeliveryKept, Delivers, TransferKept, TransferTurns, Transfers, goes_on};
 
 use crate::calls::request;
 use crate::route::ends_refusal;
 use crate::service::{Pass, Service};
-use service_model::answer::{Answer, Reply};
-use service_model::call::{Stop, TransferTurn};
-use service_model::request::{Acknowledge, Operation, Request};
-use service_model::transfer::Transfer;
+use service_model_types::answer::{Answer, Reply};
+use service_model_types::call::{Stop, TransferTurn};
+use service_model_types::request::{Acknowledge, Operation, Request};
+use service_model_types::transfer::Transfer;
 use std::alloc::AllocError;
 use std::sync::Wait;
 use wf_event_values::Moment;

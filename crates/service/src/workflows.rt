@@ -6,8 +6,8 @@ ghost use Rattle.service.specs.Asks.{to_signal_with_start, to_request_cancel, to
 use crate::calls::request;
 use crate::service::{Pass, Service};
 use gate::Refused;
-use service_model::answer::Reply;
-use service_model::request::{Operation, Request, RequestCancel, SignalWithStart, Terminate};
+use service_model_types::answer::Reply;
+use service_model_types::request::{Operation, Request, RequestCancel, SignalWithStart, Terminate};
 use std::alloc::AllocError;
 use std::sync::Wait;
 use wf_event_values::Moment;

@@ -14,38 +14,38 @@ use Rattle.wf_event_values.specs.declared.policies.ParentClosePolicy.{ParentClos
 use Rattle.wf_event_values.specs.declared.policies.ParentClosePolicy.TheVariants as policy
 use Rattle.wf_event_values.specs.declared.refusal.Refusal.{Refusal}
 use Rattle.wf_event_values.specs.declared.refusal.Refusal.TheVariants.{InvalidArgument}
-use Rattle.service_model.specs.declared.answer.Acknowledged.{Acknowledged as Acknowledgement}
-use Rattle.service_model.specs.declared.answer.Acknowledged.TheVariants.{Acknowledged, Already, OutOfOrder as NotInOrder}
-use Rattle.service_model.specs.declared.answer.Answer.{Answer}
-use Rattle.service_model.specs.declared.content.Content.{Content}
-use Rattle.service_model.specs.declared.content.Outgoing.{Outgoing}
-use Rattle.service_model.specs.declared.content.Setup.{Setup}
-use Rattle.service_model.specs.declared.journal.Fact.{Fact}
-use Rattle.service_model.specs.declared.journal.CancelRequest.{CancelRequest}
-use Rattle.service_model.specs.declared.request.Acknowledge.{Acknowledge}
-use Rattle.service_model.specs.declared.request.ActivityText.{ActivityText}
-use Rattle.service_model.specs.declared.request.CompleteWorkflowTask.{CompleteWorkflowTask}
-use Rattle.service_model.specs.declared.request.FailActivity.{FailActivity}
-use Rattle.service_model.specs.declared.request.FailWorkflowTask.{FailWorkflowTask}
-use Rattle.service_model.specs.declared.request.Hint.{Hint}
-use Rattle.service_model.specs.declared.request.Operation.{Operation}
-use Rattle.service_model.specs.declared.request.Operation.TheVariants as operation
-use Rattle.service_model.specs.declared.request.Read.{Read}
-use Rattle.service_model.specs.declared.request.Request.{Request}
-use Rattle.service_model.specs.declared.request.RequestCancel.{RequestCancel}
-use Rattle.service_model.specs.declared.request.Signal.{Signal}
-use Rattle.service_model.specs.declared.request.SignalWithStart.{SignalWithStart}
-use Rattle.service_model.specs.declared.request.Start.{Start}
-use Rattle.service_model.specs.declared.request.Terminate.{Terminate}
-use Rattle.service_model.specs.declared.transfer.CloseChild.{CloseChild as CloseChildContent}
-use Rattle.service_model.specs.declared.transfer.CancelExternalTransfer.{CancelExternalTransfer}
-use Rattle.service_model.specs.declared.transfer.SignalExternalTransfer.{SignalExternalTransfer}
-use Rattle.service_model.specs.declared.transfer.Delivery.{Delivery}
-use Rattle.service_model.specs.declared.transfer.Delivery.TheVariants.{Accepted as IsNext, AlreadyDelivered, OutOfOrder}
-use Rattle.service_model.specs.declared.transfer.Sent.{Sent}
-use Rattle.service_model.specs.declared.transfer.Transfer.{Transfer}
-use Rattle.service_model.specs.declared.transfer.TransferContent.{TransferContent}
-use Rattle.service_model.specs.declared.transfer.TransferContent.TheVariants as content
+use Rattle.service_model_types.specs.declared.answer.Acknowledged.{Acknowledged as Acknowledgement}
+use Rattle.service_model_types.specs.declared.answer.Acknowledged.TheVariants.{Acknowledged, Already, OutOfOrder as NotInOrder}
+use Rattle.service_model_types.specs.declared.answer.Answer.{Answer}
+use Rattle.service_model_types.specs.declared.content.Content.{Content}
+use Rattle.service_model_types.specs.declared.content.Outgoing.{Outgoing}
+use Rattle.service_model_types.specs.declared.content.Setup.{Setup}
+use Rattle.service_model_types.specs.declared.journal.Fact.{Fact}
+use Rattle.service_model_types.specs.declared.journal.CancelRequest.{CancelRequest}
+use Rattle.service_model_types.specs.declared.request.Acknowledge.{Acknowledge}
+use Rattle.service_model_types.specs.declared.request.ActivityText.{ActivityText}
+use Rattle.service_model_types.specs.declared.request.CompleteWorkflowTask.{CompleteWorkflowTask}
+use Rattle.service_model_types.specs.declared.request.FailActivity.{FailActivity}
+use Rattle.service_model_types.specs.declared.request.FailWorkflowTask.{FailWorkflowTask}
+use Rattle.service_model_types.specs.declared.request.Hint.{Hint}
+use Rattle.service_model_types.specs.declared.request.Operation.{Operation}
+use Rattle.service_model_types.specs.declared.request.Operation.TheVariants as operation
+use Rattle.service_model_types.specs.declared.request.Read.{Read}
+use Rattle.service_model_types.specs.declared.request.Request.{Request}
+use Rattle.service_model_types.specs.declared.request.RequestCancel.{RequestCancel}
+use Rattle.service_model_types.specs.declared.request.Signal.{Signal}
+use Rattle.service_model_types.specs.declared.request.SignalWithStart.{SignalWithStart}
+use Rattle.service_model_types.specs.declared.request.Start.{Start}
+use Rattle.service_model_types.specs.declared.request.Terminate.{Terminate}
+use Rattle.service_model_types.specs.declared.transfer.CloseChild.{CloseChild as CloseChildContent}
+use Rattle.service_model_types.specs.declared.transfer.CancelExternalTransfer.{CancelExternalTransfer}
+use Rattle.service_model_types.specs.declared.transfer.SignalExternalTransfer.{SignalExternalTransfer}
+use Rattle.service_model_types.specs.declared.transfer.Delivery.{Delivery}
+use Rattle.service_model_types.specs.declared.transfer.Delivery.TheVariants.{Accepted as IsNext, AlreadyDelivered, OutOfOrder}
+use Rattle.service_model_types.specs.declared.transfer.Sent.{Sent}
+use Rattle.service_model_types.specs.declared.transfer.Transfer.{Transfer}
+use Rattle.service_model_types.specs.declared.transfer.TransferContent.{TransferContent}
+use Rattle.service_model_types.specs.declared.transfer.TransferContent.TheVariants as content
 use Rattle.service_model.specs.Activities.{beat_at, by_verdict, cancel_activity, cancel_at as cancel_attempt, complete_activity, complete_at, fail_activity, fail_at, fail_fields, heartbeat, running_attempt, verdict_at}
 use Rattle.service_model.specs.Cancels.{cancel_at, cancel_open, is_client, is_same_or_absent, request_cancel, terminate, terminate_at}
 use Rattle.service_model.specs.Completion.{Judged, judge_all}
@@ -53,7 +53,8 @@ use Rattle.service_model.specs.Deadlines.{scheduled_fields}
 use Rattle.service_model.specs.Counts.{acknowledge, acknowledgement_of, acknowledges, by_acknowledgement, dispatched, next_dispatch, next_transfer, outgoing_to}
 use Rattle.service_model.specs.Deliveries.{accepted_from, answers_pending, asked_before, by_delivery, cancel_external, close_by, close_child, comes_from, deliver, delivery_of, effect, is_child_of, is_for_shard, is_new, signal_external}
 use Rattle.service_model.specs.IdPolicy.{Decision, New, Same, Existing, TerminateThenNew, Refused, decide}
-use Rattle.service_model.specs.Outcome.{Outcome, Runs, Counting, CountsNothing, AcceptsFrom, AcknowledgesTo, CountsDispatch, has_run, knows_queue, latest_run, named_run, next_ordinal, on_shard, open_run, refused, run_at, run_id, shard_of}
+use Rattle.service_model.specs.Outcome.{Outcome, Runs, Counting, CountsNothing, AcceptsFrom, AcknowledgesTo, CountsDispatch, has_run, latest_run, named_run, next_ordinal, on_shard, open_run, refused, run_at, run_id}
+use Rattle.service_model_types.specs.Routing.{knows_queue, shard_of}
 use Rattle.service_model.specs.Reads.{history, history_at, describe, describe_at}
 use Rattle.service_model.specs.Retry.{FailedAttempt, Verdict, GivesUp, RetriesAt}
 use Rattle.service_model.specs.RunState.{ActivityRow, parent_of}

@@ -13,12 +13,13 @@ use Rattle.wf_event.specs.Role.{Role, TimerFires, role, is_closing_role, Class, 
 use Rattle.wf_command.specs.declared.command.Command.{Command}
 use Rattle.wf_command.specs.declared.command.Command.TheVariants.{ScheduleActivityTask, RequestCancelActivityTask, StartTimer, CancelTimer, RecordMarker, CompleteWorkflowExecution, FailWorkflowExecution, CancelWorkflowExecution, ContinueAsNewWorkflowExecution, StartChildWorkflowExecution, SignalExternalWorkflowExecution, RequestCancelExternalWorkflowExecution}
 use Rattle.wf_command.specs.Check.{attributes_fault}
-use Rattle.service_model.specs.declared.content.Setup.{Setup}
-use Rattle.service_model.specs.Limits.{most_pending}
+use Rattle.service_model_types.specs.declared.content.Setup.{Setup}
+use Rattle.service_model_types.specs.Limits.{most_pending, used_task_timeout}
 use Rattle.service_model.specs.Shown.{is_cancel}
 use Rattle.service_model.specs.Pending.{is_opening, is_settled, is_cancel_request_of, Phase, IsRunning}
 use Rattle.service_model.specs.RunState.{RunState, ActivityRow, used, row_of, held_attributes, queue_of, type_of, last_task}
-use Rattle.service_model.specs.Outcome.{knows_queue, schedule_task, used_task_timeout}
+use Rattle.service_model.specs.Outcome.{schedule_task}
+use Rattle.service_model_types.specs.Routing.{knows_queue}
 use Rattle.service_model.specs.Retry.{maximum_of}
 
 -- whether one of the facts cancels the timer that this event fires

@@ -11,31 +11,33 @@ use Rattle.wf_event_values.specs.declared.policies.Cause.TheVariants.{WorkflowAl
 use Rattle.wf_event_values.specs.declared.policies.ConflictPolicy.TheVariants.{Fail}
 use Rattle.wf_event_values.specs.declared.policies.ParentClosePolicy.{ParentClosePolicy}
 use Rattle.wf_event_values.specs.declared.policies.ParentClosePolicy.TheVariants.{Terminate as ToTerminate, RequestCancel as ToCancel}
-use Rattle.service_model.specs.declared.transfer.ChildStatus.{ChildStatus}
-use Rattle.service_model.specs.declared.transfer.ChildStatus.TheVariants.{Completed, Failed, Canceled, TimedOut, Terminated}
-use Rattle.service_model.specs.declared.transfer.Delivery.{Delivery}
-use Rattle.service_model.specs.declared.transfer.Delivery.TheVariants.{Accepted as IsNext, AlreadyDelivered as Already, OutOfOrder as NotInOrder}
+use Rattle.service_model_types.specs.declared.transfer.ChildStatus.{ChildStatus}
+use Rattle.service_model_types.specs.declared.transfer.ChildStatus.TheVariants.{Completed, Failed, Canceled, TimedOut, Terminated}
+use Rattle.service_model_types.specs.declared.transfer.Delivery.{Delivery}
+use Rattle.service_model_types.specs.declared.transfer.Delivery.TheVariants.{Accepted as IsNext, AlreadyDelivered as Already, OutOfOrder as NotInOrder}
 use Rattle.wf_event_values.specs.declared.refusal.Refusal.TheVariants.{InvalidArgument}
 use Rattle.wf_event.specs.Role.{Class, AChild, ASignal, ACancel}
-use Rattle.service_model.specs.declared.answer.Answer.TheVariants.{Accepted, AlreadyDelivered, OutOfOrder}
-use Rattle.service_model.specs.declared.content.Setup.{Setup}
-use Rattle.service_model.specs.declared.journal.Fact.{Fact}
-use Rattle.service_model.specs.declared.transfer.Transfer.{Transfer}
-use Rattle.service_model.specs.declared.transfer.TransferContent.{TransferContent}
-use Rattle.service_model.specs.declared.transfer.TransferContent.TheVariants.{StartChild, ChildStarted, ChildStartFailed, ChildClosed, CloseChild, SignalExternal, CancelExternal, ExternalDone}
-use Rattle.service_model.specs.declared.transfer.StartChildTransfer.{StartChildTransfer}
-use Rattle.service_model.specs.declared.transfer.ChildClosed.{ChildClosed as ChildClosedContent}
-use Rattle.service_model.specs.declared.transfer.CloseChild.{CloseChild as CloseChildContent}
-use Rattle.service_model.specs.declared.transfer.SignalExternalTransfer.{SignalExternalTransfer}
-use Rattle.service_model.specs.declared.transfer.CancelExternalTransfer.{CancelExternalTransfer}
-use Rattle.service_model.specs.declared.transfer.ExternalDoneTransfer.{ExternalDoneTransfer}
-use Rattle.service_model.specs.declared.transfer.ExternalKind.{ExternalKind}
-use Rattle.service_model.specs.declared.transfer.ExternalKind.TheVariants.{Signal as OfSignal, Cancel as OfCancel}
+use Rattle.service_model_types.specs.declared.answer.Answer.TheVariants.{Accepted, AlreadyDelivered, OutOfOrder}
+use Rattle.service_model_types.specs.declared.content.Setup.{Setup}
+use Rattle.service_model_types.specs.declared.journal.Fact.{Fact}
+use Rattle.service_model_types.specs.declared.transfer.Transfer.{Transfer}
+use Rattle.service_model_types.specs.declared.transfer.TransferContent.{TransferContent}
+use Rattle.service_model_types.specs.declared.transfer.TransferContent.TheVariants.{StartChild, ChildStarted, ChildStartFailed, ChildClosed, CloseChild, SignalExternal, CancelExternal, ExternalDone}
+use Rattle.service_model_types.specs.declared.transfer.StartChildTransfer.{StartChildTransfer}
+use Rattle.service_model_types.specs.declared.transfer.ChildClosed.{ChildClosed as ChildClosedContent}
+use Rattle.service_model_types.specs.declared.transfer.CloseChild.{CloseChild as CloseChildContent}
+use Rattle.service_model_types.specs.declared.transfer.SignalExternalTransfer.{SignalExternalTransfer}
+use Rattle.service_model_types.specs.declared.transfer.CancelExternalTransfer.{CancelExternalTransfer}
+use Rattle.service_model_types.specs.declared.transfer.ExternalDoneTransfer.{ExternalDoneTransfer}
+use Rattle.service_model_types.specs.declared.transfer.ExternalKind.{ExternalKind}
+use Rattle.service_model_types.specs.declared.transfer.ExternalKind.TheVariants.{Signal as OfSignal, Cancel as OfCancel}
 use Rattle.service_model.specs.Journal.{plain}
 use Rattle.service_model.specs.RunState.{RunState, pending, parent_of}
 use Rattle.service_model.specs.IdPolicy.{Decision, New, decide}
-use Rattle.service_model.specs.declared.transfer.Sent.{Sent}
-use Rattle.service_model.specs.Outcome.{Outcome, Added, AcceptsFrom, Runs, answered, refused, shard_of, knows_queue, run_id, run_at, has_run, next_ordinal, latest_run, open_run, if_some, outside, used_task_timeout}
+use Rattle.service_model_types.specs.declared.transfer.Sent.{Sent}
+use Rattle.service_model.specs.Outcome.{Outcome, Added, AcceptsFrom, Runs, answered, refused, run_id, run_at, has_run, next_ordinal, latest_run, open_run, if_some, outside}
+use Rattle.service_model_types.specs.Routing.{shard_of, knows_queue}
+use Rattle.service_model_types.specs.Limits.{used_task_timeout}
 use Rattle.service_model.specs.Counts.{counted}
 use Rattle.service_model.specs.Starts.{first_task}
 

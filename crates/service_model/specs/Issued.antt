@@ -5,24 +5,25 @@ use Rattle.wf_event.specs.declared.attributes.Attributes.{Attributes}
 use Rattle.wf_event.specs.declared.attributes.Attributes.TheVariants.{WorkflowTaskScheduled, ActivityTaskScheduled, StartChildWorkflowExecutionInitiated, SignalExternalWorkflowExecutionInitiated, RequestCancelExternalWorkflowExecutionInitiated, WorkflowExecutionCompleted, WorkflowExecutionFailed, WorkflowExecutionCanceled, WorkflowExecutionTimedOut, WorkflowExecutionTerminated}
 use Rattle.wf_event.specs.declared.payloads.ActivityTaskScheduled.{ActivityTaskScheduled as ScheduledAttributes}
 use Rattle.wf_event.specs.declared.payloads.Parent.{Parent}
-use Rattle.service_model.specs.declared.transfer.ChildStatus.{ChildStatus}
-use Rattle.service_model.specs.declared.transfer.ChildStatus.TheVariants.{Completed, Failed, Canceled, TimedOut, Terminated}
+use Rattle.service_model_types.specs.declared.transfer.ChildStatus.{ChildStatus}
+use Rattle.service_model_types.specs.declared.transfer.ChildStatus.TheVariants.{Completed, Failed, Canceled, TimedOut, Terminated}
 use Rattle.wf_event_values.specs.declared.policies.ParentClosePolicy.{ParentClosePolicy}
 use Rattle.wf_event_values.specs.declared.policies.ParentClosePolicy.TheVariants.{Abandon}
 use Rattle.wf_event_values.specs.declared.policies.TaskKind.TheVariants.{Workflow, Activity}
 use Rattle.wf_event.specs.Role.{AChild, opens}
 use Rattle.service_model.specs.Pending.{is_opening, is_settled}
-use Rattle.service_model.specs.declared.content.Dispatch.{Dispatch}
-use Rattle.service_model.specs.declared.content.Setup.{Setup}
-use Rattle.service_model.specs.declared.journal.Fact.{Fact}
-use Rattle.service_model.specs.declared.journal.Fact.TheVariants.{Event as an_event, Note as a_note}
-use Rattle.service_model.specs.declared.journal.Note.{Note}
-use Rattle.service_model.specs.declared.journal.Note.TheVariants.{Ready}
-use Rattle.service_model.specs.declared.transfer.TransferContent.TheVariants.{StartChild, ChildClosed, CloseChild, SignalExternal, CancelExternal}
+use Rattle.service_model_types.specs.declared.content.Dispatch.{Dispatch}
+use Rattle.service_model_types.specs.declared.content.Setup.{Setup}
+use Rattle.service_model_types.specs.declared.journal.Fact.{Fact}
+use Rattle.service_model_types.specs.declared.journal.Fact.TheVariants.{Event as an_event, Note as a_note}
+use Rattle.service_model_types.specs.declared.journal.Note.{Note}
+use Rattle.service_model_types.specs.declared.journal.Note.TheVariants.{Ready}
+use Rattle.service_model_types.specs.declared.transfer.TransferContent.TheVariants.{StartChild, ChildClosed, CloseChild, SignalExternal, CancelExternal}
 use Rattle.service_model.specs.RunState.{RunState, ActivityRow, row_of, parent_of, is_open}
 use Rattle.service_model.specs.Deadlines.{scheduled_fields}
-use Rattle.service_model.specs.Outcome.{shard_of, run_id, if_some}
-use Rattle.service_model.specs.declared.transfer.Sent.{Sent}
+use Rattle.service_model.specs.Outcome.{run_id, if_some}
+use Rattle.service_model_types.specs.Routing.{shard_of}
+use Rattle.service_model_types.specs.declared.transfer.Sent.{Sent}
 use Rattle.wf_event_values.specs.Run.{Run}
 
 -- the events that a run shows after a step beyond those that it showed before

@@ -7,8 +7,8 @@ use Rattle.wf_event.specs.declared.attributes.Attributes.TheVariants.{ActivityTa
 use Rattle.wf_event_values.specs.declared.policies.Status.{Status}
 use Rattle.wf_event_values.specs.declared.policies.Status.TheVariants.{Running}
 use Rattle.wf_event.specs.Role.{Role, TaskSchedules, TaskStarts, TaskEnds, role, is_closing_role, Class, AnActivity, ATimer, AChild, ASignal, ACancel, opens, Settled, settles, closing_status}
-use Rattle.service_model.specs.declared.journal.Note.{Note}
-use Rattle.service_model.specs.declared.journal.Note.TheVariants.{Taken, Ended, Ready, Beat}
+use Rattle.service_model_types.specs.declared.journal.Note.{Note}
+use Rattle.service_model_types.specs.declared.journal.Note.TheVariants.{Taken, Ended, Ready, Beat}
 use Rattle.service_model.specs.Journal.{Journal, Made, events_made, Noted, notes_made, latest}
 use Rattle.service_model.specs.Shown.{shown, held_made}
 

@@ -12,18 +12,19 @@ use Rattle.wf_event.specs.Role.{AnActivity}
 use Rattle.wf_command.specs.declared.command.Command.{Command}
 use Rattle.wf_command.specs.declared.command.Command.TheVariants.{ContinueAsNewWorkflowExecution}
 use Rattle.wf_command.specs.declared.command.ContinueAsNew.{ContinueAsNew}
-use Rattle.service_model.specs.declared.answer.Answer.TheVariants.{WorkflowTask, ActivityTask, Stale, Completed, TaskFailed, Failed}
-use Rattle.service_model.specs.declared.journal.Fact.{Fact}
-use Rattle.service_model.specs.declared.journal.Note.TheVariants.{Taken}
-use Rattle.service_model.specs.declared.request.Hint.{Hint}
-use Rattle.service_model.specs.declared.request.TakenTask.{TakenTask}
-use Rattle.service_model.specs.declared.request.CompleteWorkflowTask.{CompleteWorkflowTask}
-use Rattle.service_model.specs.declared.request.FailWorkflowTask.{FailWorkflowTask}
+use Rattle.service_model_types.specs.declared.answer.Answer.TheVariants.{WorkflowTask, ActivityTask, Stale, Completed, TaskFailed, Failed}
+use Rattle.service_model_types.specs.declared.journal.Fact.{Fact}
+use Rattle.service_model_types.specs.declared.journal.Note.TheVariants.{Taken}
+use Rattle.service_model_types.specs.declared.request.Hint.{Hint}
+use Rattle.service_model_types.specs.declared.request.TakenTask.{TakenTask}
+use Rattle.service_model_types.specs.declared.request.CompleteWorkflowTask.{CompleteWorkflowTask}
+use Rattle.service_model_types.specs.declared.request.FailWorkflowTask.{FailWorkflowTask}
 use Rattle.service_model.specs.Journal.{plain, latest}
 use Rattle.service_model.specs.Pending.{is_settled, Phase, IsQueued, Task, IsScheduled, IsStarted}
 use Rattle.service_model.specs.RunState.{RunState, ActivityRow, Beginning, row_of, held_attributes, id_of, last_task}
 use Rattle.service_model.specs.Deadlines.{scheduled_fields}
-use Rattle.service_model.specs.Outcome.{Outcome, Runs, answered, refused, adds, run_id, run_at, has_run, next_ordinal, made_by, noted, used_task_timeout}
+use Rattle.service_model.specs.Outcome.{Outcome, Runs, answered, refused, adds, run_id, run_at, has_run, next_ordinal, made_by, noted}
+use Rattle.service_model_types.specs.Limits.{used_task_timeout}
 use Rattle.service_model.specs.Starts.{first_task}
 use Rattle.service_model.specs.Completion.{Judged, judge_all, failed_task, completed_task}
 

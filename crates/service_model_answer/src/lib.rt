@@ -3,17 +3,17 @@
 #![tactic(auto)]
 
 ghost use Rattle.std.specs.Prelude.{◌≡◌, [], IfOk, OnOk};
-ghost use Rattle.service_model.specs.declared.content.Content.{Content};
+ghost use Rattle.service_model_types.specs.declared.content.Content.{Content};
 ghost use Rattle.service_model.specs.Service.{after, answer, replay};
 ghost use Rattle.shard.specs.Standing.{StandsFor};
 ghost use Rattle.shard.specs.View.{IsSetup};
 
 use gate::{Entry, Object};
 use mutable_state_keeper::KeepsRun;
-use service_model::answer::Reply;
-use service_model::content::Setup;
-use service_model::request::Request;
 use service_model_journal::JournalRun;
+use service_model_types::answer::Reply;
+use service_model_types::content::Setup;
+use service_model_types::request::Request;
 use shard::Shard;
 use std::alloc::{AllocError, Global};
 

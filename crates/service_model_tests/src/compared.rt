@@ -1,7 +1,7 @@
 //! A shard that keeps its runs by tables beside one that keeps them by their journals.
 
 ghost use Rattle.std.specs.Prelude.{◌≡◌, ◌<◌, ◌≤◌, ◌^◌, IfOk, OnOk};
-ghost use Rattle.service_model.specs.declared.content.Content.{Content};
+ghost use Rattle.service_model_types.specs.declared.content.Content.{Content};
 ghost use Rattle.shard.specs.Standing.{StandsFor};
 
 use crate::draws::Draws;
@@ -9,10 +9,10 @@ use crate::known::Known;
 use crate::requests::request;
 use crate::tally::{EVENTS, REPLIES, Tally};
 use gate::Object;
-use service_model::answer::Reply;
-use service_model::content::Setup;
-use service_model::request::Request;
 use service_model_answer::answer;
+use service_model_types::answer::Reply;
+use service_model_types::content::Setup;
+use service_model_types::request::Request;
 use std::alloc::{AllocError, AllocGlobal, Global};
 use std::process::Abort;
 use std::test::Fail;

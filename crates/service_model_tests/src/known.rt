@@ -1,8 +1,8 @@
 //! What workers know: the tasks that may wait, and those that were taken.
 
 use crate::draws::Draws;
-use service_model::answer::{Answer, Fired, History, Reply};
-use service_model::request::{Hint, TakenTask};
+use service_model_types::answer::{Answer, Fired, History, Reply};
+use service_model_types::request::{Hint, TakenTask};
 use std::alloc::{AllocError, Global};
 use wf_event::Attributes;
 use wf_event_values::{DeadlineClass, Refusal, TaskKind};

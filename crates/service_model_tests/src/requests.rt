@@ -5,7 +5,7 @@ ghost use Rattle.std.specs.Prelude.{◌≡◌, ◌<◌};
 
 use crate::draws::Draws;
 use crate::known::{Known, Next};
-use service_model::request::{
+use service_model_types::request::{
     ActivityText, CompleteWorkflowTask, FailActivity, FailWorkflowTask, Operation, Read, Request,
     RequestCancel, Signal, SignalWithStart, Start, Terminate,
 };

@@ -1,6 +1,6 @@
 //! How often each kind of reply was compared, and each kind of event in a history.
 
-use service_model::answer::{Acknowledged, Answer, History, Reply};
+use service_model_types::answer::{Acknowledged, Answer, History, Reply};
 use std::alloc::{AllocError, Global};
 use wf_event_values::{DeadlineClass, Field, Refusal};
 

@@ -6,8 +6,10 @@ ghost use Rattle.service.specs.Services.{IsPassOf};
 use crate::asked::{id, signal, start, text, two_shards};
 use crate::passes::{open, take_pass};
 use service::{Pass, Service};
-use service_model::answer::{Answer, Reply};
-use service_model::request::{ActivityText, CompleteWorkflowTask, FailActivity, Hint, TakenTask};
+use service_model_types::answer::{Answer, Reply};
+use service_model_types::request::{
+    ActivityText, CompleteWorkflowTask, FailActivity, Hint, TakenTask,
+};
 use std::alloc::AllocGlobal;
 use std::process::Abort;
 use std::sync::Wait;

@@ -2,9 +2,9 @@
 
 ghost use Rattle.std.specs.Prelude.{◌≡◌};
 
-use service_model::limits::DEFAULT_CAPACITY;
-use service_model::request::{Signal, Start};
-use service_model::settings::{Settings, main_queue};
+use service_model_types::limits::DEFAULT_CAPACITY;
+use service_model_types::request::{Signal, Start};
+use service_model_types::settings::{Settings, main_queue};
 use std::alloc::AllocGlobal;
 use std::process::Abort;
 use wf_event_values::{ConflictPolicy, Field, Id, Moment, ReusePolicy, RunId, Span, Text};

@@ -5,8 +5,8 @@ ghost use Rattle.gate.specs.Passes.{number};
 ghost use Rattle.service.specs.Services.{IsPassOf, known_by, settings_of};
 
 use service::{Pass, Record, Service};
-use service_model::request::Request;
-use service_model::settings::Settings;
+use service_model_types::request::Request;
+use service_model_types::settings::Settings;
 use std::alloc::AllocGlobal;
 use std::process::Abort;
 

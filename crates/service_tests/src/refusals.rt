@@ -7,7 +7,7 @@ ghost use Rattle.service.specs.Services.{IsPassOf, known_by};
 use crate::asked::two_shards;
 use crate::passes::{close_two, open, take_pass};
 use service::{Pass, Service};
-use service_model::request::{
+use service_model_types::request::{
     CompleteWorkflowTask, FailWorkflowTask, Hint, Operation, Request, TakenTask,
 };
 use std::alloc::{AllocError, AllocGlobal, Global};

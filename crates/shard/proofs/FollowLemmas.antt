@@ -5,9 +5,10 @@ use Rattle.wf_event.specs.declared.attributes.Attributes.{Attributes}
 use Rattle.wf_event.specs.declared.attributes.Attributes.TheVariants.{WorkflowExecutionStarted}
 use Rattle.wf_event.specs.declared.payloads.WorkflowExecutionStarted.{WorkflowExecutionStarted as StartedAttributes}
 use Rattle.wf_command.specs.declared.command.ContinueAsNew.{ContinueAsNew}
-use Rattle.service_model.specs.declared.journal.Fact.{Fact}
-use Rattle.service_model.specs.declared.journal.Fact.TheVariants.{Event as an_event}
-use Rattle.service_model.specs.Outcome.{Outcome, CountsNothing, Reply, Runs, run_at, run_id}
+use Rattle.service_model_types.specs.declared.journal.Fact.{Fact}
+use Rattle.service_model_types.specs.declared.journal.Fact.TheVariants.{Event as an_event}
+use Rattle.service_model.specs.Outcome.{Outcome, CountsNothing, Runs, run_at, run_id}
+use Rattle.service_model_types.specs.Replies.{Reply}
 use Rattle.service_model.specs.RunState.{Beginning, RunState, id_of, is_open, no_run, started_of}
 use Rattle.service_model.specs.Starts.{start_request}
 use Rattle.service_model.specs.Tasks.{continued}

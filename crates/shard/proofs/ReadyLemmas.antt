@@ -1,10 +1,10 @@
 -- what a request does to a shard that stands for a content
 use Rattle.std.proofs.Common.{◌≡◌, ℕ, ◌≤◌, length, refl, sym, ap, ◌∙◌, subst}
 use Rattle.std.specs.Prelude.{max}
-use Rattle.service_model.specs.declared.content.Content.{Content}
-use Rattle.service_model.specs.declared.request.Operation.{Operation}
-use Rattle.service_model.specs.declared.request.Operation.TheVariants as served
-use Rattle.service_model.specs.declared.request.Request.{Request}
+use Rattle.service_model_types.specs.declared.content.Content.{Content}
+use Rattle.service_model_types.specs.declared.request.Operation.{Operation}
+use Rattle.service_model_types.specs.declared.request.Operation.TheVariants as served
+use Rattle.service_model_types.specs.declared.request.Request.{Request}
 use Rattle.service_model.specs.Growth.{KeepsHistories}
 use Rattle.service_model.specs.Outcome.{Outcome}
 use Rattle.service_model.specs.Service.{after, moment_of, outcome}

@@ -2,7 +2,7 @@
 use Rattle.std.proofs.Common.{◌≡◌, ℕ, Bool, true, false, cond, ◌==◌, ◌≤◌, refl, sym, ap, ◌∙◌, subst, arith, nat_le, length, Option, Some, None}
 use Rattle.std.proofs.lemmas.Bool.Decides.{nat_tests}
 use Rattle.std.specs.Prelude.{unwrap_or, option_map, IfSome}
-use Rattle.service_model.specs.declared.request.TakenTask.{TakenTask}
+use Rattle.service_model_types.specs.declared.request.TakenTask.{TakenTask}
 use Rattle.service_model.specs.Activities.{keep_running, running_attempt}
 use Rattle.service_model.specs.Completion.{is_running_phase}
 use Rattle.service_model.specs.Outcome.{has_run, if_some, run_at}

@@ -1,10 +1,10 @@
 -- what each request does to a shard, by what is known of it
 use Rattle.std.specs.Prelude.{ℕ, ◌∷◌, [], List, Option, unwrap_or}
-use Rattle.service_model.specs.declared.journal.Fact.{Fact}
-use Rattle.service_model.specs.declared.request.SignalWithStart.{SignalWithStart}
-use Rattle.service_model.specs.declared.request.Start.{Start}
-use Rattle.service_model.specs.declared.request.Operation.{Operation}
-use Rattle.service_model.specs.declared.request.Operation.TheVariants as served
+use Rattle.service_model_types.specs.declared.journal.Fact.{Fact}
+use Rattle.service_model_types.specs.declared.request.SignalWithStart.{SignalWithStart}
+use Rattle.service_model_types.specs.declared.request.Start.{Start}
+use Rattle.service_model_types.specs.declared.request.Operation.{Operation}
+use Rattle.service_model_types.specs.declared.request.Operation.TheVariants as served
 use Rattle.service_model.specs.Outcome.{Outcome, Runs, latest_run}
 use Rattle.service_model.specs.Starts.{started_fact, first_task, start, decision, by_decision}
 use Rattle.service_model.specs.Signals.{signal, signal_fact, signal_with_start, with_fail}

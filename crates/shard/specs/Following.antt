@@ -6,7 +6,7 @@ use Rattle.wf_event_values.specs.declared.policies.Cause.{Cause}
 use Rattle.wf_command.specs.declared.command.Command.{Command}
 use Rattle.wf_command.specs.declared.command.ContinueAsNew.{ContinueAsNew}
 use Rattle.service_model.specs.Journal.{latest}
-use Rattle.service_model.specs.Outcome.{used_task_timeout}
+use Rattle.service_model_types.specs.Limits.{used_task_timeout}
 use Rattle.service_model.specs.Starts.{first_task}
 use Rattle.service_model.specs.Tasks.{continue_part}
 use Rattle.shard_steps.specs.declared.starts.Beginning.{Beginning}

@@ -1,7 +1,7 @@
 -- the running attempt of an activity that a token names
 use Rattle.std.specs.Prelude.{◌≡◌, ◌≤◌, true, Some, length}
 use Rattle.wf_event.specs.Role.{AnActivity}
-use Rattle.service_model.specs.declared.request.TakenTask.{TakenTask}
+use Rattle.service_model_types.specs.declared.request.TakenTask.{TakenTask}
 use Rattle.service_model.specs.Activities.{running_attempt}
 use Rattle.service_model.specs.Outcome.{run_at}
 use Rattle.service_model.specs.RunState.{ActivityRow, is_open, pending}

@@ -3,8 +3,8 @@
 ghost use Rattle.std.specs.Prelude.{◌≡◌, ◌≤◌, ◌∷◌, [], length, true, is_some, IfOk, IfSome};
 ghost use Rattle.wf_event.specs.Role.{AnActivity};
 ghost use Rattle.wf_event_values.specs.declared.policies.TaskKind.TheVariants.{Activity as of_an_activity};
-ghost use Rattle.service_model.specs.declared.answer.Answer.TheVariants.{ActivityTask as an_activity_task};
-ghost use Rattle.service_model.specs.declared.journal.Note.TheVariants.{Taken};
+ghost use Rattle.service_model_types.specs.declared.answer.Answer.TheVariants.{ActivityTask as an_activity_task};
+ghost use Rattle.service_model_types.specs.declared.journal.Note.TheVariants.{Taken};
 ghost use Rattle.service_model.specs.Outcome.{adds, noted, run_at};
 ghost use Rattle.service_model.specs.RunState.{is_open, used};
 ghost use Rattle.service_model.specs.Tasks.{take_by_kind, pending_row};
@@ -15,9 +15,9 @@ ghost use Rattle.shard_store.specs.View.{state, runs_in};
 
 use crate::more::prepare_more;
 use mutable_state_keeper::KeepsRun;
-use service_model::answer::{ActivityTask, Answer};
-use service_model::journal::Note;
-use service_model::request::Hint;
+use service_model_types::answer::{ActivityTask, Answer};
+use service_model_types::journal::Note;
+use service_model_types::request::Hint;
 use shard_steps::{attempt_task, note_facts};
 use shard_store::{Plan, Store, answered};
 use std::alloc::AllocError;

@@ -8,9 +8,9 @@ use crate::prepare::prepare;
 use crate::shard::Shard;
 use gate::Object;
 use mutable_state_keeper::KeepsRun;
-use service_model::answer::Reply;
-use service_model::content::Content;
-use service_model::request::Request;
+use service_model_types::answer::Reply;
+use service_model_types::content::Content;
+use service_model_types::request::Request;
 use shard_store::Plan;
 use std::alloc::AllocError;
 

@@ -7,8 +7,8 @@ ghost use Rattle.shard_store.specs.Fitting.{FitsStep};
 ghost use Rattle.shard_store.specs.View.{state};
 
 use mutable_state_keeper::KeepsRun;
-use service_model::answer::{Acknowledged, Answer, NumberedDispatch};
-use service_model::content::Dispatch;
+use service_model_types::answer::{Acknowledged, Answer, NumberedDispatch};
+use service_model_types::content::Dispatch;
 use shard_store::{Change, Count, Plan, Store, answered};
 use std::alloc::AllocError;
 use wf_event_values::Moment;

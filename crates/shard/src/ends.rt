@@ -9,9 +9,9 @@ ghost use Rattle.shard_store.specs.Fitting.{FitsStep};
 
 use crate::more::prepare_more;
 use mutable_state_keeper::KeepsRun;
-use service_model::answer::Answer;
-use service_model::journal::CancelRequest;
-use service_model::request::{RequestCancel, Terminate};
+use service_model_types::answer::Answer;
+use service_model_types::journal::CancelRequest;
+use service_model_types::request::{RequestCancel, Terminate};
 use shard_steps::{cancel_facts, is_repeated, terminated_facts};
 use shard_store::{Plan, Store, answered, refused};
 use std::alloc::AllocError;

@@ -10,7 +10,7 @@ ghost use Rattle.shard.specs.Following.{continuing, following};
 ghost use Rattle.shard_store.specs.View.{state, runs_in};
 
 use mutable_state_keeper::KeepsRun;
-use service_model::limits::used_task_timeout;
+use service_model_types::limits::used_task_timeout;
 use shard_steps::{Beginning, first_task};
 use shard_store::{NewRun, Store};
 use std::alloc::{AllocError, Global};

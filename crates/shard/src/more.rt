@@ -8,8 +8,8 @@ ghost use Rattle.shard_store.specs.View.{state, runs_in};
 
 use mutable_state::Change as MoreFacts;
 use mutable_state_keeper::KeepsRun;
-use service_model::answer::Answer;
-use service_model::journal::Fact;
+use service_model_types::answer::Answer;
+use service_model_types::journal::Fact;
 use shard_store::{Change, Count, MoreOf, Plan, Store};
 use std::alloc::AllocError;
 use wf_event_values::{Items, Moment};

@@ -17,7 +17,7 @@ use crate::tasks::{prepare_completion, prepare_failure, prepare_start_task};
 use crate::turns::prepare_timer_turn;
 use crate::verdicts::prepare_fail_activity;
 use mutable_state_keeper::KeepsRun;
-use service_model::request::{Operation, Request};
+use service_model_types::request::{Operation, Request};
 use shard_deliveries::{prepare_acknowledge, prepare_delivery, prepare_next_transfer};
 use shard_store::{Plan, Store};
 use std::alloc::AllocError;

@@ -7,7 +7,7 @@ ghost use Rattle.shard_store.specs.View.{IsSetup, state};
 ghost use Rattle.transfer.specs.Outboxes.{nothing};
 
 use mutable_state_keeper::KeepsRun;
-use service_model::content::Setup;
+use service_model_types::content::Setup;
 use shard_store::Store;
 use std::alloc::{AllocError, Global};
 use std::marker::Model;

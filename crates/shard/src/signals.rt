@@ -9,8 +9,8 @@ ghost use Rattle.shard_store.specs.Fitting.{FitsStep};
 
 use crate::more::prepare_more;
 use mutable_state_keeper::KeepsRun;
-use service_model::answer::Answer;
-use service_model::request::Signal;
+use service_model_types::answer::Answer;
+use service_model_types::request::Signal;
 use shard_steps::signal_facts;
 use shard_store::{Plan, Store, answered, refused};
 use std::alloc::AllocError;

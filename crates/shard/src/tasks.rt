@@ -2,7 +2,7 @@
 
 ghost use Rattle.std.specs.Prelude.{◌≡◌, ◌≤◌, ◌<◌, ◌+◌, [], length, map, true, is_some, IfOk, IfSome};
 ghost use Rattle.wf_event_values.specs.declared.policies.Cause.TheVariants.{WorkflowWorkerUnhandledFailure};
-ghost use Rattle.service_model.specs.declared.answer.Answer.TheVariants.{Failed};
+ghost use Rattle.service_model_types.specs.declared.answer.Answer.TheVariants.{Failed};
 ghost use Rattle.service_model.specs.Completion.{judge_all, failed_task};
 ghost use Rattle.service_model.specs.Journal.{plain};
 ghost use Rattle.service_model.specs.Outcome.{adds, next_ordinal, run_at, run_id};
@@ -15,8 +15,8 @@ use crate::activities::take_activity;
 use crate::followers::prepare_follower;
 use mutable_state::Change as MoreFacts;
 use mutable_state_keeper::KeepsRun;
-use service_model::answer::{Answer, WorkflowTask};
-use service_model::request::{CompleteWorkflowTask, FailWorkflowTask, Hint, TakenTask};
+use service_model_types::answer::{Answer, WorkflowTask};
+use service_model_types::request::{CompleteWorkflowTask, FailWorkflowTask, Hint, TakenTask};
 use shard_steps::{ended, started_facts};
 use shard_store::{Change, Count, MoreOf, Plan, Store, answered, refused};
 use std::alloc::AllocError;

@@ -9,7 +9,7 @@ ghost use Rattle.shard_store.specs.Fitting.{FitsStep};
 
 use crate::more::prepare_more;
 use mutable_state_keeper::KeepsRun;
-use service_model::answer::{Answer, Fired};
+use service_model_types::answer::{Answer, Fired};
 use shard_steps::fired_facts;
 use shard_store::{Plan, Store, answered};
 use std::alloc::AllocError;

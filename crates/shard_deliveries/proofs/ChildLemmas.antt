@@ -5,11 +5,11 @@ use Rattle.wf_event_values.specs.Run.{Run}
 use Rattle.wf_event_values.specs.declared.policies.ConflictPolicy.TheVariants.{Fail}
 use Rattle.wf_event_values.specs.declared.policies.Status.{Status}
 use Rattle.wf_event_values.specs.declared.policies.Status.TheVariants.{Running, Completed, Failed, Canceled, Terminated, ContinuedAsNew, TimedOut}
-use Rattle.service_model.specs.declared.answer.Answer.TheVariants.{Accepted}
-use Rattle.service_model.specs.declared.transfer.Sent.{Sent}
-use Rattle.service_model.specs.declared.transfer.StartChildTransfer.{StartChildTransfer}
-use Rattle.service_model.specs.declared.transfer.Transfer.{Transfer}
-use Rattle.service_model.specs.declared.transfer.TransferContent.TheVariants.{ChildStarted}
+use Rattle.service_model_types.specs.declared.answer.Answer.TheVariants.{Accepted}
+use Rattle.service_model_types.specs.declared.transfer.Sent.{Sent}
+use Rattle.service_model_types.specs.declared.transfer.StartChildTransfer.{StartChildTransfer}
+use Rattle.service_model_types.specs.declared.transfer.Transfer.{Transfer}
+use Rattle.service_model_types.specs.declared.transfer.TransferContent.TheVariants.{ChildStarted}
 use Rattle.service_model.specs.Deliveries.{accepted_from, is_new}
 use Rattle.service_model.specs.IdPolicy.{decide}
 use Rattle.service_model.specs.Outcome.{Runs, latest_run, run_at, run_id}

@@ -7,14 +7,14 @@ use Rattle.wf_event.specs.declared.event.Event.{Event}
 use Rattle.wf_event_values.specs.Run.{Run}
 use Rattle.wf_event_values.specs.declared.policies.CancelSource.{CancelSource}
 use Rattle.wf_event_values.specs.declared.policies.Cause.{Cause}
-use Rattle.service_model.specs.declared.transfer.ChildClosed.{ChildClosed}
-use Rattle.service_model.specs.declared.transfer.ChildStatus.{ChildStatus}
-use Rattle.service_model.specs.declared.transfer.ChildStatus.TheVariants.{Completed, Failed, Canceled, TimedOut, Terminated}
-use Rattle.service_model.specs.declared.transfer.ExternalDoneTransfer.{ExternalDoneTransfer}
-use Rattle.service_model.specs.declared.transfer.ExternalKind.{ExternalKind}
-use Rattle.service_model.specs.declared.transfer.ExternalKind.TheVariants.{Signal as OfSignal, Cancel as OfCancel}
+use Rattle.service_model_types.specs.declared.transfer.ChildClosed.{ChildClosed}
+use Rattle.service_model_types.specs.declared.transfer.ChildStatus.{ChildStatus}
+use Rattle.service_model_types.specs.declared.transfer.ChildStatus.TheVariants.{Completed, Failed, Canceled, TimedOut, Terminated}
+use Rattle.service_model_types.specs.declared.transfer.ExternalDoneTransfer.{ExternalDoneTransfer}
+use Rattle.service_model_types.specs.declared.transfer.ExternalKind.{ExternalKind}
+use Rattle.service_model_types.specs.declared.transfer.ExternalKind.TheVariants.{Signal as OfSignal, Cancel as OfCancel}
 use Rattle.wf_event.specs.Role.{AChild, Class, Role, is_closing_role, role, opens, settles, closing_status}
-use Rattle.service_model.specs.declared.journal.Fact.{Fact}
+use Rattle.service_model_types.specs.declared.journal.Fact.{Fact}
 use Rattle.service_model.specs.Deliveries.{asked_id, child_closed_event, external_class, external_event, pending_asked}
 use Rattle.service_model.specs.Journal.{plain}
 use Rattle.service_model.specs.Outcome.{is_no_task, outside, schedule_task}

@@ -1,12 +1,13 @@
 -- the start of a child
 use Rattle.std.specs.Prelude.{Bool, false, [], ◌∷◌, None, Some, option_map}
 use Rattle.wf_event_values.specs.declared.policies.ConflictPolicy.TheVariants.{Fail}
-use Rattle.service_model.specs.declared.transfer.StartChildTransfer.{StartChildTransfer}
-use Rattle.service_model.specs.declared.transfer.Transfer.{Transfer}
-use Rattle.service_model.specs.declared.transfer.TransferContent.TheVariants.{ChildStarted}
+use Rattle.service_model_types.specs.declared.transfer.StartChildTransfer.{StartChildTransfer}
+use Rattle.service_model_types.specs.declared.transfer.Transfer.{Transfer}
+use Rattle.service_model_types.specs.declared.transfer.TransferContent.TheVariants.{ChildStarted}
 use Rattle.service_model.specs.Deliveries.{accepts, child_facts, is_new}
 use Rattle.service_model.specs.IdPolicy.{decide}
-use Rattle.service_model.specs.Outcome.{Outcome, Runs, latest_run, next_ordinal, run_at, run_id, used_task_timeout}
+use Rattle.service_model.specs.Outcome.{Outcome, Runs, latest_run, next_ordinal, run_at, run_id}
+use Rattle.service_model_types.specs.Limits.{used_task_timeout}
 use Rattle.service_model.specs.Starts.{first_task}
 use Rattle.shard_steps.specs.declared.starts.Beginning.{Beginning}
 

@@ -3,7 +3,7 @@
 
 ghost use Rattle.std.specs.Prelude.{◌≡◌, IfOk, [], None};
 ghost use Rattle.service_model.specs.Deliveries.{effect, external_class};
-ghost use Rattle.service_model.specs.declared.transfer.TransferContent.TheVariants as content;
+ghost use Rattle.service_model_types.specs.declared.transfer.TransferContent.TheVariants as content;
 ghost use Rattle.mutable_state.specs.Opens.{class_in};
 ghost use Rattle.shard_store.specs.Fitting.{FitsStep};
 ghost use Rattle.shard_store.specs.View.{state, runs_in};
@@ -14,7 +14,7 @@ use crate::events::{child_closed_event, external_event};
 use crate::pending::pending_request;
 use mutable_state::Class;
 use mutable_state_keeper::KeepsRun;
-use service_model::transfer::{
+use service_model_types::transfer::{
     ChildClosed, ChildStartFailed, ChildStarted, ExternalDoneTransfer, ExternalKind, Transfer,
 };
 use shard_store::{Plan, Store};

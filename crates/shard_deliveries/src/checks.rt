@@ -2,10 +2,10 @@
 
 ghost use Rattle.std.specs.Prelude.{◌≡◌, ◌<◌, ◌==◌, ◌&&◌};
 ghost use Rattle.service_model.specs.Deliveries.{comes_from, is_for_shard};
-ghost use Rattle.service_model.specs.Outcome.{shard_of};
+ghost use Rattle.service_model_types.specs.Routing.{shard_of};
 
-use service_model::content::Setup;
-use service_model::transfer::{Transfer, TransferContent};
+use service_model_types::content::Setup;
+use service_model_types::transfer::{Transfer, TransferContent};
 use wf_event_values::{Id, RunId};
 
 /// Whether the run that asks is one of this service and of the shard that sent it.

@@ -6,9 +6,9 @@ ghost use Rattle.shard_store.specs.Fitting.{FitsStep};
 ghost use Rattle.shard_store.specs.View.{state};
 
 use mutable_state_keeper::KeepsRun;
-use service_model::answer::{Acknowledged, Answer};
-use service_model::request::Acknowledge;
-use service_model::transfer::Transfer;
+use service_model_types::answer::{Acknowledged, Answer};
+use service_model_types::request::Acknowledge;
+use service_model_types::transfer::Transfer;
 use shard_store::{Change, Count, Plan, Store, answered, refused};
 use std::alloc::AllocError;
 use transfer::copied;

@@ -7,8 +7,8 @@ ghost use Rattle.service_model.specs.Outcome.{outside};
 
 use mutable_state::plain;
 use mutable_state_keeper::{KeepsRun, Run};
-use service_model::journal::Fact;
-use service_model::transfer::{ChildClosed, ChildStatus, ExternalDoneTransfer, ExternalKind};
+use service_model_types::journal::Fact;
+use service_model_types::transfer::{ChildClosed, ChildStatus, ExternalDoneTransfer, ExternalKind};
 use shard_steps::from_outside;
 use std::alloc::{AllocError, Global};
 use wf_event::Attributes;

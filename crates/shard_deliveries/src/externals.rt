@@ -4,7 +4,7 @@ ghost use Rattle.std.specs.Prelude.{◌≡◌, ◌≤◌, IfOk, Some, length, tr
 ghost use Rattle.service_model.specs.Deliveries.{cancel_external, effect, external_done, signal_external};
 ghost use Rattle.service_model.specs.Outcome.{run_at};
 ghost use Rattle.service_model.specs.RunState.{is_open};
-ghost use Rattle.service_model.specs.declared.transfer.TransferContent.TheVariants as content;
+ghost use Rattle.service_model_types.specs.declared.transfer.TransferContent.TheVariants as content;
 ghost use Rattle.shard_store.specs.Fitting.{FitsStep};
 ghost use Rattle.shard_store.specs.View.{state, runs_in};
 ghost use Rattle.shard_deliveries.specs.Accepting.{MayAccept};
@@ -12,7 +12,7 @@ ghost use Rattle.shard_deliveries.specs.Accepting.{MayAccept};
 use crate::accepts::{accept_event, accept_with};
 use crate::children::is_asked;
 use mutable_state_keeper::KeepsRun;
-use service_model::transfer::{
+use service_model_types::transfer::{
     CancelExternalTransfer, ExternalDoneTransfer, ExternalKind, Sent, SignalExternalTransfer,
     Transfer, TransferContent,
 };

@@ -2,7 +2,7 @@
 
 ghost use Rattle.std.specs.Prelude.{◌≡◌, IfOk, true};
 ghost use Rattle.service_model.specs.Deliveries.{effect};
-ghost use Rattle.service_model.specs.declared.transfer.TransferContent.TheVariants as content;
+ghost use Rattle.service_model_types.specs.declared.transfer.TransferContent.TheVariants as content;
 ghost use Rattle.shard_steps.specs.Starts.{MayBegin, first_facts};
 ghost use Rattle.shard_store.specs.Fitting.{FitsStep, IsFree};
 ghost use Rattle.shard_store.specs.View.{state, states, runs_in};
@@ -12,9 +12,9 @@ ghost use Rattle.shard_deliveries.specs.Children.{child_beginning, is_free_for, 
 use crate::accepts::accept_with;
 use id_policy::{Decision, Latest, decide};
 use mutable_state_keeper::KeepsRun;
-use service_model::answer::Answer;
-use service_model::limits::used_task_timeout;
-use service_model::transfer::{
+use service_model_types::answer::Answer;
+use service_model_types::limits::used_task_timeout;
+use service_model_types::transfer::{
     ChildStartFailed, ChildStarted, Sent, StartChildTransfer, Transfer, TransferContent,
 };
 use shard_steps::{Beginning, first_task};

@@ -5,7 +5,7 @@ use Rattle.wf_event.specs.declared.payloads.ActivityTaskScheduled.{ActivityTaskS
 use Rattle.wf_event.specs.Role.{AnActivity}
 use Rattle.wf_event_values.specs.declared.policies.RetryState.TheVariants.{Timeout}
 use Rattle.wf_event_values.specs.declared.policies.TimeoutKind.{TimeoutKind}
-use Rattle.service_model.specs.declared.journal.Note.TheVariants.{Ended, Ready}
+use Rattle.service_model_types.specs.declared.journal.Note.TheVariants.{Ended, Ready}
 use Rattle.service_model.specs.Activities.{verdict_at}
 use Rattle.service_model.specs.Completion.{is_running_phase}
 use Rattle.service_model.specs.Deadlines.{scheduled_fields}

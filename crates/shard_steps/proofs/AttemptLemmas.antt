@@ -3,10 +3,10 @@ use Rattle.std.proofs.Common.{◌≡◌, ℕ, Bool, true, false, cond, ◌||◌,
 use Rattle.std.specs.Prelude.{find, map, IfSome}
 use Rattle.wf_event.specs.declared.payloads.ActivityTaskScheduled.{ActivityTaskScheduled as ScheduledAttributes}
 use Rattle.wf_event.specs.Role.{AnActivity}
-use Rattle.service_model.specs.declared.answer.ActivityTask.{ActivityTask as Task}
-use Rattle.service_model.specs.declared.answer.Answer.TheVariants.{ActivityTask, Stale}
-use Rattle.service_model.specs.declared.journal.Note.TheVariants.{Taken}
-use Rattle.service_model.specs.declared.request.Hint.{Hint}
+use Rattle.service_model_types.specs.declared.answer.ActivityTask.{ActivityTask as Task}
+use Rattle.service_model_types.specs.declared.answer.Answer.TheVariants.{ActivityTask, Stale}
+use Rattle.service_model_types.specs.declared.journal.Note.TheVariants.{Taken}
+use Rattle.service_model_types.specs.declared.request.Hint.{Hint}
 use Rattle.service_model.specs.Deadlines.{scheduled_fields}
 use Rattle.service_model.specs.Outcome.{Outcome, Runs, answered, adds, noted, run_at, run_id}
 use Rattle.service_model.specs.Pending.{is_settled}

@@ -13,10 +13,10 @@ use Rattle.wf_command.specs.declared.command.Command.{Command}
 use Rattle.wf_command.specs.declared.command.Command.TheVariants.{ContinueAsNewWorkflowExecution}
 use Rattle.wf_command.specs.declared.command.ContinueAsNew.{ContinueAsNew}
 use Rattle.wf_command.specs.Check.{attributes_fault}
-use Rattle.service_model.specs.declared.content.Setup.{Setup}
+use Rattle.service_model_types.specs.declared.content.Setup.{Setup}
 use Rattle.service_model.specs.Completion.{Judged, after_check, completed_task, fault_if, gives, go_on, is_some_held, judge, judge_all, judge_fields_good}
 use Rattle.service_model.specs.Journal.{plain, latest, first_some}
-use Rattle.service_model.specs.Outcome.{knows_queue}
+use Rattle.service_model_types.specs.Routing.{knows_queue}
 use Rattle.service_model.specs.RunState.{RunState, is_open, is_open_status, queue_of, type_of}
 use Rattle.service_model.specs.Tasks.{continue_part, is_started_task}
 use Rattle.mutable_state.specs.Steps.{FitStep, after_step, all_written, step_ended, with_event, with_facts}

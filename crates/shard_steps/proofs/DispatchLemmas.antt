@@ -4,13 +4,13 @@ use Rattle.std.proofs.lemmas.List.{get_or-set_same, length-drop}
 use Rattle.std.specs.Prelude.{drop, filter_map, option_and_then, option_to_list, slice_get}
 use Rattle.std.specs.List.{cons_option}
 use Rattle.wf_event.specs.Role.{AnActivity, role}
-use Rattle.service_model.specs.declared.content.Content.{Content}
-use Rattle.service_model.specs.declared.content.Dispatch.{Dispatch}
-use Rattle.service_model.specs.declared.content.Setup.{Setup}
-use Rattle.service_model.specs.declared.journal.Fact.{Fact}
-use Rattle.service_model.specs.declared.journal.Fact.TheVariants.{Event as an_event, Note as a_note}
-use Rattle.service_model.specs.declared.journal.Note.{Note}
-use Rattle.service_model.specs.declared.journal.Note.TheVariants.{Taken, Ended, Ready, Beat}
+use Rattle.service_model_types.specs.declared.content.Content.{Content}
+use Rattle.service_model_types.specs.declared.content.Dispatch.{Dispatch}
+use Rattle.service_model_types.specs.declared.content.Setup.{Setup}
+use Rattle.service_model_types.specs.declared.journal.Fact.{Fact}
+use Rattle.service_model_types.specs.declared.journal.Fact.TheVariants.{Event as an_event, Note as a_note}
+use Rattle.service_model_types.specs.declared.journal.Note.{Note}
+use Rattle.service_model_types.specs.declared.journal.Note.TheVariants.{Taken, Ended, Ready, Beat}
 use Rattle.service_model.specs.Counts.{next_dispatch, dispatched, acknowledges, dispatch_answer}
 use Rattle.service_model.specs.Issued.{dispatches_of, task_dispatch, ready_dispatch, row_dispatch, attempt_dispatch, queued_again, queued_by}
 use Rattle.service_model.specs.Outcome.{CountsDispatch, answered}

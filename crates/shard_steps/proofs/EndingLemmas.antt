@@ -12,11 +12,11 @@ use Rattle.wf_event.specs.declared.payloads.ActivityTaskScheduled.{ActivityTaskS
 use Rattle.wf_event.specs.declared.payloads.PolicyFields.{PolicyFields}
 use Rattle.wf_event.specs.Role.{AnActivity, role, opens, settles, closing_status}
 use Rattle.wf_event_values.specs.declared.policies.RetryState.TheVariants.{CancelRequested, NonRetryableFailure, MaximumAttemptsReached, Timeout}
-use Rattle.service_model.specs.declared.journal.Fact.{Fact}
-use Rattle.service_model.specs.declared.journal.NewEvent.{NewEvent}
-use Rattle.service_model.specs.declared.journal.Note.{Note}
-use Rattle.service_model.specs.declared.journal.Note.TheVariants.{Taken, Ended, Ready, Beat}
-use Rattle.service_model.specs.declared.request.FailActivity.{FailActivity}
+use Rattle.service_model_types.specs.declared.journal.Fact.{Fact}
+use Rattle.service_model_types.specs.declared.journal.NewEvent.{NewEvent}
+use Rattle.service_model_types.specs.declared.journal.Note.{Note}
+use Rattle.service_model_types.specs.declared.journal.Note.TheVariants.{Taken, Ended, Ready, Beat}
+use Rattle.service_model_types.specs.declared.request.FailActivity.{FailActivity}
 use Rattle.service_model.specs.Activities.{attempt_started, by_verdict, fail_activity, fail_at, fail_fields, running_attempt, verdict_at}
 use Rattle.service_model.specs.Deadlines.{scheduled_fields}
 use Rattle.service_model.specs.Journal.{plain}

@@ -2,9 +2,9 @@
 use Rattle.std.proofs.Common.{◌≡◌, ℕ, ◌+◌, ◌-◌, ◌<◌, ◌≤◌, Bool, true, false, cond, List, [], ◌∷◌, ◌++◌, length, append-nil, refl, sym, ap, ◌∙◌, arith, suc, slice_index_or, slice_set, Option, Some, None, IfSome}
 use Rattle.std.proofs.lemmas.List.{get_or-set_same}
 use Rattle.std.specs.Prelude.{◌==◌, option_to_list}
-use Rattle.service_model.specs.declared.content.Outgoing.{Outgoing}
-use Rattle.service_model.specs.declared.content.Setup.{Setup}
-use Rattle.service_model.specs.declared.transfer.Sent.{Sent}
+use Rattle.service_model_types.specs.declared.content.Outgoing.{Outgoing}
+use Rattle.service_model_types.specs.declared.content.Setup.{Setup}
+use Rattle.service_model_types.specs.declared.transfer.Sent.{Sent}
 use Rattle.service_model.specs.Issued.{transfers_of}
 use Rattle.service_model.specs.RunState.{RunState, no_run}
 use Rattle.service_model.specs.Service.{one_more_acknowledged, with_all_sent}

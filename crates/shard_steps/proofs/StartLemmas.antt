@@ -10,9 +10,9 @@ use Rattle.wf_event_values.specs.declared.policies.ReusePolicy.TheVariants.{Allo
 use Rattle.wf_event.specs.declared.attributes.Attributes.TheVariants.{WorkflowExecutionSignaled, WorkflowExecutionCancelRequested, WorkflowExecutionTerminated}
 use Rattle.wf_event.specs.declared.payloads.WorkflowExecutionStarted.{WorkflowExecutionStarted as StartedAttributes}
 use Rattle.wf_event.specs.Role.{role, opens, settles, closing_status}
-use Rattle.service_model.specs.declared.journal.Fact.{Fact}
-use Rattle.service_model.specs.declared.request.SignalWithStart.{SignalWithStart}
-use Rattle.service_model.specs.declared.request.Start.{Start}
+use Rattle.service_model_types.specs.declared.journal.Fact.{Fact}
+use Rattle.service_model_types.specs.declared.request.SignalWithStart.{SignalWithStart}
+use Rattle.service_model_types.specs.declared.request.Start.{Start}
 use Rattle.service_model.specs.IdPolicy.{decide, New, Same, Refused, TerminateThenNew, is_failed, on_open, on_closed, on_status, is_same_request}
 use Rattle.service_model.specs.Journal.{plain}
 use Rattle.service_model.specs.Outcome.{Runs, made_by, outside, is_no_task, schedule_task, run_at}

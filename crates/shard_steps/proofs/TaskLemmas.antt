@@ -2,8 +2,8 @@
 use Rattle.std.proofs.Common.{◌≡◌, ℕ, Bool, true, false, ◌&&◌, [], ◌∷◌, refl, sym, ◌∙◌}
 use Rattle.wf_event.specs.declared.attributes.Attributes.TheVariants.{WorkflowTaskStarted}
 use Rattle.wf_event.specs.Role.{role, opens, settles}
-use Rattle.service_model.specs.declared.request.Hint.{Hint}
-use Rattle.service_model.specs.declared.request.TakenTask.{TakenTask}
+use Rattle.service_model_types.specs.declared.request.Hint.{Hint}
+use Rattle.service_model_types.specs.declared.request.TakenTask.{TakenTask}
 use Rattle.service_model.specs.Journal.{plain}
 use Rattle.service_model.specs.Outcome.{Runs, run_at}
 use Rattle.service_model.specs.Pending.{Task, NoTask, IsScheduled, IsStarted}

@@ -4,8 +4,8 @@ use Rattle.wf_event.specs.declared.attributes.Attributes.{Attributes}
 use Rattle.wf_event.specs.declared.attributes.Attributes.TheVariants.{ActivityTaskCompleted, ActivityTaskFailed, ActivityTaskTimedOut, ActivityTaskCanceled}
 use Rattle.wf_event.specs.declared.payloads.ActivityTaskScheduled.{ActivityTaskScheduled as ScheduledAttributes}
 use Rattle.wf_event_values.specs.Run.{Run}
-use Rattle.service_model.specs.declared.answer.ActivityTask.{ActivityTask}
-use Rattle.service_model.specs.declared.request.Hint.{Hint}
+use Rattle.service_model_types.specs.declared.answer.ActivityTask.{ActivityTask}
+use Rattle.service_model_types.specs.declared.request.Hint.{Hint}
 use Rattle.service_model.specs.Completion.{is_running_phase}
 use Rattle.service_model.specs.Deadlines.{scheduled_fields}
 use Rattle.service_model.specs.Outcome.{Runs, has_run, run_at, run_id}

@@ -1,9 +1,9 @@
 -- what a shard issued and has not counted yet, and what of it is looked up behind the step that issued it
 use Rattle.std.specs.Prelude.{ℕ, ◌+◌, ◌-◌, List, [], ◌++◌, drop, filter_map, length, slice_get, slice_index_or, option_to_list, Option, None, Some, option_and_then}
-use Rattle.service_model.specs.declared.content.Content.{Content}
-use Rattle.service_model.specs.declared.content.Dispatch.{Dispatch}
-use Rattle.service_model.specs.declared.content.Setup.{Setup}
-use Rattle.service_model.specs.declared.journal.Fact.{Fact}
+use Rattle.service_model_types.specs.declared.content.Content.{Content}
+use Rattle.service_model_types.specs.declared.content.Dispatch.{Dispatch}
+use Rattle.service_model_types.specs.declared.content.Setup.{Setup}
+use Rattle.service_model_types.specs.declared.journal.Fact.{Fact}
 use Rattle.service_model.specs.Counts.{acknowledges, dispatch_answer}
 use Rattle.service_model.specs.Issued.{task_dispatch, row_dispatch, queued_again}
 use Rattle.service_model.specs.Outcome.{Outcome, CountsDispatch, answered}

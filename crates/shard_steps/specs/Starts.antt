@@ -2,10 +2,11 @@
 use Rattle.std.specs.Prelude.{◌≡◌, ℕ, List, ◌∷◌, [], None}
 use Rattle.wf_event.specs.declared.attributes.Attributes.TheVariants.{WorkflowExecutionStarted}
 use Rattle.wf_event.specs.declared.payloads.WorkflowExecutionStarted.{WorkflowExecutionStarted as StartedAttributes}
-use Rattle.service_model.specs.declared.journal.Fact.{Fact}
-use Rattle.service_model.specs.declared.request.SignalWithStart.{SignalWithStart}
-use Rattle.service_model.specs.declared.request.Start.{Start}
-use Rattle.service_model.specs.Outcome.{made_by, used_task_timeout}
+use Rattle.service_model_types.specs.declared.journal.Fact.{Fact}
+use Rattle.service_model_types.specs.declared.request.SignalWithStart.{SignalWithStart}
+use Rattle.service_model_types.specs.declared.request.Start.{Start}
+use Rattle.service_model.specs.Outcome.{made_by}
+use Rattle.service_model_types.specs.Limits.{used_task_timeout}
 use Rattle.service_model.specs.RunState.{RunState}
 use Rattle.service_model.specs.Signals.{signal_fact}
 use Rattle.service_model.specs.Starts.{first_task}

@@ -5,8 +5,8 @@ ghost use Rattle.mutable_state.specs.Activities.{row_said};
 ghost use Rattle.shard_steps.specs.Attempts.{task_of, waits_at};
 
 use mutable_state::{Activity, ActivityPhase};
-use service_model::answer::ActivityTask;
-use service_model::request::Hint;
+use service_model_types::answer::ActivityTask;
+use service_model_types::request::Hint;
 use std::alloc::AllocError;
 use wf_event::Attributes;
 use wf_event_values::{Id, RunId};

@@ -15,7 +15,7 @@ use crate::verdicts::verdict_of;
 use mutable_state::{Activity, plain};
 use mutable_state_keeper::{KeepsRun, Run};
 use retry::{Ended, Verdict};
-use service_model::journal::{Fact, Note};
+use service_model_types::journal::{Fact, Note};
 use std::alloc::{AllocError, Global};
 use wf_event::Attributes;
 use wf_event::payloads::ActivityTaskTimedOut;

@@ -10,7 +10,7 @@ ghost use Rattle.service_model.specs.Outcome.{made_by, outside};
 use crate::outside::from_outside;
 use mutable_state::plain;
 use mutable_state_keeper::{KeepsRun, Run};
-use service_model::journal::{CancelRequest, EventFact, Fact, copied};
+use service_model_types::journal::{CancelRequest, EventFact, Fact, copied};
 use std::alloc::{AllocError, Global};
 use wf_event::Attributes;
 use wf_event_values::{CancelSource, Field, Id, Items, Text};

@@ -3,7 +3,7 @@
 ghost use Rattle.std.specs.Prelude.{◌≡◌, ◌∷◌, [], IfOk};
 ghost use Rattle.service_model.specs.Outcome.{noted};
 
-use service_model::journal::{Fact, Note, NoteFact};
+use service_model_types::journal::{Fact, Note, NoteFact};
 use std::alloc::{AllocError, Global};
 use wf_event_values::Items;
 

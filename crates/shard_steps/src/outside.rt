@@ -6,7 +6,7 @@ ghost use Rattle.mutable_state.specs.Tasks.{phase_in};
 
 use mutable_state::{TaskPhase, plain};
 use mutable_state_keeper::{KeepsRun, Run};
-use service_model::journal::Fact;
+use service_model_types::journal::Fact;
 use std::alloc::{AllocError, Global};
 use wf_event_values::Items;
 

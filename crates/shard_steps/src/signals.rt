@@ -6,7 +6,7 @@ ghost use Rattle.service_model.specs.Signals.{signal_fact};
 
 use crate::outside::from_outside;
 use mutable_state_keeper::{KeepsRun, Run};
-use service_model::journal::{EventFact, Fact, copied};
+use service_model_types::journal::{EventFact, Fact, copied};
 use std::alloc::{AllocError, Global};
 use wf_event::Attributes;
 use wf_event::payloads::WorkflowExecutionSignaled;

@@ -7,9 +7,9 @@ ghost use Rattle.shard_steps.specs.Starts.{started_by, beginning_of, signaled_be
 use crate::signals::signal_fact;
 use mutable_state::{Change, plain};
 use mutable_state_keeper::{KeepsRun, Run};
-use service_model::journal::{Fact, copied};
-use service_model::limits::used_task_timeout;
-use service_model::request::{SignalWithStart, Start};
+use service_model_types::journal::{Fact, copied};
+use service_model_types::limits::used_task_timeout;
+use service_model_types::request::{SignalWithStart, Start};
 use std::alloc::{AllocError, Global};
 use wf_event::Attributes;
 use wf_event::payloads::{WorkflowExecutionStarted, WorkflowTaskScheduled};

@@ -6,8 +6,8 @@ ghost use Rattle.service_model.specs.Journal.{plain};
 ghost use Rattle.shard_steps.specs.Tasks.{ended};
 
 use mutable_state::plain;
-use service_model::answer::Answer;
-use service_model::journal::Fact;
+use service_model_types::answer::Answer;
+use service_model_types::journal::Fact;
 use std::alloc::{AllocError, Global};
 use wf_event::Attributes;
 use wf_event_values::{Cause, Items};

@@ -4,11 +4,11 @@ ghost use Rattle.std.specs.Prelude.{◌≡◌, ◌+◌, ◌<◌, ◌^◌, None, 
 ghost use Rattle.service_model.specs.Counts.{acknowledgement_of, outgoing_to};
 ghost use Rattle.service_model.specs.Deliveries.{accepted_from, delivery_of};
 ghost use Rattle.service_model.specs.Service.{one_more_acknowledged, with_all_sent};
-ghost use Rattle.service_model.specs.declared.transfer.Delivery.TheVariants.{Accepted as IsNext};
+ghost use Rattle.service_model_types.specs.declared.transfer.Delivery.TheVariants.{Accepted as IsNext};
 ghost use Rattle.transfer.specs.Outboxes.{nothing};
 
-use service_model::answer::Acknowledged;
-use service_model::transfer::{Delivery, Sent, Transfer, TransferContent};
+use service_model_types::answer::Acknowledged;
+use service_model_types::transfer::{Delivery, Sent, Transfer, TransferContent};
 use std::alloc::{AllocError, Global};
 use std::marker::Model;
 use std::slice;

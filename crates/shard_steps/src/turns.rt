@@ -14,7 +14,7 @@ use crate::notes::note_facts;
 use crate::outside::is_none;
 use mutable_state::plain;
 use mutable_state_keeper::{KeepsRun, Run};
-use service_model::journal::{Fact, Note};
+use service_model_types::journal::{Fact, Note};
 use std::alloc::{AllocError, Global};
 use timeouts::Due;
 use wf_event::Attributes;

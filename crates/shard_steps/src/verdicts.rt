@@ -11,7 +11,7 @@ ghost use Rattle.shard_steps.specs.Attempts.{HasNext};
 
 use mutable_state::Activity;
 use retry::{Ended, Verdict, verdict_on};
-use service_model::request::FailActivity;
+use service_model_types::request::FailActivity;
 use std::alloc::AllocError;
 use wf_event::payloads::ActivityTaskFailed;
 use wf_event::{Attributes, RetryPolicy};

@@ -1,7 +1,7 @@
 -- what a step leaves of the histories that were there
 use Rattle.std.proofs.Common.{◌≡◌, ℕ, ap, sym, ◌∙◌, subst, List}
 use Rattle.std.specs.Prelude.{slice_get}
-use Rattle.service_model.specs.declared.content.Content.{Content}
+use Rattle.service_model_types.specs.declared.content.Content.{Content}
 use Rattle.service_model.specs.Outcome.{Outcome}
 use Rattle.service_model.specs.Growth.{KeepsHistories}
 use Rattle.service_model.specs.RunState.{RunState, state_of}

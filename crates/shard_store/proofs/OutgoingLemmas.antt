@@ -1,7 +1,7 @@
 -- what a shard's transfers leave of what is known of it
 use Rattle.std.proofs.Common.{◌≡◌, ℕ, List, Option, sym, ap, ◌∙◌}
-use Rattle.service_model.specs.declared.content.Outgoing.{Outgoing}
-use Rattle.service_model.specs.declared.content.Setup.{Setup}
+use Rattle.service_model_types.specs.declared.content.Outgoing.{Outgoing}
+use Rattle.service_model_types.specs.declared.content.Setup.{Setup}
 use Rattle.service_model.specs.RunState.{RunState}
 use Rattle.shard_steps.specs.Issuing.{Waiting}
 use Rattle.shard_steps.specs.Kept.{IsNoted, Unnoted}

@@ -5,13 +5,13 @@ use Rattle.std.specs.Prelude.{drop, filter_map, map, option_and_then, option_to_
 use Rattle.std.specs.List.{AllByRecursion}
 use Rattle.wf_event.specs.declared.event.Event.{Event}
 use Rattle.wf_event.specs.declared.payloads.WorkflowExecutionStarted.{WorkflowExecutionStarted as StartedAttributes}
-use Rattle.service_model.specs.declared.content.Content.{Content}
-use Rattle.service_model.specs.declared.content.Dispatch.{Dispatch}
-use Rattle.service_model.specs.declared.content.Outgoing.{Outgoing}
-use Rattle.service_model.specs.declared.content.Setup.{Setup}
-use Rattle.service_model.specs.declared.journal.Fact.{Fact}
-use Rattle.service_model.specs.declared.journal.Fact.TheVariants.{Event as an_event, Note as a_note}
-use Rattle.service_model.specs.declared.transfer.Sent.{Sent}
+use Rattle.service_model_types.specs.declared.content.Content.{Content}
+use Rattle.service_model_types.specs.declared.content.Dispatch.{Dispatch}
+use Rattle.service_model_types.specs.declared.content.Outgoing.{Outgoing}
+use Rattle.service_model_types.specs.declared.content.Setup.{Setup}
+use Rattle.service_model_types.specs.declared.journal.Fact.{Fact}
+use Rattle.service_model_types.specs.declared.journal.Fact.TheVariants.{Event as an_event, Note as a_note}
+use Rattle.service_model_types.specs.declared.transfer.Sent.{Sent}
 use Rattle.service_model.specs.Journal.{Journal}
 use Rattle.service_model.specs.RunState.{RunState, Beginning, state_of, no_run, id_of, is_open}
 use Rattle.service_model.specs.Outcome.{Outcome, Added, Counting, CountsNothing, AcceptsFrom, AcknowledgesTo, CountsDispatch}

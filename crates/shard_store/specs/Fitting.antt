@@ -1,10 +1,10 @@
 -- a plan that was made for a step on a shard as it is
 use Rattle.std.specs.Prelude.{◌≡◌, ℕ, ◌+◌, ◌-◌, ◌<◌, ◌≤◌, ◌^◌, false, IfSome, ◌∷◌, ◌++◌, [], List, Option, None, Some, length, slice_index_or, slice_set}
 use Rattle.std.specs.Prelude.{string_bytes}
-use Rattle.service_model.specs.declared.content.Dispatch.{Dispatch}
-use Rattle.service_model.specs.declared.content.Outgoing.{Outgoing}
-use Rattle.service_model.specs.declared.journal.Fact.{Fact}
-use Rattle.service_model.specs.declared.transfer.Sent.{Sent}
+use Rattle.service_model_types.specs.declared.content.Dispatch.{Dispatch}
+use Rattle.service_model_types.specs.declared.content.Outgoing.{Outgoing}
+use Rattle.service_model_types.specs.declared.journal.Fact.{Fact}
+use Rattle.service_model_types.specs.declared.transfer.Sent.{Sent}
 use Rattle.service_model.specs.Counts.{outgoing_to}
 use Rattle.service_model.specs.Deliveries.{accepted_from}
 use Rattle.service_model.specs.RunState.{RunState, no_run, id_of, is_open}

@@ -2,7 +2,7 @@
 use Rattle.std.specs.Prelude.{◌≡◌, ℕ, ◌≤◌, List, ◌++◌, length, map, slice_get, Some}
 use Rattle.std.specs.List.{AllByRecursion}
 use Rattle.wf_event.specs.declared.event.Event.{Event}
-use Rattle.service_model.specs.declared.content.Content.{Content}
+use Rattle.service_model_types.specs.declared.content.Content.{Content}
 use Rattle.service_model.specs.RunState.{RunState, state_of}
 use Rattle.mutable_state.specs.Formed.{IsFormed}
 use Rattle.shard_steps.specs.Issuing.{waiting_in}

@@ -1,7 +1,7 @@
 -- a shard as contracts see it: what it says of its journals, its dispatches and its transfers, what was not looked up since the last step, and for how many more runs there is room
 use Rattle.std.specs.Prelude.{◌≡◌, ℕ, ◌<◌, ◌^◌, List, map, Option}
-use Rattle.service_model.specs.declared.content.Outgoing.{Outgoing}
-use Rattle.service_model.specs.declared.content.Setup.{Setup}
+use Rattle.service_model_types.specs.declared.content.Outgoing.{Outgoing}
+use Rattle.service_model_types.specs.declared.content.Setup.{Setup}
 use Rattle.service_model.specs.RunState.{RunState}
 use Rattle.service_model.specs.Outcome.{Runs, latest_run}
 use Rattle.mutable_state.specs.View.{RunView}

@@ -8,7 +8,7 @@ ghost use Rattle.shard_store.specs.Fitting.{FitsChange, after_added, after_answe
 use crate::plan::{Change, Count, MoreOf, NewRun};
 use crate::store::Store;
 use mutable_state_keeper::KeepsRun;
-use service_model::transfer::Sent;
+use service_model_types::transfer::Sent;
 use shard_steps::{Changed, readied};
 
 impl<T: KeepsRun> Store<T> {

@@ -9,7 +9,7 @@ ghost use Rattle.shard_store.specs.Fitting.{IsMade};
 use crate::plan::NewRun;
 use crate::store::Store;
 use mutable_state_keeper::KeepsRun;
-use service_model::limits::MOST_MEMBERS;
+use service_model_types::limits::MOST_MEMBERS;
 use shard_steps::{Beginning, new_run};
 use std::alloc::AllocError;
 use wf_event_values::Moment;

@@ -5,8 +5,8 @@ ghost use Rattle.service_model.specs.Outcome.{answered, refused};
 ghost use Rattle.shard_store.specs.Fitting.{nothing};
 
 use mutable_state_keeper::{KeepsRun, Run};
-use service_model::answer::{Answer, Reply};
-use service_model::transfer::Sent;
+use service_model_types::answer::{Answer, Reply};
+use service_model_types::transfer::Sent;
 use wf_event_values::{Moment, Refusal};
 
 /// A run that a step makes, and its workflow ID as the index keeps it.

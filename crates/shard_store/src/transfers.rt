@@ -3,14 +3,14 @@
 ghost use Rattle.std.specs.Prelude.{◌≡◌, ◌+◌, ◌<◌, ◌^◌, None, IfSome, OnOk, length, option_map, slice_get};
 ghost use Rattle.service_model.specs.Counts.{acknowledgement_of, outgoing_to};
 ghost use Rattle.service_model.specs.Deliveries.{accepted_from, delivery_of};
-ghost use Rattle.service_model.specs.declared.transfer.Delivery.TheVariants.{Accepted as IsNext};
+ghost use Rattle.service_model_types.specs.declared.transfer.Delivery.TheVariants.{Accepted as IsNext};
 ghost use Rattle.shard_steps.specs.Kept.{IsNoted};
 ghost use Rattle.shard_store.specs.View.{state};
 
 use crate::store::Store;
 use mutable_state_keeper::KeepsRun;
-use service_model::answer::Acknowledged;
-use service_model::transfer::{Delivery, Transfer, TransferContent};
+use service_model_types::answer::Acknowledged;
+use service_model_types::transfer::{Delivery, Transfer, TransferContent};
 use std::alloc::AllocError;
 
 impl<T: KeepsRun> Store<T> {

@@ -1,8 +1,8 @@
 //! What the phases ask, and what they must be answered.
 
 use service::Refused;
-use service_model::answer::{Answer, Reply};
-use service_model::request::{CompleteWorkflowTask, Hint, Request, Start, TakenTask};
+use service_model_types::answer::{Answer, Reply};
+use service_model_types::request::{CompleteWorkflowTask, Hint, Request, Start, TakenTask};
 use std::alloc::Global;
 use std::io::{self, ErrorKind};
 use wf_command::Command;

@@ -5,9 +5,9 @@ ghost use Rattle.service.specs.Services.{IsPassOf};
 
 use crate::calls::{DUE, answered, completion, first_task, start, unexpected};
 use service::{Pass, Service};
-use service_model::answer::Answer;
-use service_model::limits::DEFAULT_CAPACITY;
-use service_model::settings::{Settings, main_queue};
+use service_model_types::answer::Answer;
+use service_model_types::limits::DEFAULT_CAPACITY;
+use service_model_types::settings::{Settings, main_queue};
 use std::alloc::Global;
 use std::io;
 use wf_event_values::{Field, Moment};

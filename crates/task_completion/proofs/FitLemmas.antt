@@ -16,15 +16,16 @@ use Rattle.wf_command.specs.declared.command.StartChild.{StartChild}
 use Rattle.wf_command.specs.declared.command.SignalExternal.{SignalExternal}
 use Rattle.wf_command.specs.declared.command.RequestCancelExternal.{RequestCancelExternal}
 use Rattle.wf_command.specs.Check.{attributes_fault}
-use Rattle.service_model.specs.declared.content.Setup.{Setup}
-use Rattle.service_model.specs.declared.journal.Fact.{Fact}
-use Rattle.service_model.specs.declared.journal.NewEvent.{NewEvent}
+use Rattle.service_model_types.specs.declared.content.Setup.{Setup}
+use Rattle.service_model_types.specs.declared.journal.Fact.{Fact}
+use Rattle.service_model_types.specs.declared.journal.NewEvent.{NewEvent}
 use Rattle.service_model.specs.Journal.{plain}
 use Rattle.service_model.specs.Shown.{schedules_task}
 use Rattle.service_model.specs.Pending.{NoTask, IsStarted, task_of, is_opening, is_settling, is_settled}
 use Rattle.service_model.specs.RunState.{RunState, signal_request_by, used, pending, held_attributes, is_open, is_open_status, queue_of, type_of, last_task}
 use Rattle.service_model.specs.Signals.{was_signaled}
-use Rattle.service_model.specs.Outcome.{knows_queue, schedule_task}
+use Rattle.service_model.specs.Outcome.{schedule_task}
+use Rattle.service_model_types.specs.Routing.{knows_queue}
 use Rattle.service_model.specs.Tasks.{is_started_task}
 use Rattle.service_model.specs.Completion.{Judged, judge, judge_all, judge_fields_good, go_on, goes_on, after_check, fault_if, gives, cancel_timer, in_use_so_far, in_use_named, has_name, is_full, is_settled_so_far, was_asked_to_cancel, is_attempt_running, cancels_at_once, cancel_facts, is_some_held, is_cancel_of_activity, completed_task}
 use Rattle.buffered.specs.Buffers.{pushed, flushed, fires}

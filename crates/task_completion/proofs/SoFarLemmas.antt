@@ -7,7 +7,7 @@ use Rattle.wf_event.specs.declared.event.Event.{Event}
 use Rattle.wf_event.specs.declared.attributes.Attributes.{Attributes}
 use Rattle.wf_event.specs.declared.attributes.Attributes.TheVariants.{TimerCanceled}
 use Rattle.wf_event.specs.Role.{Role, TimerFires, TimerCancels, role, is_outside_role, Class, ATimer, opens, Settled, settles}
-use Rattle.service_model.specs.declared.journal.NewEvent.{NewEvent}
+use Rattle.service_model_types.specs.declared.journal.NewEvent.{NewEvent}
 use Rattle.service_model.specs.Shown.{is_cancel}
 use Rattle.service_model.specs.Pending.{is_opening, is_settling, is_settled}
 use Rattle.service_model.specs.RunState.{RunState, used, held_attributes}

@@ -6,7 +6,7 @@ use Rattle.wf_event.specs.Role.{Class, AChild, ASignal, ACancel}
 use Rattle.wf_command.specs.declared.command.StartChild.{StartChild}
 use Rattle.wf_command.specs.declared.command.SignalExternal.{SignalExternal}
 use Rattle.wf_command.specs.declared.command.RequestCancelExternal.{RequestCancelExternal}
-use Rattle.service_model.specs.Outcome.{used_task_timeout}
+use Rattle.service_model_types.specs.Limits.{used_task_timeout}
 use Rattle.service_model.specs.RunState.{RunState}
 use Rattle.service_model.specs.Completion.{pending_so_far}
 use Rattle.task_completion.specs.declared.outward.Outward.{Outward}

@@ -3,7 +3,7 @@ use Rattle.std.specs.Prelude.{◌≡◌, List, [], Result, Ok, Err}
 use Rattle.wf_event_values.specs.Run.{Run}
 use Rattle.wf_event_values.specs.declared.policies.Cause.{Cause}
 use Rattle.wf_command.specs.declared.command.Command.{Command}
-use Rattle.service_model.specs.declared.content.Setup.{Setup}
+use Rattle.service_model_types.specs.declared.content.Setup.{Setup}
 use Rattle.service_model.specs.RunState.{RunState}
 use Rattle.service_model.specs.Completion.{Judged, goes_on, judge_all}
 use Rattle.task_completion.specs.declared.judge.Judged.{Judged as JudgedSaid}

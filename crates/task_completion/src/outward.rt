@@ -3,7 +3,7 @@
 ghost use Rattle.std.specs.Prelude.{◌≡◌, IfOk};
 ghost use Rattle.task_completion.specs.Outward.{child_asked, external_signal, external_cancel};
 
-use service_model::limits::used_task_timeout;
+use service_model_types::limits::used_task_timeout;
 use std::alloc::AllocError;
 use wf_command::command::{RequestCancelExternal, SignalExternal, StartChild};
 use wf_event::Attributes;

@@ -18,8 +18,8 @@ use crate::rows::{
 };
 use crate::scheduled::scheduled;
 use mutable_state::{NotedActivity, Used};
-use service_model::content::Setup;
-use service_model::limits::MOST_PENDING;
+use service_model_types::content::Setup;
+use service_model_types::limits::MOST_PENDING;
 use std::alloc::{AllocError, Global};
 use std::marker::Model;
 use wf_command::command::{

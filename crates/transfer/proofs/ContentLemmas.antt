@@ -4,9 +4,9 @@ use Rattle.std.specs.Prelude.{◌==◌, slice_set, slice_index_or}
 use Rattle.std.proofs.lemmas.Option.{unwrap_or-slice_get}
 use Rattle.std.proofs.lemmas.List.{set-get_or}
 use Rattle.std.proofs.lemmas.Bool.Decides.{nat_tests}
-use Rattle.service_model.specs.declared.answer.Acknowledged.TheVariants.{Acknowledged as IsNext, Already, OutOfOrder as NotInOrder}
-use Rattle.service_model.specs.declared.content.Outgoing.{Outgoing}
-use Rattle.service_model.specs.declared.transfer.Sent.{Sent}
+use Rattle.service_model_types.specs.declared.answer.Acknowledged.TheVariants.{Acknowledged as IsNext, Already, OutOfOrder as NotInOrder}
+use Rattle.service_model_types.specs.declared.content.Outgoing.{Outgoing}
+use Rattle.service_model_types.specs.declared.transfer.Sent.{Sent}
 use Rattle.service_model.specs.Deliveries.{accepted_from}
 use Rattle.service_model.specs.Service.{with_sent, with_all_sent, one_more_acknowledged}
 use Rattle.transfer.specs.Outboxes.{issued_to, acknowledged_to, nothing}

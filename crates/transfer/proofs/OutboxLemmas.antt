@@ -6,12 +6,12 @@ use Rattle.std.proofs.lemmas.Bool.Decides.{nat_tests}
 use Rattle.std.proofs.lemmas.List.{map-set, length-map}
 use Rattle.std.proofs.lemmas.Option.{slice_get_read, slice_get-map, unwrap_or-slice_get}
 use Rattle.std.proofs.Math.Seq.{map-set_same}
-use Rattle.service_model.specs.declared.answer.Acknowledged.{Acknowledged}
-use Rattle.service_model.specs.declared.content.Outgoing.{Outgoing}
-use Rattle.service_model.specs.declared.transfer.TransferContent.{TransferContent}
+use Rattle.service_model_types.specs.declared.answer.Acknowledged.{Acknowledged}
+use Rattle.service_model_types.specs.declared.content.Outgoing.{Outgoing}
+use Rattle.service_model_types.specs.declared.transfer.TransferContent.{TransferContent}
 use Rattle.service_model.specs.Counts.{outgoing_to}
 use Rattle.transfer.specs.Logs.{Log, counted}
-use Rattle.service_model.specs.declared.transfer.Sent.{Sent}
+use Rattle.service_model_types.specs.declared.transfer.Sent.{Sent}
 use Rattle.transfer.specs.Outboxes.{outgoing_of, outgoing, room_to, issued_to, acknowledged_to, nothing, sent_to, HasRoomFor}
 
 -- the transfers to a destination are those of its log

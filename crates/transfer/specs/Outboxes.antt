@@ -1,9 +1,9 @@
 -- the transfers that a shard issued to each destination
 use Rattle.std.specs.Prelude.{ℕ, ◌<◌, ◌≤◌, ◌==◌, List, [], ◌∷◌, ◌++◌, filter, length, map, slice_index, slice_set}
-use Rattle.service_model.specs.declared.answer.Acknowledged.{Acknowledged}
-use Rattle.service_model.specs.declared.content.Outgoing.{Outgoing}
-use Rattle.service_model.specs.declared.transfer.Sent.{Sent}
-use Rattle.service_model.specs.declared.transfer.TransferContent.{TransferContent}
+use Rattle.service_model_types.specs.declared.answer.Acknowledged.{Acknowledged}
+use Rattle.service_model_types.specs.declared.content.Outgoing.{Outgoing}
+use Rattle.service_model_types.specs.declared.transfer.Sent.{Sent}
+use Rattle.service_model_types.specs.declared.transfer.TransferContent.{TransferContent}
 use Rattle.service_model.specs.Counts.{outgoing_to}
 use Rattle.transfer.specs.Logs.{Log, counted}
 

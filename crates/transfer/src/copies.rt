@@ -2,7 +2,7 @@
 
 ghost use Rattle.std.specs.Prelude.{◌≡◌, IfOk};
 
-use service_model::transfer::{
+use service_model_types::transfer::{
     CancelExternalTransfer, ChildClosed, ChildStartFailed, ChildStarted, CloseChild,
     ExternalDoneTransfer, SignalExternalTransfer, StartChildTransfer, TransferContent,
 };

@@ -2,10 +2,10 @@
 
 ghost use Rattle.std.specs.Prelude.{◌≡◌, ◌+◌, ◌<◌, ◌^◌, length, replicate, slice_set, IfOk};
 ghost use Rattle.service_model.specs.Deliveries.{accepted_from, delivery_of};
-ghost use Rattle.service_model.specs.declared.transfer.Delivery.TheVariants.{Accepted as IsNext};
+ghost use Rattle.service_model_types.specs.declared.transfer.Delivery.TheVariants.{Accepted as IsNext};
 ghost use Rattle.transfer.specs.Inboxes.{accepted_then};
 
-use service_model::transfer::{Delivery, Transfer};
+use service_model_types::transfer::{Delivery, Transfer};
 use std::alloc::{AllocError, Global};
 use std::marker::Model;
 

@@ -6,8 +6,8 @@ ghost use Rattle.service_model.specs.Service.{with_all_sent};
 ghost use Rattle.transfer.specs.Outboxes.{outgoing, room_to, issued_to, acknowledged_to, nothing, sent_to, HasRoomFor};
 
 use crate::issue_log::IssueLog;
-use service_model::answer::Acknowledged;
-use service_model::transfer::{Sent, TransferContent};
+use service_model_types::answer::Acknowledged;
+use service_model_types::transfer::{Sent, TransferContent};
 use std::alloc::{AllocError, Global};
 use std::marker::Model;
 
@@ -24,7 +24,7 @@ impl Drop for Outbox {
 
 impl Model for Outbox {
     ghost use Rattle.std.specs.Prelude.{List};
-    ghost use Rattle.service_model.specs.declared.transfer.TransferContent.{TransferContent};
+    ghost use Rattle.service_model_types.specs.declared.transfer.TransferContent.{TransferContent};
     ghost use Rattle.transfer.specs.Logs.{Log};
 
     ghost Value = { List (Log TransferContent) };

@@ -5,14 +5,14 @@ use Rattle.wf_event_values.specs.declared.policies.Cause.{Cause}
 use Rattle.wf_event_values.specs.declared.policies.RetryState.{RetryState}
 use Rattle.wf_event_values.specs.Names.{cause_name, class_name, retry_state_name, status_name}
 use Rattle.wf_event_values.specs.Run.{Run}
-use Rattle.service_model.specs.declared.answer.Acknowledged.{Acknowledged as Counted}
-use Rattle.service_model.specs.declared.answer.Acknowledged.TheVariants.{Acknowledged, Already, OutOfOrder}
-use Rattle.service_model.specs.declared.answer.Answer.{Answer}
-use Rattle.service_model.specs.declared.answer.Answer.TheVariants as answer
-use Rattle.service_model.specs.declared.answer.Description.{Description}
-use Rattle.service_model.specs.declared.answer.Fired.{Fired}
-use Rattle.service_model.specs.declared.answer.History.{History}
-use Rattle.service_model.specs.declared.answer.Retrying.{Retrying}
+use Rattle.service_model_types.specs.declared.answer.Acknowledged.{Acknowledged as Counted}
+use Rattle.service_model_types.specs.declared.answer.Acknowledged.TheVariants.{Acknowledged, Already, OutOfOrder}
+use Rattle.service_model_types.specs.declared.answer.Answer.{Answer}
+use Rattle.service_model_types.specs.declared.answer.Answer.TheVariants as answer
+use Rattle.service_model_types.specs.declared.answer.Description.{Description}
+use Rattle.service_model_types.specs.declared.answer.Fired.{Fired}
+use Rattle.service_model_types.specs.declared.answer.History.{History}
+use Rattle.service_model_types.specs.declared.answer.Retrying.{Retrying}
 use Rattle.wire_events.specs.Events.{event_list}
 use Rattle.wire_events.specs.Members.{◌▸◌, boolean_member, number_member, run_member, text_member}
 use Rattle.wire_replies.specs.Tasks.{workflow_task_members, activity_task_members}

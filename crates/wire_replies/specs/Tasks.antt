@@ -6,8 +6,8 @@ use Rattle.wf_event_values.specs.declared.policies.TaskKind.TheVariants.{Workflo
 use Rattle.wf_event_values.specs.Run.{Run}
 use Rattle.task_token.specs.declared.token.TaskToken.{TaskToken}
 use Rattle.task_token.specs.TokenTexts.{token_text}
-use Rattle.service_model.specs.declared.answer.WorkflowTask.{WorkflowTask}
-use Rattle.service_model.specs.declared.answer.ActivityTask.{ActivityTask}
+use Rattle.service_model_types.specs.declared.answer.WorkflowTask.{WorkflowTask}
+use Rattle.service_model_types.specs.declared.answer.ActivityTask.{ActivityTask}
 use Rattle.wire_events.specs.Members.{◌▸◌, number_member, optional, run_member, text_member}
 
 -- the token of a task: its kind, run, scheduled event and attempt

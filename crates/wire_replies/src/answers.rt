@@ -6,7 +6,7 @@ ghost use Rattle.wire_events.specs.Pages.{sheet_of, add_members};
 ghost use Rattle.wire_replies.specs.Answers.{with_run, with_number, task_failed_members, activity_failed_members, retrying_members, heartbeat_members, history_members, description_members, fired_members, acknowledged_name, answer_members, line_member, ok_member};
 
 use crate::tasks::{put_activity_task, put_workflow_task};
-use service_model::answer::{Acknowledged, Answer, Description, Fired, History, Retrying};
+use service_model_types::answer::{Acknowledged, Answer, Description, Fired, History, Retrying};
 use std::alloc::AllocError;
 use wf_event_values::{Cause, RetryState, RunId};
 use wire_events::{Page, put_event_list};

@@ -1,13 +1,13 @@
 //! Replies as lines.
 
 ghost use Rattle.std.specs.Prelude.{◌≡◌, ◌++◌, ◌∷◌, [], OnOk, Ok, IfOk, string_bytes};
-ghost use Rattle.service_model.specs.declared.answer.Answer.TheVariants as answer;
+ghost use Rattle.service_model_types.specs.declared.answer.Answer.TheVariants as answer;
 ghost use Rattle.wire_events.specs.Pages.{sheet_of, text_of, blank, add_members, add_value};
 ghost use Rattle.wire_replies.specs.Answers.{line_member};
 ghost use Rattle.wire_replies.specs.Replies.{refusal_members, reply_tree, reply_line, line_of};
 
 use crate::answers::{put_answer, put_history};
-use service_model::answer::{History, Reply};
+use service_model_types::answer::{History, Reply};
 use std::alloc::{AllocError, Global};
 use wf_event_values::Refusal;
 use wire_events::Page;

@@ -8,7 +8,7 @@ ghost use Rattle.wire_events.specs.Pages.{sheet_of, add_member, add_members};
 ghost use Rattle.wire_replies.specs.Answers.{line_member};
 ghost use Rattle.wire_replies.specs.Tasks.{token_of, workflow_task_members, activity_task_members};
 
-use service_model::answer::{ActivityTask, WorkflowTask};
+use service_model_types::answer::{ActivityTask, WorkflowTask};
 use std::alloc::AllocError;
 use task_token::TaskToken;
 use wf_event_values::{RunId, TaskKind};

@@ -4,9 +4,9 @@ use Rattle.serde_json.specs.Data.{Data}
 use Rattle.wf_event_values.specs.declared.field.Field.{Field}
 use Rattle.wf_event_values.specs.declared.field.Field.TheVariants as field
 use Rattle.wf_event_values.specs.declared.refusal.Refusal.{Refusal}
-use Rattle.service_model.specs.declared.request.ActivityText.{ActivityText}
-use Rattle.service_model.specs.declared.request.FailActivity.{FailActivity}
-use Rattle.service_model.specs.declared.settings.Settings.{Settings}
+use Rattle.service_model_types.specs.declared.request.ActivityText.{ActivityText}
+use Rattle.service_model_types.specs.declared.request.FailActivity.{FailActivity}
+use Rattle.service_model_types.specs.declared.settings.Settings.{Settings}
 use Rattle.wire_fields.specs.Steps.{◌>>=◌}
 use Rattle.wire_fields.specs.Kinds.{flag_of, text_of, token_of}
 use Rattle.wire_fields.specs.Fields.{required, or_default, optional}

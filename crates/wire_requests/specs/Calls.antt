@@ -6,7 +6,7 @@ use Rattle.serde_json.specs.Read.{read}
 use Rattle.wf_event_values.specs.declared.refusal.Refusal.{Refusal}
 use Rattle.wf_event_values.specs.declared.refusal.Refusal.TheVariants.{InvalidArgument}
 use Rattle.wf_event_values.specs.declared.field.Field.TheVariants as field
-use Rattle.service_model.specs.declared.settings.Settings.{Settings}
+use Rattle.service_model_types.specs.declared.settings.Settings.{Settings}
 use Rattle.wire_fields.specs.Steps.{◌>>=◌}
 use Rattle.wire_fields.specs.Kinds.{number_of, moment_of}
 use Rattle.wire_fields.specs.Fields.{required, or_default}

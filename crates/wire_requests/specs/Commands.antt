@@ -11,7 +11,7 @@ use Rattle.wf_command.specs.declared.command.Command.TheVariants as command
 use Rattle.wf_command.specs.declared.command.ContinueAsNew.{ContinueAsNew as Continue}
 use Rattle.wf_command.specs.declared.command.RecordMarker.{RecordMarker as Marker}
 use Rattle.wf_command.specs.declared.command.StartTimer.{StartTimer as Timer}
-use Rattle.service_model.specs.Limits.{most_commands}
+use Rattle.service_model_types.specs.Limits.{most_commands}
 use Rattle.wire_fields.specs.Steps.{◌>>=◌, for_each}
 use Rattle.wire_fields.specs.Kinds.{string_of, text_of, id_of, number_of, span_of, named, elements_of}
 use Rattle.wire_fields.specs.Fields.{required, or_default, optional}

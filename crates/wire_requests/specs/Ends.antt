@@ -3,8 +3,8 @@ use Rattle.std.specs.Prelude.{[], Result, Ok}
 use Rattle.serde_json.specs.Data.{Data}
 use Rattle.wf_event_values.specs.declared.refusal.Refusal.{Refusal}
 use Rattle.wf_event_values.specs.declared.field.Field.TheVariants as field
-use Rattle.service_model.specs.declared.request.RequestCancel.{RequestCancel}
-use Rattle.service_model.specs.declared.request.Terminate.{Terminate}
+use Rattle.service_model_types.specs.declared.request.RequestCancel.{RequestCancel}
+use Rattle.service_model_types.specs.declared.request.Terminate.{Terminate}
 use Rattle.wire_fields.specs.Steps.{◌>>=◌}
 use Rattle.wire_fields.specs.Kinds.{text_of, id_of, run_of}
 use Rattle.wire_fields.specs.Fields.{required, or_default, optional}

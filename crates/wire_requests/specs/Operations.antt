@@ -4,16 +4,16 @@ use Rattle.serde_json.specs.Data.{Data}
 use Rattle.wf_event_values.specs.declared.refusal.Refusal.{Refusal}
 use Rattle.wf_event_values.specs.declared.field.Field.TheVariants as field
 use Rattle.wf_event_values.specs.declared.policies.TaskKind.TheVariants.{Workflow, Activity}
-use Rattle.service_model.specs.declared.call.Call.{Call}
-use Rattle.service_model.specs.declared.call.Call.TheVariants as call
-use Rattle.service_model.specs.declared.call.StepCall.TheVariants as step
-use Rattle.service_model.specs.declared.request.Signal.{Signal}
-use Rattle.service_model.specs.declared.request.CompleteWorkflowTask.{CompleteWorkflowTask}
-use Rattle.service_model.specs.declared.request.FailWorkflowTask.{FailWorkflowTask}
-use Rattle.service_model.specs.declared.request.Read.{Read}
-use Rattle.service_model.specs.declared.request.Operation.{Operation}
-use Rattle.service_model.specs.declared.request.Operation.TheVariants as operation
-use Rattle.service_model.specs.declared.settings.Settings.{Settings}
+use Rattle.service_model_types.specs.declared.call.Call.{Call}
+use Rattle.service_model_types.specs.declared.call.Call.TheVariants as call
+use Rattle.service_model_types.specs.declared.call.StepCall.TheVariants as step
+use Rattle.service_model_types.specs.declared.request.Signal.{Signal}
+use Rattle.service_model_types.specs.declared.request.CompleteWorkflowTask.{CompleteWorkflowTask}
+use Rattle.service_model_types.specs.declared.request.FailWorkflowTask.{FailWorkflowTask}
+use Rattle.service_model_types.specs.declared.request.Read.{Read}
+use Rattle.service_model_types.specs.declared.request.Operation.{Operation}
+use Rattle.service_model_types.specs.declared.request.Operation.TheVariants as operation
+use Rattle.service_model_types.specs.declared.settings.Settings.{Settings}
 use Rattle.wire_fields.specs.Steps.{◌>>=◌}
 use Rattle.wire_fields.specs.Kinds.{text_of, id_of, run_of, token_of}
 use Rattle.wire_fields.specs.Fields.{required, or_default, optional}

@@ -4,7 +4,7 @@ use Rattle.serde_json.specs.Data.{Data}
 use Rattle.wf_event_values.specs.declared.policies.TaskKind.{TaskKind}
 use Rattle.wf_event_values.specs.declared.refusal.Refusal.{Refusal}
 use Rattle.wf_event_values.specs.declared.field.Field.TheVariants as field
-use Rattle.service_model.specs.declared.call.Poll.{Poll}
+use Rattle.service_model_types.specs.declared.call.Poll.{Poll}
 use Rattle.wire_fields.specs.Steps.{◌>>=◌}
 use Rattle.wire_fields.specs.Kinds.{id_of}
 use Rattle.wire_fields.specs.Fields.{required}

@@ -6,8 +6,8 @@ use Rattle.wf_event_values.specs.declared.field.Field.TheVariants as field
 use Rattle.wf_event_values.specs.declared.policies.ReusePolicy.TheVariants.{AllowDuplicate}
 use Rattle.wf_event_values.specs.declared.policies.ConflictPolicy.{ConflictPolicy}
 use Rattle.wf_event_values.specs.declared.policies.ConflictPolicy.TheVariants.{Fail}
-use Rattle.service_model.specs.declared.request.SignalWithStart.{SignalWithStart}
-use Rattle.service_model.specs.declared.request.Start.{Start}
+use Rattle.service_model_types.specs.declared.request.SignalWithStart.{SignalWithStart}
+use Rattle.service_model_types.specs.declared.request.Start.{Start}
 use Rattle.wire_fields.specs.Steps.{◌>>=◌}
 use Rattle.wire_fields.specs.Kinds.{text_of, id_of, span_of, reuse_of, conflict_of}
 use Rattle.wire_fields.specs.Fields.{required, or_default, optional}

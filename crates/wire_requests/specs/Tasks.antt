@@ -4,8 +4,8 @@ use Rattle.wf_event_values.specs.declared.policies.TaskKind.{TaskKind}
 use Rattle.wf_event_values.specs.declared.policies.TaskKind.TheVariants.{Workflow, Activity}
 use Rattle.wf_event_values.specs.declared.refusal.Refusal.{Refusal}
 use Rattle.wf_event_values.specs.declared.refusal.Refusal.TheVariants.{InvalidToken}
-use Rattle.service_model.specs.declared.settings.Settings.{Settings}
-use Rattle.service_model.specs.declared.request.TakenTask.{TakenTask}
+use Rattle.service_model_types.specs.declared.settings.Settings.{Settings}
+use Rattle.service_model_types.specs.declared.request.TakenTask.{TakenTask}
 use Rattle.task_token.specs.declared.token.TaskToken.{TaskToken}
 
 abbrev pub is_workflow : TaskKind → Bool

@@ -5,12 +5,12 @@ use Rattle.wf_event_values.specs.declared.refusal.Refusal.{Refusal}
 use Rattle.wf_event_values.specs.declared.refusal.Refusal.TheVariants.{InvalidArgument}
 use Rattle.wf_event_values.specs.declared.field.Field.{Field}
 use Rattle.wf_event_values.specs.declared.field.Field.TheVariants as field
-use Rattle.service_model.specs.declared.call.DispatchTurn.{DispatchTurn}
-use Rattle.service_model.specs.declared.call.Stop.{Stop}
-use Rattle.service_model.specs.declared.call.Stop.TheVariants.{AtEnd, AfterFirstPart, AfterSecondPart}
-use Rattle.service_model.specs.declared.call.TimerTurn.{TimerTurn}
-use Rattle.service_model.specs.declared.call.TransferTurn.{TransferTurn}
-use Rattle.service_model.specs.declared.settings.Settings.{Settings}
+use Rattle.service_model_types.specs.declared.call.DispatchTurn.{DispatchTurn}
+use Rattle.service_model_types.specs.declared.call.Stop.{Stop}
+use Rattle.service_model_types.specs.declared.call.Stop.TheVariants.{AtEnd, AfterFirstPart, AfterSecondPart}
+use Rattle.service_model_types.specs.declared.call.TimerTurn.{TimerTurn}
+use Rattle.service_model_types.specs.declared.call.TransferTurn.{TransferTurn}
+use Rattle.service_model_types.specs.declared.settings.Settings.{Settings}
 use Rattle.wire_fields.specs.Steps.{◌>>=◌}
 use Rattle.wire_fields.specs.Kinds.{number_of}
 use Rattle.wire_fields.specs.Fields.{required, or_default}

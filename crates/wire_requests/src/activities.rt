@@ -6,8 +6,8 @@ ghost use Rattle.wire_requests.specs.Activities.{activity_text_of, fail_activity
 
 use crate::tasks::activity_task_in;
 use serde_json::Value;
-use service_model::request::{ActivityText, FailActivity};
-use service_model::settings::Settings;
+use service_model_types::request::{ActivityText, FailActivity};
+use service_model_types::settings::Settings;
 use std::alloc::Global;
 use wf_event_values::{Field, Refusal, Text};
 use wire_fields::{optional, or_default, required};

@@ -11,7 +11,7 @@ ghost use Rattle.wire_requests.specs.Commands.{type_named, type_of, timer_of, ma
 use crate::activity_commands::activity;
 use crate::external_commands::{child, external_cancel, external_signal};
 use serde_json::Value;
-use service_model::limits::MOST_COMMANDS;
+use service_model_types::limits::MOST_COMMANDS;
 use std::alloc::Global;
 use std::marker::Model;
 use wf_command::Command;

@@ -5,7 +5,7 @@ ghost use Rattle.wf_event_values.specs.Gives.{Gives};
 ghost use Rattle.wire_requests.specs.Ends.{request_cancel_of, terminate_of};
 
 use serde_json::Value;
-use service_model::request::{RequestCancel, Terminate};
+use service_model_types::request::{RequestCancel, Terminate};
 use std::alloc::Global;
 use wf_event_values::{Field, Refusal, Text};
 use wire_fields::{optional, or_default, required};

@@ -14,11 +14,11 @@ use crate::starts::{signal_with_start, start};
 use crate::tasks::workflow_task_in;
 use crate::turns::{dispatch_turn, timer_turn, transfer_turn};
 use serde_json::Value;
-use service_model::call::{Call, StepCall};
-use service_model::request::{
+use service_model_types::call::{Call, StepCall};
+use service_model_types::request::{
     CompleteWorkflowTask, FailWorkflowTask, Operation, Read, Request, Signal,
 };
-use service_model::settings::Settings;
+use service_model_types::settings::Settings;
 use std::alloc::Global;
 use wf_event_values::{Field, Moment, Refusal, TaskKind, Text};
 use wire_fields::{optional, or_default, required};

@@ -5,7 +5,7 @@ ghost use Rattle.wf_event_values.specs.Gives.{Gives};
 ghost use Rattle.wire_requests.specs.Polls.{poll_of};
 
 use serde_json::Value;
-use service_model::call::Poll;
+use service_model_types::call::Poll;
 use std::alloc::Global;
 use wf_event_values::{Field, Moment, Refusal, TaskKind};
 use wire_fields::required;

@@ -6,7 +6,7 @@ ghost use Rattle.wf_event_values.specs.Gives.{Gives};
 ghost use Rattle.wire_requests.specs.Starts.{conflict_in, start_of, signal_with_start_of};
 
 use serde_json::Value;
-use service_model::request::{SignalWithStart, Start};
+use service_model_types::request::{SignalWithStart, Start};
 use std::alloc::Global;
 use wf_event_values::{ConflictPolicy, Field, Refusal, ReusePolicy, Span, Text};
 use wire_fields::{optional, or_default, required};

@@ -3,8 +3,8 @@
 ghost use Rattle.std.specs.Prelude.{◌≡◌};
 ghost use Rattle.wire_requests.specs.Tasks.{is_workflow, task_in, workflow_task_in, activity_task_in};
 
-use service_model::request::TakenTask;
-use service_model::settings::Settings;
+use service_model_types::request::TakenTask;
+use service_model_types::settings::Settings;
 use task_token::TaskToken;
 use wf_event_values::{Refusal, TaskKind};
 

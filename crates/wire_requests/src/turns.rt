@@ -6,8 +6,8 @@ ghost use Rattle.wf_event_values.specs.Gives.{Gives};
 ghost use Rattle.wire_requests.specs.Turns.{dispatch_turn_of, shard_in, stop_in, timer_turn_of, transfer_turn_of};
 
 use serde_json::Value;
-use service_model::call::{DispatchTurn, Stop, TimerTurn, TransferTurn};
-use service_model::settings::Settings;
+use service_model_types::call::{DispatchTurn, Stop, TimerTurn, TransferTurn};
+use service_model_types::settings::Settings;
 use std::alloc::Global;
 use wf_event_values::{Field, Moment, Refusal};
 use wire_fields::{or_default, required};

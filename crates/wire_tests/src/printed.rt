@@ -1,6 +1,6 @@
 //! Values, and how they are printed.
 
-use service_model::answer::{Answer, Reply};
+use service_model_types::answer::{Answer, Reply};
 use std::alloc::{AllocGlobal, Global};
 use std::io::{self, Error, ErrorKind};
 use wf_event::{Attributes, Event};

@@ -1,14 +1,14 @@
 //! The replies of calls that aren't served, and the lanes of services of more passes than one.
 
 use crate::printed::{id, moment, print_answer, print_refusal, run, text};
-use service_model::answer::{
+use service_model_types::answer::{
     Acknowledged, ActivityTask, Answer, Description, Fired, History, NumberedDispatch, Retrying,
 };
-use service_model::content::Dispatch;
-use service_model::limits::DEFAULT_CAPACITY;
-use service_model::request::Hint;
-use service_model::settings::{Settings, main_queue};
-use service_model::transfer::{ChildStartFailed, Transfer, TransferContent};
+use service_model_types::content::Dispatch;
+use service_model_types::limits::DEFAULT_CAPACITY;
+use service_model_types::request::Hint;
+use service_model_types::settings::{Settings, main_queue};
+use service_model_types::transfer::{ChildStartFailed, Transfer, TransferContent};
 use std::alloc::{AllocGlobal, Global};
 use std::io;
 use wf_event_values::{DeadlineClass, Items, Refusal, RetryState, Status, TaskKind, Text};

@@ -1,7 +1,7 @@
 use Rattle.std.proofs.Common.{◌∷◌, [], ◌++◌, take, sym, ap, ◌∙◌, subst}
 use Rattle.std.proofs.lemmas.List.{take_more}
 use Rattle.std.proofs.lemmas.List.Sums.{fold_push}
-use Rattle.service_model.specs.declared.content.Content.{Content}
+use Rattle.service_model_types.specs.declared.content.Content.{Content}
 use Rattle.service_model.specs.Service.{Entry, after, opening, replay}
 use Rattle.shard.specs.Standing.{StandsFor}
 use Rattle.service_model_answer.proofs.answer_by.Goals as goal

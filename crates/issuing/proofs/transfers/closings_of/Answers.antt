@@ -1,7 +1,7 @@
 use Rattle.std.proofs.Common.{List, sym, ap, append-nil, ◌∙◌, ◌++◌}
 use Rattle.std.specs.Prelude.{filter_map}
 use Rattle.service_model.specs.Issued.{close_transfer, children_left}
-use Rattle.service_model.specs.declared.transfer.Sent.{Sent}
+use Rattle.service_model_types.specs.declared.transfer.Sent.{Sent}
 use Rattle.issuing.specs.Behind.{closings_behind}
 use Rattle.issuing.proofs.LeftLemmas.{none-told}
 use Rattle.issuing.proofs.transfers.closings_of.Goals as goal

@@ -1,4 +1,4 @@
-use Rattle.service_model.specs.declared.content.Content.{Content}
+use Rattle.service_model_types.specs.declared.content.Content.{Content}
 use Rattle.shard.specs.Standing.{StandsFor}
 use Rattle.service_model_tests.proofs.compared.compare.Given as goal
 

@@ -1,6 +1,6 @@
 use Rattle.std.proofs.Common.{◌≡◌, ◌∙◌, sym, ap, subst, cond, true, false, Some}
 use Rattle.std.specs.Prelude.{is_some}
-use Rattle.service_model.specs.declared.answer.Answer.TheVariants.{Stale}
+use Rattle.service_model_types.specs.declared.answer.Answer.TheVariants.{Stale}
 use Rattle.service_model.specs.Outcome.{Outcome, answered, run_at}
 use Rattle.service_model.specs.Tasks.{take_row, pending_row}
 use Rattle.shard_steps.specs.Attempts.{has_run_of, task_for}

@@ -1,7 +1,7 @@
 use Rattle.std.proofs.Common.{sym, subst, ℕ, List, [], ◌∷◌}
-use Rattle.service_model.specs.declared.answer.Answer.TheVariants.{ActivityTask}
-use Rattle.service_model.specs.declared.journal.Fact.{Fact}
-use Rattle.service_model.specs.declared.journal.Note.TheVariants.{Taken}
+use Rattle.service_model_types.specs.declared.answer.Answer.TheVariants.{ActivityTask}
+use Rattle.service_model_types.specs.declared.journal.Fact.{Fact}
+use Rattle.service_model_types.specs.declared.journal.Note.TheVariants.{Taken}
 use Rattle.service_model.specs.Outcome.{adds, noted, run_at}
 use Rattle.mutable_state.specs.Steps.{FitStep}
 use Rattle.shard_store.specs.View.{runs_in}

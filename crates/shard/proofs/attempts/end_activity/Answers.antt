@@ -1,5 +1,5 @@
 use Rattle.std.proofs.Common.{◌≡◌, ◌∙◌, sym, ap, subst, true, List}
-use Rattle.service_model.specs.declared.journal.Fact.{Fact}
+use Rattle.service_model_types.specs.declared.journal.Fact.{Fact}
 use Rattle.service_model.specs.Activities.{ends_activity}
 use Rattle.service_model.specs.Outcome.{run_at}
 use Rattle.mutable_state.specs.Activities.{row_said}

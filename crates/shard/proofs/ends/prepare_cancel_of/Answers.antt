@@ -1,9 +1,9 @@
 use Rattle.std.proofs.Common.{◌≡◌, ◌∙◌, sym, ap, subst, List, [], ◌∷◌, IfOk, Option, Some, None}
 use Rattle.wf_event.specs.declared.attributes.Attributes.TheVariants.{WorkflowExecutionCancelRequested}
 use Rattle.wf_event_values.specs.declared.policies.CancelSource.TheVariants.{Client}
-use Rattle.service_model.specs.declared.answer.Answer.TheVariants.{CancelRequested}
-use Rattle.service_model.specs.declared.journal.CancelRequest.{CancelRequest}
-use Rattle.service_model.specs.declared.journal.Fact.{Fact}
+use Rattle.service_model_types.specs.declared.answer.Answer.TheVariants.{CancelRequested}
+use Rattle.service_model_types.specs.declared.journal.CancelRequest.{CancelRequest}
+use Rattle.service_model_types.specs.declared.journal.Fact.{Fact}
 use Rattle.service_model.specs.Cancels.{cancel_open}
 use Rattle.service_model.specs.Outcome.{Outcome, run_at, outside, adds, made_by}
 use Rattle.mutable_state.specs.Steps.{FitStep}

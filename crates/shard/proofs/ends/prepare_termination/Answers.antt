@@ -1,7 +1,7 @@
 use Rattle.std.proofs.Common.{◌∙◌, sym, ap, subst, List, [], ◌∷◌, IfOk}
 use Rattle.wf_event.specs.declared.attributes.Attributes.TheVariants.{WorkflowExecutionTerminated}
-use Rattle.service_model.specs.declared.answer.Answer.TheVariants.{Terminated}
-use Rattle.service_model.specs.declared.journal.Fact.{Fact}
+use Rattle.service_model_types.specs.declared.answer.Answer.TheVariants.{Terminated}
+use Rattle.service_model_types.specs.declared.journal.Fact.{Fact}
 use Rattle.service_model.specs.Journal.{plain}
 use Rattle.service_model.specs.Outcome.{Outcome, adds, run_at}
 use Rattle.mutable_state.specs.Steps.{FitStep}

@@ -1,7 +1,7 @@
 use Rattle.std.proofs.Common.{◌≡◌, ℕ, ◌∙◌, List, Option, Some, ap, subst, sym}
 use Rattle.std.specs.Prelude.{option_copied}
 use Rattle.wf_event_values.specs.Run.{Run}
-use Rattle.service_model.specs.declared.journal.Fact.{Fact}
+use Rattle.service_model_types.specs.declared.journal.Fact.{Fact}
 use Rattle.service_model.specs.Outcome.{run_at, run_id}
 use Rattle.service_model.specs.RunState.{started_of}
 use Rattle.service_model.specs.Starts.{start_request}

@@ -1,5 +1,5 @@
 use Rattle.std.proofs.Common.{sym, subst, List}
-use Rattle.service_model.specs.declared.journal.Fact.{Fact}
+use Rattle.service_model_types.specs.declared.journal.Fact.{Fact}
 use Rattle.service_model.specs.Outcome.{run_at}
 use Rattle.mutable_state.specs.Steps.{FitStep}
 use Rattle.shard_store.specs.View.{runs_in}

@@ -1,5 +1,5 @@
 use Rattle.std.proofs.Common.{◌≡◌, ◌∙◌, sym, ap, subst, List, [], ◌∷◌, cond, false, IfOk}
-use Rattle.service_model.specs.declared.journal.Fact.{Fact}
+use Rattle.service_model_types.specs.declared.journal.Fact.{Fact}
 use Rattle.service_model.specs.Outcome.{Outcome, run_at, outside, adds, answered}
 use Rattle.service_model.specs.Signals.{was_signaled, signal_fact}
 use Rattle.mutable_state.specs.Steps.{FitStep}

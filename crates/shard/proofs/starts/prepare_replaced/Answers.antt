@@ -1,8 +1,8 @@
 use Rattle.std.proofs.Common.{◌+◌, ◌-◌, ◌<◌, ◌≤◌, ◌∙◌, List, [], ◌∷◌, Some, ap, length, refl, subst, sym}
 use Rattle.std.specs.Prelude.{Ok, codes}
 use Rattle.wf_event.specs.declared.attributes.Attributes.TheVariants.{WorkflowExecutionTerminated}
-use Rattle.service_model.specs.declared.answer.Answer.TheVariants.{Started}
-use Rattle.service_model.specs.declared.journal.Fact.{Fact}
+use Rattle.service_model_types.specs.declared.answer.Answer.TheVariants.{Started}
+use Rattle.service_model_types.specs.declared.journal.Fact.{Fact}
 use Rattle.service_model.specs.IdPolicy.{TerminateThenNew}
 use Rattle.service_model.specs.Journal.{plain}
 use Rattle.service_model.specs.Outcome.{run_at, run_id}

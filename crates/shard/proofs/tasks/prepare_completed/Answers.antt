@@ -1,7 +1,7 @@
 use Rattle.std.proofs.Common.{None, ◌≡◌, ◌+◌, ◌-◌, sym, ap, ◌∙◌, subst, [], List, Some, length}
 use Rattle.std.specs.Prelude.{Ok}
 use Rattle.wf_command.specs.declared.command.Command.{Command}
-use Rattle.service_model.specs.declared.answer.Answer.{Answer}
+use Rattle.service_model_types.specs.declared.answer.Answer.{Answer}
 use Rattle.service_model.specs.Completion.{Judged, judge_all}
 use Rattle.service_model.specs.Outcome.{Runs, next_ordinal, run_at, run_id}
 use Rattle.service_model.specs.Tasks.{complete_judged, continued}

@@ -1,7 +1,7 @@
 use Rattle.std.proofs.Common.{◌-◌, sym, ap, ◌∙◌, subst, refl, ℕ, List}
 use Rattle.std.specs.Prelude.{map, Some, Ok}
 use Rattle.wf_event_values.specs.declared.policies.Cause.TheVariants.{WorkflowWorkerUnhandledFailure}
-use Rattle.service_model.specs.declared.answer.Answer.TheVariants.{Failed}
+use Rattle.service_model_types.specs.declared.answer.Answer.TheVariants.{Failed}
 use Rattle.service_model.specs.Completion.{failed_task}
 use Rattle.service_model.specs.Journal.{plain}
 use Rattle.service_model.specs.Outcome.{Outcome, adds, run_at}

@@ -2,10 +2,11 @@ use Rattle.std.proofs.Common.{◌≡◌, ◌+◌, ◌-◌, sym, ap, ◌∙◌, s
 use Rattle.std.specs.Prelude.{Some, Ok}
 use Rattle.wf_event.specs.declared.attributes.Attributes.TheVariants.{WorkflowTaskStarted}
 use Rattle.wf_event_values.specs.Run.{Run}
-use Rattle.service_model.specs.declared.answer.Answer.TheVariants.{WorkflowTask, Stale}
-use Rattle.service_model.specs.declared.journal.Fact.{Fact}
+use Rattle.service_model_types.specs.declared.answer.Answer.TheVariants.{WorkflowTask, Stale}
+use Rattle.service_model_types.specs.declared.journal.Fact.{Fact}
 use Rattle.service_model.specs.Journal.{plain}
-use Rattle.service_model.specs.Outcome.{Outcome, Reply, run_at, run_id, adds, answered}
+use Rattle.service_model.specs.Outcome.{Outcome, run_at, run_id, adds, answered}
+use Rattle.service_model_types.specs.Replies.{Reply}
 use Rattle.service_model.specs.RunState.{RunState, id_of}
 use Rattle.shard_store.specs.View.{runs_in}
 use Rattle.shard_store.specs.Fitting.{FitsStep, adding}

@@ -1,8 +1,8 @@
 use Rattle.std.proofs.Common.{◌≡◌, ◌∙◌, sym, ap, subst, arith, List}
-use Rattle.service_model.specs.declared.journal.Fact.{Fact}
+use Rattle.service_model_types.specs.declared.journal.Fact.{Fact}
 use Rattle.wf_event_values.specs.Run.{Run}
-use Rattle.service_model.specs.declared.answer.Answer.{Answer}
-use Rattle.service_model.specs.declared.answer.Answer.TheVariants.{Fired}
+use Rattle.service_model_types.specs.declared.answer.Answer.{Answer}
+use Rattle.service_model_types.specs.declared.answer.Answer.TheVariants.{Fired}
 use Rattle.service_model.specs.Outcome.{adds, run_at, run_id}
 use Rattle.service_model.specs.RunState.{RunState}
 use Rattle.service_model.specs.TimerTurns.{fire}

@@ -1,6 +1,6 @@
 use Rattle.std.proofs.Common.{◌∙◌, List, [], ◌∷◌, Some, None, IfOk, ap, subst, sym}
 use Rattle.wf_event.specs.declared.attributes.Attributes.TheVariants.{WorkflowExecutionTerminated}
-use Rattle.service_model.specs.declared.journal.Fact.{Fact}
+use Rattle.service_model_types.specs.declared.journal.Fact.{Fact}
 use Rattle.service_model.specs.Deliveries.{accepts}
 use Rattle.service_model.specs.Journal.{plain}
 use Rattle.service_model.specs.Outcome.{run_at}

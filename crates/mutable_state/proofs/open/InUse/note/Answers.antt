@@ -1,6 +1,6 @@
 use Rattle.std.proofs.Common.{◌≡◌, ◌∙◌, sym, ap, set, ℕ, List, Some, None}
 use Rattle.std.specs.List.{position}
-use Rattle.service_model.specs.declared.journal.Note.{Note}
+use Rattle.service_model_types.specs.declared.journal.Note.{Note}
 use Rattle.mutable_state.specs.declared.open.Open.{Open}
 use Rattle.mutable_state.specs.declared.notes.Notes.{Notes}
 use Rattle.mutable_state.specs.Noted.{noted}

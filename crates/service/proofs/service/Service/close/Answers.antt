@@ -1,7 +1,7 @@
 use Rattle.std.proofs.Common.{ℕ, List, ap, sym, ◌∙◌, subst, arith}
 use Rattle.std.proofs.lemmas.List.{length-map}
 use Rattle.std.specs.Prelude.{slice_get, length, vec_capacity}
-use Rattle.service_model.specs.declared.request.Request.{Request}
+use Rattle.service_model_types.specs.declared.request.Request.{Request}
 use Rattle.gate.specs.Gates as of_gate
 use Rattle.gate.specs.Ends.{IsEnd, HasDone}
 use Rattle.service.specs.Services.{known_by}

@@ -1,6 +1,6 @@
 use Rattle.std.proofs.Common.{ℕ, subst, Option}
 use Rattle.wf_event_values.specs.declared.refusal.Refusal.{Refusal}
-use Rattle.service_model.specs.declared.request.Request.{Request}
+use Rattle.service_model_types.specs.declared.request.Request.{Request}
 use Rattle.service.specs.Contents.{shard_refusal}
 use Rattle.service.specs.Services.{Answered, IsServedAtLast, known_by}
 use Rattle.service.proofs.TurnLemmas.{next-below}

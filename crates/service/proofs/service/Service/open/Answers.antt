@@ -2,7 +2,7 @@ use Rattle.std.proofs.Common.{ap, sym, ◌∙◌, subst, arith, length}
 use Rattle.std.specs.Prelude.{◌<◌, ◌≤◌, map, slice_get, vec_capacity}
 use Rattle.gate.specs.Gated.{at}
 use Rattle.shard.specs.Standing.{opened}
-use Rattle.service_model.specs.declared.settings.Settings.{Settings}
+use Rattle.service_model_types.specs.declared.settings.Settings.{Settings}
 use Rattle.service.specs.declared.service.Pass.{Pass}
 use Rattle.service.specs.Contents.{opening_contents}
 use Rattle.service.specs.Services.{IsInRange}

@@ -1,5 +1,5 @@
 use Rattle.std.proofs.Common.{◌≡◌, ℕ, None, ap, subst}
-use Rattle.service_model.specs.declared.request.Request.{Request}
+use Rattle.service_model_types.specs.declared.request.Request.{Request}
 use Rattle.service_model.specs.Growth.{KeepsHistories}
 use Rattle.service_model.specs.Service.{answer, after}
 use Rattle.gate.specs.Passes.{Stepped, view}

@@ -1,6 +1,6 @@
 use Rattle.std.proofs.Common.{◌∙◌, ap, sym, List}
 use Rattle.transfer.specs.Outboxes.{issued_to, outgoing}
-use Rattle.service_model.specs.declared.content.Outgoing.{Outgoing}
+use Rattle.service_model_types.specs.declared.content.Outgoing.{Outgoing}
 use Rattle.shard_steps.specs.Sending.{TransfersView}
 use Rattle.shard_steps.proofs.SendingLemmas.{answer-issued, no-answer, with_answer_sent}
 use Rattle.shard_steps.proofs.transfers.Transfers.send_answer.Goals as goal

@@ -3,7 +3,7 @@ use Rattle.std.specs.Prelude.{bytes_eq, string_bytes}
 use Rattle.std.proofs.lemmas.Map.Text.{hash_map_updates_text}
 use Rattle.indexmap.specs.IndexMap.{get_by_text}
 use Rattle.service_model.specs.Outcome.{latest_run}
-use Rattle.service_model.specs.declared.content.Outgoing.{Outgoing}
+use Rattle.service_model_types.specs.declared.content.Outgoing.{Outgoing}
 use Rattle.shard_steps.specs.Sending.{all_outgoing}
 use Rattle.shard_steps.specs.declared.transfers.Unsent.{Unsent}
 use Rattle.shard_steps.proofs.SendingLemmas.{added-sends, keeps-more}

@@ -1,5 +1,5 @@
 use Rattle.std.proofs.Common.{◌∙◌, ap, sym, subst, Option, Some}
-use Rattle.service_model.specs.declared.transfer.Sent.{Sent}
+use Rattle.service_model_types.specs.declared.transfer.Sent.{Sent}
 use Rattle.shard_steps.specs.Issuing.{all_waiting}
 use Rattle.shard_steps.specs.Sending.{TransfersView}
 use Rattle.shard_steps.proofs.SendingLemmas.{answered-sends}

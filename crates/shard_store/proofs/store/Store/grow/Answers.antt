@@ -5,7 +5,7 @@ use Rattle.service_model.specs.Outcome.{latest_run}
 use Rattle.mutable_state.specs.Steps.{after_step, FitStep}
 use Rattle.mutable_state.specs.View.{RunView}
 use Rattle.mutable_state.proofs.GrowthLemmas.{beginning-stays}
-use Rattle.service_model.specs.declared.content.Outgoing.{Outgoing}
+use Rattle.service_model_types.specs.declared.content.Outgoing.{Outgoing}
 use Rattle.service_model.specs.Issued.{dispatches_of, transfers_of}
 use Rattle.service_model.specs.Service.{with_all_sent}
 use Rattle.shard_store.specs.Fitting.{after_added, state_at}

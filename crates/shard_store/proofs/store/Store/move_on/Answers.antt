@@ -1,6 +1,6 @@
 use Rattle.std.proofs.Common.{◌<◌, ◌∙◌, ap, sym, subst, length, List}
 use Rattle.service_model.specs.Counts.{outgoing_to}
-use Rattle.service_model.specs.declared.content.Outgoing.{Outgoing}
+use Rattle.service_model_types.specs.declared.content.Outgoing.{Outgoing}
 use Rattle.shard_steps.specs.Issuing.{all_waiting}
 use Rattle.shard_steps.specs.Sending.{TransfersView, KeepsTransfers}
 use Rattle.shard_steps.proofs.SendingLemmas.{acknowledged-sends, length-acknowledged}

@@ -1,7 +1,7 @@
 use Rattle.std.proofs.Common.{◌≡◌, ◌+◌, ◌∙◌, ap, subst, List}
 use Rattle.std.specs.Prelude.{IfSome, slice_get}
 use Rattle.service_model.specs.Counts.{outgoing_to}
-use Rattle.service_model.specs.declared.content.Outgoing.{Outgoing}
+use Rattle.service_model_types.specs.declared.content.Outgoing.{Outgoing}
 use Rattle.shard_store.proofs.OutgoingLemmas.{all-issued}
 use Rattle.shard_store.specs.View.{states}
 use Rattle.shard_store.proofs.store.Store.next_transfer.Goals as goal

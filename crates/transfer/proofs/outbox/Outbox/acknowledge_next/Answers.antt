@@ -1,4 +1,4 @@
-use Rattle.service_model.specs.declared.answer.Acknowledged.TheVariants.{Acknowledged as IsNext}
+use Rattle.service_model_types.specs.declared.answer.Acknowledged.TheVariants.{Acknowledged as IsNext}
 use Rattle.transfer.proofs.OutboxLemmas.{outgoing-acknowledged, room_to-kept}
 use Rattle.transfer.proofs.outbox.Outbox.acknowledge_next.Goals as goal
 

@@ -25,7 +25,7 @@ impl Drop for Setup {
 
 impl Setup {
     ghost use Rattle.std.specs.Prelude.{◌≡◌};
-    ghost use Rattle.service_model.specs.Outcome.{knows_queue};
+    ghost use Rattle.service_model_types.specs.Routing.{knows_queue};
 
     /// Whether the service was opened with a queue of that name.
     pub fn knows_queue(&self, queue: &Id) -> bool

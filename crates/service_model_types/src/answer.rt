@@ -1,8 +1,7 @@
 //! What a shard answers.
 
 ghost use Rattle.std.specs.Prelude.{◌≡◌, MatchResult, None, Ok, Some};
-ghost use Rattle.service_model.specs.Counts.{dispatch_of};
-ghost use Rattle.service_model.specs.TransferReplies.{is_delivered, transfer_of};
+ghost use Rattle.service_model_types.specs.Replies.{dispatch_of, is_delivered, transfer_of};
 
 use crate::content::Dispatch;
 use crate::transfer::Transfer;
