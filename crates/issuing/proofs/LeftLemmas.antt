@@ -9,10 +9,10 @@ use Rattle.std.specs.List.{list_any, cons_option}
 use Rattle.std.specs.Option.{option_map_or}
 use Rattle.indexmap.specs.IndexSet.{insert_key}
 use Rattle.wf_event.specs.declared.event.Event.{Event}
-use Rattle.wf_event.specs.Role.{Class, AnActivity, ATimer, AChild, ASignal, ACancel, Settled, settles}
+use Rattle.wf_event.specs.Role.{Class, AnActivity, ATimer, AChild, ASignal, ACancel, Settled, settles, class_number}
 use Rattle.wf_event_values.specs.Run.{Run}
 use Rattle.service_model_types.specs.declared.content.Setup.{Setup}
-use Rattle.service_model.specs.Pending.{class_number, is_settling, is_settled}
+use Rattle.service_model.specs.Pending.{is_settling, is_settled}
 use Rattle.service_model.specs.Issued.{is_left, close_transfer, closed_transfer}
 use Rattle.issuing.specs.Settled.{if_child, settled_child, IsSettledBy, left_transfer}
 

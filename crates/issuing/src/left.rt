@@ -8,20 +8,19 @@ ghost use Rattle.issuing.specs.Settled.{settled_child, IsSettledBy};
 
 use indexmap::IndexSet;
 use std::alloc::{AllocError, Global};
-use wf_event::{Attributes, Event};
+use wf_event::{Attributes, Class, Event, Opener};
 
 /// The event that asked for the child that an event settles, if it settles one.
-#[tactic(auto, unfolding(wf_event::specs::Role::settles))]
 fn settled_child(attributes: &Attributes) -> Option<u64>
     ensures { result ≡ settled_child (settles attributes.now) }
 {
-    match attributes {
-        Attributes::StartChildWorkflowExecutionFailed(failed) => Some(failed.initiated),
-        Attributes::ChildWorkflowExecutionCompleted(ended) => Some(ended.initiated),
-        Attributes::ChildWorkflowExecutionFailed(ended) => Some(ended.initiated),
-        Attributes::ChildWorkflowExecutionCanceled(ended) => Some(ended.initiated),
-        Attributes::ChildWorkflowExecutionTimedOut(ended) => Some(ended.initiated),
-        Attributes::ChildWorkflowExecutionTerminated(ended) => Some(ended.initiated),
+    match attributes.settles() {
+        Some(
+            Opener {
+                class: Class::Child,
+                event,
+            },
+        ) => Some(event),
         _ => None,
     }
 }

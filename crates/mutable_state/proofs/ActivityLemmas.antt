@@ -4,10 +4,10 @@ use Rattle.std.specs.Prelude.{filter_map, find, map, option_map, option_and_then
 use Rattle.std.specs.List.{AllByRecursion, cons_option}
 use Rattle.wf_event.specs.declared.event.Event.{Event}
 use Rattle.wf_event.specs.declared.attributes.Attributes.{Attributes}
-use Rattle.wf_event.specs.Role.{Role, Closes, role, is_closing_role, is_outside_role, AnActivity, opens, settles, closing_status}
+use Rattle.wf_event.specs.Role.{Role, Closes, role, is_closing_role, is_outside_role, AnActivity, opens, settles, closing_status, class_number}
 use Rattle.wf_event_values.specs.declared.policies.Status.{Status}
 use Rattle.service_model_types.specs.declared.journal.CancelRequest.{CancelRequest}
-use Rattle.service_model.specs.Pending.{Task, class_number, is_settled}
+use Rattle.service_model.specs.Pending.{Task, is_settled}
 use Rattle.service_model.specs.RunState.{ActivityRow, is_open_status}
 use Rattle.service_model.specs.Tasks.{pending_row, is_started_task}
 use Rattle.buffered.specs.Buffers.{Buffer, event_at}
@@ -15,7 +15,8 @@ use Rattle.mutable_state.specs.declared.open.Open.{Open}
 use Rattle.mutable_state.specs.declared.task.WorkflowTask.{WorkflowTask}
 use Rattle.mutable_state.specs.Activities.{is_activity, pending_at, kept_activity, noted_activity, noted_activities, activity_at}
 use Rattle.mutable_state.specs.Noted.{kept_row}
-use Rattle.mutable_state.specs.Opens.{class_in, opener_in, is_of, activity_of, opened_at, row_at, rows_in, open_with, marked, unmarked, added, without, opener_out, class_out, AgreesWith}
+use Rattle.mutable_state.specs.Opens.{is_of, activity_of, opened_at, row_at, rows_in, open_with, marked, unmarked, added, without, AgreesWith}
+use Rattle.wf_event.specs.Openers.{class_in, opener_in, opener_out, class_out}
 use Rattle.mutable_state.specs.Steps.{carried, comes_last}
 use Rattle.mutable_state.specs.View.{state_in}
 use Rattle.mutable_state.proofs.AddLemmas.{closes_by, closing-is}

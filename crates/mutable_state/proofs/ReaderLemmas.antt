@@ -15,7 +15,8 @@ use Rattle.buffered.specs.Buffers.{Buffer}
 use Rattle.mutable_state.specs.declared.open.Open.{Open}
 use Rattle.mutable_state.specs.declared.task.WorkflowTask.{WorkflowTask}
 use Rattle.mutable_state.specs.Formed.{IsFromOutside, IdsTo}
-use Rattle.mutable_state.specs.Opens.{class_in, event_at, is_of, used_in, AgreesWith}
+use Rattle.mutable_state.specs.Opens.{event_at, is_of, used_in, AgreesWith}
+use Rattle.wf_event.specs.Openers.{class_in}
 use Rattle.mutable_state.specs.Readers.{UsedRow, name_of, used_row, used_at, used_rows, fired_timer, IsGrounded}
 use Rattle.mutable_state.specs.Steps.{carried}
 use Rattle.mutable_state.specs.View.{state_in}

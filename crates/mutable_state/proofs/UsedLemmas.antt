@@ -5,10 +5,10 @@ use Rattle.std.proofs.lemmas.Bool.Decides.{nat_tests}
 use Rattle.std.proofs.lemmas.List.{map-append}
 use Rattle.wf_event.specs.declared.event.Event.{Event}
 use Rattle.wf_event.specs.declared.attributes.Attributes.{Attributes}
-use Rattle.wf_event.specs.Role.{Role, Closes, TimerCancels, role, is_outside_role, is_closing_role, Class, opens, Settled, settles}
+use Rattle.wf_event.specs.Role.{Role, Closes, TimerCancels, role, is_outside_role, is_closing_role, Class, opens, Settled, settles, schedules_task}
 use Rattle.service_model_types.specs.declared.journal.NewEvent.{NewEvent}
 use Rattle.service_model.specs.Journal.{Made}
-use Rattle.service_model.specs.Shown.{new_event, schedules_task}
+use Rattle.service_model.specs.Shown.{new_event}
 use Rattle.service_model.specs.Pending.{Task, is_opening, is_settling, is_settled, attributes_of}
 use Rattle.service_model.specs.RunState.{RunState, used, pending}
 use Rattle.service_model.specs.Tasks.{is_started_task}

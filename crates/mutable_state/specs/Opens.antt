@@ -4,40 +4,21 @@ use Rattle.std.specs.List.{AllByRecursion}
 use Rattle.wf_event.specs.declared.event.Event.{Event}
 use Rattle.wf_event.specs.declared.attributes.Attributes.{Attributes}
 use Rattle.wf_event.specs.declared.attributes.Attributes.TheVariants.{ActivityTaskCancelRequested}
-use Rattle.wf_event.specs.Role.{Role, TimerCancels, role, is_closing_role, Class, AnActivity, ATimer, AChild, ASignal, ACancel, opens, Settled, settles}
+use Rattle.wf_event.specs.Role.{Role, TimerCancels, role, is_closing_role, Class, AnActivity, opens, settles, class_number}
 use Rattle.service_model_types.specs.declared.journal.NoteFact.{NoteFact}
-use Rattle.service_model.specs.Pending.{Task, class_number, is_settling, is_settled}
+use Rattle.service_model.specs.Pending.{Task, is_settling, is_settled}
 use Rattle.service_model.specs.RunState.{ActivityRow, is_open_status}
 use Rattle.wf_event_values.specs.declared.policies.Status.{Status}
 use Rattle.buffered.specs.Buffers.{Buffer, unheld, flushed}
 pub use Rattle.buffered.specs.Buffers.{event_at}
-use Rattle.mutable_state.specs.declared.open.Class.{Class as KeptClass}
-use Rattle.mutable_state.specs.declared.open.Class.TheVariants as kept
-use Rattle.mutable_state.specs.declared.open.Opener.{Opener}
+use Rattle.wf_event.specs.declared.role.Class.{Class as KeptClass}
+use Rattle.wf_event.specs.declared.role.Class.TheVariants as kept
+use Rattle.wf_event.specs.declared.role.Opener.{Opener}
 use Rattle.mutable_state.specs.declared.open.Open.{Open}
 use Rattle.mutable_state.specs.Noted.{no_notes, asked, noted, kept_row}
 use Rattle.mutable_state.specs.Formed.{IdsTo, SettlesTo}
 use Rattle.mutable_state.specs.Steps.{carried, is_held_back, comes_last}
-
-abbrev pub class_in : KeptClass → Class
-class_in kept.Activity = AnActivity
-class_in kept.Timer = ATimer
-class_in kept.Child = AChild
-class_in kept.Signal = ASignal
-class_in kept.Cancel = ACancel
-
-abbrev pub class_out : Class → KeptClass
-class_out AnActivity = kept.Activity
-class_out ATimer = kept.Timer
-class_out AChild = kept.Child
-class_out ASignal = kept.Signal
-class_out ACancel = kept.Cancel
-
-abbrev pub opener_in : Opener → Settled
-opener_in o = record { class = class_in o.class; opener = o.event }
-
-abbrev pub opener_out : Settled → Opener
-opener_out k = record { class = class_out k.class; event = k.opener }
+use Rattle.wf_event.specs.Openers.{class_in, class_out, opener_in, opener_out}
 
 -- what is in use, for how much more there is room, and how many more attempts may end
 pub record OpenRows : Type 0 where

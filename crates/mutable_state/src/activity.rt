@@ -6,11 +6,11 @@ ghost use Rattle.mutable_state.specs.Activities.{row_said, kept_activity, is_act
 ghost use Rattle.mutable_state.specs.Noted.{kept_row};
 
 use crate::notes::Notes;
-use crate::open::{Class, Open, Opener};
+use crate::open::Open;
 use crate::run::Run;
 use buffered::History;
 use std::alloc::{AllocError, Global};
-use wf_event::Event;
+use wf_event::{Class, Event, Opener};
 
 /// An activity: the event that scheduled it, and what the notes on it say.
 pub struct Activity {

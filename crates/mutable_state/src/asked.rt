@@ -4,13 +4,14 @@ ghost use Rattle.std.specs.Prelude.{◌≡◌, true, find, option_copied, IfOk, 
 ghost use Rattle.service_model.specs.Deliveries.{asked_id, pending_asked};
 ghost use Rattle.service_model.specs.RunState.{is_open};
 ghost use Rattle.mutable_state.specs.Asked.{kept_asked};
-ghost use Rattle.mutable_state.specs.Opens.{class_in, is_one};
+ghost use Rattle.mutable_state.specs.Opens.{is_one};
+ghost use Rattle.wf_event.specs.Openers.{class_in};
 
-use crate::open::{Class, Open, Opener};
+use crate::open::Open;
 use crate::run::Run;
 use buffered::History;
 use std::alloc::AllocError;
-use wf_event::Attributes;
+use wf_event::{Attributes, Class, Opener};
 use wf_event_values::Id;
 
 impl Run {

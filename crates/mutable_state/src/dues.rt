@@ -11,14 +11,14 @@ ghost use Rattle.mutable_state.specs.Readers.{started_timer};
 ghost use Rattle.mutable_state.specs.Dues.{own_dues, task_dues, kept_dues, kept_activity_dues, pending_timer_dues, pending_activity_dues};
 
 use crate::notes::{ActivityPhase, Notes};
-use crate::open::{Class, Open};
+use crate::open::Open;
 use crate::run::Run;
 use crate::task::WorkflowTask;
 use buffered::History;
 use retry::wait_after;
 use timeouts::{Due, due_after, first_of_two};
 use wf_event::payloads::{ActivityTaskScheduled, WorkflowExecutionStarted};
-use wf_event::{Attributes, Event};
+use wf_event::{Attributes, Class, Event};
 use wf_event_values::{DeadlineClass, Id, Moment};
 
 impl Run {

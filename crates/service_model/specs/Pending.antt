@@ -6,7 +6,7 @@ use Rattle.wf_event.specs.declared.attributes.Attributes.{Attributes}
 use Rattle.wf_event.specs.declared.attributes.Attributes.TheVariants.{ActivityTaskCancelRequested}
 use Rattle.wf_event_values.specs.declared.policies.Status.{Status}
 use Rattle.wf_event_values.specs.declared.policies.Status.TheVariants.{Running}
-use Rattle.wf_event.specs.Role.{Role, TaskSchedules, TaskStarts, TaskEnds, role, is_closing_role, Class, AnActivity, ATimer, AChild, ASignal, ACancel, opens, Settled, settles, closing_status}
+use Rattle.wf_event.specs.Role.{Role, TaskSchedules, TaskStarts, TaskEnds, role, is_closing_role, Class, opens, Settled, settles, closing_status, class_number}
 use Rattle.service_model_types.specs.declared.journal.Note.{Note}
 use Rattle.service_model_types.specs.declared.journal.Note.TheVariants.{Taken, Ended, Ready, Beat}
 use Rattle.service_model.specs.Journal.{Journal, Made, events_made, Noted, notes_made, latest}
@@ -19,13 +19,6 @@ is_closed J = list_any (λ e. is_closing_role (role e.attributes)) (events_made 
 -- a run's status
 abbrev pub status : Journal → Status
 status J = unwrap_or (latest (λ (e : Made). closing_status e.attributes) (events_made J)) Running
-
-abbrev pub class_number : Class → ℕ
-class_number AnActivity = 0
-class_number ATimer = 1
-class_number AChild = 2
-class_number ASignal = 3
-class_number ACancel = 4
 
 -- whether this is an opening of the class
 abbrev pub is_opening : Class → Option Class → Bool

@@ -4,7 +4,7 @@
 ghost use Rattle.std.specs.Prelude.{◌≡◌, IfOk, [], None};
 ghost use Rattle.service_model.specs.Deliveries.{effect, external_class};
 ghost use Rattle.service_model_types.specs.declared.transfer.TransferContent.TheVariants as content;
-ghost use Rattle.mutable_state.specs.Opens.{class_in};
+ghost use Rattle.wf_event.specs.Openers.{class_in};
 ghost use Rattle.shard_store.specs.Fitting.{FitsStep};
 ghost use Rattle.shard_store.specs.View.{state, runs_in};
 ghost use Rattle.shard_deliveries.specs.Accepting.{MayAccept};
@@ -12,15 +12,14 @@ ghost use Rattle.shard_deliveries.specs.Accepting.{MayAccept};
 use crate::accepts::{accept_event, accept_only};
 use crate::events::{child_closed_event, external_event};
 use crate::pending::pending_request;
-use mutable_state::Class;
 use mutable_state_keeper::KeepsRun;
 use service_model_types::transfer::{
     ChildClosed, ChildStartFailed, ChildStarted, ExternalDoneTransfer, ExternalKind, Transfer,
 };
 use shard_store::{Plan, Store};
 use std::alloc::AllocError;
-use wf_event::Attributes;
 use wf_event::payloads::{ChildWorkflowExecutionStarted, StartChildWorkflowExecutionFailed};
+use wf_event::{Attributes, Class};
 use wf_event_values::{Cause, Moment};
 
 /// A child was started.

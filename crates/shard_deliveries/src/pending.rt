@@ -2,14 +2,14 @@
 
 ghost use Rattle.std.specs.Prelude.{◌≡◌, IfOk, IfSome, option_map};
 ghost use Rattle.service_model.specs.Deliveries.{own_run, pending_id};
-ghost use Rattle.mutable_state.specs.Opens.{class_in};
+ghost use Rattle.wf_event.specs.Openers.{class_in};
 ghost use Rattle.shard_store.specs.View.{runs_in};
 ghost use Rattle.shard_deliveries.specs.Pending.{IsPending, said};
 
-use mutable_state::Class;
 use mutable_state_keeper::KeepsRun;
 use shard_store::Store;
 use std::alloc::AllocError;
+use wf_event::Class;
 use wf_event_values::{Id, RunId};
 
 /// A request that waits for an answer: in which run, and what workflow ID was asked.

@@ -4,8 +4,8 @@ use Rattle.std.specs.Prelude.{filter}
 use Rattle.std.proofs.lemmas.List.Elements.{filter-append}
 use Rattle.wf_event.specs.declared.event.Event.{Event}
 use Rattle.wf_event.specs.declared.attributes.Attributes.{Attributes}
-use Rattle.wf_event.specs.Role.{Class, AnActivity, ATimer, AChild, ASignal, ACancel, opens, Settled, settles}
-use Rattle.service_model.specs.Pending.{class_number, is_opening, is_settling, is_settled}
+use Rattle.wf_event.specs.Role.{Class, AnActivity, ATimer, AChild, ASignal, ACancel, opens, Settled, settles, class_number}
+use Rattle.service_model.specs.Pending.{is_opening, is_settling, is_settled}
 use Rattle.service_model.specs.RunState.{RunState, used, pending, held_attributes}
 use Rattle.service_model.specs.Completion.{opened_so_far, is_settled_so_far, pending_so_far}
 use Rattle.mutable_state.specs.Readers.{IsGrounded}

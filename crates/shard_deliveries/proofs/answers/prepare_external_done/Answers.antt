@@ -3,7 +3,7 @@ use Rattle.std.specs.Prelude.{IfSome}
 use Rattle.wf_event.specs.Role.{Class}
 use Rattle.service_model.specs.Outcome.{run_at}
 use Rattle.service_model.specs.RunState.{pending}
-use Rattle.mutable_state.specs.Opens.{class_in}
+use Rattle.wf_event.specs.Openers.{class_in}
 use Rattle.mutable_state.specs.Steps.{has_id}
 use Rattle.shard_store.specs.View.{runs_in}
 use Rattle.shard_deliveries.specs.Accepting.{IsFromOutside}

@@ -1,7 +1,7 @@
 use Rattle.std.proofs.Common.{◌≡◌, ◌∙◌, true, sym, subst, Option}
 use Rattle.std.specs.Prelude.{ℕ, List, IfSome}
 use Rattle.service_model.specs.RunState.{RunState, is_open, pending}
-use Rattle.mutable_state.specs.Opens.{class_in}
+use Rattle.wf_event.specs.Openers.{class_in}
 use Rattle.mutable_state.specs.Steps.{has_id}
 use Rattle.shard_deliveries.proofs.FitLemmas.{asked-waits}
 use Rattle.shard_deliveries.proofs.pending.pending_request.Goals as goal
