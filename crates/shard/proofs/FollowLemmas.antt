@@ -1,5 +1,5 @@
 -- plans that close a run and make another one of its workflow ID
-use Rattle.std.proofs.Common.{◌≡◌, ℕ, ◌+◌, ◌-◌, ◌<◌, ◌≤◌, true, false, List, [], ◌∷◌, length, refl, sym, ap, ◌∙◌, subst, arith, slice_index_or, Option, Some, None}
+use Rattle.std.proofs.Common.{◌≡◌, ℕ, ◌<◌, true, false, List, [], ◌∷◌, length, refl, sym, ap, ◌∙◌, subst, arith, Option, Some, None}
 use Rattle.std.specs.Prelude.{option_and_then, option_map, unwrap_or}
 use Rattle.wf_event.specs.declared.attributes.Attributes.{Attributes}
 use Rattle.wf_event.specs.declared.attributes.Attributes.TheVariants.{WorkflowExecutionStarted}
@@ -7,55 +7,53 @@ use Rattle.wf_event.specs.declared.payloads.WorkflowExecutionStarted.{WorkflowEx
 use Rattle.wf_command.specs.declared.command.ContinueAsNew.{ContinueAsNew}
 use Rattle.service_model_types.specs.declared.journal.Fact.{Fact}
 use Rattle.service_model_types.specs.declared.journal.Fact.TheVariants.{Event as an_event}
-use Rattle.service_model.specs.Outcome.{Outcome, CountsNothing, Runs, run_at, run_id}
+use Rattle.service_model.specs.Outcome.{Outcome, CountsNothing, Runs, run_id}
 use Rattle.service_model_types.specs.Replies.{Reply}
-use Rattle.service_model.specs.RunState.{Beginning, RunState, id_of, is_open, no_run, started_of}
+use Rattle.service_model.specs.RunState.{Beginning, RunState, id_of, is_open, started_of}
 use Rattle.service_model.specs.Starts.{start_request}
 use Rattle.service_model.specs.Tasks.{continued}
 use Rattle.mutable_state.specs.declared.change.Change.{Change as MoreFacts}
-use Rattle.mutable_state.specs.declared.change.Plan.{Plan as MorePlan}
 use Rattle.mutable_state.specs.Steps.{FitStep, after_step}
-use Rattle.shard_steps.specs.Kept.{IsNoted}
 use Rattle.shard_steps.specs.Starts.{first_facts}
 use Rattle.shard_steps.specs.declared.starts.Beginning.{Beginning as NewBeginning}
-use Rattle.shard_store.specs.Fitting.{FitsStep, IsMade, grown, room_at, runs_added, state_at}
+use Rattle.shard_store.specs.Fitting.{FitsAdded, FitsStep, IsMade, IsPrepared, grown, runs_added, state_at}
 use Rattle.shard.specs.Following.{following}
 use Rattle.shard_store.specs.Open.{HasClosed, IsOneOpen}
-use Rattle.shard_store.specs.View.{ShardView, state, states, runs_in}
+use Rattle.shard_store.specs.View.{ShardView, ordinal_of, run_in, runs_in, state, states}
 use Rattle.shard_store.specs.declared.plan.Count.TheVariants as count
+use Rattle.shard_store.specs.declared.plan.MoreOf.{MoreOf}
 use Rattle.shard_store.specs.declared.plan.NewRun.{NewRun}
-use Rattle.shard_store.proofs.IndexLemmas.{length-states}
+use Rattle.shard_store.proofs.IndexLemmas.{at-place, length-states}
 use Rattle.shard_store.proofs.OpenLemmas.{closed-alone}
-use Rattle.shard.proofs.StartLemmas.{fits-more, made-named}
+use Rattle.shard_store.proofs.PlanLemmas.{fits-added}
+use Rattle.shard.proofs.StartLemmas.{made-named}
 
--- where the open run that an ordinal names is closed, all runs of its workflow ID have closed
-pub free-behind : (v old : ShardView) (at n : ℕ) (plan : MorePlan) (facts : List Fact) → state v ≡ state old → n - 1 < length v.runs → plan.change ≡ record { moment = at; facts = facts } → is_open (run_at (runs_in old) n) ≡ true →
-    is_open (after_step at facts (run_at (runs_in old) n)) ≡ false → IsOneOpen (states v.runs) → HasClosed (runs_added (Some (record { index = n - 1; plan = plan })) (states v.runs)) (id_of (run_at (runs_in old) n))
-free-behind v old at n plan facts same there change opened over one =
+-- where the open run at a place is closed, all runs of its workflow ID have closed
+pub free-behind : (v old : ShardView) (at i : ℕ) (m : MoreOf) (facts : List Fact) → state v ≡ state old → IsPrepared v at i facts m → is_open (run_in old i) ≡ true →
+    is_open (after_step at facts (run_in old i)) ≡ false → IsOneOpen (states v.runs) → HasClosed (runs_added (Some m) (states v.runs)) (id_of (run_in old i))
+free-behind v old at i m facts same made opened over one =
     let runs = states v.runs in
-    let here : state_at runs (n - 1) ≡ run_at (runs_in old) n = ap (λ s. slice_index_or s.runs (n - 1) no_run) same in
-    let low : n - 1 < length runs = omega (arith, there, length-states v.runs) in
-    let x = grown (record { index = n - 1; plan = plan }) runs in
-    let closed : is_open x ≡ false = ap (λ (c : MoreFacts). is_open (after_step c.moment c.facts (state_at runs (n - 1)))) change ∙ ap (λ s. is_open (after_step at facts s)) here ∙ over in
-    subst (λ s. HasClosed (runs_added (Some (record { index = n - 1; plan = plan })) runs) (id_of s)) here (closed-alone runs (n - 1) x low (ap is_open here ∙ opened) closed one)
+    let here : state_at runs m.index ≡ run_in old i = ap (λ s. state_at s.runs m.index) same ∙ ap (state_at (states old.runs)) made.place ∙ sym (at-place (runs_in old) i) in
+    let low : m.index < length runs = omega (arith, made.there, length-states v.runs) in
+    let closed : is_open (grown m runs) ≡ false = ap (λ (c : MoreFacts). is_open (after_step c.moment c.facts (state_at runs m.index))) made.change ∙ ap (λ s. is_open (after_step at facts s)) here ∙ over in
+    subst (λ s. HasClosed (runs_added (Some m) runs) (id_of s)) here (closed-alone runs m.index (grown m runs) low (ap is_open here ∙ opened) closed one)
 
 -- a plan that closes the run and makes another
-pub both-fits : {T : Type 0} (v old : ShardView) (at n : ℕ) (plan : MorePlan) (facts : List Fact) (b : NewBeginning) (new : NewRun T) (reply : Reply) (o : Outcome) → state v ≡ state old → 1 ≤ n → n - 1 < length v.runs → IsNoted v.changed → plan.change ≡ record { moment = at; facts = facts } → length plan.change.facts ≤ room_at v.runs (n - 1) →
-    FitStep at (run_at (runs_in old) n) facts → is_open (run_at (runs_in old) n) ≡ true → is_open (after_step at facts (run_at (runs_in old) n)) ≡ false → id_of (run_at (runs_in old) n) ≡ b.started.workflow_id → IsMade v at new b →
-    o.added ≡ Some (record { run = n; facts = facts }) → o.created ≡ Some (first_facts b) → reply ≡ o.reply → o.counting ≡ CountsNothing → o.answers ≡ [] →
-    FitsStep v (record { moment = at; change = record { added = Some (record { index = n - 1; plan = plan }); created = Some new; count = count.Nothing; answer = None }; reply = reply }) at o
-both-fits v old at n plan facts b new reply o same low there noted change room fits opened over named made added created replies counts answers =
-    let place : n ≡ n - 1 + 1 = omega (arith, low) in
-    let runs = runs_added (Some (record { index = n - 1; plan = plan })) (states v.runs) in
+pub both-fits : {T : Type 0} (v old : ShardView) (at i : ℕ) (m : MoreOf) (facts : List Fact) (b : NewBeginning) (new : NewRun T) (reply : Reply) (o : Outcome) → state v ≡ state old → IsPrepared v at i facts m →
+    FitStep at (run_in old i) facts → is_open (run_in old i) ≡ true → is_open (after_step at facts (run_in old i)) ≡ false → id_of (run_in old i) ≡ b.started.workflow_id → IsMade v at new b →
+    o.added ≡ Some (record { run = ordinal_of i; facts = facts }) → o.created ≡ Some (first_facts b) → reply ≡ o.reply → o.counting ≡ CountsNothing → o.answers ≡ [] →
+    FitsStep v (record { moment = at; change = record { added = Some m; created = Some new; count = count.Nothing; answer = None }; reply = reply }) at o
+both-fits v old at i m facts b new reply o same prepared fits opened over named made added created replies counts answers =
+    let runs = runs_added (Some m) (states v.runs) in
     record {
       moment = refl;
       reply = replies;
       change = record {
-        added = (facts, added ∙ ap (λ k. Some (record { run = k; facts = facts })) place, fits-more v old at n plan facts same there noted change room fits);
+        added = subst (FitsAdded v at (Some m)) (sym added) (fits-added v old at i m facts same prepared fits);
         created = (b, created, made);
         count = counts;
         answer = answers;
-        free = λ one. subst (HasClosed runs) (named ∙ sym (made-named v at b new made)) (free-behind v old at n plan facts same there change opened over one);
+        free = λ one. subst (HasClosed runs) (named ∙ sym (made-named v at b new made)) (free-behind v old at i m facts same prepared opened over one);
       };
     }
 

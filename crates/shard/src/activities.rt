@@ -1,17 +1,17 @@
 //! Taking the attempt of an activity.
 
-ghost use Rattle.std.specs.Prelude.{◌≡◌, ◌≤◌, ◌∷◌, [], length, true, is_some, IfOk, IfSome};
+ghost use Rattle.std.specs.Prelude.{◌≡◌, ◌<◌, ◌∷◌, [], length, true, IfOk, IfSome};
 ghost use Rattle.wf_event.specs.Role.{AnActivity};
 ghost use Rattle.wf_event_values.specs.declared.policies.TaskKind.TheVariants.{Activity as of_an_activity};
 ghost use Rattle.service_model_types.specs.declared.answer.Answer.TheVariants.{ActivityTask as an_activity_task};
 ghost use Rattle.service_model_types.specs.declared.journal.Note.TheVariants.{Taken};
-ghost use Rattle.service_model.specs.Outcome.{adds, noted, run_at};
+ghost use Rattle.service_model.specs.Outcome.{adds, noted};
 ghost use Rattle.service_model.specs.RunState.{is_open, used};
 ghost use Rattle.service_model.specs.Tasks.{take_by_kind, pending_row};
 ghost use Rattle.mutable_state.specs.Steps.{has_id};
-ghost use Rattle.shard_steps.specs.Attempts.{has_run_of, task_for};
+ghost use Rattle.shard_steps.specs.Attempts.{task_for};
 ghost use Rattle.shard_store.specs.Fitting.{FitsStep};
-ghost use Rattle.shard_store.specs.View.{state, runs_in};
+ghost use Rattle.shard_store.specs.View.{ordinal_of, run_in, runs_in, state};
 
 use crate::more::prepare_more;
 use mutable_state_keeper::KeepsRun;
@@ -33,49 +33,39 @@ pub(crate) fn take_activity<T: KeepsRun>(
     ensures plan { IfOk result (λ plan. FitsStep store.new plan moment
         (take_by_kind (runs_in store.old) hint of_an_activity)) }
 {
-    let Some(n) = run_of(store, hint.shard, hint.run) else {
+    let Some(index) = store.place_on(hint.shard, hint.run) else {
         return Ok(answered(moment, Answer::Stale));
     };
-    let Some(task) = attempt_for(store, n, hint)? else {
+    let Some(task) = attempt_for(store, index, hint)? else {
         return Ok(answered(moment, Answer::Stale));
     };
-    let plan = take_attempt(store, moment, n, hint, task)?;
+    let plan = take_attempt(store, moment, index, hint, task)?;
     Ok(plan)
 }
 
-/// The ordinal of a run, where the shard of this number is this one and has it.
-pub(crate) fn run_of<T: KeepsRun>(store: &Store<T>, shard: u16, run: u64) -> Option<usize>
-    ensures some { has_run_of (runs_in store.now) shard run ≡ is_some result }
-    ensures found { IfSome result (λ n. (n ≡ run) × (1 ≤ n) × (n ≤ length store.now.runs)) }
-{
-    let n = run as usize;
-    if shard != store.setup().shard || n < 1 || n > store.count() {
-        return None;
-    }
-    Some(n)
-}
-
-/// The attempt that the hint names in the run with that ordinal, where it waits to be taken.
+/// The attempt that the hint names in the run at a place, where it waits to be taken.
 fn attempt_for<T: KeepsRun>(
     store: &Store<T>,
-    n: usize,
+    index: usize,
     hint: Hint,
 ) -> Result<Option<ActivityTask>, AllocError>
-    requires from { 1 ≤ n }
-    requires to { n ≤ length store.now.runs }
-    requires run { n ≡ hint.run }
+    requires there { index < length store.now.runs }
+    requires run { ordinal_of index ≡ hint.run }
     ensures task { IfOk result (λ task. task ≡ task_for (runs_in store.now) hint
-        (pending_row (run_at (runs_in store.now) hint.run) hint.event)) }
-    ensures there { IfOk result (λ task. IfSome task
-        (λ t. has_id hint.event (used AnActivity (run_at (runs_in store.now) n)) ≡ true)) }
+        (pending_row (run_in store.now index) hint.event)) }
+    ensures in_use { IfOk result (λ task. IfSome task
+        (λ t. has_id hint.event (used AnActivity (run_in store.now index)) ≡ true)) }
     ensures open { IfOk result (λ task. IfSome task
-        (λ t. is_open (run_at (runs_in store.now) n) ≡ true)) }
+        (λ t. is_open (run_in store.now index) ≡ true)) }
 {
-    let Some(activity) = store.run(n).pending_activity(store.alloc(), hint.event)? else {
+    let Some(activity) = store
+        .run(index)
+        .pending_activity(store.alloc(), hint.event)?
+    else {
         return Ok(None);
     };
-    let workflow_id = store.run(n).workflow_id().clone()?;
-    let task = attempt_task(&activity, hint, store.run_id(n), workflow_id)?;
+    let workflow_id = store.run(index).workflow_id().clone()?;
+    let task = attempt_task(&activity, hint, store.run_id(index), workflow_id)?;
     Ok(task)
 }
 
@@ -83,20 +73,19 @@ fn attempt_for<T: KeepsRun>(
 fn take_attempt<T: KeepsRun>(
     store: &mut Store<T>,
     moment: Moment,
-    n: usize,
+    index: usize,
     hint: Hint,
     task: ActivityTask,
 ) -> Result<Plan<T>, AllocError>
-    requires from { 1 ≤ n }
-    requires to { n ≤ length store.old.runs }
-    requires run { n ≡ hint.run }
-    requires there { has_id hint.event (used AnActivity (run_at (runs_in store.old) n)) ≡ true }
-    requires open { is_open (run_at (runs_in store.old) n) ≡ true }
+    requires there { index < length store.old.runs }
+    requires run { ordinal_of index ≡ hint.run }
+    requires in_use { has_id hint.event (used AnActivity (run_in store.old index)) ≡ true }
+    requires open { is_open (run_in store.old index) ≡ true }
     ensures same { state store.new ≡ state store.old }
     ensures plan { IfOk result (λ plan. FitsStep store.new plan moment
         (adds hint.run (noted hint.event Taken ∷ []) (an_activity_task task))) }
 {
     let facts = note_facts(store.alloc(), hint.event, Note::Taken)?;
-    let plan = prepare_more(store, moment, n, facts, Answer::ActivityTask(task))?;
+    let plan = prepare_more(store, moment, index, facts, Answer::ActivityTask(task))?;
     Ok(plan)
 }

@@ -1,17 +1,16 @@
 //! The running attempts that tokens name, and the ends of activities that workers report.
 
-ghost use Rattle.std.specs.Prelude.{◌≡◌, ◌≤◌, Some, length, true, option_map, IfOk, IfSome};
+ghost use Rattle.std.specs.Prelude.{◌≡◌, ◌<◌, Some, length, true, option_map, IfOk, IfSome};
 ghost use Rattle.service_model.specs.Activities.{cancel_activity, complete_activity, ends_activity, keep_running, running_attempt};
 ghost use Rattle.service_model.specs.Outcome.{adds, run_at};
 ghost use Rattle.service_model.specs.RunState.{is_open};
 ghost use Rattle.service_model.specs.Tasks.{pending_row};
 ghost use Rattle.mutable_state.specs.Activities.{row_said};
-ghost use Rattle.shard.specs.Running.{HasAttempt};
+ghost use Rattle.shard.specs.Running.{HasAttempt, row_of};
 ghost use Rattle.shard_store.specs.Fitting.{FitsStep};
-ghost use Rattle.shard_store.specs.View.{state, runs_in};
+ghost use Rattle.shard_store.specs.View.{run_in, runs_in, state};
 ghost use Rattle.shard_steps.specs.Attempts.{ended_activity};
 
-use crate::activities::run_of;
 use crate::more::prepare_more;
 use mutable_state::Activity;
 use mutable_state_keeper::KeepsRun;
@@ -24,6 +23,13 @@ use wf_event::Attributes;
 use wf_event::payloads::{ActivityTaskCanceled, ActivityTaskCompleted};
 use wf_event_values::{Field, Moment, Refusal};
 
+/// The running attempt of an activity that a token names, in the run at a place.
+#[derive(Drop)]
+pub(crate) struct RunningAttempt {
+    pub(crate) index: usize,
+    pub(crate) activity: Activity,
+}
+
 /// An activity is completed.
 #[tactic(auto, unfolding(service_model::specs::Activities::complete_activity))]
 pub(crate) fn prepare_complete_activity<T: KeepsRun>(
@@ -35,7 +41,7 @@ pub(crate) fn prepare_complete_activity<T: KeepsRun>(
     ensures plan { IfOk result (λ plan.
         FitsStep store.new plan moment (complete_activity (runs_in store.old) request.now)) }
 {
-    let Some(activity) = attempt_running(store, request.task)? else {
+    let Some(attempt) = attempt_running(store, request.task)? else {
         return Ok(refused(moment, Refusal::NotFound));
     };
     let last = Attributes::ActivityTaskCompleted(ActivityTaskCompleted {
@@ -43,7 +49,7 @@ pub(crate) fn prepare_complete_activity<T: KeepsRun>(
         result_text: request.text.clone()?,
     });
     let answer = Answer::ActivityCompleted;
-    let plan = end_activity(store, moment, request.task, &activity, last, answer)?;
+    let plan = end_activity(store, moment, request.task, &attempt, last, answer)?;
     Ok(plan)
 }
 
@@ -58,10 +64,10 @@ pub(crate) fn prepare_cancel_activity<T: KeepsRun>(
     ensures plan { IfOk result (λ plan.
         FitsStep store.new plan moment (cancel_activity (runs_in store.old) request.now)) }
 {
-    let Some(activity) = attempt_running(store, request.task)? else {
+    let Some(attempt) = attempt_running(store, request.task)? else {
         return Ok(refused(moment, Refusal::NotFound));
     };
-    if !activity.notes.cancel_requested {
+    if !attempt.activity.notes.cancel_requested {
         return Ok(refused(moment, Refusal::InvalidArgument(Field::Token)));
     }
     let last = Attributes::ActivityTaskCanceled(ActivityTaskCanceled {
@@ -69,7 +75,7 @@ pub(crate) fn prepare_cancel_activity<T: KeepsRun>(
         details: request.text.clone()?,
     });
     let answer = Answer::ActivityCanceled;
-    let plan = end_activity(store, moment, request.task, &activity, last, answer)?;
+    let plan = end_activity(store, moment, request.task, &attempt, last, answer)?;
     Ok(plan)
 }
 
@@ -78,56 +84,59 @@ pub(crate) fn end_activity<T: KeepsRun>(
     store: &mut Store<T>,
     moment: Moment,
     task: TakenTask,
-    activity: &Activity,
+    attempt: &RunningAttempt,
     last: Attributes,
     answer: Answer,
 ) -> Result<Plan<T>, AllocError>
-    requires running { HasAttempt store.old task (row_said activity.now) }
+    requires running { HasAttempt store.old task attempt.now.index (row_of attempt.now) }
     requires ends { ended_activity last ≡ Some task.event }
     ensures same { state store.new ≡ state store.old }
     ensures plan { IfOk result (λ plan. FitsStep store.new plan moment
         (adds task.run
-        (ends_activity (run_at (runs_in store.old) task.run) (row_said activity.now) last)
+        (ends_activity (run_at (runs_in store.old) task.run) (row_of attempt.now) last)
         answer)) }
 {
-    let n = task.run as usize;
-    let facts = ended_facts(store.alloc(), store.run(n), activity, last)?;
-    let plan = prepare_more(store, moment, n, facts, answer)?;
+    let run = store.run(attempt.index);
+    let facts = ended_facts(store.alloc(), run, &attempt.activity, last)?;
+    let plan = prepare_more(store, moment, attempt.index, facts, answer)?;
     Ok(plan)
 }
 
-/// The activity whose running attempt a token names.
+/// The running attempt that a token names, where there is one.
 pub(crate) fn attempt_running<T: KeepsRun>(
     store: &Store<T>,
     task: TakenTask,
-) -> Result<Option<Activity>, AllocError>
+) -> Result<Option<RunningAttempt>, AllocError>
     ensures found { IfOk result (λ found.
-        option_map row_said found ≡ running_attempt (runs_in store.now) task) }
-    ensures running { IfOk result (λ found.
-        IfSome found (λ activity. HasAttempt store.now task (row_said activity))) }
+        option_map row_of found ≡ running_attempt (runs_in store.now) task) }
+    ensures running { IfOk result (λ found. IfSome found
+        (λ attempt. HasAttempt store.now task attempt.index (row_of attempt))) }
 {
-    let Some(n) = run_of(store, task.shard, task.run) else {
+    let Some(index) = store.place_on(task.shard, task.run) else {
         return Ok(None);
     };
-    let found = attempt_in(store, n, task)?;
-    Ok(found)
+    let Some(activity) = attempt_in(store, index, task)? else {
+        return Ok(None);
+    };
+    Ok(Some(RunningAttempt { index, activity }))
 }
 
-/// The same, in the run with that ordinal.
+/// Its activity, in the run at a place.
 fn attempt_in<T: KeepsRun>(
     store: &Store<T>,
-    n: usize,
+    index: usize,
     task: TakenTask,
 ) -> Result<Option<Activity>, AllocError>
-    requires from { 1 ≤ n }
-    requires to { n ≤ length store.now.runs }
-    requires run { n ≡ task.run }
+    requires there { index < length store.now.runs }
     ensures found { IfOk result (λ found. option_map row_said found
-        ≡ keep_running task (pending_row (run_at (runs_in store.now) task.run) task.event)) }
+        ≡ keep_running task (pending_row (run_in store.now index) task.event)) }
     ensures open { IfOk result (λ found.
-        IfSome found (λ activity. is_open (run_at (runs_in store.now) task.run) ≡ true)) }
+        IfSome found (λ activity. is_open (run_in store.now index) ≡ true)) }
 {
-    let Some(activity) = store.run(n).pending_activity(store.alloc(), task.event)? else {
+    let Some(activity) = store
+        .run(index)
+        .pending_activity(store.alloc(), task.event)?
+    else {
         return Ok(None);
     };
     if !is_running(&activity, task.attempt) {

@@ -1,10 +1,9 @@
 //! Asking a run to cancel, and terminating it.
 
-ghost use Rattle.std.specs.Prelude.{◌≡◌, ◌≤◌, length, IfOk, Some, true};
+ghost use Rattle.std.specs.Prelude.{◌≡◌, ◌<◌, length, IfOk, Some, true};
 ghost use Rattle.service_model.specs.Cancels.{request_cancel, cancel_open, cancel_again, terminate, terminate_at};
-ghost use Rattle.service_model.specs.Outcome.{run_at};
 ghost use Rattle.service_model.specs.RunState.{is_open};
-ghost use Rattle.shard_store.specs.View.{state, runs_in};
+ghost use Rattle.shard_store.specs.View.{ordinal_of, run_in, runs_in, state};
 ghost use Rattle.shard_store.specs.Fitting.{FitsStep};
 
 use crate::more::prepare_more;
@@ -27,36 +26,35 @@ pub(crate) fn prepare_request_cancel<T: KeepsRun>(
     ensures plan { IfOk result (λ plan. FitsStep store.new plan moment
         (request_cancel (runs_in store.old) request.now)) }
 {
-    if store.setup().shard_of(&request.workflow_id) != store.setup().shard {
+    if !store.is_home_of(&request.workflow_id) {
         return Ok(refused(moment, Refusal::InvalidArgument(Field::WorkflowId)));
     }
     match store.named_open(&request.workflow_id, request.run) {
-        Some(n) => prepare_cancel_of(store, moment, n, request),
+        Some(index) => prepare_cancel_of(store, moment, index, request),
         None => Ok(refused(moment, Refusal::NotFound)),
     }
 }
 
-/// A request to cancel the open run with that ordinal.
+/// A request to cancel the open run at a place.
 fn prepare_cancel_of<T: KeepsRun>(
     store: &mut Store<T>,
     moment: Moment,
-    n: usize,
+    index: usize,
     request: &RequestCancel,
 ) -> Result<Plan<T>, AllocError>
-    requires from { 1 ≤ n }
-    requires to { n ≤ length store.old.runs }
-    requires open { is_open (run_at (runs_in store.old) n) ≡ true }
+    requires there { index < length store.old.runs }
+    requires open { is_open (run_in store.old index) ≡ true }
     ensures same { state store.new ≡ state store.old }
     ensures plan { IfOk result (λ plan. FitsStep store.new plan moment
-        (cancel_open (runs_in store.old) request.now n
-        (run_at (runs_in store.old) n).cancel_request)) }
+        (cancel_open (runs_in store.old) request.now (ordinal_of index)
+        (run_in store.old index).cancel_request)) }
 {
-    let before = store.run(n).cancel_request()?;
+    let before = store.run(index).cancel_request()?;
     if let Some(before) = before {
         return Ok(prepare_cancel_again(store, moment, request, before));
     }
-    let facts = cancel_facts(store.alloc(), store.run(n), &request.request_id)?;
-    prepare_more(store, moment, n, facts, Answer::CancelRequested)
+    let facts = cancel_facts(store.alloc(), store.run(index), &request.request_id)?;
+    prepare_more(store, moment, index, facts, Answer::CancelRequested)
 }
 
 /// A request to cancel a run that was asked before.
@@ -84,30 +82,29 @@ pub(crate) fn prepare_terminate<T: KeepsRun>(
     ensures plan { IfOk result (λ plan. FitsStep store.new plan moment
         (terminate (runs_in store.old) request.now)) }
 {
-    if store.setup().shard_of(&request.workflow_id) != store.setup().shard {
+    if !store.is_home_of(&request.workflow_id) {
         return Ok(refused(moment, Refusal::InvalidArgument(Field::WorkflowId)));
     }
     match store.named_open(&request.workflow_id, request.run) {
-        Some(n) => prepare_termination(store, moment, n, request),
+        Some(index) => prepare_termination(store, moment, index, request),
         None => Ok(refused(moment, Refusal::NotFound)),
     }
 }
 
-/// The termination of the open run with that ordinal.
+/// The termination of the open run at a place.
 fn prepare_termination<T: KeepsRun>(
     store: &mut Store<T>,
     moment: Moment,
-    n: usize,
+    index: usize,
     request: &Terminate,
 ) -> Result<Plan<T>, AllocError>
-    requires from { 1 ≤ n }
-    requires to { n ≤ length store.old.runs }
-    requires open { is_open (run_at (runs_in store.old) n) ≡ true }
+    requires there { index < length store.old.runs }
+    requires open { is_open (run_in store.old index) ≡ true }
     ensures same { state store.new ≡ state store.old }
     ensures plan { IfOk result (λ plan. FitsStep store.new plan moment
-        (terminate_at request.now (Some n))) }
+        (terminate_at request.now (Some (ordinal_of index)))) }
 {
     let reason = request.reason.clone()?;
     let facts = terminated_facts(store.alloc(), reason)?;
-    prepare_more(store, moment, n, facts, Answer::Terminated)
+    prepare_more(store, moment, index, facts, Answer::Terminated)
 }

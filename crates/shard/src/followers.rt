@@ -1,13 +1,12 @@
 //! The run that follows one which continues as new.
 
-ghost use Rattle.std.specs.Prelude.{◌≡◌, ◌≤◌, length, IfOk, OnOk, option_copied};
+ghost use Rattle.std.specs.Prelude.{◌≡◌, ◌<◌, length, IfOk, OnOk, option_copied};
 ghost use Rattle.service_model.specs.Journal.{latest};
-ghost use Rattle.service_model.specs.Outcome.{run_at};
 ghost use Rattle.service_model.specs.Tasks.{continue_part, continued};
 ghost use Rattle.shard_steps.specs.Kept.{IsNoted};
 ghost use Rattle.shard_store.specs.Fitting.{FitsCreated};
 ghost use Rattle.shard.specs.Following.{continuing, following};
-ghost use Rattle.shard_store.specs.View.{state, runs_in};
+ghost use Rattle.shard_store.specs.View.{ordinal_of, run_in, runs_in, state};
 
 use mutable_state_keeper::KeepsRun;
 use service_model_types::limits::used_task_timeout;
@@ -20,50 +19,48 @@ use wf_command::command::ContinueAsNew;
 use wf_event::payloads::WorkflowExecutionStarted;
 use wf_event_values::{Cause, Id, Items, Moment, RunId};
 
-/// The run that follows the one with that ordinal, where its completion has no fault and continues
+/// The run that follows the one at a place, where its completion has no fault and continues
 /// as new.
 pub(crate) fn prepare_follower<T: KeepsRun>(
     store: &mut Store<T>,
     moment: Moment,
-    n: usize,
+    index: usize,
     fault: Option<Cause>,
     commands: &[Command],
 ) -> Result<Option<NewRun<T>>, AllocError>
-    requires from { 1 ≤ n }
-    requires to { n ≤ length store.old.runs }
+    requires there { index < length store.old.runs }
     requires noted { IsNoted store.old.changed }
     ensures same { state store.new ≡ state store.old }
     ensures runs { store.new.runs ≡ store.old.runs }
     ensures noted { OnOk result (IsNoted store.new.changed) }
     ensures made { IfOk result (λ created. FitsCreated store.new moment created
-        (continued (runs_in store.old) n (continuing fault commands.now)
-        (run_at (runs_in store.old) n).beginning)) }
+        (continued (runs_in store.old) (ordinal_of index) (continuing fault commands.now)
+        (run_in store.old index).beginning)) }
 {
     let Some(command) = continuing(fault, commands) else {
         return Ok(None);
     };
-    let made = prepare_following(store, moment, n, command)?;
+    let made = prepare_following(store, moment, index, command)?;
     Ok(Some(made))
 }
 
-/// The run that follows the one with that ordinal by this command.
+/// The run that follows the one at a place by this command.
 fn prepare_following<T: KeepsRun>(
     store: &mut Store<T>,
     moment: Moment,
-    n: usize,
+    index: usize,
     command: &ContinueAsNew,
 ) -> Result<NewRun<T>, AllocError>
-    requires from { 1 ≤ n }
-    requires to { n ≤ length store.old.runs }
+    requires there { index < length store.old.runs }
     ensures same { state store.new ≡ state store.old }
     ensures runs { store.new.runs ≡ store.old.runs }
     ensures noted { OnOk result (IsNoted store.new.changed) }
     ensures made { IfOk result (λ made. FitsCreated store.new moment (Some made)
-        (continued (runs_in store.old) n (Some command.now)
-        (run_at (runs_in store.old) n).beginning)) }
+        (continued (runs_in store.old) (ordinal_of index) (Some command.now)
+        (run_in store.old index).beginning)) }
 {
-    let from = store.run_id(n);
-    let run = store.run(n);
+    let from = store.run_id(index);
+    let run = store.run(index);
     let beginning = following(
         store.alloc(),
         from,

@@ -31,29 +31,30 @@ pub(crate) fn prepare_heartbeat<T: KeepsRun>(
     ensures plan { IfOk result (λ plan.
         FitsStep store.new plan moment (heartbeat (runs_in store.old) request.now)) }
 {
-    let Some(activity) = attempt_running(store, request.task)? else {
+    let Some(attempt) = attempt_running(store, request.task)? else {
         return Ok(refused(moment, Refusal::NotFound));
     };
     let note = Note::Beat(request.text.clone()?);
-    let answer = Answer::Heartbeat(activity.notes.cancel_requested);
-    let plan = note_attempt(store, moment, request.task, note, answer)?;
+    let answer = Answer::Heartbeat(attempt.activity.notes.cancel_requested);
+    let plan = note_attempt(store, moment, attempt.index, request.task, note, answer)?;
     Ok(plan)
 }
 
-/// A note on the activity whose running attempt a token names.
+/// A note on the activity whose running attempt a token names, in the run at a place.
 pub(crate) fn note_attempt<T: KeepsRun>(
     store: &mut Store<T>,
     moment: Moment,
+    index: usize,
     task: TakenTask,
     note: Note,
     answer: Answer,
 ) -> Result<Plan<T>, AllocError>
-    requires { (r : ActivityRow) × HasAttempt store.old task r }
+    requires { (r : ActivityRow) × HasAttempt store.old task index r }
     ensures same { state store.new ≡ state store.old }
     ensures plan { IfOk result (λ plan.
         FitsStep store.new plan moment (adds task.run (noted task.event note ∷ []) answer)) }
 {
     let facts = note_facts(store.alloc(), task.event, note)?;
-    let plan = prepare_more(store, moment, task.run as usize, facts, answer)?;
+    let plan = prepare_more(store, moment, index, facts, answer)?;
     Ok(plan)
 }

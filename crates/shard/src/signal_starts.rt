@@ -1,11 +1,11 @@
 //! Signaling a workflow ID's open run, or starting one that is signaled.
 
-ghost use Rattle.std.specs.Prelude.{◌≡◌, ◌<◌, ◌≤◌, length, IfOk, None, Some, true};
-ghost use Rattle.service_model.specs.Outcome.{latest_run, open_run, run_at};
+ghost use Rattle.std.specs.Prelude.{◌≡◌, ◌<◌, length, IfOk, None, Some, true};
+ghost use Rattle.service_model.specs.Outcome.{latest_run, open_run};
 ghost use Rattle.service_model.specs.RunState.{is_open};
 ghost use Rattle.service_model.specs.Signals.{signal_with_start, signal_or_start};
 ghost use Rattle.service_model.specs.Starts.{starts_new};
-ghost use Rattle.shard_store.specs.View.{state, states, runs_in};
+ghost use Rattle.shard_store.specs.View.{ordinal_of, run_in, runs_in, state, states};
 ghost use Rattle.shard_store.specs.Fitting.{FitsStep, IsFree};
 ghost use Rattle.shard.specs.Deciding.{signaled_by, signaled_facts};
 
@@ -31,7 +31,7 @@ pub(crate) fn prepare_signal_with_start<T: KeepsRun>(
         (signal_with_start (runs_in store.old) request.now)) }
 {
     let start = &request.start;
-    if store.setup().shard_of(&start.workflow_id) != store.setup().shard {
+    if !store.is_home_of(&start.workflow_id) {
         return Ok(refused(moment, Refusal::InvalidArgument(Field::WorkflowId)));
     }
     if !store.setup().knows_queue(&start.task_queue) {
@@ -52,26 +52,25 @@ fn prepare_signal_or_start<T: KeepsRun>(
         (open_run (runs_in store.old) request.now.start.workflow_id None))) }
 {
     match store.named_open(&request.start.workflow_id, None) {
-        Some(n) => prepare_signal_open(store, moment, n, request),
+        Some(index) => prepare_signal_open(store, moment, index, request),
         None => prepare_signal_start(store, moment, request),
     }
 }
 
-/// A signal of the open run with that ordinal.
+/// A signal of the open run at a place.
 fn prepare_signal_open<T: KeepsRun>(
     store: &mut Store<T>,
     moment: Moment,
-    n: usize,
+    index: usize,
     request: &SignalWithStart,
 ) -> Result<Plan<T>, AllocError>
-    requires from { 1 ≤ n }
-    requires to { n ≤ length store.old.runs }
-    requires open { is_open (run_at (runs_in store.old) n) ≡ true }
+    requires there { index < length store.old.runs }
+    requires open { is_open (run_in store.old index) ≡ true }
     ensures same { state store.new ≡ state store.old }
     ensures plan { IfOk result (λ plan. FitsStep store.new plan moment
-        (signal_or_start (runs_in store.old) request.now (Some n))) }
+        (signal_or_start (runs_in store.old) request.now (Some (ordinal_of index)))) }
 {
-    let run = store.run_id(n);
+    let run = store.run_id(index);
     let answers = SignalAnswers {
         first: Answer::SignaledRun(run),
         again: Answer::RepeatedRun(run),
@@ -80,7 +79,7 @@ fn prepare_signal_open<T: KeepsRun>(
     prepare_signal_of(
         store,
         moment,
-        n,
+        index,
         request_id,
         &request.name,
         &request.signal_input,
@@ -100,27 +99,27 @@ fn prepare_signal_start<T: KeepsRun>(
         (latest_run (states store.old.runs) request.now.start.workflow_id))) }
 {
     match store.latest(&request.start.workflow_id) {
-        Some(n) => prepare_signal_behind(store, moment, n, request),
+        Some(index) => prepare_signal_behind(store, moment, index, request),
         None => prepare_signaled(store, moment, request),
     }
 }
 
-/// A start that is signaled, of a workflow ID whose latest run has that ordinal.
+/// A start that is signaled, of a workflow ID whose latest run is at that place.
 fn prepare_signal_behind<T: KeepsRun>(
     store: &mut Store<T>,
     moment: Moment,
-    n: usize,
+    index: usize,
     request: &SignalWithStart,
 ) -> Result<Plan<T>, AllocError>
-    requires from { 1 ≤ n }
-    requires to { n ≤ length store.old.runs }
-    requires latest { latest_run (states store.old.runs) request.now.start.workflow_id ≡ Some n }
+    requires there { index < length store.old.runs }
+    requires latest { latest_run (states store.old.runs) request.now.start.workflow_id
+        ≡ Some (ordinal_of index) }
     ensures same { state store.new ≡ state store.old }
     ensures plan { IfOk result (λ plan. FitsStep store.new plan moment
-        (signaled_by (runs_in store.old) request.now (Some n))) }
+        (signaled_by (runs_in store.old) request.now (Some (ordinal_of index)))) }
 {
-    let run = store.run_id(n);
-    match decision_by(store, n, &request.start, ConflictPolicy::Fail) {
+    let run = store.run_id(index);
+    match decision_by(store, index, &request.start, ConflictPolicy::Fail) {
         Decision::New => prepare_signaled(store, moment, request),
         Decision::Same | Decision::Existing => Ok(answered(moment, Answer::Existing(run))),
         Decision::TerminateThenNew => unreachable!(),

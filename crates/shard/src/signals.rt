@@ -1,10 +1,9 @@
 //! Signaling a run.
 
-ghost use Rattle.std.specs.Prelude.{◌≡◌, ◌≤◌, ◌<◌, length, IfOk, None, Some, true};
-ghost use Rattle.service_model.specs.Outcome.{run_at};
+ghost use Rattle.std.specs.Prelude.{◌≡◌, ◌<◌, length, IfOk, None, Some, true};
 ghost use Rattle.service_model.specs.RunState.{is_open};
 ghost use Rattle.service_model.specs.Signals.{signal, signal_at, signal_fact, signals};
-ghost use Rattle.shard_store.specs.View.{state, runs_in};
+ghost use Rattle.shard_store.specs.View.{ordinal_of, run_in, runs_in, state};
 ghost use Rattle.shard_store.specs.Fitting.{FitsStep};
 
 use crate::more::prepare_more;
@@ -33,11 +32,11 @@ pub(crate) fn prepare_signal<T: KeepsRun>(
     ensures plan { IfOk result (λ plan. FitsStep store.new plan moment
         (signal (runs_in store.old) request.now)) }
 {
-    if store.setup().shard_of(&request.workflow_id) != store.setup().shard {
+    if !store.is_home_of(&request.workflow_id) {
         return Ok(refused(moment, Refusal::InvalidArgument(Field::WorkflowId)));
     }
     match store.named_open(&request.workflow_id, request.run) {
-        Some(n) => prepare_signal_here(store, moment, n, request),
+        Some(index) => prepare_signal_here(store, moment, index, request),
         None => Ok(refused(moment, Refusal::NotFound)),
     }
 }
@@ -45,15 +44,14 @@ pub(crate) fn prepare_signal<T: KeepsRun>(
 fn prepare_signal_here<T: KeepsRun>(
     store: &mut Store<T>,
     moment: Moment,
-    n: usize,
+    index: usize,
     request: &Signal,
 ) -> Result<Plan<T>, AllocError>
-    requires from { 1 ≤ n }
-    requires to { n ≤ length store.old.runs }
-    requires open { is_open (run_at (runs_in store.old) n) ≡ true }
+    requires there { index < length store.old.runs }
+    requires open { is_open (run_in store.old index) ≡ true }
     ensures same { state store.new ≡ state store.old }
     ensures plan { IfOk result (λ plan. FitsStep store.new plan moment
-        (signal_at (runs_in store.old) request.now (Some n))) }
+        (signal_at (runs_in store.old) request.now (Some (ordinal_of index)))) }
 {
     let answers = SignalAnswers {
         first: Answer::Signaled,
@@ -63,7 +61,7 @@ fn prepare_signal_here<T: KeepsRun>(
     prepare_signal_of(
         store,
         moment,
-        n,
+        index,
         request_id,
         &request.name,
         &request.input,
@@ -71,28 +69,27 @@ fn prepare_signal_here<T: KeepsRun>(
     )
 }
 
-/// A signal of the open run with that ordinal.
+/// A signal of the open run at a place.
 pub(crate) fn prepare_signal_of<T: KeepsRun>(
     store: &mut Store<T>,
     moment: Moment,
-    n: usize,
+    index: usize,
     request_id: &Option<Id>,
     name: &Text,
     input: &Text,
     answers: SignalAnswers,
 ) -> Result<Plan<T>, AllocError>
-    requires from { 1 ≤ n }
-    requires to { n ≤ length store.old.runs }
-    requires open { is_open (run_at (runs_in store.old) n) ≡ true }
+    requires there { index < length store.old.runs }
+    requires open { is_open (run_in store.old index) ≡ true }
     ensures same { state store.new ≡ state store.old }
     ensures plan { IfOk result (λ plan. FitsStep store.new plan moment
-        (signals (runs_in store.old) n request_id.now
+        (signals (runs_in store.old) (ordinal_of index) request_id.now
         (signal_fact request_id.now name.now input.now) answers.first answers.again)) }
 {
     let SignalAnswers { first, again } = answers;
-    if store.run(n).was_signaled(request_id) {
+    if store.run(index).was_signaled(request_id) {
         return Ok(answered(moment, again));
     }
-    let facts = signal_facts(store.alloc(), store.run(n), request_id, name, input)?;
-    prepare_more(store, moment, n, facts, first)
+    let facts = signal_facts(store.alloc(), store.run(index), request_id, name, input)?;
+    prepare_more(store, moment, index, facts, first)
 }

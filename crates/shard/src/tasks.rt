@@ -1,6 +1,6 @@
 //! Taking a workflow task, and its end.
 
-ghost use Rattle.std.specs.Prelude.{◌≡◌, ◌≤◌, ◌<◌, ◌+◌, [], length, map, true, is_some, IfOk, IfSome};
+ghost use Rattle.std.specs.Prelude.{◌≡◌, ◌<◌, [], length, map, true, is_some, IfOk, IfSome};
 ghost use Rattle.wf_event_values.specs.declared.policies.Cause.TheVariants.{WorkflowWorkerUnhandledFailure};
 ghost use Rattle.service_model_types.specs.declared.answer.Answer.TheVariants.{Failed};
 ghost use Rattle.service_model.specs.Completion.{judge_all, failed_task};
@@ -8,17 +8,17 @@ ghost use Rattle.service_model.specs.Journal.{plain};
 ghost use Rattle.service_model.specs.Outcome.{adds, next_ordinal, run_at, run_id};
 ghost use Rattle.service_model.specs.RunState.{is_open};
 ghost use Rattle.service_model.specs.Tasks.{start_task, take_workflow, waits_workflow, runs_workflow, complete_workflow_task, complete_judged, fail_workflow_task};
-ghost use Rattle.shard_store.specs.View.{state, runs_in};
+ghost use Rattle.shard_store.specs.View.{ordinal_of, run_in, runs_in, state};
 ghost use Rattle.shard_store.specs.Fitting.{FitsStep};
 
 use crate::activities::take_activity;
 use crate::followers::prepare_follower;
-use mutable_state::Change as MoreFacts;
+use crate::more::prepare_more;
 use mutable_state_keeper::KeepsRun;
 use service_model_types::answer::{Answer, WorkflowTask};
 use service_model_types::request::{CompleteWorkflowTask, FailWorkflowTask, Hint, TakenTask};
 use shard_steps::{ended, started_facts};
-use shard_store::{Change, Count, MoreOf, Plan, Store, answered, refused};
+use shard_store::{Change, Count, MoreOf, Plan, Store, adding, answered, refused};
 use std::alloc::AllocError;
 use task_completion::Completion;
 use wf_event_values::{Moment, Refusal, TaskKind};
@@ -50,84 +50,71 @@ fn prepare_take<T: KeepsRun>(
         (take_workflow (runs_in store.old) hint)) }
 {
     match waiting(store, hint)? {
-        Some(n) => prepare_taken(store, moment, n, hint),
+        Some(index) => prepare_taken(store, moment, index, hint),
         None => Ok(answered(moment, Answer::Stale)),
     }
 }
 
-/// The start of the scheduled task of the run with that ordinal.
+/// The start of the scheduled task of the run at a place.
 fn prepare_taken<T: KeepsRun>(
     store: &mut Store<T>,
     moment: Moment,
-    n: usize,
+    index: usize,
     hint: Hint,
 ) -> Result<Plan<T>, AllocError>
-    requires from { 1 ≤ n }
-    requires to { n ≤ length store.old.runs }
-    requires run { n ≡ hint.run }
+    requires there { index < length store.old.runs }
+    requires run { ordinal_of index ≡ hint.run }
     requires waits { waits_workflow (runs_in store.old) hint ≡ true }
-    requires open { is_open (run_at (runs_in store.old) n) ≡ true }
+    requires open { is_open (run_in store.old index) ≡ true }
     ensures same { state store.new ≡ state store.old }
     ensures plan { IfOk result (λ plan. FitsStep store.new plan moment
         (take_workflow (runs_in store.old) hint)) }
 {
-    let shown = store.run(n).shown(store.alloc())?;
+    let shown = store.run(index).shown(store.alloc())?;
     let task = WorkflowTask {
         attempt: hint.attempt,
-        run: store.run_id(n),
+        run: store.run_id(index),
         scheduled: hint.event,
         started: shown as u64 + 1,
-        workflow_id: store.run(n).workflow_id().clone()?,
+        workflow_id: store.run(index).workflow_id().clone()?,
     };
     let facts = started_facts(store.alloc(), hint.event)?;
-    let plan = store.prepare_in(n - 1, MoreFacts { moment, facts })?;
-    Ok(Plan {
-        moment,
-        change: Change {
-            added: Some(MoreOf { index: n - 1, plan }),
-            created: None,
-            count: Count::Nothing,
-            answer: None,
-        },
-        reply: Ok(Answer::WorkflowTask(task)),
-    })
+    prepare_more(store, moment, index, facts, Answer::WorkflowTask(task))
 }
 
-/// The ordinal of the run whose workflow task waits to be taken as the hint says.
+/// The place of the run whose workflow task waits to be taken as the hint says.
 fn waiting<T: KeepsRun>(store: &Store<T>, hint: Hint) -> Result<Option<usize>, AllocError>
     ensures waits { IfOk result (λ found. waits_workflow (runs_in store.now) hint
         ≡ is_some found) }
     ensures found { IfOk result (λ found. IfSome found
-        (λ n. (n ≡ hint.run) × (1 ≤ n) × (n ≤ length store.now.runs))) }
+        (λ index. (ordinal_of index ≡ hint.run) × (index < length store.now.runs))) }
     ensures open { IfOk result (λ found. IfSome found
-        (λ n. is_open (run_at (runs_in store.now) n) ≡ true)) }
+        (λ index. is_open (run_in store.now index) ≡ true)) }
 {
-    let n = hint.run as usize;
-    if hint.shard != store.setup().shard || n < 1 || n > store.count() {
+    let Some(index) = store.place_on(hint.shard, hint.run) else {
         return Ok(None);
-    }
-    let task = store.run(n).task(store.alloc())?;
+    };
+    let task = store.run(index).task(store.alloc())?;
     if task.phase.is_scheduled() && task.scheduled == hint.event && task.attempt == hint.attempt {
-        Ok(Some(n))
+        Ok(Some(index))
     } else {
         Ok(None)
     }
 }
 
-/// The ordinal of the run whose workflow task is running at that attempt.
+/// The place of the run whose workflow task is running at that attempt.
 fn running<T: KeepsRun>(store: &Store<T>, taken: TakenTask) -> Result<Option<usize>, AllocError>
     ensures runs { IfOk result (λ found. runs_workflow (runs_in store.now) taken
         ≡ is_some found) }
     ensures found { IfOk result (λ found. IfSome found
-        (λ n. (n ≡ taken.run) × (1 ≤ n) × (n ≤ length store.now.runs))) }
+        (λ index. (ordinal_of index ≡ taken.run) × (index < length store.now.runs))) }
 {
-    let n = taken.run as usize;
-    if taken.shard != store.setup().shard || n < 1 || n > store.count() {
+    let Some(index) = store.place_on(taken.shard, taken.run) else {
         return Ok(None);
-    }
-    let task = store.run(n).task(store.alloc())?;
+    };
+    let task = store.run(index).task(store.alloc())?;
     if task.phase.is_started() && task.scheduled == taken.event && task.attempt == taken.attempt {
-        Ok(Some(n))
+        Ok(Some(index))
     } else {
         Ok(None)
     }
@@ -145,22 +132,21 @@ pub(crate) fn prepare_completion<T: KeepsRun>(
         (complete_workflow_task (runs_in store.old) request.now)) }
 {
     match running(store, request.task)? {
-        Some(n) => prepare_completed(store, moment, n, request),
+        Some(index) => prepare_completed(store, moment, index, request),
         None => Ok(refused(moment, Refusal::NotFound)),
     }
 }
 
-/// The end of the started task of the run with that ordinal, and the run that follows where it
-/// continues as new: both, or neither.
+/// The end of the started task of the run at a place, and the run that follows where it continues
+/// as new: both, or neither.
 fn prepare_completed<T: KeepsRun>(
     store: &mut Store<T>,
     moment: Moment,
-    n: usize,
+    index: usize,
     request: &CompleteWorkflowTask,
 ) -> Result<Plan<T>, AllocError>
-    requires from { 1 ≤ n }
-    requires to { n ≤ length store.old.runs }
-    requires run { n ≡ request.now.task.run }
+    requires there { index < length store.old.runs }
+    requires run { ordinal_of index ≡ request.now.task.run }
     requires runs { runs_workflow (runs_in store.old) request.now.task ≡ true }
     ensures same { state store.new ≡ state store.old }
     ensures plan { IfOk result (λ plan. FitsStep store.new plan moment
@@ -169,12 +155,12 @@ fn prepare_completed<T: KeepsRun>(
         (run_at (runs_in store.old) request.now.task.run) [] request.now.commands))) }
 {
     let commands = request.commands.as_slice();
-    let Completion { plan, fault } = store.complete_in(n - 1, commands, moment)?;
-    let created = prepare_follower(store, moment, n, fault, commands)?;
+    let Completion { plan, fault } = store.complete_in(index, commands, moment)?;
+    let created = prepare_follower(store, moment, index, fault, commands)?;
     Ok(Plan {
         moment,
         change: Change {
-            added: Some(MoreOf { index: n - 1, plan }),
+            added: Some(MoreOf { index, plan }),
             created,
             count: Count::Nothing,
             answer: None,
@@ -195,21 +181,20 @@ pub(crate) fn prepare_failure<T: KeepsRun>(
         (fail_workflow_task (runs_in store.old) request.now)) }
 {
     match running(store, request.task)? {
-        Some(n) => prepare_failed(store, moment, n, request),
+        Some(index) => prepare_failed(store, moment, index, request),
         None => Ok(refused(moment, Refusal::NotFound)),
     }
 }
 
-/// The failure of the started task of the run with that ordinal.
+/// The failure of the started task of the run at a place.
 fn prepare_failed<T: KeepsRun>(
     store: &mut Store<T>,
     moment: Moment,
-    n: usize,
+    index: usize,
     request: &FailWorkflowTask,
 ) -> Result<Plan<T>, AllocError>
-    requires from { 1 ≤ n }
-    requires to { n ≤ length store.old.runs }
-    requires run { n ≡ request.now.task.run }
+    requires there { index < length store.old.runs }
+    requires run { ordinal_of index ≡ request.now.task.run }
     requires runs { runs_workflow (runs_in store.old) request.now.task ≡ true }
     ensures same { state store.new ≡ state store.old }
     ensures plan { IfOk result (λ plan. FitsStep store.new plan moment
@@ -218,15 +203,7 @@ fn prepare_failed<T: KeepsRun>(
         WorkflowWorkerUnhandledFailure request.now.message)) Failed)) }
 {
     let message = request.message.clone()?;
-    let plan = store.fail_in(n - 1, message, moment)?;
-    Ok(Plan {
-        moment,
-        change: Change {
-            added: Some(MoreOf { index: n - 1, plan }),
-            created: None,
-            count: Count::Nothing,
-            answer: None,
-        },
-        reply: Ok(Answer::Failed),
-    })
+    let plan = store.fail_in(index, message, moment)?;
+    let more = MoreOf { index, plan };
+    Ok(adding(moment, more, Answer::Failed))
 }

@@ -42,14 +42,16 @@ fn prepare_fired<T: KeepsRun>(
     ensures plan { IfOk result (λ plan. FitsStep store.new plan moment
         (fire_due (runs_in store.old) moment (Some (run_due due)))) }
 {
-    let n = due.run as usize;
-    let facts = fired_facts(store.alloc(), store.run(n), moment, due)?;
+    let Some(index) = store.place_of(due.run) else {
+        unreachable!()
+    };
+    let facts = fired_facts(store.alloc(), store.run(index), moment, due)?;
     let answer = Answer::Fired(Fired {
         class: due.class,
         due: due.due,
         event: due.event,
-        run: store.run_id(n),
+        run: store.run_id(index),
     });
-    let plan = prepare_more(store, moment, n, facts, answer)?;
+    let plan = prepare_more(store, moment, index, facts, answer)?;
     Ok(plan)
 }

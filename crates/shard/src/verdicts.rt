@@ -2,16 +2,14 @@
 
 ghost use Rattle.std.specs.Prelude.{◌≡◌, IfOk};
 ghost use Rattle.service_model.specs.Activities.{by_verdict, fail_activity};
-ghost use Rattle.mutable_state.specs.Activities.{row_said};
 ghost use Rattle.retry.specs.Verdicts.{says};
 ghost use Rattle.shard_store.specs.Fitting.{FitsStep};
-ghost use Rattle.shard.specs.Running.{HasAttempt};
+ghost use Rattle.shard.specs.Running.{HasAttempt, row_of};
 ghost use Rattle.shard_store.specs.View.{state, runs_in};
 ghost use Rattle.shard_steps.specs.Attempts.{HasNext};
 
-use crate::attempts::{attempt_running, end_activity};
+use crate::attempts::{RunningAttempt, attempt_running, end_activity};
 use crate::heartbeats::note_attempt;
-use mutable_state::Activity;
 use mutable_state_keeper::KeepsRun;
 use retry::{Ended, Verdict};
 use service_model_types::answer::{Answer, Retrying};
@@ -33,17 +31,17 @@ pub(crate) fn prepare_fail_activity<T: KeepsRun>(
     ensures plan { IfOk result (λ plan.
         FitsStep store.new plan moment (fail_activity (runs_in store.old) moment request.now)) }
 {
-    let Some(activity) = attempt_running(store, request.task)? else {
+    let Some(attempt) = attempt_running(store, request.task)? else {
         return Ok(refused(moment, Refusal::NotFound));
     };
     let ended = Ended::Failure {
         error_type: request.error_type.as_ref(),
         non_retryable: request.non_retryable,
     };
-    let Some(verdict) = verdict_of(&activity, ended, moment) else {
+    let Some(verdict) = verdict_of(&attempt.activity, ended, moment) else {
         return Ok(refused(moment, Refusal::NotFound));
     };
-    let plan = prepare_by_verdict(store, moment, request, &activity, verdict)?;
+    let plan = prepare_by_verdict(store, moment, request, &attempt, verdict)?;
     Ok(plan)
 }
 
@@ -52,25 +50,35 @@ fn prepare_by_verdict<T: KeepsRun>(
     store: &mut Store<T>,
     moment: Moment,
     request: &FailActivity,
-    activity: &Activity,
+    attempt: &RunningAttempt,
     verdict: Verdict,
 ) -> Result<Plan<T>, AllocError>
-    requires running { HasAttempt store.old request.now.task (row_said activity.now) }
+    requires running { HasAttempt store.old request.now.task attempt.now.index
+        (row_of attempt.now) }
     requires next { HasNext request.now.task.attempt (says verdict) }
     ensures same { state store.new ≡ state store.old }
     ensures plan { IfOk result (λ plan. FitsStep store.new plan moment
-        (by_verdict (runs_in store.old) request.now (row_said activity.now) (says verdict))) }
+        (by_verdict (runs_in store.old) request.now (row_of attempt.now) (says verdict))) }
 {
     match verdict {
         Verdict::GiveUp(state) => {
             let last = failure(request, state)?;
             let answer = Answer::ActivityFailed(state);
-            end_activity(store, moment, request.task, activity, last, answer)
+            end_activity(store, moment, request.task, attempt, last, answer)
         }
         Verdict::Retry { ready } => {
-            let attempt = request.task.attempt + 1;
-            let answer = Answer::Retrying(Retrying { attempt, ready });
-            note_attempt(store, moment, request.task, Note::Ended, answer)
+            let answer = Answer::Retrying(Retrying {
+                attempt: request.task.attempt + 1,
+                ready,
+            });
+            note_attempt(
+                store,
+                moment,
+                attempt.index,
+                request.task,
+                Note::Ended,
+                answer,
+            )
         }
     }
 }

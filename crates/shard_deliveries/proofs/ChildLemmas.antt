@@ -1,5 +1,5 @@
 -- the start of a child makes a run where none is in its way
-use Rattle.std.proofs.Common.{◌≡◌, ℕ, ◌+◌, ◌<◌, ◌^◌, ◌∙◌, true, false, length, List, [], ◌∷◌, refl, sym, ap, subst, Option, Some, None}
+use Rattle.std.proofs.Common.{◌≡◌, ℕ, ◌+◌, ◌∙◌, true, false, length, List, [], ◌∷◌, refl, sym, ap, subst, Option, Some, None}
 use Rattle.std.specs.Prelude.{IfSome, Ok, option_map}
 use Rattle.wf_event_values.specs.Run.{Run}
 use Rattle.wf_event_values.specs.declared.policies.ConflictPolicy.TheVariants.{Fail}
@@ -10,7 +10,7 @@ use Rattle.service_model_types.specs.declared.transfer.Sent.{Sent}
 use Rattle.service_model_types.specs.declared.transfer.StartChildTransfer.{StartChildTransfer}
 use Rattle.service_model_types.specs.declared.transfer.Transfer.{Transfer}
 use Rattle.service_model_types.specs.declared.transfer.TransferContent.TheVariants.{ChildStarted}
-use Rattle.service_model.specs.Deliveries.{accepted_from, is_new}
+use Rattle.service_model.specs.Deliveries.{is_new}
 use Rattle.service_model.specs.IdPolicy.{decide}
 use Rattle.service_model.specs.Outcome.{Runs, latest_run, run_at, run_id}
 use Rattle.service_model.specs.RunState.{RunState, id_of, is_open, is_open_status}
@@ -21,10 +21,11 @@ use Rattle.shard_store.specs.declared.plan.Count.TheVariants as count
 use Rattle.shard_store.specs.declared.plan.NewRun.{NewRun}
 use Rattle.shard_store.specs.Fitting.{CountsAccepted, FitsStep, IsFree, IsMade}
 use Rattle.shard_store.specs.Open.{HasClosed}
-use Rattle.shard_store.specs.View.{ShardState, ShardView, runs_in, state, states}
+use Rattle.shard_store.specs.View.{ShardView, runs_in, state, states}
 use Rattle.shard_store.proofs.IndexLemmas.{length-states}
 use Rattle.shard_store.proofs.OpenLemmas.{free-closed}
 use Rattle.shard_store.proofs.StepLemmas.{id-of-begun}
+use Rattle.shard_deliveries.proofs.AcceptLemmas.{still-counts}
 use Rattle.shard_deliveries.specs.Children.{child_beginning, is_free_for, starts_child}
 
 -- only a run that has closed is followed
@@ -54,17 +55,13 @@ child-fits v old at t c b n to run same noted counts begins made free there is =
     let named : id_of n.run.state ≡ c.workflow_id = ap id_of made.made ∙ id-of-begun at b.facts b.request_id b.started ∙ ap (λ (x : Beginning). x.started.workflow_id) begins in
     let here : IsFree (states v.runs) c.workflow_id = subst (λ (l : List RunState). IsFree l c.workflow_id) (sym (ap (λ s. s.runs) same)) (child-free (runs_in old) c free) in
     let A : ℕ → Run → Sent = λ k r. record { to = k; content = ChildStarted (record { parent_run = c.parent_run; initiated = c.initiated; run = r }) } in
-    let counted : CountsAccepted v t.from = record {
-      there = subst (λ (s : ShardState). t.from < s.setup.shards) (sym same) counts.there;
-      few = subst (λ (s : ShardState). accepted_from s.accepted t.from + 1 < 2 ^ 64) (sym same) counts.few;
-    } in
     record {
       moment = refl;
       reply = refl;
       change = record {
         added = refl;
         created = (b, ap (λ x. Some (first_facts x)) (sym begins), made);
-        count = (refl, counted);
+        count = (refl, still-counts v old t.from same counts);
         answer = (sym (ap (λ k. A k run ∷ []) there ∙ ap (λ r. A c.parent_run.shard r ∷ []) own), noted.answer);
         free = λ one. subst (HasClosed (states v.runs)) (sym named) (free-closed (states v.runs) c.workflow_id here one);
       };

@@ -1,20 +1,18 @@
 //! Steps of a delivery that is accepted.
 
-ghost use Rattle.std.specs.Prelude.{◌≡◌, ◌≤◌, ◌∷◌, [], IfOk, None, Some, length, option_to_list};
+ghost use Rattle.std.specs.Prelude.{◌≡◌, ◌<◌, ◌∷◌, [], IfOk, None, Some, length, option_to_list};
 ghost use Rattle.service_model.specs.Deliveries.{accepts, accepts_only, adds_outside};
-ghost use Rattle.service_model.specs.Outcome.{run_at};
 ghost use Rattle.mutable_state.specs.Steps.{FitStep};
 ghost use Rattle.shard_store.specs.Fitting.{FitsStep};
-ghost use Rattle.shard_store.specs.View.{state, runs_in};
+ghost use Rattle.shard_store.specs.View.{ordinal_of, run_in, runs_in, state};
 ghost use Rattle.shard_deliveries.specs.Accepting.{IsFromOutside, MayAccept};
 
 use crate::events::event_facts;
-use mutable_state::Change as MoreFacts;
 use mutable_state_keeper::KeepsRun;
 use service_model_types::answer::Answer;
 use service_model_types::journal::Fact;
 use service_model_types::transfer::{Sent, Transfer};
-use shard_store::{Change, Count, MoreOf, Plan, Store};
+use shard_store::{Change, Count, Plan, Store};
 use std::alloc::AllocError;
 use wf_event::Attributes;
 use wf_event_values::{Items, Moment};
@@ -54,29 +52,28 @@ pub(crate) fn accept_only<T: KeepsRun>(
     accept_with(store, moment, transfer, None)
 }
 
-/// A delivery that adds facts to the run with that ordinal.
+/// A delivery that adds facts to the run at a place.
 pub(crate) fn accept_facts<T: KeepsRun>(
     store: &mut Store<T>,
     moment: Moment,
     transfer: &Transfer,
-    n: usize,
+    index: usize,
     facts: Items<Fact>,
     answer: Option<Sent>,
 ) -> Result<Plan<T>, AllocError>
     requires accepts { MayAccept store.old transfer.now }
-    requires from { 1 ≤ n }
-    requires to { n ≤ length store.old.runs }
-    requires fits { FitStep moment (run_at (runs_in store.old) n) facts }
+    requires there { index < length store.old.runs }
+    requires fits { FitStep moment (run_in store.old index) facts }
     ensures same { state store.new ≡ state store.old }
     ensures plan { IfOk result (λ plan. FitsStep store.new plan moment
-        (accepts transfer.now (Some (record { run = n; facts = facts })) None
+        (accepts transfer.now (Some (record { run = ordinal_of index; facts = facts })) None
         (option_to_list answer))) }
 {
-    let plan = store.prepare_in(n - 1, MoreFacts { moment, facts })?;
+    let more = store.prepare_in(index, moment, facts)?;
     Ok(Plan {
         moment,
         change: Change {
-            added: Some(MoreOf { index: n - 1, plan }),
+            added: Some(more),
             created: None,
             answer,
             count: Count::Accepts(transfer.from),
@@ -85,24 +82,24 @@ pub(crate) fn accept_facts<T: KeepsRun>(
     })
 }
 
-/// A delivery that adds an event to the open run with that ordinal.
+/// A delivery that adds an event to the open run at a place.
 pub(crate) fn accept_event<T: KeepsRun>(
     store: &mut Store<T>,
     moment: Moment,
     transfer: &Transfer,
-    n: usize,
+    index: usize,
     event: Attributes,
     answer: Option<Sent>,
 ) -> Result<Plan<T>, AllocError>
     requires accepts { MayAccept store.old transfer.now }
-    requires from { 1 ≤ n }
-    requires to { n ≤ length store.old.runs }
-    requires outside { IsFromOutside (run_at (runs_in store.old) n) event }
+    requires there { index < length store.old.runs }
+    requires outside { IsFromOutside (run_in store.old index) event }
     ensures same { state store.new ≡ state store.old }
     ensures plan { IfOk result (λ plan. FitsStep store.new plan moment
-        (accepts transfer.now (adds_outside (runs_in store.old) n (event ∷ [])) None
+        (accepts transfer.now
+        (adds_outside (runs_in store.old) (ordinal_of index) (event ∷ [])) None
         (option_to_list answer))) }
 {
-    let facts = event_facts(store.alloc(), store.run(n), event)?;
-    accept_facts(store, moment, transfer, n, facts, answer)
+    let facts = event_facts(store.alloc(), store.run(index), event)?;
+    accept_facts(store, moment, transfer, index, facts, answer)
 }

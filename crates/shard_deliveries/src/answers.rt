@@ -1,7 +1,7 @@
 //! Transfers that answer a request of one of this shard's runs. They have an effect only while the
 //! request is pending.
 
-ghost use Rattle.std.specs.Prelude.{◌≡◌, IfOk, [], None};
+ghost use Rattle.std.specs.Prelude.{◌≡◌, IfOk, None};
 ghost use Rattle.service_model.specs.Deliveries.{effect, external_class};
 ghost use Rattle.service_model_types.specs.declared.transfer.TransferContent.TheVariants as content;
 ghost use Rattle.wf_event.specs.Openers.{class_in};
@@ -39,13 +39,13 @@ pub(crate) fn prepare_child_started<T: KeepsRun>(
     let Some(asked) = pending_request(store, run, Class::Child, child.initiated)? else {
         return Ok(accept_only(store, moment, transfer));
     };
-    let n = asked.ordinal;
+    let index = asked.index;
     let event = Attributes::ChildWorkflowExecutionStarted(ChildWorkflowExecutionStarted {
         initiated: child.initiated,
         workflow_id: asked.workflow_id,
         run: child.run,
     });
-    accept_event(store, moment, transfer, n, event, None)
+    accept_event(store, moment, transfer, index, event, None)
 }
 
 /// A child was not started.
@@ -65,13 +65,13 @@ pub(crate) fn prepare_child_start_failed<T: KeepsRun>(
     let Some(asked) = pending_request(store, run, Class::Child, child.initiated)? else {
         return Ok(accept_only(store, moment, transfer));
     };
-    let n = asked.ordinal;
+    let index = asked.index;
     let event = Attributes::StartChildWorkflowExecutionFailed(StartChildWorkflowExecutionFailed {
         initiated: child.initiated,
         workflow_id: asked.workflow_id,
         cause: Cause::WorkflowAlreadyExists,
     });
-    accept_event(store, moment, transfer, n, event, None)
+    accept_event(store, moment, transfer, index, event, None)
 }
 
 /// A child closed.
@@ -92,7 +92,7 @@ pub(crate) fn prepare_child_closed<T: KeepsRun>(
         return Ok(accept_only(store, moment, transfer));
     };
     let event = child_closed_event(child)?;
-    accept_event(store, moment, transfer, asked.ordinal, event, None)
+    accept_event(store, moment, transfer, asked.index, event, None)
 }
 
 /// An external request was done, or failed.
@@ -112,9 +112,9 @@ pub(crate) fn prepare_external_done<T: KeepsRun>(
     let Some(asked) = pending_request(store, done.to_run, class, done.initiated)? else {
         return Ok(accept_only(store, moment, transfer));
     };
-    let n = asked.ordinal;
+    let index = asked.index;
     let event = external_event(done, asked.workflow_id);
-    accept_event(store, moment, transfer, n, event, None)
+    accept_event(store, moment, transfer, index, event, None)
 }
 
 /// The class of what an external request made pending.

@@ -1,12 +1,13 @@
 //! Whether a transfer may be delivered to a shard at all.
 
-ghost use Rattle.std.specs.Prelude.{◌≡◌, ◌<◌, ◌==◌, ◌&&◌};
+ghost use Rattle.std.specs.Prelude.{◌≡◌, ◌==◌, ◌&&◌};
 ghost use Rattle.service_model.specs.Deliveries.{comes_from, is_for_shard};
-ghost use Rattle.service_model_types.specs.Routing.{shard_of};
 
+use mutable_state_keeper::KeepsRun;
 use service_model_types::content::Setup;
 use service_model_types::transfer::{Transfer, TransferContent};
-use wf_event_values::{Id, RunId};
+use shard_store::Store;
+use wf_event_values::RunId;
 
 /// Whether the run that asks is one of this service and of the shard that sent it.
 pub(crate) fn comes_from(setup: &Setup, transfer: &Transfer) -> bool
@@ -28,23 +29,14 @@ fn is_run_of(setup: &Setup, shard: u16, run: RunId) -> bool
 }
 
 /// Whether a transfer is for this shard, by its workflow ID or by the run that it answers.
-pub(crate) fn is_for_shard(setup: &Setup, content: &TransferContent) -> bool
-    requires { 0 < setup.now.shards }
-    ensures { result ≡ is_for_shard setup.now content.now }
+pub(crate) fn is_for_shard<T: KeepsRun>(store: &Store<T>, content: &TransferContent) -> bool
+    ensures { result ≡ is_for_shard store.now.setup content.now }
 {
     match content {
-        TransferContent::StartChild(child) => is_home_of(setup, &child.workflow_id),
-        TransferContent::CloseChild(child) => is_home_of(setup, &child.workflow_id),
-        TransferContent::SignalExternal(ask) => is_home_of(setup, &ask.workflow_id),
-        TransferContent::CancelExternal(ask) => is_home_of(setup, &ask.workflow_id),
+        TransferContent::StartChild(child) => store.is_home_of(&child.workflow_id),
+        TransferContent::CloseChild(child) => store.is_home_of(&child.workflow_id),
+        TransferContent::SignalExternal(ask) => store.is_home_of(&ask.workflow_id),
+        TransferContent::CancelExternal(ask) => store.is_home_of(&ask.workflow_id),
         _ => true,
     }
-}
-
-/// Whether a workflow ID belongs to this shard.
-fn is_home_of(setup: &Setup, id: &Id) -> bool
-    requires { 0 < setup.now.shards }
-    ensures { result ≡ (shard_of setup.now id.now == setup.now.shard) }
-{
-    setup.shard_of(id) == setup.shard
 }

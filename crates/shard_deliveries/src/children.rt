@@ -1,13 +1,12 @@
 //! What a parent that closed does to its children, by their parent close policy (Temporal, Parent close
 //! policy).
 
-ghost use Rattle.std.specs.Prelude.{◌≡◌, ◌≤◌, IfOk, length, true};
+ghost use Rattle.std.specs.Prelude.{◌≡◌, ◌<◌, IfOk, length, true};
 ghost use Rattle.service_model.specs.Deliveries.{asked_before, close_by, effect, is_child_of};
-ghost use Rattle.service_model.specs.Outcome.{run_at};
 ghost use Rattle.service_model.specs.RunState.{is_open, parent_of};
 ghost use Rattle.service_model_types.specs.declared.transfer.TransferContent.TheVariants as content;
 ghost use Rattle.shard_store.specs.Fitting.{FitsStep};
-ghost use Rattle.shard_store.specs.View.{state, runs_in};
+ghost use Rattle.shard_store.specs.View.{ordinal_of, run_in, runs_in, state};
 ghost use Rattle.shard_deliveries.specs.Accepting.{MayAccept};
 
 use crate::accepts::{accept_event, accept_facts, accept_only};
@@ -33,15 +32,15 @@ pub(crate) fn prepare_close_child<T: KeepsRun>(
     ensures plan { IfOk result (λ plan. FitsStep store.new plan moment
         (effect (runs_in store.old) transfer.now (content.CloseChild child.now))) }
 {
-    let Some(n) = store.named_open(&child.workflow_id, None) else {
+    let Some(index) = store.named_open(&child.workflow_id, None) else {
         return Ok(accept_only(store, moment, transfer));
     };
-    if !is_child_of(store.run(n), child.parent_run, child.initiated) {
+    if !is_child_of(store.run(index), child.parent_run, child.initiated) {
         return Ok(accept_only(store, moment, transfer));
     }
     match child.policy {
-        ParentClosePolicy::Terminate => prepare_end(store, moment, transfer, n),
-        ParentClosePolicy::RequestCancel => prepare_cancel(store, moment, transfer, n),
+        ParentClosePolicy::Terminate => prepare_end(store, moment, transfer, index),
+        ParentClosePolicy::RequestCancel => prepare_cancel(store, moment, transfer, index),
         ParentClosePolicy::Abandon => Ok(accept_only(store, moment, transfer)),
     }
 }
@@ -66,19 +65,19 @@ fn prepare_end<T: KeepsRun>(
     store: &mut Store<T>,
     moment: Moment,
     transfer: &Transfer,
-    n: usize,
+    index: usize,
 ) -> Result<Plan<T>, AllocError>
     requires accepts { MayAccept store.old transfer.now }
-    requires from { 1 ≤ n }
-    requires to { n ≤ length store.old.runs }
-    requires open { is_open (run_at (runs_in store.old) n) ≡ true }
+    requires there { index < length store.old.runs }
+    requires open { is_open (run_in store.old index) ≡ true }
     ensures same { state store.new ≡ state store.old }
     ensures plan { IfOk result (λ plan. FitsStep store.new plan moment
-        (close_by (runs_in store.old) transfer.now n ParentClosePolicy.Terminate)) }
+        (close_by (runs_in store.old) transfer.now (ordinal_of index)
+        ParentClosePolicy.Terminate)) }
 {
     let reason = parent_reason(store.alloc())?;
     let facts = terminated_facts(store.alloc(), reason)?;
-    accept_facts(store, moment, transfer, n, facts, None)
+    accept_facts(store, moment, transfer, index, facts, None)
 }
 
 /// The child is asked to cancel, unless it was before.
@@ -86,21 +85,21 @@ fn prepare_cancel<T: KeepsRun>(
     store: &mut Store<T>,
     moment: Moment,
     transfer: &Transfer,
-    n: usize,
+    index: usize,
 ) -> Result<Plan<T>, AllocError>
     requires accepts { MayAccept store.old transfer.now }
-    requires from { 1 ≤ n }
-    requires to { n ≤ length store.old.runs }
-    requires open { is_open (run_at (runs_in store.old) n) ≡ true }
+    requires there { index < length store.old.runs }
+    requires open { is_open (run_in store.old index) ≡ true }
     ensures same { state store.new ≡ state store.old }
     ensures plan { IfOk result (λ plan. FitsStep store.new plan moment
-        (close_by (runs_in store.old) transfer.now n ParentClosePolicy.RequestCancel)) }
+        (close_by (runs_in store.old) transfer.now (ordinal_of index)
+        ParentClosePolicy.RequestCancel)) }
 {
-    if is_asked(store.run(n))? {
+    if is_asked(store.run(index))? {
         return Ok(accept_only(store, moment, transfer));
     }
     let event = Attributes::WorkflowExecutionCancelRequested(CancelSource::Parent);
-    accept_event(store, moment, transfer, n, event, None)
+    accept_event(store, moment, transfer, index, event, None)
 }
 
 /// Whether a run was asked to cancel.

@@ -37,7 +37,7 @@ pub fn prepare_delivery<T: KeepsRun>(
     if transfer.from >= setup.shards || !comes_from(setup, transfer) {
         return Ok(refused(moment, Refusal::InvalidArgument(Field::From)));
     }
-    if !is_for_shard(setup, &transfer.content) {
+    if !is_for_shard(store, &transfer.content) {
         return Ok(refused(moment, Refusal::InvalidArgument(Field::WorkflowId)));
     }
     prepare_judged(store, moment, transfer)

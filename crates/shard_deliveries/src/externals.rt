@@ -1,12 +1,11 @@
 //! Signals and requests to cancel from other workflows.
 
-ghost use Rattle.std.specs.Prelude.{◌≡◌, ◌≤◌, IfOk, Some, length, true, option_to_list};
+ghost use Rattle.std.specs.Prelude.{◌≡◌, ◌<◌, IfOk, Some, length, true, option_to_list};
 ghost use Rattle.service_model.specs.Deliveries.{cancel_external, effect, external_done, signal_external};
-ghost use Rattle.service_model.specs.Outcome.{run_at};
 ghost use Rattle.service_model.specs.RunState.{is_open};
 ghost use Rattle.service_model_types.specs.declared.transfer.TransferContent.TheVariants as content;
 ghost use Rattle.shard_store.specs.Fitting.{FitsStep};
-ghost use Rattle.shard_store.specs.View.{state, runs_in};
+ghost use Rattle.shard_store.specs.View.{ordinal_of, run_in, runs_in, state};
 ghost use Rattle.shard_deliveries.specs.Accepting.{MayAccept};
 
 use crate::accepts::{accept_event, accept_with};
@@ -36,7 +35,7 @@ pub(crate) fn prepare_signal_external<T: KeepsRun>(
         (effect (runs_in store.old) transfer.now (content.SignalExternal ask.now))) }
 {
     match store.named_open(&ask.workflow_id, ask.run) {
-        Some(n) => prepare_signal_of(store, moment, transfer, n, ask),
+        Some(index) => prepare_signal_of(store, moment, transfer, index, ask),
         None => {
             let answer = external_done(ask.from_run, ask.initiated, ExternalKind::Signal, false);
             Ok(accept_with(store, moment, transfer, Some(answer)))
@@ -44,28 +43,28 @@ pub(crate) fn prepare_signal_external<T: KeepsRun>(
     }
 }
 
-/// A signal from another workflow to the open run with that ordinal.
+/// A signal from another workflow to the open run at a place.
 fn prepare_signal_of<T: KeepsRun>(
     store: &mut Store<T>,
     moment: Moment,
     transfer: &Transfer,
-    n: usize,
+    index: usize,
     ask: &SignalExternalTransfer,
 ) -> Result<Plan<T>, AllocError>
     requires accepts { MayAccept store.old transfer.now }
-    requires from { 1 ≤ n }
-    requires to { n ≤ length store.old.runs }
-    requires open { is_open (run_at (runs_in store.old) n) ≡ true }
+    requires there { index < length store.old.runs }
+    requires open { is_open (run_in store.old index) ≡ true }
     ensures same { state store.new ≡ state store.old }
     ensures plan { IfOk result (λ plan. FitsStep store.new plan moment
-        (signal_external (runs_in store.old) transfer.now ask.now (Some n))) }
+        (signal_external (runs_in store.old) transfer.now ask.now
+        (Some (ordinal_of index)))) }
 {
     let answer = external_done(ask.from_run, ask.initiated, ExternalKind::Signal, true);
     let event = Attributes::WorkflowExecutionSignaled(WorkflowExecutionSignaled {
         name: ask.name.clone()?,
         input: ask.input.clone()?,
     });
-    accept_event(store, moment, transfer, n, event, Some(answer))
+    accept_event(store, moment, transfer, index, event, Some(answer))
 }
 
 /// A request to cancel from another workflow.
@@ -82,7 +81,7 @@ pub(crate) fn prepare_cancel_external<T: KeepsRun>(
         (effect (runs_in store.old) transfer.now (content.CancelExternal request.now))) }
 {
     match store.named_open(&request.workflow_id, request.run) {
-        Some(n) => prepare_cancel_of(store, moment, transfer, n, request),
+        Some(index) => prepare_cancel_of(store, moment, transfer, index, request),
         None => {
             let answer = external_done(
                 request.from_run,
@@ -95,22 +94,21 @@ pub(crate) fn prepare_cancel_external<T: KeepsRun>(
     }
 }
 
-/// A request to cancel of the open run with that ordinal. Where it was asked before, that counts as
-/// done.
+/// A request to cancel of the open run at a place. Where it was asked before, that counts as done.
 fn prepare_cancel_of<T: KeepsRun>(
     store: &mut Store<T>,
     moment: Moment,
     transfer: &Transfer,
-    n: usize,
+    index: usize,
     request: &CancelExternalTransfer,
 ) -> Result<Plan<T>, AllocError>
     requires accepts { MayAccept store.old transfer.now }
-    requires from { 1 ≤ n }
-    requires to { n ≤ length store.old.runs }
-    requires open { is_open (run_at (runs_in store.old) n) ≡ true }
+    requires there { index < length store.old.runs }
+    requires open { is_open (run_in store.old index) ≡ true }
     ensures same { state store.new ≡ state store.old }
     ensures plan { IfOk result (λ plan. FitsStep store.new plan moment
-        (cancel_external (runs_in store.old) transfer.now request.now (Some n))) }
+        (cancel_external (runs_in store.old) transfer.now request.now
+        (Some (ordinal_of index)))) }
 {
     let answer = external_done(
         request.from_run,
@@ -118,11 +116,11 @@ fn prepare_cancel_of<T: KeepsRun>(
         ExternalKind::Cancel,
         true,
     );
-    if is_asked(store.run(n))? {
+    if is_asked(store.run(index))? {
         return Ok(accept_with(store, moment, transfer, Some(answer)));
     }
     let event = Attributes::WorkflowExecutionCancelRequested(CancelSource::External);
-    accept_event(store, moment, transfer, n, event, Some(answer))
+    accept_event(store, moment, transfer, index, event, Some(answer))
 }
 
 /// The answer to an external request.

@@ -15,7 +15,7 @@ use wf_event_values::{Id, RunId};
 /// A request that waits for an answer: in which run, and what workflow ID was asked.
 #[derive(Drop)]
 pub(crate) struct PendingRequest {
-    pub(crate) ordinal: usize,
+    pub(crate) index: usize,
     pub(crate) workflow_id: Id,
 }
 
@@ -30,16 +30,13 @@ pub(crate) fn pending_request<T: KeepsRun>(
         ≡ pending_id (runs_in store.now) (class_in class) initiated
         (own_run (runs_in store.now) run)) }
     ensures pending { IfOk result (λ found.
-        IfSome found (λ p. IsPending store.now (class_in class) initiated p.ordinal)) }
+        IfSome found (λ p. IsPending store.now (class_in class) initiated p.index)) }
 {
-    let Some(ordinal) = store.own(run) else {
+    let Some(index) = store.own(run) else {
         return Ok(None);
     };
-    match store.run(ordinal).asked(store.alloc(), class, initiated)? {
-        Some(workflow_id) => Ok(Some(PendingRequest {
-            ordinal,
-            workflow_id,
-        })),
+    match store.run(index).asked(store.alloc(), class, initiated)? {
+        Some(workflow_id) => Ok(Some(PendingRequest { index, workflow_id })),
         None => Ok(None),
     }
 }

@@ -3,9 +3,8 @@
 ghost use Rattle.std.specs.Prelude.{◌≡◌, IfOk, true};
 ghost use Rattle.service_model.specs.Deliveries.{effect};
 ghost use Rattle.service_model_types.specs.declared.transfer.TransferContent.TheVariants as content;
-ghost use Rattle.shard_steps.specs.Starts.{MayBegin, first_facts};
-ghost use Rattle.shard_store.specs.Fitting.{FitsStep, IsFree};
-ghost use Rattle.shard_store.specs.View.{state, states, runs_in};
+ghost use Rattle.shard_store.specs.Fitting.{FitsStep};
+ghost use Rattle.shard_store.specs.View.{runs_in, state};
 ghost use Rattle.shard_deliveries.specs.Accepting.{MayAccept};
 ghost use Rattle.shard_deliveries.specs.Children.{child_beginning, is_free_for, starts_child};
 
@@ -54,9 +53,9 @@ fn is_free_for<T: KeepsRun>(store: &Store<T>, child: &StartChildTransfer) -> boo
     ensures { result ≡ is_free_for (runs_in store.now) child.now }
 {
     match store.latest(&child.workflow_id) {
-        Some(n) => {
+        Some(index) => {
             let latest = Latest {
-                status: store.run(n).status(),
+                status: store.run(index).status(),
                 request_id: None,
             };
             let decision = decide(Some(&latest), child.reuse, ConflictPolicy::Fail, None);
@@ -81,13 +80,12 @@ fn prepare_child<T: KeepsRun>(
 {
     let beginning = child_beginning(store.alloc(), child)?;
     let made = store.prepare_made(moment, beginning)?;
-    let ordinal = store.count() + 1;
     let answer = Sent {
         to: child.parent_run.shard(),
         content: TransferContent::ChildStarted(ChildStarted {
             parent_run: child.parent_run,
             initiated: child.initiated,
-            run: store.run_id(ordinal),
+            run: store.run_id(store.count()),
         }),
     };
     Ok(Plan {

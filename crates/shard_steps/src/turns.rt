@@ -87,7 +87,8 @@ fn timer_fired<T: KeepsRun>(
     started: u64,
 ) -> Result<Items<Fact>, AllocError>
     requires { HasTimer run.now.state started }
-    ensures { IfOk result (λ facts. facts ≡ fire run.now.state 0 started DeadlineClass.UserTimer) }
+    ensures { IfOk result (λ facts.
+        facts ≡ fire run.now.state 0 started DeadlineClass.UserTimer) }
 {
     let timer_id = run.timer_id(alloc, started)?;
     let mut facts = Vec::new(alloc);

@@ -1,12 +1,15 @@
 -- the latest run of a workflow ID, as runs are added and grow
-use Rattle.std.proofs.Common.{◌≡◌, ℕ, ◌+◌, ◌<◌, ◌≤◌, Bool, true, false, List, [], ◌∷◌, ◌++◌, length, refl, sym, ap, ◌∙◌, arith, zero, suc, slice_index_or, slice_set, cond, Option, Some, None, IfSome}
-use Rattle.std.specs.Prelude.{bytes_eq, IfSome}
+use Rattle.std.proofs.Common.{◌≡◌, ℕ, ◌+◌, ◌-◌, ◌<◌, ◌≤◌, Bool, true, false, subst, List, [], ◌∷◌, ◌++◌, length, refl, sym, ap, ◌∙◌, arith, zero, suc, slice_index_or, slice_set, cond, Option, Some, None, IfSome}
+use Rattle.std.proofs.lemmas.List.{length-map}
+use Rattle.std.specs.Prelude.{bytes_eq, option_map, IfSome}
 use Rattle.std.specs.List.{enumerate_from}
 use Rattle.service_model.specs.Journal.{latest, first_some}
 use Rattle.service_model.specs.RunState.{RunState, no_run, id_of}
-use Rattle.service_model.specs.Outcome.{latest_run}
+use Rattle.service_model.specs.Outcome.{Runs, latest_run, run_at}
+use Rattle.service_model.proofs.ListLemmas.{map-push}
 use Rattle.mutable_state.specs.View.{RunView}
-use Rattle.shard_store.specs.View.{states, IsIndexed}
+use Rattle.shard_store.specs.Fitting.{state_at}
+use Rattle.shard_store.specs.View.{IsIndexed, ordinal_of, states}
 
 -- the same, where the ordinals count from k
 unfoldable pub latest_from : ℕ → List ℕ → List RunState → Option ℕ
@@ -35,12 +38,10 @@ latest_from-append k id (r ∷ runs) run =
     ∙ first_some_assoc (cond (bytes_eq (id_of run) id) (Some (length (r ∷ runs) + k)) None) (latest_from (k + 1) id runs) here
 
 pub length-states : (runs : List RunView) → length (states runs) ≡ length runs
-length-states [] = refl
-length-states (r ∷ runs) = ap suc (length-states runs)
+length-states runs = length-map runs (λ (r : RunView). r.state)
 
 pub states-push : (runs : List RunView) (run : RunView) → states (runs ++ run ∷ []) ≡ states runs ++ run.state ∷ []
-states-push [] run = refl
-states-push (r ∷ runs) run = ap (λ t. r.state ∷ t) (states-push runs run)
+states-push runs run = map-push (λ (r : RunView). r.state) runs run
 
 pub states-set : (runs : List RunView) (n : ℕ) (run : RunView) → states (slice_set runs n run) ≡ slice_set (states runs) n run.state
 states-set [] n run = refl
@@ -98,6 +99,15 @@ to_range top (Some n) h = (h.0, omega (arith, h.1))
 pub latest_run-within : (id : List ℕ) (runs : List RunView) → IfSome (latest_run (states runs) id) (λ n. (1 ≤ n) × (n ≤ length runs))
 unfolding latest_run latest_from
 latest_run-within id runs = to_range (length runs) (latest_run (states runs) id) (latest_from-within 1 (length runs + 1) id (states runs) (omega (arith, length-states runs)))
+
+-- a place whose ordinal is that of one of the runs
+pub place-within : (count : ℕ) (place found : Option ℕ) → option_map ordinal_of place ≡ found → IfSome found (λ n. (1 ≤ n) × (n ≤ count)) → IfSome place (λ i. i < count)
+place-within count None found is h = tt
+place-within count (Some i) found is h = let w = subst (λ o. IfSome o (λ n. (1 ≤ n) × (n ≤ count))) (sym is) h in omega (arith, w.1)
+
+-- the run with the ordinal of a place stands there
+pub at-place : (R : Runs) (i : ℕ) → run_at R (ordinal_of i) ≡ state_at R.states i
+at-place R i = let place : ordinal_of i - 1 ≡ i = omega arith in ap (λ k. slice_index_or R.states k no_run) place
 
 -- the index still knows the latest runs, where one run's state is as it was
 pub indexed-same : (look : List ℕ → Option ℕ) (runs : List RunView) (n : ℕ) (was now : RunView) → n < length runs → was ≡ slice_index_or runs n was → now.state ≡ was.state → IsIndexed look runs → IsIndexed look (slice_set runs n now)

@@ -3,3 +3,4 @@ pub mod StepLemmas
 pub mod OpenLemmas
 pub mod KeptLemmas
 pub mod OutgoingLemmas
+pub mod PlanLemmas

@@ -1,6 +1,6 @@
 -- a shard that did what was planned stands for the next content
 use Rattle.std.proofs.Common.{◌≡◌, ℕ, ◌+◌, ◌-◌, ◌<◌, ◌≤◌, false, List, [], ◌∷◌, ◌++◌, length, refl, sym, ap, ◌∙◌, arith, Option, Some, None, zero, suc, slice_index_or, slice_set, subst, append-nil, append_assoc, length-append, length-set}
-use Rattle.std.proofs.lemmas.List.{drop-append-le, drop-drop, length-drop}
+use Rattle.std.proofs.lemmas.List.{drop-append-le, drop-drop, length-drop, length-map}
 use Rattle.std.specs.Prelude.{drop, filter_map, map, option_and_then, option_to_list, slice_get, unwrap_or, option_map}
 use Rattle.std.specs.List.{AllByRecursion}
 use Rattle.wf_event.specs.declared.event.Event.{Event}
@@ -37,6 +37,7 @@ use Rattle.shard_store.specs.declared.plan.MoreOf.{MoreOf}
 use Rattle.shard_store.specs.declared.plan.NewRun.{NewRun}
 use Rattle.shard_store.specs.declared.plan.Plan.{Plan}
 use Rattle.shard_steps.proofs.DispatchLemmas.{ready-facts}
+use Rattle.service_model.proofs.ListLemmas.{all-push, map-push}
 use Rattle.shard_store.proofs.IndexLemmas.{length-states}
 use Rattle.transfer.proofs.ContentLemmas.{acknowledged-sent, with_all_sent-behind, with_all_sent-nil}
 
@@ -45,15 +46,7 @@ all-later : (steps : ℕ) (Js : List Journal) → AllByRecursion (IsFormed steps
 all-later steps [] h = tt
 all-later steps (J ∷ Js) h = (formed-later steps J h.0, all-later steps Js h.1)
 
-all-push : {A : Type 0} (P : A → Type 0) (xs : List A) (x : A) → AllByRecursion P xs → P x → AllByRecursion P (xs ++ x ∷ [])
-all-push P [] x h here = (here, tt)
-all-push P (y ∷ xs) x h here = (h.0, all-push P xs x h.1 here)
-
 -- lists of journals
-map-push : (Js : List Journal) (J : Journal) → map state_of (Js ++ J ∷ []) ≡ map state_of Js ++ state_of J ∷ []
-map-push [] J = refl
-map-push (K ∷ Js) J = ap (λ t. state_of K ∷ t) (map-push Js J)
-
 map-set : (Js : List Journal) (n : ℕ) (J : Journal) → map state_of (slice_set Js n J) ≡ slice_set (map state_of Js) n (state_of J)
 map-set [] n J = refl
 map-set (K ∷ Js) zero J = refl
@@ -64,10 +57,6 @@ unfolding no_run
 state-at [] n = refl
 state-at (K ∷ Js) zero = refl
 state-at (K ∷ Js) (suc n) = state-at Js n
-
-length-map : (Js : List Journal) → length (map state_of Js) ≡ length Js
-length-map [] = refl
-length-map (J ∷ Js) = ap suc (length-map Js)
 
 all-set : {A : Type 0} (P : A → Type 0) (xs : List A) (n : ℕ) (x : A) → AllByRecursion P xs → P x → AllByRecursion P (slice_set xs n x)
 all-set P [] n x h here = tt
@@ -93,7 +82,7 @@ added-stands : (S : Content) (v : ShardView) (moment : ℕ) (m : MoreOf) (facts 
 added-stands S v moment m facts h fits =
     let J = slice_index_or S.runs m.index [] in
     let known-runs : map state_of S.runs ≡ states v.runs = sym (ap (λ s. s.runs) h.says) in
-    let there : m.index < length S.runs = omega (arith, fits.has_room.there, ap length known-runs, length-map S.runs, length-states v.runs) in
+    let there : m.index < length S.runs = omega (arith, fits.has_room.there, ap length known-runs, length-map S.runs state_of, length-states v.runs) in
     let here : state_of J ≡ state_at (states v.runs) m.index = sym (state-at S.runs m.index) ∙ ap (λ t. state_at t m.index) known-runs in
     let may : FitStep moment (state_at (states v.runs) m.index) facts = subst (λ (c : MoreFacts). FitStep c.moment (state_at (states v.runs) m.index) c.facts) fits.change fits.has_room.fits in
     record {
@@ -144,7 +133,7 @@ created-done S v moment (Some n) o Js runs before (b, created, made) =
     let stands = created-stands S v moment n b made in
     let P : List Journal → Type 0 = λ l. AllByRecursion (IsFormed (S.steps + 1)) l in
     record {
-      says = ap (map state_of) is ∙ map-push Js J ∙ ap (λ t. t ++ state_of J ∷ []) before.says ∙ ap (λ t. runs ++ t ∷ []) (stands.says ∙ sym made.made);
+      says = ap (map state_of) is ∙ map-push state_of Js J ∙ ap (λ t. t ++ state_of J ∷ []) before.says ∙ ap (λ t. runs ++ t ∷ []) (stands.says ∙ sym made.made);
       formed = subst P (sym is) (all-push (IsFormed (S.steps + 1)) Js J before.formed stands.formed);
     }
 
@@ -285,7 +274,7 @@ all-waits S v moment c o B h fits all so_far =
     let t = after_answer c.answer (after_added c.added s) in
     let X = issued_added c.added s in
     let Y = issued_created c.created t in
-    let known-runs : length (states v.runs) ≡ length S.runs = ap (λ s. length s.runs) h.says ∙ length-map S.runs in
+    let known-runs : length (states v.runs) ≡ length S.runs = ap (λ s. length s.runs) h.says ∙ length-map S.runs state_of in
     let first : dispatched_for S (S.steps + 1) moment o.added ≡ X = issued-added S v moment c.added o.added h fits.added ∙ sym (issued-counted c.added c.count (state v)) in
     let second : dispatched_new S (S.steps + 1) moment o.created ≡ Y = issued-created S v moment c.created o.created t (ap (λ s. s.setup) h.says) (length-added c.added (states v.runs) ∙ known-runs) fits.created in
     let issued : B.dispatches ≡ S.dispatches ++ (X ++ Y) = all ∙ ap (λ l. S.dispatches ++ (l ++ dispatched_new S (S.steps + 1) moment o.created)) first ∙ ap (λ l. S.dispatches ++ (X ++ l)) second in

@@ -17,7 +17,7 @@ use Rattle.shard_steps.specs.Issuing.{Waiting, issued_first, one_counted, with_i
 use Rattle.shard_steps.specs.Kept.{IsNoted}
 use Rattle.shard_steps.specs.Starts.{MayBegin, first_facts, new_run}
 use Rattle.shard_steps.specs.declared.starts.Beginning.{Beginning}
-use Rattle.shard_store.specs.View.{ShardView, ShardState, states}
+use Rattle.shard_store.specs.View.{ShardView, ShardState, ordinal_of, states}
 use Rattle.shard_store.specs.Open.{HasClosed, IsOneOpen}
 use Rattle.shard_store.specs.declared.plan.Change.{Change}
 use Rattle.shard_store.specs.declared.plan.Count.{Count}
@@ -62,6 +62,14 @@ pub record HasRoom (v : ShardView) (m : MoreOf) : Type 0 where
   pub room : length m.plan.change.facts ≤ room_at v.runs m.index
   pub fits : FitStep m.plan.change.moment (state_at (states v.runs) m.index) m.plan.change.facts
 
+-- the plan adds these facts to the run at that place, which has room for them, and all was looked up
+pub record IsPrepared (v : ShardView) (at index : ℕ) (facts : List Fact) (m : MoreOf) : Type 0 where
+  pub place : m.index ≡ index
+  pub there : m.index < length v.runs
+  pub noted : IsNoted v.changed
+  pub room : length m.plan.change.facts ≤ room_at v.runs m.index
+  pub change : m.plan.change ≡ record { moment = at; facts = facts }
+
 -- the plan for the run at that place adds these facts
 pub record FitsMore (v : ShardView) (at : ℕ) (m : MoreOf) (facts : List Fact) : Type 0 where
   pub has_room : HasRoom v m
@@ -87,7 +95,7 @@ pub record CountsAcknowledged (v : ShardView) (to : ℕ) : Type 0 where
 -- the plan for an older run is what is added
 abbrev pub FitsAdded : ShardView → ℕ → Option MoreOf → Option Added → Type 0
 FitsAdded v at None o = o ≡ None
-FitsAdded v at (Some m) o = (facts : List Fact) × (o ≡ Some (record { run = m.index + 1; facts = facts })) × FitsMore v at m facts
+FitsAdded v at (Some m) o = (facts : List Fact) × (o ≡ Some (record { run = ordinal_of m.index; facts = facts })) × FitsMore v at m facts
 
 -- the run in the plan is the one that is created
 abbrev pub FitsCreated : {T : Type 0} → ShardView → ℕ → Option (NewRun T) → Option (List Fact) → Type 0
@@ -149,7 +157,7 @@ adding m = record { added = Some m; created = None; count = count.Nothing; answe
 
 -- the dispatches that are issued for the run to which a step adds
 abbrev pub issued_for : MoreOf → ShardState → List Dispatch
-issued_for m s = dispatches_of s.setup (m.index + 1) (state_at s.runs m.index) (grown m s.runs) m.plan.change.facts
+issued_for m s = dispatches_of s.setup (ordinal_of m.index) (state_at s.runs m.index) (grown m s.runs) m.plan.change.facts
 
 -- those that are issued for a new run
 abbrev pub issued_new : {T : Type 0} → NewRun T → ShardState → List Dispatch
@@ -157,7 +165,7 @@ issued_new n s = issued_first s.setup (length s.runs + 1) n.run.state
 
 -- the transfers that are issued for the run to which a step adds
 abbrev pub transfers_for : MoreOf → ShardState → List Sent
-transfers_for m s = transfers_of s.setup (m.index + 1) (state_at s.runs m.index) (grown m s.runs)
+transfers_for m s = transfers_of s.setup (ordinal_of m.index) (state_at s.runs m.index) (grown m s.runs)
 
 -- what waits once a count was moved on
 abbrev pub counted_by : Count → Waiting → Waiting

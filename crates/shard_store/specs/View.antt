@@ -1,9 +1,9 @@
 -- a shard as contracts see it: what it says of its journals, its dispatches and its transfers, what was not looked up since the last step, and for how many more runs there is room
-use Rattle.std.specs.Prelude.{◌≡◌, ℕ, ◌<◌, ◌^◌, List, map, Option}
+use Rattle.std.specs.Prelude.{◌≡◌, ℕ, ◌+◌, ◌<◌, ◌^◌, List, map, Option, option_map}
 use Rattle.service_model_types.specs.declared.content.Outgoing.{Outgoing}
 use Rattle.service_model_types.specs.declared.content.Setup.{Setup}
 use Rattle.service_model.specs.RunState.{RunState}
-use Rattle.service_model.specs.Outcome.{Runs, latest_run}
+use Rattle.service_model.specs.Outcome.{Runs, latest_run, run_at}
 use Rattle.mutable_state.specs.View.{RunView}
 use Rattle.shard_steps.specs.Issuing.{Waiting}
 use Rattle.shard_steps.specs.Kept.{Unnoted}
@@ -35,9 +35,17 @@ pub record ShardState : Type 0 where
 abbrev pub state : ShardView → ShardState
 state v = record { setup = v.setup; runs = states v.runs; last = v.last; waiting = v.waiting; outgoing = v.outgoing; accepted = v.accepted }
 
+-- the ordinal of the run at a place of the list: ordinals count from 1
+abbrev pub ordinal_of : ℕ → ℕ
+ordinal_of index = index + 1
+
 -- what requests are decided on
 abbrev pub runs_in : ShardView → Runs
 runs_in v = record { setup = v.setup; states = states v.runs }
+
+-- what is known of the run at a place
+abbrev pub run_in : ShardView → ℕ → RunState
+run_in v index = run_at (runs_in v) (ordinal_of index)
 
 -- the service's and the shard's numbers fit a run id, and there is a shard
 pub record IsSetup (s : Setup) : Type 0 where
@@ -45,6 +53,6 @@ pub record IsSetup (s : Setup) : Type 0 where
   pub shard : s.shard < 2 ^ 12
   pub some : 0 < s.shards
 
--- the index knows the latest run of each workflow ID
+-- the index knows the place of the latest run of each workflow ID
 pub record IsIndexed (look : List ℕ → Option ℕ) (runs : List RunView) : Type 0 where
-  pub latest : (id : List ℕ) → look id ≡ latest_run (states runs) id
+  pub latest : (id : List ℕ) → option_map ordinal_of (look id) ≡ latest_run (states runs) id

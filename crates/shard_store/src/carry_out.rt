@@ -114,7 +114,7 @@ impl<T: KeepsRun> Store<T> {
     {
         let NewRun { run, key } = created;
         let index = self.runs.len();
-        let _ = self.index.insert(key, index + 1).unwrap();
+        let _ = self.index.insert(key, index).unwrap();
         self.runs.push(run).unwrap();
         self.deadlines.push_none();
         self.dispatches.add_run();

@@ -8,19 +8,21 @@ ghost use Rattle.service_model.specs.Pending.{IsStarted};
 ghost use Rattle.task_completion.specs.Ends.{IsPlanned, IsCompletion};
 ghost use Rattle.shard_steps.specs.Kept.{IsNoted};
 ghost use Rattle.shard_store.specs.View.{state, states};
-ghost use Rattle.shard_store.specs.Fitting.{room_at, state_at, view_at};
+ghost use Rattle.shard_store.specs.Fitting.{IsPrepared, room_at, state_at, view_at};
 
+use crate::plan::MoreOf;
 use crate::store::Store;
 use mutable_state::Change as MoreFacts;
 use mutable_state_keeper::KeepsRun;
+use service_model_types::journal::Fact;
 use std::alloc::AllocError;
 use task_completion::{Completion, plan_completion, plan_failure};
 use wf_command::Command;
-use wf_event_values::{Cause, Moment, Text};
+use wf_event_values::{Cause, Items, Moment, Text};
 
 impl<T: KeepsRun> Store<T> {
     /// Makes room for a step's facts in the run at a place.
-    pub fn prepare_in(
+    fn make_room(
         &mut self,
         index: usize,
         more: MoreFacts,
@@ -36,6 +38,21 @@ impl<T: KeepsRun> Store<T> {
         self.note_change()?;
         let run = &mut self.runs[index];
         run.prepare(more)
+    }
+
+    /// What a step's facts add to the run at a place, with room for them.
+    pub fn prepare_in(
+        &mut self,
+        index: usize,
+        moment: Moment,
+        facts: Items<Fact>,
+    ) -> Result<MoreOf, AllocError>
+        requires { index < length self.old.runs }
+        ensures same { state self.new ≡ state self.old }
+        ensures more { IfOk result (λ more. IsPrepared self.new moment index facts more) }
+    {
+        let plan = self.make_room(index, MoreFacts { moment, facts })?;
+        Ok(MoreOf { index, plan })
     }
 
     /// Plans the end of the started task of the run at a place.
@@ -55,7 +72,7 @@ impl<T: KeepsRun> Store<T> {
             (state_at (states self.old.runs) index) [] commands.now) c) }
     {
         self.note_change()?;
-        let next = self.run_id(self.runs.len() + 1);
+        let next = self.run_id(self.runs.len());
         let run = &mut self.runs[index];
         plan_completion(self.alloc, run, &self.setup, next, commands, moment)
     }

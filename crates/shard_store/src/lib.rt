@@ -14,5 +14,5 @@ mod plan;
 mod store;
 mod transfers;
 
-pub use plan::{Change, Count, MoreOf, NewRun, Plan, answered, refused};
+pub use plan::{Change, Count, MoreOf, NewRun, Plan, adding, answered, refused};
 pub use store::Store;

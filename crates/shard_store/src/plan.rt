@@ -1,8 +1,8 @@
 //! What a step will do to a shard, with all that it needs made.
 
-ghost use Rattle.std.specs.Prelude.{◌≡◌};
+ghost use Rattle.std.specs.Prelude.{◌≡◌, Ok};
 ghost use Rattle.service_model.specs.Outcome.{answered, refused};
-ghost use Rattle.shard_store.specs.Fitting.{nothing};
+ghost use Rattle.shard_store.specs.Fitting.{adding, nothing};
 
 use mutable_state_keeper::{KeepsRun, Run};
 use service_model_types::answer::{Answer, Reply};
@@ -102,6 +102,22 @@ pub fn refused<T: KeepsRun>(moment: Moment, refusal: Refusal) -> Plan<T>
         moment,
         change: nothing(),
         reply: Err(refusal),
+    }
+}
+
+/// A step that adds to a run, and answers.
+pub fn adding<T: KeepsRun>(moment: Moment, more: MoreOf, answer: Answer) -> Plan<T>
+    ensures { result ≡ record { moment = moment; change = adding more; reply = Ok answer } }
+{
+    Plan {
+        moment,
+        change: Change {
+            added: Some(more),
+            created: None,
+            count: Count::Nothing,
+            answer: None,
+        },
+        reply: Ok(answer),
     }
 }
 

@@ -1,10 +1,11 @@
 //! What a shard keeps in memory.
 
-ghost use Rattle.std.specs.Prelude.{◌≡◌, ◌<◌, ◌≤◌, ◌^◌, [], IfOk, length, option_copied, replicate, slice_get};
-ghost use Rattle.service_model.specs.Outcome.{Outcome, run_at};
+ghost use Rattle.std.specs.Prelude.{◌≡◌, ◌<◌, ◌^◌, ◌==◌, [], IfOk, length, option_copied, replicate, slice_get};
+ghost use Rattle.service_model.specs.Outcome.{Outcome};
+ghost use Rattle.service_model_types.specs.Routing.{shard_of};
 ghost use Rattle.service_model.specs.Service.{opening};
 ghost use Rattle.shard_steps.specs.Kept.{IsNoted};
-ghost use Rattle.shard_store.specs.View.{IsSetup, runs_in, state, states};
+ghost use Rattle.shard_store.specs.View.{IsSetup, run_in, state, states};
 ghost use Rattle.shard_store.specs.Fitting.{FitsChange, state_after};
 ghost use Rattle.shard_store.specs.Standing.{Grows, StandsFor};
 ghost use Rattle.transfer.specs.Outboxes.{nothing};
@@ -18,7 +19,7 @@ use shard_steps::{Changed, Dispatches, Transfers};
 use std::alloc::{AllocError, Global};
 use std::marker::Model;
 use timeouts::Deadlines;
-use wf_event_values::Moment;
+use wf_event_values::{Id, Moment};
 
 /// What a shard keeps, where `T` keeps its runs.
 pub struct Store<T: KeepsRun> {
@@ -128,6 +129,13 @@ impl<T: KeepsRun> Store<T> {
         &self.setup
     }
 
+    /// Whether a workflow ID belongs to this shard.
+    pub fn is_home_of(&self, id: &Id) -> bool
+        ensures { result ≡ (shard_of self.now.setup id.now == self.now.setup.shard) }
+    {
+        self.setup.shard_of(id) == self.setup.shard
+    }
+
     /// The moment of the last step.
     pub fn last(&self) -> Moment
         ensures { result ≡ self.now.last }
@@ -143,13 +151,12 @@ impl<T: KeepsRun> Store<T> {
         self.runs.len()
     }
 
-    /// The run with that ordinal.
-    pub fn run(&self, n: usize) -> &Run<T>
-        requires from { 1 ≤ n }
-        requires to { n ≤ length self.now.runs }
-        ensures { result.now.state ≡ run_at (runs_in self.now) n }
+    /// The run at a place.
+    pub fn run(&self, index: usize) -> &Run<T>
+        requires { index < length self.now.runs }
+        ensures { result.now.state ≡ run_in self.now index }
     {
-        &self.runs[n - 1]
+        &self.runs[index]
     }
 
     /// The first dispatch that waits.

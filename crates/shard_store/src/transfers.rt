@@ -38,7 +38,7 @@ impl<T: KeepsRun> Store<T> {
         let Some(unsent) = self.transfers.unsent() else {
             return Ok(());
         };
-        let id = self.run_id(unsent.index + 1);
+        let id = self.run_id(unsent.index);
         let run = &self.runs[unsent.index];
         let sent = run.transfers(self.alloc, &self.setup, id, unsent.shown)?;
         self.transfers.send(sent)?;

@@ -14,7 +14,7 @@ pub returns-in_default-clause-plan : goal.returns-in_default-clause-plan
 returns-in_default-clause-plan g c =
     let R = runs_in c.args.store.now in
     let h = c.args.hint in
-    let none : has_run_of R h.shard h.run ≡ false = c.run_of.ensures.some ∙ ap (λ o. is_some o) c.in_default.is in
+    let none : has_run_of R h.shard h.run ≡ false = c.place_on.ensures.some ∙ ap (λ o. is_some o) c.in_default.is in
     let P : Outcome → Type 0 = λ o. FitsStep {T = g.row.T.Denot} c.args.store.now c.answered.result c.args.moment o in
     subst P (sym (ap (λ b. cond b (take_row R h (pending_row (run_at R h.run) h.event)) (answered Stale)) none)) (fits-answered {T = g.row.T.Denot} c.args.store.now c.args.moment Stale c.answered.result c.answered.ensures)
 
@@ -23,7 +23,8 @@ returns-clause-plan g c =
     let R = runs_in c.args.store.now in
     let h = c.args.hint in
     let row = pending_row (run_at R h.run) h.event in
-    let there : has_run_of R h.shard h.run ≡ true = c.run_of.ensures.some ∙ ap (λ o. is_some o) c.in-Some.is in
-    let task : task_for R h row ≡ Some c.in-Some-2.task = sym c.in_ok-task.ensures.task ∙ c.in-Some-2.is in
+    let there : has_run_of R h.shard h.run ≡ true = c.place_on.ensures.some ∙ ap (λ o. is_some o) c.in-Some.is in
+    let task : task_for R h row ≡ Some c.in-Some-2.task =
+    ap (λ k. task_for R h (pending_row (run_at R k) h.event)) (sym c.in-Some.ensures.found) ∙ sym c.in_ok-task.ensures.task ∙ c.in-Some-2.is in
     let P : Outcome → Type 0 = λ o. FitsStep {T = g.row.T.Denot} c.take_attempt.new.store c.in_ok-plan.plan c.args.moment o in
     subst P (sym (ap (λ b. cond b (take_row R h row) (answered Stale)) there ∙ taken-by R h row ∙ ap (taking h) task)) c.in_ok-plan.ensures.plan

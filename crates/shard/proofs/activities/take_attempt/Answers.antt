@@ -2,21 +2,21 @@ use Rattle.std.proofs.Common.{sym, subst, ℕ, List, [], ◌∷◌}
 use Rattle.service_model_types.specs.declared.answer.Answer.TheVariants.{ActivityTask}
 use Rattle.service_model_types.specs.declared.journal.Fact.{Fact}
 use Rattle.service_model_types.specs.declared.journal.Note.TheVariants.{Taken}
-use Rattle.service_model.specs.Outcome.{adds, noted, run_at}
+use Rattle.service_model.specs.Outcome.{adds, noted}
 use Rattle.mutable_state.specs.Steps.{FitStep}
-use Rattle.shard_store.specs.View.{runs_in}
+use Rattle.shard_store.specs.View.{ordinal_of, run_in}
 use Rattle.shard_store.specs.Fitting.{FitsStep}
 use Rattle.shard_steps.proofs.AttemptLemmas.{taken-fits}
 use Rattle.shard.proofs.activities.take_attempt.Goals as goal
 
 pub prepare_more-requires-clause-fits : goal.prepare_more-requires-clause-fits
 prepare_more-requires-clause-fits g c =
-    let P : List Fact → Type 0 = λ l. FitStep c.args.moment (run_at (runs_in c.args.store.now) c.args.n) l in
-    subst P (sym c.in_ok-facts.ensures) (taken-fits c.args.moment c.args.hint.event (run_at (runs_in c.args.store.now) c.args.n) c.requires.open c.requires.there)
+    let P : List Fact → Type 0 = λ l. FitStep c.args.moment (run_in c.args.store.now c.args.index) l in
+    subst P (sym c.in_ok-facts.ensures) (taken-fits c.args.moment c.args.hint.event (run_in c.args.store.now c.args.index) c.requires.open c.requires.in_use)
 
 pub returns-clause-plan : goal.returns-clause-plan
 returns-clause-plan g c =
     let h = c.args.hint in
-    let P : List Fact → Type 0 = λ l. FitsStep {T = g.row.T.Denot} c.prepare_more.new.store c.in_ok-plan.plan c.args.moment (adds c.args.n l (ActivityTask c.args.task)) in
+    let P : List Fact → Type 0 = λ l. FitsStep {T = g.row.T.Denot} c.prepare_more.new.store c.in_ok-plan.plan c.args.moment (adds (ordinal_of c.args.index) l (ActivityTask c.args.task)) in
     let Q : ℕ → Type 0 = λ k. FitsStep {T = g.row.T.Denot} c.prepare_more.new.store c.in_ok-plan.plan c.args.moment (adds k (noted h.event Taken ∷ []) (ActivityTask c.args.task)) in
     subst Q c.requires.run (subst P c.in_ok-facts.ensures c.in_ok-plan.ensures.plan)

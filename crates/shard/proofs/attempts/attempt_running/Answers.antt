@@ -1,16 +1,25 @@
-use Rattle.std.proofs.Common.{◌≡◌, ◌∙◌, sym, ap, cond, true, None}
-use Rattle.std.specs.Prelude.{is_some}
+use Rattle.std.proofs.Common.{◌≡◌, ◌∙◌, sym, ap, subst, true, Some}
+use Rattle.std.specs.Prelude.{IfSome, is_some, option_map}
 use Rattle.service_model.specs.Activities.{keep_running}
-use Rattle.service_model.specs.Outcome.{run_at}
+use Rattle.service_model.specs.RunState.{is_open}
 use Rattle.service_model.specs.Tasks.{pending_row}
+use Rattle.mutable_state.specs.declared.activity.Activity.{Activity}
+use Rattle.mutable_state.specs.Activities.{row_said}
 use Rattle.shard_steps.specs.Attempts.{has_run_of}
-use Rattle.shard_store.specs.View.{runs_in}
-use Rattle.shard.proofs.RunningLemmas.{attempt-found}
+use Rattle.shard_store.specs.View.{run_in, runs_in}
+use Rattle.shard.proofs.RunningLemmas.{has-attempt}
 use Rattle.shard.proofs.attempts.attempt_running.Goals as goal
 
 pub returns-clause-running : goal.returns-clause-running
 returns-clause-running g c =
-    let R = runs_in c.args.store.now in
+    let v = c.args.store.now in
     let t = c.args.task in
-    let there : has_run_of R t.shard t.run ≡ true = c.run_of.ensures.some ∙ ap (λ o. is_some o) c.in-Some.is in
-    attempt-found c.args.store.now t c.in_ok-found.found (c.in_ok-found.ensures.found ∙ sym (ap (λ b. cond b (keep_running t (pending_row (run_at R t.run) t.event)) None) there)) c.in_ok-found.ensures.open
+    let i = c.in-Some.index in
+    let has : has_run_of (runs_in v) t.shard t.run ≡ true = c.place_on.ensures.some ∙ ap (λ o. is_some o) c.in-Some.is in
+    let row = row_said c.in-Some-2.activity in
+    let found : keep_running t (pending_row (run_in v i) t.event) ≡ Some row = sym c.in_ok-activity.ensures.found ∙ ap (option_map row_said) c.in-Some-2.is in
+    let opened : is_open (run_in v i) ≡ true = subst (λ o. IfSome o (λ (a : Activity). is_open (run_in v i) ≡ true)) c.in-Some-2.is c.in_ok-activity.ensures.open in
+    has-attempt v t i row has c.in-Some.ensures.found c.in-Some.ensures.there found opened
+
+pub returns-clause-found : goal.returns-clause-found
+returns-clause-found g c = sym (returns-clause-running g c).found

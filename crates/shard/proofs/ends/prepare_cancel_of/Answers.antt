@@ -5,9 +5,9 @@ use Rattle.service_model_types.specs.declared.answer.Answer.TheVariants.{CancelR
 use Rattle.service_model_types.specs.declared.journal.CancelRequest.{CancelRequest}
 use Rattle.service_model_types.specs.declared.journal.Fact.{Fact}
 use Rattle.service_model.specs.Cancels.{cancel_open}
-use Rattle.service_model.specs.Outcome.{Outcome, run_at, outside, adds, made_by}
+use Rattle.service_model.specs.Outcome.{Outcome, outside, adds, made_by}
 use Rattle.mutable_state.specs.Steps.{FitStep}
-use Rattle.shard_store.specs.View.{runs_in}
+use Rattle.shard_store.specs.View.{ordinal_of, run_in, runs_in}
 use Rattle.shard_store.specs.Fitting.{FitsStep}
 use Rattle.shard_steps.proofs.StartLemmas.{cancel-fits}
 use Rattle.shard.proofs.ends.prepare_cancel_of.Goals as goal
@@ -16,16 +16,16 @@ pub returns-in-Some-clause-plan : goal.returns-in-Some-clause-plan
 returns-in-Some-clause-plan g c =
     let R = runs_in c.args.store.now in
     let q = c.args.request.now in
-    let there : run_at R c.args.n ≡ c.run.result.now.state =
+    let there : run_in c.args.store.now c.args.index ≡ c.run.result.now.state =
     sym c.run.ensures in
-    let some : Some c.in-Some.before ≡ (run_at R c.args.n).cancel_request = sym c.in-Some.is ∙ c.in_ok-before.ensures ∙ ap (λ s. s.cancel_request) (sym there) in
-    let P : Option CancelRequest → Type 0 = λ o. FitsStep c.args.store.now c.prepare_cancel_again.result c.args.moment (cancel_open R q c.args.n o) in
+    let some : Some c.in-Some.before ≡ (run_in c.args.store.now c.args.index).cancel_request = sym c.in-Some.is ∙ c.in_ok-before.ensures ∙ ap (λ s. s.cancel_request) (sym there) in
+    let P : Option CancelRequest → Type 0 = λ o. FitsStep c.args.store.now c.prepare_cancel_again.result c.args.moment (cancel_open R q (ordinal_of c.args.index) o) in
     subst P some c.prepare_cancel_again.ensures
 
 pub prepare_more-requires-clause-fits : goal.prepare_more-requires-clause-fits
 prepare_more-requires-clause-fits g c =
     let R = runs_in c.args.store.now in
-    let s = run_at R c.args.n in
+    let s = run_in c.args.store.now c.args.index in
     let fact = made_by c.args.request.now.request_id (WorkflowExecutionCancelRequested Client) in
     let again : s ≡ c.run-2.result.now.state =
     sym c.run-2.ensures in
@@ -36,7 +36,7 @@ pub returns-clause-plan : goal.returns-clause-plan
 returns-clause-plan g c =
     let R = runs_in c.args.store.now in
     let q = c.args.request.now in
-    let s = run_at R c.args.n in
+    let s = run_in c.args.store.now c.args.index in
     let fact = made_by q.request_id (WorkflowExecutionCancelRequested Client) in
     let there : s ≡ c.run.result.now.state =
     sym c.run.ensures in
@@ -45,4 +45,4 @@ returns-clause-plan g c =
     let facts : c.in_ok-facts.facts ≡ outside s (fact ∷ []) = c.in_ok-facts.ensures ∙ ap (λ x. outside x (fact ∷ [])) (sym again) in
     let none : None ≡ s.cancel_request = sym c.in_default.is ∙ c.in_ok-before.ensures ∙ ap (λ x. x.cancel_request) (sym there) in
     let P : Outcome → Type 0 = λ o. IfOk c.prepare_more.result (λ plan. FitsStep c.prepare_more.new.store plan c.args.moment o) in
-    subst P (ap (λ l. adds c.args.n l CancelRequested) facts ∙ ap (cancel_open R q c.args.n) none) c.prepare_more.ensures.plan
+    subst P (ap (λ l. adds (ordinal_of c.args.index) l CancelRequested) facts ∙ ap (cancel_open R q (ordinal_of c.args.index)) none) c.prepare_more.ensures.plan

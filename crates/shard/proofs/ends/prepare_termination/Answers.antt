@@ -3,19 +3,19 @@ use Rattle.wf_event.specs.declared.attributes.Attributes.TheVariants.{WorkflowEx
 use Rattle.service_model_types.specs.declared.answer.Answer.TheVariants.{Terminated}
 use Rattle.service_model_types.specs.declared.journal.Fact.{Fact}
 use Rattle.service_model.specs.Journal.{plain}
-use Rattle.service_model.specs.Outcome.{Outcome, adds, run_at}
+use Rattle.service_model.specs.Outcome.{Outcome, adds}
 use Rattle.mutable_state.specs.Steps.{FitStep}
-use Rattle.shard_store.specs.View.{runs_in}
+use Rattle.shard_store.specs.View.{ordinal_of, run_in}
 use Rattle.shard_store.specs.Fitting.{FitsStep}
 use Rattle.shard_steps.proofs.StartLemmas.{terminate-fits}
 use Rattle.shard.proofs.ends.prepare_termination.Goals as goal
 
 pub prepare_more-requires-clause-fits : goal.prepare_more-requires-clause-fits
 prepare_more-requires-clause-fits g c =
-    let s = run_at (runs_in c.args.store.now) c.args.n in
+    let s = run_in c.args.store.now c.args.index in
     subst (λ (l : List Fact). FitStep c.args.moment s l) (sym c.in_ok-facts.ensures) (terminate-fits c.args.moment s c.in_ok-reason.reason c.requires.open)
 
 pub returns-clause-plan : goal.returns-clause-plan
 returns-clause-plan g c =
     let P : Outcome → Type 0 = λ o. IfOk c.prepare_more.result (λ plan. FitsStep c.prepare_more.new.store plan c.args.moment o) in
-    subst P (ap (λ l. adds c.args.n l Terminated) (c.in_ok-facts.ensures ∙ ap (λ r. plain (WorkflowExecutionTerminated r) ∷ []) c.in_ok-reason.ensures.cases)) c.prepare_more.ensures.plan
+    subst P (ap (λ l. adds (ordinal_of c.args.index) l Terminated) (c.in_ok-facts.ensures ∙ ap (λ r. plain (WorkflowExecutionTerminated r) ∷ []) c.in_ok-reason.ensures.cases)) c.prepare_more.ensures.plan

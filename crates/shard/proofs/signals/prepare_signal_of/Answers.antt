@@ -1,9 +1,9 @@
 use Rattle.std.proofs.Common.{◌≡◌, ◌∙◌, sym, ap, subst, List, [], ◌∷◌, cond, false, IfOk}
 use Rattle.service_model_types.specs.declared.journal.Fact.{Fact}
-use Rattle.service_model.specs.Outcome.{Outcome, run_at, outside, adds, answered}
+use Rattle.service_model.specs.Outcome.{Outcome, outside, adds, answered}
 use Rattle.service_model.specs.Signals.{was_signaled, signal_fact}
 use Rattle.mutable_state.specs.Steps.{FitStep}
-use Rattle.shard_store.specs.View.{runs_in}
+use Rattle.shard_store.specs.View.{ordinal_of, run_in, runs_in}
 use Rattle.shard_store.specs.Fitting.{FitsStep}
 use Rattle.shard_steps.proofs.StartLemmas.{signal-fits}
 use Rattle.shard.proofs.signals.prepare_signal_of.Goals as goal
@@ -12,7 +12,7 @@ pub prepare_more-requires-clause-fits : goal.prepare_more-requires-clause-fits
 prepare_more-requires-clause-fits g c =
     let R = runs_in c.args.store.now in
     let request = c.args.request_id.now in
-    let s = run_at R c.args.n in
+    let s = run_in c.args.store.now c.args.index in
     let fact = signal_fact request c.args.name.now c.args.input.now in
     let there : s ≡ c.run.result.now.state =
     sym c.run.ensures in
@@ -26,7 +26,7 @@ pub returns-clause-plan : goal.returns-clause-plan
 returns-clause-plan g c =
     let R = runs_in c.args.store.now in
     let request = c.args.request_id.now in
-    let s = run_at R c.args.n in
+    let s = run_in c.args.store.now c.args.index in
     let fact = signal_fact request c.args.name.now c.args.input.now in
     let there : s ≡ c.run.result.now.state =
     sym c.run.ensures in
@@ -35,4 +35,4 @@ returns-clause-plan g c =
     let first : was_signaled s.signal_requests request ≡ false = ap (λ x. was_signaled x.signal_requests request) there ∙ sym c.was_signaled.ensures ∙ c.if-was_signaled.false in
     let facts : c.in_ok-facts.facts ≡ outside s (fact ∷ []) = c.in_ok-facts.ensures ∙ ap (λ x. outside x (fact ∷ [])) (sym again) in
     let P : Outcome → Type 0 = λ o. IfOk c.prepare_more.result (λ plan. FitsStep c.prepare_more.new.store plan c.args.moment o) in
-    subst P (ap (λ l. adds c.args.n l c.args.answers.first) facts ∙ sym (ap (λ b. cond b (answered c.args.answers.again) (adds c.args.n (outside s (fact ∷ [])) c.args.answers.first)) first)) c.prepare_more.ensures.plan
+    subst P (ap (λ l. adds (ordinal_of c.args.index) l c.args.answers.first) facts ∙ sym (ap (λ b. cond b (answered c.args.answers.again) (adds (ordinal_of c.args.index) (outside s (fact ∷ [])) c.args.answers.first)) first)) c.prepare_more.ensures.plan

@@ -14,8 +14,7 @@ returns-in-Some-2-clause-pending g c =
     let name = c.in-Some-2.workflow_id in
     let O : Option (List ℕ) → Type 0 = λ o. IfSome o (λ n. is_open s ≡ true) in
     record {
-      from = c.in-Some.ensures.within.0;
-      to = c.in-Some.ensures.within.1;
+      there = c.in-Some.ensures.there;
       opened = subst (λ (r : RunState). is_open r ≡ true) c.run.ensures (subst O c.in-Some-2.is c.in_ok-workflow_id.ensures.open);
       waits = subst (λ (r : RunState). has_id id (pending class r) ≡ true) c.run.ensures (asked-waits s class id name (sym c.in_ok-workflow_id.ensures.asked ∙ c.in-Some-2.is));
     }

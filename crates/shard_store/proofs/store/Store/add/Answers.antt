@@ -1,5 +1,5 @@
-use Rattle.std.proofs.Common.{◌≡◌, ℕ, ◌+◌, length, length-append, List, [], ◌∷◌, ◌++◌, sym, ap, subst, ◌∙◌, arith, Option, Some, None, IfSome, cond, ◌<◌}
-use Rattle.std.specs.Prelude.{bytes_eq, string_bytes}
+use Rattle.std.proofs.Common.{◌≡◌, ℕ, ◌+◌, length, length-append, List, [], ◌∷◌, ◌++◌, refl, sym, ap, subst, ◌∙◌, arith, Option, Some, None, IfSome, cond, ◌<◌}
+use Rattle.std.specs.Prelude.{Bool, bytes_eq, false, option_map, string_bytes, true}
 use Rattle.std.proofs.lemmas.Map.Text.{hash_map_updates_text}
 use Rattle.indexmap.specs.IndexMap.{get_by_text}
 use Rattle.service_model.specs.Outcome.{latest_run}
@@ -7,7 +7,7 @@ use Rattle.service_model_types.specs.declared.content.Outgoing.{Outgoing}
 use Rattle.shard_steps.specs.Sending.{all_outgoing}
 use Rattle.shard_steps.specs.declared.transfers.Unsent.{Unsent}
 use Rattle.shard_steps.proofs.SendingLemmas.{added-sends, keeps-more}
-use Rattle.shard_store.specs.View.{ShardState, ShardView, state, states}
+use Rattle.shard_store.specs.View.{ShardState, ShardView, ordinal_of, state, states}
 use Rattle.timeouts.specs.declared.due.Due.{Due}
 use Rattle.shard_steps.specs.Kept.{HasFirsts, HasShown}
 use Rattle.service_model.specs.RunState.{RunState}
@@ -18,6 +18,11 @@ use Rattle.shard_steps.proofs.EachLemmas.{each-added, each-same}
 use Rattle.shard_store.proofs.IndexLemmas.{latest_run-push, length-states, states-push}
 use Rattle.shard_store.proofs.store.Store.add.Goals as goal
 
+-- the ordinal of one of two places
+place-cond : (b : Bool) (i : ℕ) (o : Option ℕ) → option_map ordinal_of (cond b (Some i) o) ≡ cond b (Some (ordinal_of i)) (option_map ordinal_of o)
+place-cond true i o = refl
+place-cond false i o = refl
+
 pub invariant_of-self : goal.invariant_of-self
 invariant_of-self g c =
     let count : c.len-index.result ≡ length c.self.inside.runs.items = omega (arith, c.self.inside.runs.ok.0) in
@@ -27,8 +32,8 @@ invariant_of-self g c =
     let sets = hash_map_updates_text (string_bytes c.args.created.key) c.self.inside.index c.insert.new.self _ updates in (
       c.self.invariant.0,
       record {
-        latest = λ id. sets id
-            ∙ ap (λ n. cond (bytes_eq (string_bytes c.args.created.key) id) (Some (n + 1)) (get_by_text c.self.inside.index id)) count
+        latest = λ id. ap (option_map ordinal_of) (sets id ∙ ap (λ n. cond (bytes_eq (string_bytes c.args.created.key) id) (Some n) (get_by_text c.self.inside.index id)) count)
+            ∙ place-cond (bytes_eq (string_bytes c.args.created.key) id) (length c.self.inside.runs.items) (get_by_text c.self.inside.index id)
             ∙ ap (λ o. cond (bytes_eq (string_bytes c.args.created.key) id) (Some (length c.self.inside.runs.items + 1)) o) (c.self.invariant.1.latest id)
             ∙ sym (ap (λ t. latest_run (states t) id) pushed ∙ latest_run-push id c.self.inside.runs.items c.args.created.run (string_bytes c.args.created.key) c.requires.named);
       },

@@ -1,0 +1,42 @@
+-- plans of deliveries that are accepted
+use Rattle.std.proofs.Common.{◌≡◌, ℕ, ◌+◌, ◌<◌, ◌^◌, List, Option, Some, None, refl, subst, sym}
+use Rattle.std.specs.Prelude.{Ok, option_to_list}
+use Rattle.service_model_types.specs.declared.answer.Answer.TheVariants.{Accepted}
+use Rattle.service_model_types.specs.declared.journal.Fact.{Fact}
+use Rattle.service_model_types.specs.declared.transfer.Sent.{Sent}
+use Rattle.service_model_types.specs.declared.transfer.Transfer.{Transfer}
+use Rattle.service_model.specs.Deliveries.{accepted_from, accepts}
+use Rattle.service_model.specs.Outcome.{run_at}
+use Rattle.mutable_state.specs.Steps.{FitStep}
+use Rattle.shard_store.specs.declared.plan.Count.TheVariants as count
+use Rattle.shard_store.specs.declared.plan.MoreOf.{MoreOf}
+use Rattle.shard_store.specs.Fitting.{CountsAccepted, FitsAnswer, FitsStep, IsPrepared}
+use Rattle.shard_store.specs.View.{ShardState, ShardView, ordinal_of, runs_in, state}
+use Rattle.shard_store.proofs.PlanLemmas.{fits-added}
+use Rattle.shard_deliveries.specs.Accepting.{MayAccept}
+
+-- one more can be accepted from a shard, as before
+pub still-counts : (v old : ShardView) (from : ℕ) → state v ≡ state old → CountsAccepted old from → CountsAccepted v from
+still-counts v old from same counts = record {
+  there = subst (λ (s : ShardState). from < s.setup.shards) (sym same) counts.there;
+  few = subst (λ (s : ShardState). accepted_from s.accepted from + 1 < 2 ^ 64) (sym same) counts.few;
+}
+
+answer-fits : (v : ShardView) (a : Option Sent) → v.changed.answer ≡ None → FitsAnswer v a (option_to_list a)
+answer-fits v None noted = refl
+answer-fits v (Some a) noted = (refl, noted)
+
+-- a delivery that adds facts to the run at a place
+pub more-accepted : {T : Type 0} (v old : ShardView) (at i : ℕ) (t : Transfer) (m : MoreOf) (facts : List Fact) (answer : Option Sent) → state v ≡ state old → MayAccept old t → IsPrepared v at i facts m → FitStep at (run_at (runs_in old) (ordinal_of i)) facts →
+    FitsStep {T = T} v (record { moment = at; change = record { added = Some m; created = None; count = count.Accepts t.from; answer = answer }; reply = Ok (Accepted t.number) }) at (accepts t (Some (record { run = ordinal_of i; facts = facts })) None (option_to_list answer))
+more-accepted v old at i t m facts answer same may made fits = record {
+  moment = refl;
+  reply = refl;
+  change = record {
+    added = fits-added v old at i m facts same made fits;
+    created = refl;
+    count = (refl, still-counts v old t.from same may.counts);
+    answer = answer-fits v answer made.noted.answer;
+    free = λ one. tt;
+  };
+}

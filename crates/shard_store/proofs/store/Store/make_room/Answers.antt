@@ -1,0 +1,23 @@
+use Rattle.std.proofs.Common.{◌<◌, ◌∙◌, length, length-set, ap}
+use Rattle.shard_steps.specs.Issuing.{all_waiting}
+use Rattle.shard_steps.specs.Sending.{all_outgoing}
+use Rattle.shard_steps.proofs.EachLemmas.{each-same}
+use Rattle.shard_store.proofs.IndexLemmas.{states-same, indexed-same}
+use Rattle.shard_store.proofs.store.Store.make_room.Goals as goal
+
+pub invariant_of-self : goal.invariant_of-self
+invariant_of-self g c =
+    let there : c.args.index < length c.self.inside.runs.items = rw (ap (λ v. v.runs) c.self.view_is ∙ c.in_ok-note_change.ensures.runs) c.requires in
+    let was = c.index_mut-run.ensures.value in (
+      c.self.invariant.0,
+      indexed-same _ c.self.inside.runs.items c.args.index _ c.prepare.new.self there was c.prepare.ensures.same c.self.invariant.1,
+      rw length-set c.self.invariant.2,
+      each-same _ _ _ _ (states-same c.self.inside.runs.items c.args.index _ c.prepare.new.self there was c.prepare.ensures.same) c.self.invariant.3,
+      each-same _ _ _ _ (states-same c.self.inside.runs.items c.args.index _ c.prepare.new.self there was c.prepare.ensures.same) c.self.invariant.4,
+      rw length-set c.self.invariant.5,
+    )
+
+pub returns-clause-same : goal.returns-clause-same
+returns-clause-same g c =
+    let there : c.args.index < length c.self.inside.runs.items = rw (ap (λ v. v.runs) c.self.view_is ∙ c.in_ok-note_change.ensures.runs) c.requires in
+    rw (← c.in_ok-note_change.ensures.same, ← c.self.view_is) (ap (λ t. record { setup = c.self.inside.setup; runs = t; last = c.self.inside.last; waiting = all_waiting c.self.inside.setup c.self.inside.dispatches c.self.inside.changed t; outgoing = all_outgoing c.self.inside.setup c.self.inside.transfers t; accepted = c.self.inside.transfers.accepted }) (states-same c.self.inside.runs.items c.args.index _ c.prepare.new.self there c.index_mut-run.ensures.value c.prepare.ensures.same))
