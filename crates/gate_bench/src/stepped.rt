@@ -18,7 +18,9 @@ use std::{io, thread};
 /// So many new counters, with empty records.
 fn counters(alloc: Global, count: usize) -> Result<Vec<(Counter, Record<u64>)>, AllocError>
     ensures count { IfOk result (λ v. length v.items ≡ count) }
-    ensures fresh { IfOk result (λ v. (k : ℕ) (x : _) → slice_get v.items k ≡ Some x → (x.0.value ≡ 0) × (x.1 ≡ [])) }
+    ensures fresh { IfOk result (λ v.
+        (k : ℕ) (x : _) → slice_get v.items k ≡ Some x
+        → (x.0.value ≡ 0) × (x.1 ≡ [])) }
 {
     let mut objects = Vec::new(alloc);
     for _ in 0..count {
@@ -30,10 +32,12 @@ fn counters(alloc: Global, count: usize) -> Result<Vec<(Counter, Record<u64>)>, 
 /// Takes the last pass.
 fn take_pass(gate: &Gate<Counter>, passes: &mut Vec<Pass<Counter>>) -> Pass<Counter>
     requires some { 0 < length passes.old.items }
-    requires own { (k : ℕ) (p : _) → slice_get passes.old.items k ≡ Some p → IsPassOf p gate.now }
+    requires own { (k : ℕ) (p : _) → slice_get passes.old.items k ≡ Some p
+        → IsPassOf p gate.now }
     ensures own { IsPassOf result gate.now }
     ensures count { length passes.new.items + 1 ≡ length passes.old.items }
-    ensures rest { (k : ℕ) (p : _) → slice_get passes.new.items k ≡ Some p → IsPassOf p gate.now }
+    ensures rest { (k : ℕ) (p : _) → slice_get passes.new.items k ≡ Some p
+        → IsPassOf p gate.now }
 {
     let Some(pass) = passes.pop() else {
         unreachable!()
@@ -72,10 +76,12 @@ fn step_two<R: Wait + Threads + Sync>(
     thread::join(
         rt,
         move ||
-            requires { IsSync R.row × IsPassOf one gate.now × (slots_of gate.now ≡ slots) × (0 < slots) }
+            requires { IsSync R.row × IsPassOf one gate.now
+                × (slots_of gate.now ≡ slots) × (0 < slots) }
         { step_in_turn(rt, gate, one, slots, steps) },
         move ||
-            requires { IsSync R.row × IsPassOf two gate.now × (slots_of gate.now ≡ slots) × (0 < slots) }
+            requires { IsSync R.row × IsPassOf two gate.now
+                × (slots_of gate.now ≡ slots) × (0 < slots) }
         { step_in_turn(rt, gate, two, slots, steps) },
     );
 }
@@ -98,10 +104,12 @@ fn step_four<R: Wait + Threads + Sync>(
     thread::join(
         rt,
         move ||
-            requires { IsSync R.row × IsPassOf a gate.now × IsPassOf b gate.now × (slots_of gate.now ≡ slots) × (0 < slots) }
+            requires { IsSync R.row × IsPassOf a gate.now × IsPassOf b gate.now
+                × (slots_of gate.now ≡ slots) × (0 < slots) }
         { step_two(rt, gate, a, b, slots, steps) },
         move ||
-            requires { IsSync R.row × IsPassOf c gate.now × IsPassOf d gate.now × (slots_of gate.now ≡ slots) × (0 < slots) }
+            requires { IsSync R.row × IsPassOf c gate.now × IsPassOf d gate.now
+                × (slots_of gate.now ≡ slots) × (0 < slots) }
         { step_two(rt, gate, c, d, slots, steps) },
     );
 }
@@ -116,7 +124,8 @@ fn step_on<R: Wait + Threads + Sync>(
     steps: u64,
 )
     requires count { lane_count lanes ≤ length passes.old.items }
-    requires own { (k : ℕ) (p : _) → slice_get passes.old.items k ≡ Some p → IsPassOf p gate.now }
+    requires own { (k : ℕ) (p : _) → slice_get passes.old.items k ≡ Some p
+        → IsPassOf p gate.now }
     requires slots { (slots_of gate.now ≡ slots) × (0 < slots) }
 {
     match lanes {

@@ -20,7 +20,9 @@ const STEPS: u64 = 300;
 // So many new counters, with empty records.
 fn counters(alloc: Global, count: usize) -> Result<Vec<(Counter, Record<u64>)>, AllocError>
     ensures count { IfOk result (λ v. length v.items ≡ count) }
-    ensures fresh { IfOk result (λ v. (k : ℕ) (x : _) → slice_get v.items k ≡ Some x → (x.0.value ≡ 0) × (x.1 ≡ [])) }
+    ensures fresh { IfOk result (λ v.
+        (k : ℕ) (x : _) → slice_get v.items k ≡ Some x
+        → (x.0.value ≡ 0) × (x.1 ≡ [])) }
 {
     let mut objects = Vec::new(alloc);
     for _ in 0..count {
@@ -32,11 +34,13 @@ fn counters(alloc: Global, count: usize) -> Result<Vec<(Counter, Record<u64>)>, 
 // Takes the last pass.
 fn pop_pass(gate: &Gate<Counter>, passes: &mut Vec<Pass<Counter>>) -> Pass<Counter>
     requires some { 0 < length passes.old.items }
-    requires own { (k : ℕ) (p : _) → slice_get passes.old.items k ≡ Some p → IsPassOf p gate.now × (number (view p) ≡ k) }
+    requires own { (k : ℕ) (p : _) → slice_get passes.old.items k ≡ Some p
+        → IsPassOf p gate.now × (number (view p) ≡ k) }
     ensures own { IsPassOf result gate.now }
     ensures last { length passes.old.items ≡ number (view result) + 1 }
     ensures less { length passes.old.items ≡ length passes.new.items + 1 }
-    ensures rest { (k : ℕ) (p : _) → slice_get passes.new.items k ≡ Some p → IsPassOf p gate.now × (number (view p) ≡ k) }
+    ensures rest { (k : ℕ) (p : _) → slice_get passes.new.items k ≡ Some p
+        → IsPassOf p gate.now × (number (view p) ≡ k) }
 {
     let Some(pass) = passes.pop() else {
         unreachable!()
@@ -197,17 +201,20 @@ fn step_both<R: Wait + Threads + Sync>(
     requires own { IsPassOf one gate.now × IsPassOf two gate.now }
     requires slots { slots gate.now ≡ 3 }
     ensures own { IsPassOf result.0 gate.now × IsPassOf result.1 gate.now }
-    ensures numbers { (number (view result.0) ≡ number (view one)) × (number (view result.1) ≡ number (view two)) }
+    ensures numbers { (number (view result.0) ≡ number (view one))
+        × (number (view result.1) ≡ number (view two)) }
 {
     let (mut one, mut two) = thread::join(
         rt,
         move || -> Pass<Counter>
             requires { IsSync R.row × IsPassOf one gate.now × (slots gate.now ≡ 3) }
-            ensures { IsPassOf result gate.entry.now × (number (view result) ≡ number (view one)) }
+            ensures { IsPassOf result gate.entry.now
+                × (number (view result) ≡ number (view one)) }
         { step_in_turn(rt, gate, one) },
         move || -> Pass<Counter>
             requires { IsSync R.row × IsPassOf two gate.now × (slots gate.now ≡ 3) }
-            ensures { IsPassOf result gate.entry.now × (number (view result) ≡ number (view two)) }
+            ensures { IsPassOf result gate.entry.now
+                × (number (view result) ≡ number (view two)) }
         { step_in_turn(rt, gate, two) },
     );
     gate.meet(&mut one, &mut two);
@@ -234,8 +241,10 @@ fn close_four(
     first: (Pass<Counter>, Pass<Counter>),
     second: (Pass<Counter>, Pass<Counter>),
 ) -> Result<Vec<(Counter, Record<u64>)>, AllocError>
-    requires first { IsPassOf first.0 gate × IsPassOf first.1 gate × (number (view first.0) ≡ 0) × (number (view first.1) ≡ 1) }
-    requires second { IsPassOf second.0 gate × IsPassOf second.1 gate × (number (view second.0) ≡ 2) × (number (view second.1) ≡ 3) }
+    requires first { IsPassOf first.0 gate × IsPassOf first.1 gate
+        × (number (view first.0) ≡ 0) × (number (view first.1) ≡ 1) }
+    requires second { IsPassOf second.0 gate × IsPassOf second.1 gate
+        × (number (view second.0) ≡ 2) × (number (view second.1) ≡ 3) }
     requires given { given gate ≡ 4 }
     ensures { IfOk result (λ v. length v.items ≡ slots gate) }
 {
@@ -261,12 +270,14 @@ fn four_threads_step_on_three_slots(rt: HostRuntime) -> Result<(), Fail> {
         move || -> (Pass<Counter>, Pass<Counter>)
             requires { IsPassOf a shared.now × IsPassOf b shared.now × (slots shared.now ≡ 3) }
             ensures own { IsPassOf result.0 shared.entry.now × IsPassOf result.1 shared.entry.now }
-            ensures numbers { (number (view result.0) ≡ number (view a)) × (number (view result.1) ≡ number (view b)) }
+            ensures numbers { (number (view result.0) ≡ number (view a))
+                × (number (view result.1) ≡ number (view b)) }
         { step_both(handle, shared, a, b) },
         move || -> (Pass<Counter>, Pass<Counter>)
             requires { IsPassOf c shared.now × IsPassOf d shared.now × (slots shared.now ≡ 3) }
             ensures own { IsPassOf result.0 shared.entry.now × IsPassOf result.1 shared.entry.now }
-            ensures numbers { (number (view result.0) ≡ number (view c)) × (number (view result.1) ≡ number (view d)) }
+            ensures numbers { (number (view result.0) ≡ number (view c))
+                × (number (view result.1) ≡ number (view d)) }
         { step_both(handle, shared, c, d) },
     );
     gate.meet(&mut first.0, &mut second.1);

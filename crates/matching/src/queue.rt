@@ -57,7 +57,8 @@ impl Drop for HintMaker {
 fn plan<S: Sizes>(line: &Line, maker: &mut Seat, passes: usize, shards: u16)
     requires own { IsSeatOf line.now maker.old }
     requires maker { seen_by maker.old ≡ making }
-    requires sizes { (S.passes ≡ passes) × (S.shards ≡ shards) × (S.capacity ≡ ruled_capacity line.now) }
+    requires sizes { (S.passes ≡ passes) × (S.shards ≡ shards)
+        × (S.capacity ≡ ruled_capacity line.now) }
     ensures own { IsSeatOf line.now maker.new }
     ensures planned { seen_by maker.new ≡ planned passes shards (ruled_capacity line.now) making }
 {
@@ -104,7 +105,8 @@ impl HintQueue {
     ) -> HintPass
         requires maker { IsMakerOf passes shards (capacity_of self.now) number maker.old self.now }
         requires some_left { number < passes }
-        ensures maker { IsMakerOf passes shards (capacity_of self.now) (number + 1) maker.new self.now }
+        ensures maker { IsMakerOf passes shards (capacity_of self.now) (number + 1)
+            maker.new self.now }
         ensures own { IsPassOf result self.now }
         ensures fresh { known_by result ≡ fresh passes shards (capacity_of self.now) number }
     {
@@ -122,7 +124,8 @@ impl HintQueue {
         requires shard { hint.shard < shards_of self.now }
         ensures own { IsPassOf pass.new self.now }
         ensures pushed { MatchResult result (λ _. Puts (known_by pass.old) hint (known_by pass.new))
-            (λ x. (x ≡ hint) × (known_by pass.new ≡ known_by pass.old) × Held (capacity_of self.now) (Stood (known_by pass.old))) }
+            (λ x. (x ≡ hint) × (known_by pass.new ≡ known_by pass.old)
+            × Held (capacity_of self.now) (Stood (known_by pass.old))) }
     {
         self.line.push_as::<Pushed, R>(rt, &mut pass.seat, hint)
     }
@@ -131,7 +134,8 @@ impl HintQueue {
     pub(crate) fn pop<R: Wait>(&self, rt: &R, pass: &mut HintPass) -> Option<Hint>
         requires { IsPassOf pass.old self.now }
         ensures own { IsPassOf pass.new self.now }
-        ensures popped { MatchOption result ((known_by pass.new ≡ known_by pass.old) × Held 0 (Stood (known_by pass.old)))
+        ensures popped { MatchOption result
+            ((known_by pass.new ≡ known_by pass.old) × Held 0 (Stood (known_by pass.old)))
             (λ x. Takes (known_by pass.old) x (known_by pass.new)) }
     {
         self.line.pop_as::<Popped, R>(rt, &mut pass.seat)

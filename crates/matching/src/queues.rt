@@ -68,7 +68,8 @@ impl Queues {
         requires own { IsPassOf pass.old self.now }
         requires shard { hint.shard < shards_of self.now }
         ensures own { IsPassOf pass.new self.now }
-        ensures pushed { Pushes (place_in (names_of self.now) queue.now) (capacity_of self.now) (known_by pass.old) (known_by pass.new) hint result }
+        ensures pushed { Pushes (place_in (names_of self.now) queue.now) (capacity_of self.now)
+            (known_by pass.old) (known_by pass.new) hint result }
     {
         let Some(place) = self.place(queue) else {
             return Err(Refusal::UnknownTaskQueue);
@@ -91,7 +92,9 @@ impl Queues {
         requires slot { slot < length self.now.queues.items }
         requires shard { hint.shard < shards_of self.now }
         ensures own { IsPassOf pass.new self.now }
-        ensures pushed { MatchResult result (λ _. PutAt (known_by pass.old) (known_by pass.new) slot hint) (λ _. StoodAt (known_by pass.old) (known_by pass.new) slot (capacity_of self.now)) }
+        ensures pushed { MatchResult result
+            (λ _. PutAt (known_by pass.old) (known_by pass.new) slot hint)
+            (λ _. StoodAt (known_by pass.old) (known_by pass.new) slot (capacity_of self.now)) }
     {
         self.queues[slot].push(rt, &mut pass.passes[slot], hint)
     }
@@ -110,7 +113,8 @@ impl Queues {
     ) -> Result<Option<Hint>, Refusal>
         requires { IsPassOf pass.old self.now }
         ensures own { IsPassOf pass.new self.now }
-        ensures popped { Pops (place_in (names_of self.now) queue.now) kind (known_by pass.old) (known_by pass.new) result }
+        ensures popped { Pops (place_in (names_of self.now) queue.now) kind
+            (known_by pass.old) (known_by pass.new) result }
         ensures shard { IfOk result (λ found. IfSome found (λ h. h.shard < shards_of self.now)) }
     {
         let Some(place) = self.place(queue) else {
@@ -124,7 +128,9 @@ impl Queues {
         requires own { IsPassOf pass.old self.now }
         requires slot { slot < length self.now.queues.items }
         ensures own { IsPassOf pass.new self.now }
-        ensures popped { MatchOption result (StoodAt (known_by pass.old) (known_by pass.new) slot 0) (λ x. TakenAt (known_by pass.old) (known_by pass.new) slot x) }
+        ensures popped { MatchOption result
+            (StoodAt (known_by pass.old) (known_by pass.new) slot 0)
+            (λ x. TakenAt (known_by pass.old) (known_by pass.new) slot x) }
         ensures shard { IfSome result (λ h. h.shard < shards_of self.now) }
     {
         self.queues[slot].pop(rt, &mut pass.passes[slot])

@@ -95,10 +95,12 @@ fn exchange<R: Threads + Wait + Sync>(
 /// Takes the last pass.
 fn take_pass(queues: &Queues, passes: &mut Vec<QueuesPass>) -> QueuesPass
     requires some { 0 < length passes.old.items }
-    requires own { (k : ℕ) (p : QueuesPass) → slice_get passes.old.items k ≡ Some p → IsPassOf p queues.now }
+    requires own { (k : ℕ) (p : QueuesPass) → slice_get passes.old.items k ≡ Some p
+        → IsPassOf p queues.now }
     ensures own { IsPassOf result queues.now }
     ensures less { length passes.old.items ≡ length passes.new.items + 1 }
-    ensures rest { (k : ℕ) (p : QueuesPass) → slice_get passes.new.items k ≡ Some p → IsPassOf p queues.now }
+    ensures rest { (k : ℕ) (p : QueuesPass) → slice_get passes.new.items k ≡ Some p
+        → IsPassOf p queues.now }
 {
     let Some(pass) = passes.pop() else {
         unreachable!()

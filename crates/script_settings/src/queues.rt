@@ -15,7 +15,8 @@ use wf_event_values::{Field, Id, Items, Refusal};
 
 /// The parts of a text between its commas.
 fn parts_of<'a>(alloc: Global, text: &'a str) -> Result<Vec<&'a str>, AllocError>
-    ensures { IfOk result (λ parts. IsCutAtCommas text.entry.now (map (λ part. part.now) parts.items)) }
+    ensures { IfOk result (λ parts.
+        IsCutAtCommas text.entry.now (map (λ part. part.now) parts.items)) }
 {
     text.split(',').collect(alloc)
 }
@@ -26,7 +27,8 @@ fn parts_of<'a>(alloc: Global, text: &'a str) -> Result<Vec<&'a str>, AllocError
 /// `InvalidArgument` where one is empty or longer than 255 bytes; `NoMemory`.
 fn names_of(alloc: Global, parts: &[&str]) -> Result<Items<Id>, Refusal>
     ensures names { IfOk result (λ names. names ≡ map (λ part. part.now) parts.now) }
-    ensures other { IfErr result (λ e. ¬ (e ≡ refusal.NoMemory) → Any (λ part. ¬ (IsIdLength (length part.now))) parts.now) }
+    ensures other { IfErr result (λ e.
+        ¬ (e ≡ refusal.NoMemory) → Any (λ part. ¬ (IsIdLength (length part.now))) parts.now) }
 {
     let mut names = Vec::new(alloc);
     for part in parts {

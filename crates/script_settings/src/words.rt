@@ -35,14 +35,16 @@ fn with_option<'a>(
     name: &'a str,
     help: &'a str,
 ) -> Result<Command<'a>, AllocError>
-    ensures { IfOk result (λ r. app_of r ≡ with_rule (app_of command.entry) (option_rule name.entry.now)) }
+    ensures { IfOk result (λ r.
+        app_of r ≡ with_rule (app_of command.entry) (option_rule name.entry.now)) }
 {
     command.arg(Arg::new(alloc, name).long(name).help(help))
 }
 
 /// The words, matched with the command's options.
 fn matched<'a>(alloc: Global, words: &'a [&'a str]) -> Result<ArgMatches<'a>, Error>
-    ensures rows { IfOk result (λ m. rows_of (found_of m) ≡ matches_in (map (λ w. w.now) words.entry.now)) }
+    ensures rows { IfOk result (λ m.
+        rows_of (found_of m) ≡ matches_in (map (λ w. w.now) words.entry.now)) }
     ensures fails { FailsBy (faults_in (map (λ w. w.now) words.entry.now)) result }
 {
     let command = Command::new(alloc, "wfserve").about(ABOUT);
@@ -76,7 +78,8 @@ pub fn settings_of<'a>(
     alloc: Global,
     words: &'a [&'a str],
 ) -> Result<(Settings, Option<&'a str>), Fault>
-    ensures sets { IfOk result (λ r. Sets (map (λ w. w.now) words.entry.now) r.0 (option_map (λ f. f.now) r.1)) }
+    ensures sets { IfOk result (λ r.
+        Sets (map (λ w. w.now) words.entry.now) r.0 (option_map (λ f. f.now) r.1)) }
     ensures fault { IfErr result (IsFaultIn (map (λ w. w.now) words.entry.now)) }
 {
     let matches = match matched(alloc, words) {

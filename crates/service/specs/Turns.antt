@@ -1,5 +1,5 @@
 -- what a poll and a dispatch turn do, part by part
-use Rattle.std.specs.Prelude.{◌≡◌, ◌⊎◌, ℕ, List, Option, None, Some, Result, Ok, Err}
+use Rattle.std.specs.Prelude.{◌≡◌, ◌⊎◌, ℕ, List, Option, None, Some, Result, Ok, Err, IfOk, IfErr}
 use Rattle.wf_event_values.specs.declared.policies.TaskKind.{TaskKind}
 use Rattle.wf_event_values.specs.declared.refusal.Refusal.{Refusal}
 use Rattle.wf_event_values.specs.declared.refusal.Refusal.TheVariants.{UnknownTaskQueue}
@@ -10,9 +10,11 @@ use Rattle.service_model_types.specs.declared.request.Request.{Request}
 use Rattle.service_model_types.specs.Replies.{dispatch_of, Reply}
 use Rattle.gate.specs.declared.view.View.{View}
 use Rattle.gate.specs.Passes.{Waited}
+use Rattle.gate.specs.Passes as gate
 use Rattle.matching.specs.declared.view.View.{View as HintView}
 use Rattle.matching.specs.Named as matching
 use Rattle.matching.specs.Named.{place_in, slot_of, StoodAt, TakenAt, Pushes}
+use Rattle.service.specs.declared.service.Pass.{Pass}
 use Rattle.service.specs.declared.service.Service.{Service}
 use Rattle.service_model_types.specs.declared.call.Stop.{Stop}
 use Rattle.service_model_types.specs.declared.call.Stop.TheVariants.{AtEnd, AfterFirstPart, AfterSecondPart}
@@ -20,7 +22,7 @@ use Rattle.service.specs.declared.dispatch_turns.Turned.{Turned}
 use Rattle.service.specs.declared.dispatch_turns.Turned.TheVariants.{First, Taken, Unpushed, Pushed, Dispatched}
 use Rattle.service.specs.Asks.{to_start_task, to_next_dispatch, to_dispatched}
 use Rattle.service.specs.Contents.{shard_refusal}
-use Rattle.service.specs.Services.{Answered, IsServedAtLast}
+use Rattle.service.specs.Services.{Answered, IsPassOf, IsServedAtLast, hints_by, known_by}
 
 -- the place of a queue of that name, if there is one
 abbrev pub place_of : Service → List ℕ → Option ℕ
@@ -40,6 +42,13 @@ Polls x (Some place) kind at v w hs ws (Some r) = (h : Hint) × TakenAt hs ws (s
 abbrev pub PollKept : Option ℕ → TaskKind → (v w : View Request Content) → (hs ws : List HintView) → Hint → Type 0
 PollKept None kind v w hs ws h = ⊥
 PollKept (Some place) kind v w hs ws h = TakenAt hs ws (slot_of place kind) h × Waited v w h.shard
+
+-- what a call made of a poll of the queue of that name
+pub record IsPolled {E : Type 0} (x : Service) (p p' : Pass) (queue : List ℕ) (kind : TaskKind) (at : ℕ) (result : Result (Option Reply) (E × Hint)) : Type 0 where
+  pub own : IsPassOf p' x
+  pub named : gate.number (known_by p') ≡ gate.number (known_by p)
+  pub ok : IfOk result (λ r. Polls x (place_of x queue) kind at (known_by p) (known_by p') (hints_by p) (hints_by p') r)
+  pub err : IfErr result (λ e. PollKept (place_of x queue) kind (known_by p) (known_by p') (hints_by p) (hints_by p') e.1)
 
 -- the last part: the dispatch is counted, whatever that answers
 pub record Counts (x : Service) (shard at number : ℕ) (v w : View Request Content) : Type 0 where

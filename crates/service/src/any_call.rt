@@ -91,8 +91,10 @@ impl Service {
         requires { IsPassOf pass.old self.now }
         ensures own { IsPassOf pass.new self.now }
         ensures named { number (known_by pass.new) ≡ number (known_by pass.old) }
-        ensures ok { IfOk result (λ r. CallServed self.now pass.old pass.new (a_call.DispatchTurn turn) r) }
-        ensures err { OnErr result (CallKept self.now pass.old pass.new (a_call.DispatchTurn turn)) }
+        ensures ok { IfOk result (λ r.
+            CallServed self.now pass.old pass.new (a_call.DispatchTurn turn) r) }
+        ensures err { OnErr result
+            (CallKept self.now pass.old pass.new (a_call.DispatchTurn turn)) }
     {
         let turned = self.dispatch_turn(rt, pass, turn.shard, turn.stop, turn.at)?;
         Ok(reply_of_turn(turned))

@@ -59,12 +59,21 @@ impl Service {
     /// Gives the record of each shard, in the order of the shards. The passes are all that were
     /// given, so none is on a shard. It takes no memory.
     pub fn close(self, passes: Vec<Pass>) -> Vec<Record<Request>>
-        requires own { (k : ℕ) (p : Pass) → slice_get passes.items k ≡ Some p → IsPassOf p self }
+        requires own { (k : ℕ) (p : Pass)
+            → slice_get passes.items k ≡ Some p
+            → IsPassOf p self }
         requires count { length passes.items ≡ (settings_of self).passes }
-        requires all { (n : ℕ) → n < (settings_of self).passes → (k : ℕ) × (p : Pass) × (slice_get passes.items k ≡ Some p) × (number (known_by p) ≡ n) }
+        requires all { (n : ℕ) → n < (settings_of self).passes
+            → (k : ℕ) × (p : Pass) × (slice_get passes.items k ≡ Some p)
+            × (number (known_by p) ≡ n) }
         ensures count { length result.items ≡ (settings_of self).shards }
-        ensures records { (k : ℕ) (log : _) → slice_get result.items k ≡ Some log → IsEnd (base_of self k) (settings_of self).passes log }
-        ensures passes { (k : ℕ) (log : _) (j : ℕ) (p : Pass) → slice_get result.items k ≡ Some log → slice_get passes.items j ≡ Some p → HasDone (base_of self k) (known_by p) k log }
+        ensures records { (k : ℕ) (log : _)
+            → slice_get result.items k ≡ Some log
+            → IsEnd (base_of self k) (settings_of self).passes log }
+        ensures passes { (k : ℕ) (log : _) (j : ℕ) (p : Pass)
+            → slice_get result.items k ≡ Some log
+            → slice_get passes.items j ≡ Some p
+            → HasDone (base_of self k) (known_by p) k log }
     {
         let (gate, room, records) = self.into_parts();
         let passes = handed_down(passes, room.into_inner());

@@ -54,8 +54,13 @@ impl Service {
         requires { IsPassOf pass.old self.now }
         ensures own { IsPassOf pass.new self.now }
         ensures named { number_of (known_by pass.new) ≡ number_of (known_by pass.old) }
-        ensures ok { IfOk result (Turns self.now shard at stop (known_by pass.old) (known_by pass.new) (hints_by pass.old) (hints_by pass.new)) }
-        ensures err { IfErr result (λ e. TurnKept self.now shard at (known_by pass.old) (known_by pass.new) (hints_by pass.old) (hints_by pass.new)) }
+        ensures ok { IfOk result (Turns
+            self.now shard at stop
+            (known_by pass.old) (known_by pass.new)
+            (hints_by pass.old) (hints_by pass.new)) }
+        ensures err { IfErr result (λ e. TurnKept
+            self.now shard at (known_by pass.old) (known_by pass.new)
+            (hints_by pass.old) (hints_by pass.new)) }
     {
         let reply = self.next_dispatch(rt, pass, shard, at)?;
         let taken = match dispatch_in(reply) {
@@ -93,8 +98,12 @@ impl Service {
         ensures own { IsPassOf pass.new self.now }
         ensures named { number_of (known_by pass.new) ≡ number_of (known_by pass.old) }
         ensures hints { hints_by pass.new ≡ hints_by pass.old }
-        ensures ok { IfOk result (λ r. AnsweredOn self.now shard (known_by pass.old) (known_by pass.new) (to_next_dispatch at) r) }
-        ensures shard { IfOk result (λ r. (d : NumberedDispatch) → dispatch_of r ≡ Some d → d.dispatch.hint.shard < (settings_of self.now).shards) }
+        ensures ok { IfOk result (λ r. AnsweredOn
+            self.now shard (known_by pass.old) (known_by pass.new)
+            (to_next_dispatch at) r) }
+        ensures shard { IfOk result (λ r.
+            (d : NumberedDispatch) → dispatch_of r ≡ Some d
+            → d.dispatch.hint.shard < (settings_of self.now).shards) }
         ensures err { OnErr result (Waited (known_by pass.old) (known_by pass.new) shard) }
     {
         let refusal = shard_refusal(&self.settings, shard);
@@ -118,7 +127,8 @@ impl Service {
         ensures own { IsPassOf pass.new self.now }
         ensures named { number_of (known_by pass.new) ≡ number_of (known_by pass.old) }
         ensures hints { hints_by pass.new ≡ hints_by pass.old }
-        ensures ok { OnOk result (Counts self.now shard at number (known_by pass.old) (known_by pass.new)) }
+        ensures ok { OnOk result
+            (Counts self.now shard at number (known_by pass.old) (known_by pass.new)) }
         ensures err { OnErr result (Waited (known_by pass.old) (known_by pass.new) shard) }
     {
         let refusal = shard_refusal(&self.settings, shard);
@@ -132,7 +142,8 @@ impl Service {
 
 /// The dispatch that a reply has, or the reply where it has none.
 fn dispatch_in(reply: Reply) -> Result<NumberedDispatch, Reply>
-    ensures { MatchResult result (λ d. dispatch_of reply ≡ Some d) (λ r. (r ≡ reply) × (dispatch_of reply ≡ None)) }
+    ensures { MatchResult result (λ d. dispatch_of reply ≡ Some d)
+        (λ r. (r ≡ reply) × (dispatch_of reply ≡ None)) }
 {
     match reply {
         Ok(answer) => match answer.into_dispatch() {

@@ -37,8 +37,11 @@ impl Service {
         requires { IsPassOf pass self.now }
         ensures own { IfOk result (λ h. IsHeldBy h self.entry.now) }
         ensures ok { IfOk result (λ h. Enters self.entry.now pass h (to_start at asked)) }
-        ensures back { IfErr result (λ e. IsPassOf e.1 self.entry.now × (e.2 ≡ to_start at asked)) }
-        ensures err { IfErr result (λ e. Refuses e.0 (known_by pass) (known_by e.1) (shard_of_request self.entry.now (to_start at asked))) }
+        ensures back { IfErr result (λ e.
+            IsPassOf e.1 self.entry.now × (e.2 ≡ to_start at asked)) }
+        ensures err { IfErr result (λ e. Refuses
+            e.0 (known_by pass) (known_by e.1)
+            (shard_of_request self.entry.now (to_start at asked))) }
     {
         let request = request(at, Operation::Start(asked));
         let slot = self.slot_of(&request);

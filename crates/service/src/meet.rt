@@ -15,8 +15,11 @@ impl Service {
         requires second { IsPassOf second.old self.now }
         ensures first_own { IsPassOf first.new self.now }
         ensures second_own { IsPassOf second.new self.now }
-        ensures hints { (hints_by first.new ≡ hints_by first.old) × (hints_by second.new ≡ hints_by second.old) }
-        ensures agree { (shard : ℕ) → shard < (settings_of self.now).shards → Agree (known_by first.old) (known_by second.old) (known_by first.new) (known_by second.new) shard }
+        ensures hints { (hints_by first.new ≡ hints_by first.old)
+            × (hints_by second.new ≡ hints_by second.old) }
+        ensures agree { (shard : ℕ) → shard < (settings_of self.now).shards
+            → Agree (known_by first.old) (known_by second.old)
+            (known_by first.new) (known_by second.new) shard }
         ensures first { KeepsOwn (known_by first.old) (known_by first.new) }
         ensures second { KeepsOwn (known_by second.old) (known_by second.new) }
     {

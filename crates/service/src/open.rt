@@ -37,13 +37,20 @@ impl Service {
     /// `InvalidArgument` with the first setting out of its range, in the order shards, passes,
     /// service, queues, capacity; `NoMemory`.
     pub fn open(alloc: Global, settings: &Settings) -> Result<(Service, Vec<Pass>), Refusal>
-        ensures own { IfOk result (λ r. (k : ℕ) (p : Pass) → slice_get r.1.items k ≡ Some p → IsPassOf p r.0) }
-        ensures fresh { IfOk result (λ r. (k : ℕ) (p : Pass) → slice_get r.1.items k ≡ Some p → IsFresh k (known_by p)) }
-        ensures hints { IfOk result (λ r. (k : ℕ) (p : Pass) → slice_get r.1.items k ≡ Some p → AreFresh settings.now k p) }
+        ensures own { IfOk result (λ r.
+            (k : ℕ) (p : Pass) → slice_get r.1.items k ≡ Some p
+            → IsPassOf p r.0) }
+        ensures fresh { IfOk result (λ r.
+            (k : ℕ) (p : Pass) → slice_get r.1.items k ≡ Some p
+            → IsFresh k (known_by p)) }
+        ensures hints { IfOk result (λ r.
+            (k : ℕ) (p : Pass) → slice_get r.1.items k ≡ Some p
+            → AreFresh settings.now k p) }
         ensures settings { IfOk result (λ r. settings_of r.0 ≡ settings.now) }
         ensures count { IfOk result (λ r. length r.1.items ≡ settings.now.passes) }
         ensures range { IfOk result (λ r. range_fault settings.now ≡ Ok tt) }
-        ensures err { IfErr result (λ e. e ≢ Refusal.NoMemory → range_fault settings.now ≡ Err e) }
+        ensures err { IfErr result (λ e.
+            e ≢ Refusal.NoMemory → range_fault settings.now ≡ Err e) }
     {
         check_ranges(settings)?;
         let objects = open_shards(alloc, settings)?;
@@ -119,8 +126,12 @@ fn open_queues(alloc: Global, settings: &Settings) -> Result<(Queues, Vec<Queues
     ensures capacity { IfOk result (λ r. capacity_of r.0 ≡ settings.now.capacity) }
     ensures shards { IfOk result (λ r. shards_of r.0 ≡ settings.now.shards) }
     ensures count { IfOk result (λ r. length r.1.items ≡ settings.now.passes) }
-    ensures own { IfOk result (λ r. (k : ℕ) (p : QueuesPass) → slice_get r.1.items k ≡ Some p → IsPassOfQueues p r.0) }
-    ensures fresh { IfOk result (λ r. (k : ℕ) (p : QueuesPass) → slice_get r.1.items k ≡ Some p → IsFreshAt settings.now.passes settings.now.shards settings.now.capacity k p) }
+    ensures own { IfOk result (λ r.
+        (k : ℕ) (p : QueuesPass) → slice_get r.1.items k ≡ Some p
+        → IsPassOfQueues p r.0) }
+    ensures fresh { IfOk result (λ r.
+        (k : ℕ) (p : QueuesPass) → slice_get r.1.items k ≡ Some p
+        → IsFreshAt settings.now.passes settings.now.shards settings.now.capacity k p) }
 {
     let names = settings.copy_queues(alloc)?.into_vec();
     let capacity = settings.capacity as usize;

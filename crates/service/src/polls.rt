@@ -4,7 +4,7 @@ ghost use Rattle.std.specs.Prelude.{◌≡◌, ◌<◌, IfOk, IfErr, OnErr};
 ghost use Rattle.gate.specs.Passes.{Waited, number};
 ghost use Rattle.wf_event_values.specs.declared.policies.TaskKind.{TaskKind};
 ghost use Rattle.service.specs.Asks.{to_start_task};
-ghost use Rattle.service.specs.Turns.{Polls, PollKept, place_of};
+ghost use Rattle.service.specs.Turns.{IsPolled, Polls, PollKept, place_of};
 
 use crate::calls::request;
 use crate::service::{Pass, Service};
@@ -32,10 +32,7 @@ impl Service {
         at: Moment,
     ) -> Result<Option<Reply>, (AllocError, Hint)>
         requires { IsPassOf pass.old self.now }
-        ensures own { IsPassOf pass.new self.now }
-        ensures named { number (known_by pass.new) ≡ number (known_by pass.old) }
-        ensures ok { IfOk result (λ r. Polls self.now (place_of self.now queue.now) TaskKind.Workflow at (known_by pass.old) (known_by pass.new) (hints_by pass.old) (hints_by pass.new) r) }
-        ensures err { IfErr result (λ e. PollKept (place_of self.now queue.now) TaskKind.Workflow (known_by pass.old) (known_by pass.new) (hints_by pass.old) (hints_by pass.new) e.1) }
+        ensures { IsPolled self.now pass.old pass.new queue.now TaskKind.Workflow at result }
     {
         self.poll(rt, pass, queue, TaskKind::Workflow, at)
     }
@@ -53,10 +50,7 @@ impl Service {
         at: Moment,
     ) -> Result<Option<Reply>, (AllocError, Hint)>
         requires { IsPassOf pass.old self.now }
-        ensures own { IsPassOf pass.new self.now }
-        ensures named { number (known_by pass.new) ≡ number (known_by pass.old) }
-        ensures ok { IfOk result (λ r. Polls self.now (place_of self.now queue.now) TaskKind.Activity at (known_by pass.old) (known_by pass.new) (hints_by pass.old) (hints_by pass.new) r) }
-        ensures err { IfErr result (λ e. PollKept (place_of self.now queue.now) TaskKind.Activity (known_by pass.old) (known_by pass.new) (hints_by pass.old) (hints_by pass.new) e.1) }
+        ensures { IsPolled self.now pass.old pass.new queue.now TaskKind.Activity at result }
     {
         self.poll(rt, pass, queue, TaskKind::Activity, at)
     }
@@ -72,8 +66,14 @@ impl Service {
         requires { IsPassOf pass.old self.now }
         ensures own { IsPassOf pass.new self.now }
         ensures named { number (known_by pass.new) ≡ number (known_by pass.old) }
-        ensures ok { IfOk result (λ r. Polls self.now (place_of self.now queue.now) kind at (known_by pass.old) (known_by pass.new) (hints_by pass.old) (hints_by pass.new) r) }
-        ensures err { IfErr result (λ e. PollKept (place_of self.now queue.now) kind (known_by pass.old) (known_by pass.new) (hints_by pass.old) (hints_by pass.new) e.1) }
+        ensures ok { IfOk result (λ r. Polls
+            self.now (place_of self.now queue.now) kind at
+            (known_by pass.old) (known_by pass.new)
+            (hints_by pass.old) (hints_by pass.new) r) }
+        ensures err { IfErr result (λ e. PollKept
+            (place_of self.now queue.now) kind
+            (known_by pass.old) (known_by pass.new)
+            (hints_by pass.old) (hints_by pass.new) e.1) }
     {
         let hint = match self.queues.pop_hint(rt, &mut pass.hints, queue, kind) {
             Err(refusal) => return Ok(Some(Err(refusal))),
@@ -99,7 +99,9 @@ impl Service {
         ensures own { IsPassOf pass.new self.now }
         ensures named { number (known_by pass.new) ≡ number (known_by pass.old) }
         ensures hints { hints_by pass.new ≡ hints_by pass.old }
-        ensures ok { IfOk result (λ r. IsServedAtLast self.now (known_by pass.old) (known_by pass.new) hint.shard (to_start_task at hint) r) }
+        ensures ok { IfOk result (λ r. IsServedAtLast
+            self.now (known_by pass.old) (known_by pass.new)
+            hint.shard (to_start_task at hint) r) }
         ensures err { OnErr result (Waited (known_by pass.old) (known_by pass.new) hint.shard) }
     {
         let asked = request(at, Operation::StartTask(hint));

@@ -88,7 +88,8 @@ impl Service {
         at: Moment,
     ) -> Result<Reply, (AllocError, Request)>
         requires { IsPassOf pass.old self.now }
-        ensures { IsServedBy self.now pass.old pass.new (to_complete_workflow_task at asked) result }
+        ensures { IsServedBy self.now pass.old pass.new
+            (to_complete_workflow_task at asked) result }
     {
         self.serve(
             rt,

@@ -69,8 +69,10 @@ impl Service {
         ensures own { IsPassOf pass.new self.now }
         ensures named { number_of (known_by pass.new) ≡ number_of (known_by pass.old) }
         ensures hints { hints_by pass.new ≡ hints_by pass.old }
-        ensures ok { IfOk result (λ r. Transfers self.now turn (known_by pass.old) (known_by pass.new) r) }
-        ensures err { OnErr result (TransferKept self.now turn (known_by pass.old) (known_by pass.new)) }
+        ensures ok { IfOk result (λ r.
+            Transfers self.now turn (known_by pass.old) (known_by pass.new) r) }
+        ensures err { OnErr result
+            (TransferKept self.now turn (known_by pass.old) (known_by pass.new)) }
     {
         let asked = request(turn.at, Operation::NextTransfer(turn.to));
         let next = self.serve_there(rt, pass, turn.from, asked)?;
@@ -98,8 +100,10 @@ impl Service {
         ensures own { IsPassOf pass.new self.now }
         ensures named { number_of (known_by pass.new) ≡ number_of (known_by pass.old) }
         ensures hints { hints_by pass.new ≡ hints_by pass.old }
-        ensures ok { IfOk result (λ r. Delivers self.now turn transfer (known_by pass.old) (known_by pass.new) r) }
-        ensures err { OnErr result (DeliveryKept self.now turn transfer (known_by pass.old) (known_by pass.new)) }
+        ensures ok { IfOk result (λ r.
+            Delivers self.now turn transfer (known_by pass.old) (known_by pass.new) r) }
+        ensures err { OnErr result
+            (DeliveryKept self.now turn transfer (known_by pass.old) (known_by pass.new)) }
     {
         let number = transfer.number;
         let asked = request(turn.at, Operation::Deliver(transfer));
@@ -124,7 +128,8 @@ impl Service {
         ensures own { IsPassOf pass.new self.now }
         ensures named { number_of (known_by pass.new) ≡ number_of (known_by pass.old) }
         ensures hints { hints_by pass.new ≡ hints_by pass.old }
-        ensures ok { OnOk result (Acknowledges self.now turn number (known_by pass.old) (known_by pass.new)) }
+        ensures ok { OnOk result
+            (Acknowledges self.now turn number (known_by pass.old) (known_by pass.new)) }
         ensures err { OnErr result (Waited (known_by pass.old) (known_by pass.new) turn.from) }
     {
         let counted = Acknowledge {
@@ -149,7 +154,8 @@ impl Service {
         ensures own { IsPassOf pass.new self.now }
         ensures named { number_of (known_by pass.new) ≡ number_of (known_by pass.old) }
         ensures hints { hints_by pass.new ≡ hints_by pass.old }
-        ensures ok { IfOk result (λ r. IsServedAtLast self.now (known_by pass.old) (known_by pass.new) shard asked r) }
+        ensures ok { IfOk result (λ r.
+            IsServedAtLast self.now (known_by pass.old) (known_by pass.new) shard asked r) }
         ensures err { OnErr result (Waited (known_by pass.old) (known_by pass.new) shard) }
     {
         match self.serve_on(rt, pass, None, usize::from(shard), asked) {
@@ -171,7 +177,8 @@ fn goes_on(stop: Stop, reply: &Reply) -> bool
 
 /// The transfer that a reply has, or the reply where it has none.
 fn transfer_in(reply: Reply) -> Result<Transfer, Reply>
-    ensures { MatchResult result (λ t. transfer_of reply ≡ Some t) (λ r. (r ≡ reply) × (transfer_of reply ≡ None)) }
+    ensures { MatchResult result (λ t. transfer_of reply ≡ Some t)
+        (λ r. (r ≡ reply) × (transfer_of reply ≡ None)) }
 {
     match reply {
         Ok(answer) => match answer.into_transfer() {

@@ -30,7 +30,9 @@ impl Service {
         at: Moment,
     ) -> Result<Reply, (Refused, Request)>
         requires { IsPassOf pass.old self.now }
-        ensures { IsTriedOn self.now pass.old pass.new (shard_refusal (settings_of self.now) shard) shard (to_turn_timers at) result }
+        ensures { IsTriedOn self.now pass.old pass.new
+            (shard_refusal (settings_of self.now) shard) shard
+            (to_turn_timers at) result }
     {
         let refusal = shard_refusal(&self.settings, shard);
         let turn = request(at, Operation::TimerTurn);
@@ -51,7 +53,9 @@ impl Service {
         at: Moment,
     ) -> Result<Reply, (AllocError, Request)>
         requires { IsPassOf pass.old self.now }
-        ensures { IsServedOnBy self.now pass.old pass.new (shard_refusal (settings_of self.now) shard) shard (to_turn_timers at) result }
+        ensures { IsServedOnBy self.now pass.old pass.new
+            (shard_refusal (settings_of self.now) shard) shard
+            (to_turn_timers at) result }
     {
         let refusal = shard_refusal(&self.settings, shard);
         let turn = request(at, Operation::TimerTurn);

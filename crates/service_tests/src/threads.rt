@@ -100,7 +100,8 @@ fn stay_and_leave<R: Abort + AllocGlobal + Threads + Sync>(
 ) -> (Pass, Pass)
     requires { IsPassOf first service.now × IsPassOf second service.now }
     ensures own { IsPassOf result.0 service.now × IsPassOf result.1 service.now }
-    ensures named { (number (known_by result.0) ≡ number (known_by first)) × (number (known_by result.1) ≡ number (known_by second)) }
+    ensures named { (number (known_by result.0) ≡ number (known_by first))
+        × (number (known_by result.1) ≡ number (known_by second)) }
 {
     let Ok(held) = service.try_enter_start(first, start(rt, "a", None), Moment::zero()) else {
         panic!(rt; "the shard was free")
@@ -109,7 +110,8 @@ fn stay_and_leave<R: Abort + AllocGlobal + Threads + Sync>(
         rt,
         move || -> Pass
             requires { IsSync R.row × IsPassOf second service.now }
-            ensures { IsPassOf result service.entry.now × (number (known_by result) ≡ number (known_by second)) }
+            ensures { IsPassOf result service.entry.now
+                × (number (known_by result) ≡ number (known_by second)) }
         { start_both(rt, service, second) },
         || (),
     );
@@ -139,7 +141,8 @@ fn start_as<R: Abort + AllocGlobal + Wait>(
     request_id: &str,
 ) -> (Pass, Reply)
     requires { IsPassOf pass service.now }
-    ensures { IsPassOf result.0 service.now × (number (known_by result.0) ≡ number (known_by pass)) }
+    ensures { IsPassOf result.0 service.now
+        × (number (known_by result.0) ≡ number (known_by pass)) }
 {
     let asked = start(rt, "a", Some(id(rt, request_id)));
     match service.start(rt, &mut pass, asked, Moment::zero()) {
@@ -157,17 +160,20 @@ fn start_at_once<R: Abort + AllocGlobal + Wait + Threads + Sync>(
 ) -> (Pass, Pass, bool)
     requires { IsPassOf first service.now × IsPassOf second service.now }
     ensures own { IsPassOf result.0 service.now × IsPassOf result.1 service.now }
-    ensures named { (number (known_by result.0) ≡ number (known_by first)) × (number (known_by result.1) ≡ number (known_by second)) }
+    ensures named { (number (known_by result.0) ≡ number (known_by first))
+        × (number (known_by result.1) ≡ number (known_by second)) }
 {
     let ((first, one), (second, two)) = thread::join(
         rt,
         move || -> (Pass, Reply)
             requires { IsSync R.row × IsPassOf first service.now }
-            ensures { IsPassOf result.0 service.entry.now × (number (known_by result.0) ≡ number (known_by first)) }
+            ensures { IsPassOf result.0 service.entry.now
+                × (number (known_by result.0) ≡ number (known_by first)) }
         { start_as(rt, service, first, "r1") },
         move || -> (Pass, Reply)
             requires { IsSync R.row × IsPassOf second service.now }
-            ensures { IsPassOf result.0 service.entry.now × (number (known_by result.0) ≡ number (known_by second)) }
+            ensures { IsPassOf result.0 service.entry.now
+                × (number (known_by result.0) ≡ number (known_by second)) }
         { start_as(rt, service, second, "r2") },
     );
     let first_won = is_started(&one, 0) && is_already_started(&two);
@@ -212,17 +218,20 @@ fn signal_both<R: Abort + AllocGlobal + Wait + Threads + Sync>(
 ) -> (Pass, Pass)
     requires { IsPassOf one service.now × IsPassOf two service.now }
     ensures own { IsPassOf result.0 service.now × IsPassOf result.1 service.now }
-    ensures named { (number (known_by result.0) ≡ number (known_by one)) × (number (known_by result.1) ≡ number (known_by two)) }
+    ensures named { (number (known_by result.0) ≡ number (known_by one))
+        × (number (known_by result.1) ≡ number (known_by two)) }
 {
     let (mut one, mut two) = thread::join(
         rt,
         move || -> Pass
             requires { IsSync R.row × IsPassOf one service.now }
-            ensures { IsPassOf result service.entry.now × (number (known_by result) ≡ number (known_by one)) }
+            ensures { IsPassOf result service.entry.now
+                × (number (known_by result) ≡ number (known_by one)) }
         { signal_in_turn(rt, service, one) },
         move || -> Pass
             requires { IsSync R.row × IsPassOf two service.now }
-            ensures { IsPassOf result service.entry.now × (number (known_by result) ≡ number (known_by two)) }
+            ensures { IsPassOf result service.entry.now
+                × (number (known_by result) ≡ number (known_by two)) }
         { signal_in_turn(rt, service, two) },
     );
     service.meet(&mut one, &mut two);
@@ -281,20 +290,26 @@ fn signal_all<R: Abort + AllocGlobal + Wait + Threads + Sync>(
     requires two { IsPassOf two.0 service.now × IsPassOf two.1 service.now }
     ensures one { IsPassOf result.0.0 service.now × IsPassOf result.0.1 service.now }
     ensures two { IsPassOf result.1.0 service.now × IsPassOf result.1.1 service.now }
-    ensures one_named { (number (known_by result.0.0) ≡ number (known_by one.0)) × (number (known_by result.0.1) ≡ number (known_by one.1)) }
-    ensures two_named { (number (known_by result.1.0) ≡ number (known_by two.0)) × (number (known_by result.1.1) ≡ number (known_by two.1)) }
+    ensures one_named { (number (known_by result.0.0) ≡ number (known_by one.0))
+        × (number (known_by result.0.1) ≡ number (known_by one.1)) }
+    ensures two_named { (number (known_by result.1.0) ≡ number (known_by two.0))
+        × (number (known_by result.1.1) ≡ number (known_by two.1)) }
 {
     let (mut one, mut two) = thread::join(
         rt,
         move || -> (Pass, Pass)
             requires { IsSync R.row × IsPassOf one.0 service.now × IsPassOf one.1 service.now }
-            ensures own { IsPassOf result.0 service.entry.now × IsPassOf result.1 service.entry.now }
-            ensures named { (number (known_by result.0) ≡ number (known_by one.0)) × (number (known_by result.1) ≡ number (known_by one.1)) }
+            ensures own { IsPassOf result.0 service.entry.now
+                × IsPassOf result.1 service.entry.now }
+            ensures named { (number (known_by result.0) ≡ number (known_by one.0))
+                × (number (known_by result.1) ≡ number (known_by one.1)) }
         { signal_both(rt, service, one.0, one.1) },
         move || -> (Pass, Pass)
             requires { IsSync R.row × IsPassOf two.0 service.now × IsPassOf two.1 service.now }
-            ensures own { IsPassOf result.0 service.entry.now × IsPassOf result.1 service.entry.now }
-            ensures named { (number (known_by result.0) ≡ number (known_by two.0)) × (number (known_by result.1) ≡ number (known_by two.1)) }
+            ensures own { IsPassOf result.0 service.entry.now
+                × IsPassOf result.1 service.entry.now }
+            ensures named { (number (known_by result.0) ≡ number (known_by two.0))
+                × (number (known_by result.1) ≡ number (known_by two.1)) }
         { signal_both(rt, service, two.0, two.1) },
     );
     service.meet(&mut one.0, &mut two.1);

@@ -30,7 +30,8 @@ impl<R: Read> Read for Counted<R> {
 
     fn read(&mut self, buf: &mut [u8]) -> io::Result<usize>
         ensures bound { ReadsAtMost result buf.new }
-        ensures bytes { ReadConsumes (R.remaining self.old.inner) (R.remaining self.new.inner) result buf.new }
+        ensures bytes { ReadConsumes (R.remaining self.old.inner) (R.remaining self.new.inner)
+            result buf.new }
         ensures ok { OnOk result (self.new.failures ≡ self.old.failures) }
         ensures err { OnErr result (self.new.failures ≡ one_more self.old.failures) }
         ensures grows { self.old.failures ≤ self.new.failures }
@@ -49,10 +50,12 @@ impl<W: Write> Write for Counted<W> {
 
     fn write(&mut self, buf: &[u8]) -> io::Result<usize>
         ensures bound { WritesAtMost result buf.now }
-        ensures bytes { WriteAppends (W.contents self.old.inner) (W.contents self.new.inner) result buf.now }
+        ensures bytes { WriteAppends (W.contents self.old.inner) (W.contents self.new.inner)
+            result buf.now }
         ensures some { IfOk result (λ n. 0 < n → self.new.failures ≡ self.old.failures) }
         ensures empty { buf.now ≡ [] → OnOk result (self.new.failures ≡ self.old.failures) }
-        ensures none { result ≡ Ok 0 → 0 < length buf.now → self.new.failures ≡ one_more self.old.failures }
+        ensures none { result ≡ Ok 0 → 0 < length buf.now
+            → self.new.failures ≡ one_more self.old.failures }
         ensures err { OnErr result (self.new.failures ≡ one_more self.old.failures) }
         ensures grows { self.old.failures ≤ self.new.failures }
     {

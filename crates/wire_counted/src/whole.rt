@@ -13,8 +13,10 @@ use std::io::{self, Error, ErrorKind, Read, Write};
 ///
 /// At an `Err` a beginning of the bytes was written, and the device failed in this call.
 pub fn write_whole<W: Write>(writer: &mut Counted<W>, bytes: &[u8]) -> io::Result<()>
-    ensures ok { OnOk result (Appends (W.contents writer.old.inner) (W.contents writer.new.inner) bytes.now) }
-    ensures err { OnErr result (AppendsBeginning (W.contents writer.old.inner) (W.contents writer.new.inner) bytes.now) }
+    ensures ok { OnOk result
+        (Appends (W.contents writer.old.inner) (W.contents writer.new.inner) bytes.now) }
+    ensures err { OnErr result
+        (AppendsBeginning (W.contents writer.old.inner) (W.contents writer.new.inner) bytes.now) }
     ensures retried { IfErr result (λ e. error_kind e ≢ ErrorKind.Interrupted) }
     ensures failed { OnErr result (Rose writer.old.failures writer.new.failures) }
     ensures grows { writer.old.failures ≤ writer.new.failures }
@@ -44,9 +46,11 @@ pub fn write_whole<W: Write>(writer: &mut Counted<W>, bytes: &[u8]) -> io::Resul
 pub fn read_some<R: Read>(reader: &mut Counted<R>, buf: &mut [u8]) -> io::Result<usize>
     requires { 0 < length buf.old }
     ensures bound { IfOk result (λ n. n ≤ length buf.new) }
-    ensures ok { IfOk result (λ n. Consumes (R.remaining reader.old.inner) (R.remaining reader.new.inner) (take n buf.new)) }
+    ensures ok { IfOk result (λ n.
+        Consumes (R.remaining reader.old.inner) (R.remaining reader.new.inner) (take n buf.new)) }
     ensures end { IfOk result (λ n. n ≡ 0 → IsAtEnd (R.remaining reader.new.inner)) }
-    ensures err { OnErr result (Keeps (R.remaining reader.old.inner) (R.remaining reader.new.inner)) }
+    ensures err { OnErr result
+        (Keeps (R.remaining reader.old.inner) (R.remaining reader.new.inner)) }
     ensures retried { IfErr result (λ e. error_kind e ≢ ErrorKind.Interrupted) }
     ensures failed { OnErr result (Rose reader.old.failures reader.new.failures) }
     ensures grows { reader.old.failures ≤ reader.new.failures }
