@@ -3,12 +3,26 @@
 #![tactic(auto)]
 
 #[cfg(test)]
+mod alone;
+#[cfg(test)]
+mod carried;
+#[cfg(test)]
+mod commands;
+#[cfg(test)]
 mod compared;
+#[cfg(test)]
+mod course;
 #[cfg(test)]
 mod draws;
 #[cfg(test)]
 mod known;
 #[cfg(test)]
+mod names;
+#[cfg(test)]
 mod requests;
 #[cfg(test)]
 mod tally;
+#[cfg(test)]
+mod tasks;
+#[cfg(test)]
+mod together;

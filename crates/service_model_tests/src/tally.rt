@@ -2,7 +2,8 @@
 
 use service_model_types::answer::{Acknowledged, Answer, History, Reply};
 use std::alloc::{AllocError, Global};
-use wf_event_values::{DeadlineClass, Field, Refusal};
+use std::process::Abort;
+use wf_event_values::{DeadlineClass, Field, Refusal, RunId};
 
 /// All kinds of reply that drawn requests get.
 pub(crate) const REPLIES: [&str; 41] = [
@@ -78,6 +79,33 @@ pub(crate) const EVENTS: [&str; 25] = [
     "MarkerRecorded",
 ];
 
+/// All kinds of reply to what a transfer's turn asks, but for those that dispatches have too.
+pub(crate) const DELIVERIES: [&str; 5] = [
+    "transfer",
+    "no transfer",
+    "accepted",
+    "already delivered",
+    "delivered out of order",
+];
+
+/// All kinds of event that tell of children and of other workflows.
+pub(crate) const OUTWARD: [&str; 14] = [
+    "StartChildWorkflowExecutionInitiated",
+    "StartChildWorkflowExecutionFailed",
+    "ChildWorkflowExecutionStarted",
+    "ChildWorkflowExecutionCompleted",
+    "ChildWorkflowExecutionFailed",
+    "ChildWorkflowExecutionCanceled",
+    "ChildWorkflowExecutionTimedOut",
+    "ChildWorkflowExecutionTerminated",
+    "SignalExternalWorkflowExecutionInitiated",
+    "SignalExternalWorkflowExecutionFailed",
+    "ExternalWorkflowExecutionSignaled",
+    "RequestCancelExternalWorkflowExecutionInitiated",
+    "RequestCancelExternalWorkflowExecutionFailed",
+    "ExternalWorkflowExecutionCancelRequested",
+];
+
 /// How often something came.
 #[derive(Drop)]
 struct Count {
@@ -88,7 +116,7 @@ struct Count {
 /// How many events of a run were counted.
 #[derive(Drop)]
 struct Shown {
-    run: u64,
+    run: RunId,
     events: u64,
 }
 
@@ -109,8 +137,8 @@ impl Tally {
         }
     }
 
-    /// Another shard is compared, whose runs were not seen so far.
-    pub(crate) fn turn_to_another_shard(&mut self) {
+    /// Another service is compared, whose runs were not seen so far.
+    pub(crate) fn turn_to_another_service(&mut self) {
         self.shown.clear();
     }
 
@@ -129,7 +157,7 @@ impl Tally {
 
     fn add_events(&mut self, history: &History) -> Result<(), AllocError> {
         let length = history.events.as_slice().len() as u64;
-        let before = note_shown(&mut self.shown, history.run.ordinal(), length)?;
+        let before = note_shown(&mut self.shown, history.run, length)?;
         for event in history.events.as_slice() {
             if event.id > before {
                 count_one(&mut self.events, event.kind().name())?;
@@ -138,15 +166,37 @@ impl Tally {
         Ok(())
     }
 
-    /// How often a kind of reply came.
-    pub(crate) fn replies(&self, name: &str) -> u64 {
-        times(self.replies.as_slice(), name)
+    /// Which of these kinds of reply never came.
+    pub(crate) fn missing_replies(
+        &self,
+        alloc: Global,
+        kinds: &[&'static str],
+    ) -> Result<Vec<&'static str>, AllocError> {
+        missing(alloc, self.replies.as_slice(), kinds)
     }
 
-    /// How often a kind of event came.
-    pub(crate) fn events(&self, name: &str) -> u64 {
-        times(self.events.as_slice(), name)
+    /// Which of these kinds of event never came.
+    pub(crate) fn missing_events(
+        &self,
+        alloc: Global,
+        kinds: &[&'static str],
+    ) -> Result<Vec<&'static str>, AllocError> {
+        missing(alloc, self.events.as_slice(), kinds)
     }
+}
+
+/// Asserts that just these kinds never came.
+pub(crate) fn assert_missing<R: Abort>(
+    rt: &R,
+    missing: Vec<&'static str>,
+    expected: &[&'static str],
+) {
+    for kind in missing.iter() {
+        if !expected.iter().any(|name| name == kind) {
+            panic!(rt; "{kind} never came");
+        }
+    }
+    assert_eq!(rt; missing.len(), expected.len());
 }
 
 fn count_one(counts: &mut Vec<Count>, name: &'static str) -> Result<(), AllocError> {
@@ -160,6 +210,20 @@ fn count_one(counts: &mut Vec<Count>, name: &'static str) -> Result<(), AllocErr
     Ok(())
 }
 
+fn missing(
+    alloc: Global,
+    counts: &[Count],
+    kinds: &[&'static str],
+) -> Result<Vec<&'static str>, AllocError> {
+    let mut never = Vec::new(alloc);
+    for kind in kinds {
+        if times(counts, kind) == 0 {
+            never.push(*kind)?;
+        }
+    }
+    Ok(never)
+}
+
 fn times(counts: &[Count], name: &str) -> u64 {
     for count in counts {
         if count.name == name {
@@ -170,9 +234,9 @@ fn times(counts: &[Count], name: &str) -> u64 {
 }
 
 /// Notes that so many events of a run were shown. It answers how many had been shown before.
-fn note_shown(shown: &mut Vec<Shown>, run: u64, events: u64) -> Result<u64, AllocError> {
+fn note_shown(shown: &mut Vec<Shown>, run: RunId, events: u64) -> Result<u64, AllocError> {
     for known in shown.iter_mut() {
-        if known.run == run {
+        if known.run.shard() == run.shard() && known.run.ordinal() == run.ordinal() {
             let before = known.events;
             known.events = events;
             return Ok(before);
@@ -220,6 +284,11 @@ fn answer_name(answer: &Answer) -> Option<&'static str> {
         Answer::Counted(Acknowledged::Acknowledged) => Some("counted"),
         Answer::Counted(Acknowledged::Already) => Some("already counted"),
         Answer::Counted(Acknowledged::OutOfOrder) => Some("counted out of order"),
+        Answer::Transfer(_) => Some("transfer"),
+        Answer::NoTransfer => Some("no transfer"),
+        Answer::Accepted(_) => Some("accepted"),
+        Answer::AlreadyDelivered(_) => Some("already delivered"),
+        Answer::OutOfOrder(_) => Some("delivered out of order"),
         _ => None,
     }
 }

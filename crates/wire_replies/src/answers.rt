@@ -70,7 +70,7 @@ fn put_heartbeat(page: &mut Page, line: u64, cancel_requested: bool) -> Result<(
 }
 
 /// The history's events, from its own list.
-pub(crate) fn put_history(page: &mut Page, line: u64, history: &History) -> Result<(), AllocError>
+fn put_history(page: &mut Page, line: u64, history: &History) -> Result<(), AllocError>
     ensures { OnOk result (sheet_of page.new
         ≡ add_members (history_members history.now (line_member line)) (sheet_of page.old)) }
 {

@@ -5,4 +5,4 @@ mod answers;
 mod replies;
 mod tasks;
 
-pub use replies::{history_text, reply_text};
+pub use replies::reply_text;

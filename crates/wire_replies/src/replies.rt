@@ -1,13 +1,12 @@
 //! Replies as lines.
 
-ghost use Rattle.std.specs.Prelude.{◌≡◌, ◌++◌, ◌∷◌, [], OnOk, Ok, IfOk, string_bytes};
-ghost use Rattle.service_model_types.specs.declared.answer.Answer.TheVariants as answer;
+ghost use Rattle.std.specs.Prelude.{◌≡◌, ◌++◌, ◌∷◌, [], OnOk, IfOk, string_bytes};
 ghost use Rattle.wire_events.specs.Pages.{sheet_of, text_of, blank, add_members, add_value};
 ghost use Rattle.wire_replies.specs.Answers.{line_member};
 ghost use Rattle.wire_replies.specs.Replies.{refusal_members, reply_tree, reply_line, line_of};
 
-use crate::answers::{put_answer, put_history};
-use service_model_types::answer::{History, Reply};
+use crate::answers::put_answer;
+use service_model_types::answer::Reply;
 use std::alloc::{AllocError, Global};
 use wf_event_values::Refusal;
 use wire_events::Page;
@@ -54,16 +53,6 @@ fn put_reply(page: &mut Page, line: u64, reply: &Reply) -> Result<(), AllocError
     page.end_object()
 }
 
-#[tactic(auto, unfolding(wire_events::specs::Pages::add_value, crate::specs::Replies::reply_tree))]
-fn put_history_reply(page: &mut Page, line: u64, history: &History) -> Result<(), AllocError>
-    ensures { OnOk result (sheet_of page.new
-        ≡ add_value (reply_tree line (Ok (answer.History history.now))) (sheet_of page.old)) }
-{
-    page.begin_object()?;
-    put_history(page, line, history)?;
-    page.end_object()
-}
-
 /// The text, and a line feed.
 fn ended(page: Page) -> Result<String, AllocError>
     ensures { IfOk result (λ s. string_bytes s ≡ text_of (sheet_of page) ++ 10 ∷ []) }
@@ -82,15 +71,5 @@ pub fn reply_text(alloc: Global, line: u64, reply: &Reply) -> Result<String, All
 {
     let mut page = page(alloc)?;
     put_reply(&mut page, line, reply)?;
-    ended(page)
-}
-
-/// The line of a reply that is a history, as `reply_text` gives it.
-#[tactic(auto, using(wire_events::proofs::Printed::printed), unfolding(crate::specs::Replies::reply_line))]
-pub fn history_text(alloc: Global, line: u64, history: &History) -> Result<String, AllocError>
-    ensures { IfOk result (λ s. string_bytes s ≡ reply_line line (Ok (answer.History history.now))) }
-{
-    let mut page = page(alloc)?;
-    put_history_reply(&mut page, line, history)?;
     ended(page)
 }

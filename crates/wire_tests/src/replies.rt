@@ -12,7 +12,6 @@ use service_model_types::transfer::{ChildStartFailed, Transfer, TransferContent}
 use std::alloc::{AllocGlobal, Global};
 use std::io;
 use wf_event_values::{DeadlineClass, Items, Refusal, RetryState, Status, TaskKind, Text};
-use wire_replies::history_text;
 use wire_requests::{Asked, read_line};
 
 fn print_answers_to_clients<R: Print + AllocGlobal>(rt: &R) -> io::Result<()> {
@@ -36,7 +35,7 @@ fn print_answers_to_clients<R: Print + AllocGlobal>(rt: &R) -> io::Result<()> {
         run: run(1),
         events: Items::from_vec(Vec::new(rt.alloc())),
     };
-    rt.print(history_text(rt.alloc(), 3, &nothing)?.as_str())
+    print_answer(rt, 3, Answer::History(nothing))
 }
 
 fn activity_task(alloc: Global, attempt: u32, details: Option<Text>) -> io::Result<Answer> {
