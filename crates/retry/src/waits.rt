@@ -7,9 +7,7 @@ ghost use Rattle.wf_event_values.specs.Limits.{IsSpan};
 
 use wf_event::RetryPolicy;
 use wf_event::payloads::PolicyFields;
-
-/// The greatest duration, and so the greatest wait, in milliseconds.
-const LONGEST: u64 = 1_000_000_000_000;
+use wf_event_values::LONGEST_SPAN;
 
 /// So many doublings of a millisecond are longer than the longest wait, since 2^40 is above 10^12.
 const MOST_TURNS: u32 = 40;
@@ -27,13 +25,13 @@ pub fn wait_after(policy: &RetryPolicy, attempt: u32) -> u64
     wait(fields, maximum_of(fields), attempt)
 }
 
-/// The longest wait.
-fn maximum_of(fields: &PolicyFields) -> u64
-    requires { IsTrue (good_policy fields.now) }
+/// The longest wait between two attempts, in milliseconds: the policy's maximum, where 0 stands for the
+/// default of 100 times the initial interval (Temporal, Retry Policies), here at most 10^12.
+pub fn maximum_of(fields: &PolicyFields) -> u64
     ensures { result ≡ maximum_of fields.now }
 {
     if fields.maximum == 0 {
-        (100 * fields.initial).min(LONGEST)
+        fields.initial.saturating_mul(100).min(LONGEST_SPAN)
     } else {
         fields.maximum
     }

@@ -5,13 +5,11 @@ ghost use Rattle.wf_event.specs.RetryPolicies.{good_policy};
 ghost use Rattle.service_model.specs.Completion.{with_maximum};
 ghost use Rattle.task_completion.specs.Judging.{scheduled_by};
 
+use retry::maximum_of;
 use std::alloc::AllocError;
 use wf_command::command::ScheduleActivityTask;
 use wf_event::payloads::{ActivityTaskScheduled, PolicyFields};
 use wf_event::{Attributes, RetryPolicy};
-
-/// The longest wait between two attempts of an activity, in milliseconds.
-const LONGEST_WAIT: u64 = 1_000_000_000_000;
 
 /// The event of an activity whose policy is in range.
 pub(crate) fn scheduled(activity: &ScheduleActivityTask) -> Result<Attributes, AllocError>
@@ -47,8 +45,6 @@ fn with_maximum(policy: &PolicyFields) -> Result<PolicyFields, AllocError>
     ensures { IfOk result (λ fields. fields ≡ with_maximum policy.now) }
 {
     let mut fields = policy.clone()?;
-    if fields.maximum == 0 {
-        fields.maximum = fields.initial.saturating_mul(100).min(LONGEST_WAIT);
-    }
+    fields.maximum = maximum_of(policy);
     Ok(fields)
 }

@@ -115,7 +115,8 @@ pub fn array(field: Field, value: &Value) -> Result<&[Value], Refusal>
 
 /// The elements of an array; a longer array than that, or a value of another kind, is an invalid argument.
 pub fn elements(field: Field, most: usize, value: &Value) -> Result<&[Value], Refusal>
-    ensures { MatchResult result (λ elements. elements_of most field (view value.now) ≡ Ok (map view elements.now))
+    ensures { MatchResult result
+        (λ elements. elements_of most field (view value.now) ≡ Ok (map view elements.now))
         (λ e. elements_of most field (view value.now) ≡ Err e) }
 {
     let elements = array(field, value)?;
