@@ -9,7 +9,10 @@ use Rattle.std.specs.List.{list_any, cons_option}
 use Rattle.std.specs.Option.{option_map_or}
 use Rattle.indexmap.specs.IndexSet.{insert_key}
 use Rattle.wf_event.specs.declared.event.Event.{Event}
-use Rattle.wf_event.specs.Role.{Class, AnActivity, ATimer, AChild, ASignal, ACancel, Settled, settles, class_number}
+use Rattle.wf_event.specs.declared.role.Class.{Class}
+use Rattle.wf_event.specs.declared.role.Class.TheVariants.{Activity, Timer, Child, Signal, Cancel}
+use Rattle.wf_event.specs.declared.role.Opener.{Opener}
+use Rattle.wf_event.specs.Role.{settles, class_number}
 use Rattle.wf_event_values.specs.Run.{Run}
 use Rattle.service_model_types.specs.declared.content.Setup.{Setup}
 use Rattle.service_model.specs.Pending.{is_settling, is_settled}
@@ -68,38 +71,38 @@ inserted-any id k ks = by_tests (list_any (λ n. k == n) ks) (id == k) refl refl
     by_tests true false there is = sym (or-false (list_any (λ n. id == n) ks))
     by_tests false d there is = any-append (λ n. id == n) ks (k ∷ []) ∙ ap (λ b. list_any (λ n. id == n) ks || b) (or-false (id == k) ∙ is)
 
-settling-child : (id : ℕ) (o : Option Settled) → is_settling AChild id o ≡ option_map_or (λ n. id == n) (settled_child o) false
+settling-child : (id : ℕ) (o : Option Opener) → is_settling Child id o ≡ option_map_or (λ n. id == n) (settled_child o) false
 settling-child id None = refl
 settling-child id (Some s) = by_class s.class
   where
-    by_class : (c : Class) → ((class_number AChild == class_number c) && (id == s.opener)) ≡ option_map_or (λ n. id == n) (if_child c s.opener) false
-    by_class AChild = refl
-    by_class AnActivity = refl
-    by_class ATimer = refl
-    by_class ASignal = refl
-    by_class ACancel = refl
+    by_class : (c : Class) → ((class_number Child == class_number c) && (id == s.event)) ≡ option_map_or (λ n. id == n) (if_child c s.event) false
+    by_class Child = refl
+    by_class Activity = refl
+    by_class Timer = refl
+    by_class Signal = refl
+    by_class Cancel = refl
 
 settled-next : (id i : ℕ) (events : List Event) (d : Event) → i < length events →
-    is_settled AChild id (map (λ (e : Event). e.attributes) (take (i + 1) events)) ≡ (is_settled AChild id (map (λ (e : Event). e.attributes) (take i events)) || option_map_or (λ n. id == n) (settled_child (settles (get_or events i d).attributes)) false)
+    is_settled Child id (map (λ (e : Event). e.attributes) (take (i + 1) events)) ≡ (is_settled Child id (map (λ (e : Event). e.attributes) (take i events)) || option_map_or (λ n. id == n) (settled_child (settles (get_or events i d).attributes)) false)
 settled-next id i events d there =
     let e = get_or events i d in
-    ap (λ l. is_settled AChild id (map (λ (e : Event). e.attributes) l)) (take_more events i d there)
-    ∙ ap (is_settled AChild id) (map-append (λ (e : Event). e.attributes) (take i events) (e ∷ []))
-    ∙ any-append (λ a. is_settling AChild id (settles a)) (map (λ (e : Event). e.attributes) (take i events)) (e.attributes ∷ [])
-    ∙ ap (λ b. is_settled AChild id (map (λ (e : Event). e.attributes) (take i events)) || b) (or-false (is_settling AChild id (settles e.attributes)) ∙ settling-child id (settles e.attributes))
+    ap (λ l. is_settled Child id (map (λ (e : Event). e.attributes) l)) (take_more events i d there)
+    ∙ ap (is_settled Child id) (map-append (λ (e : Event). e.attributes) (take i events) (e ∷ []))
+    ∙ any-append (λ a. is_settling Child id (settles a)) (map (λ (e : Event). e.attributes) (take i events)) (e.attributes ∷ [])
+    ∙ ap (λ b. is_settled Child id (map (λ (e : Event). e.attributes) (take i events)) || b) (or-false (is_settling Child id (settles e.attributes)) ∙ settling-child id (settles e.attributes))
 
 pub settled-one : (i n : ℕ) (events : List Event) (d : Event) (ids : List ℕ) → i < length events → IsSettledBy (take i events) ids → settled_child (settles (get_or events i d).attributes) ≡ Some n → IsSettledBy (take (i + 1) events) (insert_key (λ m k. m == k) ids n)
 settled-one i n events d ids there h is id =
     inserted-any id n ids
     ∙ ap (λ b. b || (id == n)) (h id)
-    ∙ sym (settled-next id i events d there ∙ ap (λ o. is_settled AChild id (map (λ (e : Event). e.attributes) (take i events)) || option_map_or (λ m. id == m) o false) is)
+    ∙ sym (settled-next id i events d there ∙ ap (λ o. is_settled Child id (map (λ (e : Event). e.attributes) (take i events)) || option_map_or (λ m. id == m) o false) is)
 
 pub settled-same : (i : ℕ) (events : List Event) (d : Event) (ids : List ℕ) → i < length events → IsSettledBy (take i events) ids → settled_child (settles (get_or events i d).attributes) ≡ None → IsSettledBy (take (i + 1) events) ids
 settled-same i events d ids there h is id =
     h id
     ∙ sym (settled-next id i events d there
-    ∙ ap (λ o. is_settled AChild id (map (λ (e : Event). e.attributes) (take i events)) || option_map_or (λ m. id == m) o false) is
-    ∙ or-false (is_settled AChild id (map (λ (e : Event). e.attributes) (take i events))))
+    ∙ ap (λ o. is_settled Child id (map (λ (e : Event). e.attributes) (take i events)) || option_map_or (λ m. id == m) o false) is
+    ∙ or-false (is_settled Child id (map (λ (e : Event). e.attributes) (take i events))))
 
 -- a run without a parent tells none
 pub none-told : (run : Run) (es : List Event) → filter_map (closed_transfer run None) es ≡ []

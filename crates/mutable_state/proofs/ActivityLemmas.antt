@@ -4,7 +4,8 @@ use Rattle.std.specs.Prelude.{filter_map, find, map, option_map, option_and_then
 use Rattle.std.specs.List.{AllByRecursion, cons_option}
 use Rattle.wf_event.specs.declared.event.Event.{Event}
 use Rattle.wf_event.specs.declared.attributes.Attributes.{Attributes}
-use Rattle.wf_event.specs.Role.{Role, Closes, role, is_closing_role, is_outside_role, AnActivity, opens, settles, closing_status, class_number}
+use Rattle.wf_event.specs.declared.role.Class.TheVariants.{Activity}
+use Rattle.wf_event.specs.Role.{Role, Closes, role, is_closing_role, is_outside_role, opens, settles, closing_status, class_number}
 use Rattle.wf_event_values.specs.declared.policies.Status.{Status}
 use Rattle.service_model_types.specs.declared.journal.CancelRequest.{CancelRequest}
 use Rattle.service_model.specs.Pending.{Task, is_settled}
@@ -16,7 +17,6 @@ use Rattle.mutable_state.specs.declared.task.WorkflowTask.{WorkflowTask}
 use Rattle.mutable_state.specs.Activities.{is_activity, pending_at, kept_activity, noted_activity, noted_activities, activity_at}
 use Rattle.mutable_state.specs.Noted.{kept_row}
 use Rattle.mutable_state.specs.Opens.{is_of, activity_of, opened_at, row_at, rows_in, open_with, marked, unmarked, added, without, AgreesWith}
-use Rattle.wf_event.specs.Openers.{class_in, opener_in, opener_out, class_out}
 use Rattle.mutable_state.specs.Steps.{carried, comes_last}
 use Rattle.mutable_state.specs.View.{state_in}
 use Rattle.mutable_state.proofs.AddLemmas.{closes_by, closing-is}
@@ -27,7 +27,7 @@ use Rattle.mutable_state.proofs.KeptLemmas.{find-passes, eq-back, one-is}
 find-row : (id : ℕ) (es : List Event) (os : List Open) → AllByRecursion (λ (o : Open). IsSome (event_at o.opener.event es)) os →
     find (λ (r : ActivityRow). r.opened.id == id) (rows_in os es) ≡ option_and_then (row_at es) (find (is_activity id) os)
 find-row id es [] h = refl
-find-row id es (o ∷ os) h = by_class (is_of AnActivity o) refl (event_at o.opener.event es) refl h.0 (find-row id es os h.1)
+find-row id es (o ∷ os) h = by_class (is_of Activity o) refl (event_at o.opener.event es) refl h.0 (find-row id es os h.1)
   where
     is_row : ActivityRow → Bool
     is_row r = r.opened.id == id
@@ -35,7 +35,7 @@ find-row id es (o ∷ os) h = by_class (is_of AnActivity o) refl (event_at o.ope
     Goal : Option Event → Type 0
     Goal q = find is_row (cons_option (option_map (kept_row o.notes) q) (rows_in os es)) ≡ option_and_then (row_at es) (cond (is_activity id o) (Some o) (find (is_activity id) os))
 
-    by_one : (e : Event) → opened_at AnActivity es o ≡ Some e → (b : Bool) → is_activity id o ≡ b → find is_row (rows_in os es) ≡ option_and_then (row_at es) (find (is_activity id) os) →
+    by_one : (e : Event) → opened_at Activity es o ≡ Some e → (b : Bool) → is_activity id o ≡ b → find is_row (rows_in os es) ≡ option_and_then (row_at es) (find (is_activity id) os) →
         cond (e.id == id) (Some (kept_row o.notes e)) (find is_row (rows_in os es)) ≡ option_and_then (row_at es) (cond b (Some o) (find (is_activity id) os))
     by_one e at true is again =
         ap (λ t. cond t (Some (kept_row o.notes e)) (find is_row (rows_in os es))) (eq-back e.id id ∙ sym (one-is id es o e at) ∙ is)
@@ -44,48 +44,48 @@ find-row id es (o ∷ os) h = by_class (is_of AnActivity o) refl (event_at o.ope
         ap (λ t. cond t (Some (kept_row o.notes e)) (find is_row (rows_in os es))) (eq-back e.id id ∙ sym (one-is id es o e at) ∙ is)
         ∙ again
 
-    by_class : (t : Bool) → is_of AnActivity o ≡ t → (r : Option Event) → event_at o.opener.event es ≡ r → IsSome r → find is_row (rows_in os es) ≡ option_and_then (row_at es) (find (is_activity id) os) → Goal (opened_at AnActivity es o)
+    by_class : (t : Bool) → is_of Activity o ≡ t → (r : Option Event) → event_at o.opener.event es ≡ r → IsSome r → find is_row (rows_in os es) ≡ option_and_then (row_at es) (find (is_activity id) os) → Goal (opened_at Activity es o)
     by_class true is None at some again = absurd (cc)
     by_class true is (Some e) at some again =
-        let here : opened_at AnActivity es o ≡ Some e = ap (λ t. cond t (event_at o.opener.event es) None) is ∙ at in
+        let here : opened_at Activity es o ≡ Some e = ap (λ t. cond t (event_at o.opener.event es) None) is ∙ at in
         subst Goal (sym here) (by_one e here (is_activity id o) refl again)
     by_class false is r at some again =
-        let gone : opened_at AnActivity es o ≡ None = ap (λ t. cond t (event_at o.opener.event es) None) is in
-        let other : is_activity id o ≡ false = ap (λ t. t && (o.opener.event == id)) (eq-back (class_number (class_in o.opener.class)) (class_number AnActivity) ∙ is) in
+        let gone : opened_at Activity es o ≡ None = ap (λ t. cond t (event_at o.opener.event es) None) is in
+        let other : is_activity id o ≡ false = ap (λ t. t && (o.opener.event == id)) (eq-back (class_number o.opener.class) (class_number Activity) ∙ is) in
         subst Goal (sym gone) (again ∙ ap (λ b. option_and_then (row_at es) (cond b (Some o) (find (is_activity id) os))) (sym other))
 
 pub pending-activity : (b : Buffer) (request : Option (List ℕ)) (cancel : Option CancelRequest) (status : Status) (t : WorkflowTask) (keys : List (List ℕ)) (os : List Open) (id : ℕ) → AgreesWith b os →
     kept_activity b.events os id ≡ pending_row (state_in b request cancel status t keys os) id
 pending-activity b request cancel status t keys os id h =
     by_find (find (is_activity id) os) refl
-    ∙ ap (cond (is_settled AnActivity id (carried b.held)) None) (sym (find-row id b.events os h.there))
+    ∙ ap (cond (is_settled Activity id (carried b.held)) None) (sym (find-row id b.events os h.there))
   where
     Mark : Open → Type 0
-    Mark o = o.is_settled ≡ is_settled (class_in o.opener.class) o.opener.event (carried b.held)
+    Mark o = o.is_settled ≡ is_settled o.opener.class o.opener.event (carried b.held)
 
     none : (t : Bool) → ◌≡◌ {A = Option ActivityRow} None (cond t None None)
     none true = refl
     none false = refl
 
-    by_find : (f : Option Open) → find (is_activity id) os ≡ f → option_and_then (pending_at b.events id) f ≡ cond (is_settled AnActivity id (carried b.held)) None (option_and_then (row_at b.events) f)
-    by_find None is = none (is_settled AnActivity id (carried b.held))
+    by_find : (f : Option Open) → find (is_activity id) os ≡ f → option_and_then (pending_at b.events id) f ≡ cond (is_settled Activity id (carried b.held)) None (option_and_then (row_at b.events) f)
+    by_find None is = none (is_settled Activity id (carried b.held))
     by_find (Some o) is =
         let f = find-passes Mark (is_activity id) os o h.marks is in
-        let s = same-as (class_in o.opener.class) o.opener.event (opener_in (activity_of id)) f.1 in
-        let mark : o.is_settled ≡ is_settled AnActivity id (carried b.held) = f.0 ∙ ap (λ c. is_settled c o.opener.event (carried b.held)) s.class_is ∙ ap (λ n. is_settled AnActivity n (carried b.held)) s.id_is in
-        let of_class : is_of AnActivity o ≡ true = ap (λ c. class_number AnActivity == class_number c) s.class_is in
+        let s = same-as o.opener.class o.opener.event (activity_of id) f.1 in
+        let mark : o.is_settled ≡ is_settled Activity id (carried b.held) = f.0 ∙ ap (λ c. is_settled c o.opener.event (carried b.held)) s.class_is ∙ ap (λ n. is_settled Activity n (carried b.held)) s.id_is in
+        let of_class : is_of Activity o ≡ true = ap (λ c. class_number Activity == class_number c) s.class_is in
         ap (λ t. cond t None (option_map (kept_row o.notes) (event_at id b.events))) mark
-        ∙ ap (λ q. cond (is_settled AnActivity id (carried b.held)) None (option_map (kept_row o.notes) q))
+        ∙ ap (λ q. cond (is_settled Activity id (carried b.held)) None (option_map (kept_row o.notes) q))
         (ap (λ n. event_at n b.events) (sym s.id_is) ∙ sym (ap (λ t. cond t (event_at o.opener.event b.events) None) of_class))
 
 -- nothing is in use in a run that an event closes
 rows-closing : (t : Task) (a : Attributes) (n : ℕ) (os : List Open) → is_closing_role (role a) ≡ true → open_with t a n os ≡ []
 rows-closing t a n os closes =
-    ap (λ b. cond b (marked (option_map opener_out (settles a)) os) (cond (is_closing_role (role a)) [] rest)) (not-held (role a) closes)
+    ap (λ b. cond b (marked (settles a) os) (cond (is_closing_role (role a)) [] rest)) (not-held (role a) closes)
     ∙ ap (λ b. cond b [] rest) closes
   where
     rest : List Open
-    rest = added (option_map class_out (opens a)) n (without (option_map opener_out (settles a)) (cond (comes_last t a) (unmarked os) os))
+    rest = added (opens a) n (without (settles a) (cond (comes_last t a) (unmarked os) os))
 
     and-no : (b : Bool) → (b && false) ≡ false
     and-no true = refl

@@ -9,7 +9,7 @@ use Rattle.wf_event.specs.declared.attributes.Attributes.{Attributes}
 use Rattle.wf_event.specs.declared.attributes.Attributes.TheVariants.{WorkflowExecutionStarted}
 use Rattle.wf_event.specs.declared.payloads.WorkflowExecutionStarted.{WorkflowExecutionStarted as StartedAttributes}
 use Rattle.wf_event_values.specs.declared.policies.DeadlineClass.TheVariants.{RunTimeout, WorkflowTask as TaskTimeout}
-use Rattle.wf_event.specs.Role.{AnActivity, ATimer}
+use Rattle.wf_event.specs.declared.role.Class.TheVariants.{Activity, Timer}
 use Rattle.service_model_types.specs.declared.journal.CancelRequest.{CancelRequest}
 use Rattle.service_model.specs.Deadlines.{Due, dues, due_after, run_timeout_dues, workflow_task_dues, task_timeout, activity_dues, timer_dues, pending_rows}
 use Rattle.service_model.specs.RunState.{RunState, ActivityRow, Beginning, LastTask, beginning_by, is_open, last_task, pending}
@@ -105,25 +105,25 @@ flat-filter p f (x ∷ xs) = by_test (p x) (flat-filter p f xs)
     by_test false again = again
 
 -- what is kept has the deadlines of what is pending
-kept-read : (es : List Event) (os : List Open) → flat_map (kept_dues es) os ≡ flat_map timer_dues (used_in ATimer (unmarked os) es)
+kept-read : (es : List Event) (os : List Open) → flat_map (kept_dues es) os ≡ flat_map timer_dues (used_in Timer (unmarked os) es)
 kept-read es [] = refl
-kept-read es (o ∷ os) = by_test (is_unmarked o) (is_of ATimer o) refl (event_at o.opener.event es) refl (kept-read es os)
+kept-read es (o ∷ os) = by_test (is_unmarked o) (is_of Timer o) refl (event_at o.opener.event es) refl (kept-read es os)
   where
-    by_test : (b t : Bool) → is_of ATimer o ≡ t → (r : Option Event) → event_at o.opener.event es ≡ r → flat_map (kept_dues es) os ≡ flat_map timer_dues (used_in ATimer (unmarked os) es) →
-        cond (b && t) (dues_of r) [] ++ flat_map (kept_dues es) os ≡ flat_map timer_dues (used_in ATimer (cond b (o ∷ unmarked os) (unmarked os)) es)
-    by_test true true is None at again = again ∙ ap (λ q. flat_map timer_dues (cons_option q (used_in ATimer (unmarked os) es))) (sym (ap (λ t. cond t (event_at o.opener.event es) None) is ∙ at))
-    by_test true true is (Some e) at again = ap (λ l. timer_dues e ++ l) again ∙ ap (λ q. flat_map timer_dues (cons_option q (used_in ATimer (unmarked os) es))) (sym (ap (λ t. cond t (event_at o.opener.event es) None) is ∙ at))
-    by_test true false is r at again = again ∙ ap (λ q. flat_map timer_dues (cons_option q (used_in ATimer (unmarked os) es))) (sym (ap (λ t. cond t (event_at o.opener.event es) None) is))
+    by_test : (b t : Bool) → is_of Timer o ≡ t → (r : Option Event) → event_at o.opener.event es ≡ r → flat_map (kept_dues es) os ≡ flat_map timer_dues (used_in Timer (unmarked os) es) →
+        cond (b && t) (dues_of r) [] ++ flat_map (kept_dues es) os ≡ flat_map timer_dues (used_in Timer (cond b (o ∷ unmarked os) (unmarked os)) es)
+    by_test true true is None at again = again ∙ ap (λ q. flat_map timer_dues (cons_option q (used_in Timer (unmarked os) es))) (sym (ap (λ t. cond t (event_at o.opener.event es) None) is ∙ at))
+    by_test true true is (Some e) at again = ap (λ l. timer_dues e ++ l) again ∙ ap (λ q. flat_map timer_dues (cons_option q (used_in Timer (unmarked os) es))) (sym (ap (λ t. cond t (event_at o.opener.event es) None) is ∙ at))
+    by_test true false is r at again = again ∙ ap (λ q. flat_map timer_dues (cons_option q (used_in Timer (unmarked os) es))) (sym (ap (λ t. cond t (event_at o.opener.event es) None) is))
     by_test false t is r at again = again
 
 rows-read : (es : List Event) (os : List Open) → flat_map (kept_activity_dues es) os ≡ flat_map activity_dues (rows_in (unmarked os) es)
 rows-read es [] = refl
-rows-read es (o ∷ os) = by_test (is_unmarked o) (is_of AnActivity o) refl (event_at o.opener.event es) refl (rows-read es os)
+rows-read es (o ∷ os) = by_test (is_unmarked o) (is_of Activity o) refl (event_at o.opener.event es) refl (rows-read es os)
   where
     row : Option Event → List ActivityRow
     row q = cons_option (option_map (kept_row o.notes) q) (rows_in (unmarked os) es)
 
-    by_test : (b t : Bool) → is_of AnActivity o ≡ t → (r : Option Event) → event_at o.opener.event es ≡ r → flat_map (kept_activity_dues es) os ≡ flat_map activity_dues (rows_in (unmarked os) es) →
+    by_test : (b t : Bool) → is_of Activity o ≡ t → (r : Option Event) → event_at o.opener.event es ≡ r → flat_map (kept_activity_dues es) os ≡ flat_map activity_dues (rows_in (unmarked os) es) →
         cond (b && t) (activity_dues_of o.notes r) [] ++ flat_map (kept_activity_dues es) os ≡ flat_map activity_dues (rows_in (cond b (o ∷ unmarked os) (unmarked os)) es)
     by_test true true is None at again = again ∙ ap (λ q. flat_map activity_dues (row q)) (sym (ap (λ t. cond t (event_at o.opener.event es) None) is ∙ at))
     by_test true true is (Some e) at again = ap (λ l. activity_dues (kept_row o.notes e) ++ l) again ∙ ap (λ q. flat_map activity_dues (row q)) (sym (ap (λ t. cond t (event_at o.opener.event es) None) is ∙ at))
@@ -134,9 +134,9 @@ pub kept-activity-dues : (b : Buffer) (request : Option (List ℕ)) (cancel : Op
 kept-activity-dues b request cancel status t keys os h = rows-read b.events os ∙ ap (flat_map activity_dues) (rows-unmarked b.held os b.events h.marks)
 
 pub kept-dues : (b : Buffer) (request : Option (List ℕ)) (cancel : Option CancelRequest) (status : Status) (t : WorkflowTask) (keys : List (List ℕ)) (os : List Open) → AgreesWith b os → flat_map (kept_dues b.events) os ≡ pending_timer_dues (state_in b request cancel status t keys os)
-kept-dues b request cancel status t keys os h = kept-read b.events os ∙ ap (flat_map timer_dues) (used-unmarked ATimer b.held os b.events h.marks)
+kept-dues b request cancel status t keys os h = kept-read b.events os ∙ ap (flat_map timer_dues) (used-unmarked Timer b.held os b.events h.marks)
 
 -- a run that has closed has no deadline
 pub dues-closed : (s : RunState) → is_open s ≡ false → dues s ≡ []
 unfolding dues
-dues-closed s closed = ap (λ b. cond b (run_timeout_dues s.beginning ++ workflow_task_dues s s.task ++ flat_map activity_dues (pending_rows s) ++ flat_map timer_dues (pending ATimer s)) []) closed
+dues-closed s closed = ap (λ b. cond b (run_timeout_dues s.beginning ++ workflow_task_dues s s.task ++ flat_map activity_dues (pending_rows s) ++ flat_map timer_dues (pending Timer s)) []) closed

@@ -6,7 +6,7 @@ use Rattle.std.proofs.Math.ListN.{get_or}
 use Rattle.std.proofs.lemmas.List.{take_more}
 use Rattle.std.proofs.lemmas.List.Elements.{filter_map-append}
 use Rattle.wf_event.specs.declared.event.Event.{Event}
-use Rattle.wf_event.specs.Role.{Class}
+use Rattle.wf_event.specs.declared.role.Class.{Class}
 use Rattle.wf_event_values.specs.declared.policies.Status.{Status}
 use Rattle.service_model_types.specs.declared.journal.CancelRequest.{CancelRequest}
 use Rattle.service_model_types.specs.declared.journal.NewEvent.{NewEvent}
@@ -16,14 +16,13 @@ use Rattle.mutable_state.specs.declared.open.Open.{Open}
 use Rattle.mutable_state.specs.declared.task.WorkflowTask.{WorkflowTask}
 use Rattle.mutable_state.specs.Formed.{IsFromOutside, IdsTo}
 use Rattle.mutable_state.specs.Opens.{event_at, is_of, used_in, AgreesWith}
-use Rattle.wf_event.specs.Openers.{class_in}
 use Rattle.mutable_state.specs.Readers.{UsedRow, name_of, used_row, used_at, used_rows, fired_timer, IsGrounded}
 use Rattle.mutable_state.specs.Steps.{carried}
 use Rattle.mutable_state.specs.View.{state_in}
 use Rattle.mutable_state.proofs.KeptLemmas.{Opened, opened-is, used-state, all-used}
 
 -- what is kept of a class is what its events say
-pub rows-in : (c : Class) (b : Buffer) (os : List Open) → AllByRecursion (λ (o : Open). o.is_settled ≡ is_settled (class_in o.opener.class) o.opener.event (carried b.held)) os →
+pub rows-in : (c : Class) (b : Buffer) (os : List Open) → AllByRecursion (λ (o : Open). o.is_settled ≡ is_settled o.opener.class o.opener.event (carried b.held)) os →
     filter_map (used_at c b.events) os ≡ map (λ (e : Event). record { event = e.id; name = name_of e.attributes; is_settled = is_settled c e.id (carried b.held) }) (used_in c os b.events)
 rows-in c b [] marks = refl
 rows-in c b (o ∷ os) marks = by_test (is_of c o) refl (event_at o.opener.event b.events) refl (rows-in c b os marks.1)

@@ -4,7 +4,8 @@ use Rattle.std.specs.Prelude.{not, filter, find, slice_get, unwrap_or}
 use Rattle.std.specs.Option.{option_map_or}
 use Rattle.std.specs.List.{cons_option}
 use Rattle.wf_event.specs.declared.event.Event.{Event}
-use Rattle.wf_event.specs.Role.{Class, ATimer}
+use Rattle.wf_event.specs.declared.role.Class.{Class}
+use Rattle.wf_event.specs.declared.role.Class.TheVariants.{Timer}
 use Rattle.service_model.specs.Pending.{is_settled}
 use Rattle.service_model.specs.RunState.{RunState, held_attributes}
 use Rattle.service_model.specs.TimerTurns.{timer_id_in, timer_name}
@@ -65,13 +66,13 @@ found-one es (x ∷ used) (suc k) e h shown there = by_test (x.id == e.id) refl 
 -- the event that started a pending timer is the history's with that id
 pub timer-shown : (s : RunState) (id : ℕ) (h : HasTimer s id) → AreShown s.shown s.timers → event_at id s.shown ≡ Some h.event
 timer-shown s id h shown =
-    let m = passed (λ (e : Event). not (is_settled ATimer e.id (held_attributes s))) s.timers h.place h.event h.there in
+    let m = passed (λ (e : Event). not (is_settled Timer e.id (held_attributes s))) s.timers h.place h.event h.there in
     ap (λ n. event_at n s.shown) (sym h.named) ∙ shown-at s.shown s.timers m.place h.event shown m.is
 
 -- and its name is what that event says
 pub timer-named : (s : RunState) (id : ℕ) (h : HasTimer s id) → AreShown s.shown s.timers → timer_name s id ≡ h.timer.timer_id
 timer-named s id h shown =
-    let m = passed (λ (e : Event). not (is_settled ATimer e.id (held_attributes s))) s.timers h.place h.event h.there in
+    let m = passed (λ (e : Event). not (is_settled Timer e.id (held_attributes s))) s.timers h.place h.event h.there in
     let one = found-one s.shown s.timers m.place h.event shown (shown-at s.shown s.timers m.place h.event shown m.is) m.is in
     ap (λ n. option_map_or (λ (e : Event). timer_id_in e.attributes) (find (λ (e : Event). e.id == n) s.timers) []) (sym h.named)
     ∙ ap (λ o. option_map_or (λ (e : Event). timer_id_in e.attributes) o []) one

@@ -5,7 +5,9 @@ use Rattle.std.proofs.lemmas.Bool.Decides.{nat_tests}
 use Rattle.std.proofs.lemmas.List.{map-append}
 use Rattle.wf_event.specs.declared.event.Event.{Event}
 use Rattle.wf_event.specs.declared.attributes.Attributes.{Attributes}
-use Rattle.wf_event.specs.Role.{Role, Closes, TimerCancels, role, is_outside_role, is_closing_role, Class, opens, Settled, settles, schedules_task}
+use Rattle.wf_event.specs.declared.role.Class.{Class}
+use Rattle.wf_event.specs.declared.role.Opener.{Opener}
+use Rattle.wf_event.specs.Role.{Role, Closes, TimerCancels, role, is_outside_role, is_closing_role, opens, settles, schedules_task}
 use Rattle.service_model_types.specs.declared.journal.NewEvent.{NewEvent}
 use Rattle.service_model.specs.Journal.{Made}
 use Rattle.service_model.specs.Shown.{new_event}
@@ -23,7 +25,7 @@ pub used-map : {X Y : Type 0} (f : X → Y) (c : Class) (id : Y → ℕ) (make :
     map f (used_with c (λ x. id (f x)) make t held e xs) ≡ used_with c id (λ d. f (make d)) t held e (map f xs)
 used-map {X = X} {Y = Y} f c id make t held e xs = by_place (is_held_back t e.attributes) (is_closing_role (role e.attributes)) (comes_last t e.attributes) (settles e.attributes) (is_opening c (opens e.attributes))
   where
-    left-map : (o : Option Settled) (l : List X) → map f (left_by c (λ x. id (f x)) o l) ≡ left_by c id o (map f l)
+    left-map : (o : Option Opener) (l : List X) → map f (left_by c (λ x. id (f x)) o l) ≡ left_by c id o (map f l)
     left-map None l = refl
     left-map (Some k) l = sym (filter-map (λ y. not (is_settling c (id y) (Some k))) f l)
 
@@ -35,7 +37,7 @@ used-map {X = X} {Y = Y} f c id make t held e xs = by_place (is_held_back t e.at
     one true = refl
     one false = refl
 
-    by_place : (held_so closes last : Bool) (o : Option Settled) (op : Bool) →
+    by_place : (held_so closes last : Bool) (o : Option Opener) (op : Bool) →
         map f (cond held_so xs (cond closes [] (left_by c (λ x. id (f x)) o (cond last (unsettled c (λ x. id (f x)) held xs) xs) ++ cond op (make e ∷ []) [])))
         ≡ cond held_so (map f xs) (cond closes [] (left_by c id o (cond last (unsettled c id held (map f xs)) (map f xs)) ++ cond op (f (make e) ∷ []) []))
     by_place true closes last o op = refl
@@ -69,10 +71,10 @@ pub grows-new : (t : Task) (e : NewEvent) (b : Buffer) → length b.events + con
 grows-new t e b = new-longer (is_held_back t e.attributes) (comes_last t e.attributes) (role e.attributes) e b
 
 -- what an event settles, where it may
-record Target (es : List Made) (b : Buffer) (r : Role) (k : Settled) : Type 0 where
-  bound : k.opener ≤ length b.events
-  kept : in_use_by k.class es b.held k.opener ≡ true
-  free : cancels_timer r ≡ false → is_settled k.class k.opener (attributes_of es) ≡ false
+record Target (es : List Made) (b : Buffer) (r : Role) (k : Opener) : Type 0 where
+  bound : k.event ≤ length b.events
+  kept : in_use_by k.class es b.held k.event ≡ true
+  free : cancels_timer r ≡ false → is_settled k.class k.event (attributes_of es) ≡ false
 
 and-right : (a b : Bool) → (a && b) ≡ true → b ≡ true
 and-right true b h = h
@@ -86,37 +88,37 @@ not-settled true true i j = absurd (cc)
 not-settled true false i j = absurd (cc)
 not-settled false h i j = refl
 
-target-used : (es : List Made) (s : RunState) (r : Role) (k : Settled) → Keeps es (buffer_of s) (λ c. used c s) → cancels_timer r ≡ true → has_id k.opener (used k.class s) ≡ true → Target es (buffer_of s) r k
+target-used : (es : List Made) (s : RunState) (r : Role) (k : Opener) → Keeps es (buffer_of s) (λ c. used c s) → cancels_timer r ≡ true → has_id k.event (used k.class s) ≡ true → Target es (buffer_of s) r k
 target-used es s r k keeps cancel h =
     let P : Event → Type 0 = λ x. (x.id ≤ length s.shown) × (is_kept_beside k.class es s.held x ≡ true) in
-    let f = found P (λ (e : Event). e.id == k.opener) (filter (is_kept_beside k.class es s.held) s.shown) (all-filter (λ (x : Event). x.id ≤ length s.shown) (is_kept_beside k.class es s.held) s.shown keeps.settles_so.ids) (ap (has_id k.opener) (sym (keeps.uses k.class)) ∙ h) in
-    let is = nat-same f.at.id k.opener f.passes in
+    let f = found P (λ (e : Event). e.id == k.event) (filter (is_kept_beside k.class es s.held) s.shown) (all-filter (λ (x : Event). x.id ≤ length s.shown) (is_kept_beside k.class es s.held) s.shown keeps.settles_so.ids) (ap (has_id k.event) (sym (keeps.uses k.class)) ∙ h) in
+    let is = nat-same f.at.id k.event f.passes in
     record {
       bound = subst (λ n. n ≤ length s.shown) is f.holds.0;
       kept = subst (λ n. in_use_by k.class es s.held n ≡ true) is (and-right (is_opening k.class (opens f.at.attributes)) _ f.holds.1);
       free = λ g. absurd (cc);
     }
 
-target-pending : (es : List Made) (s : RunState) (r : Role) (k : Settled) → Keeps es (buffer_of s) (λ c. used c s) → has_id k.opener (pending k.class s) ≡ true → Target es (buffer_of s) r k
+target-pending : (es : List Made) (s : RunState) (r : Role) (k : Opener) → Keeps es (buffer_of s) (λ c. used c s) → has_id k.event (pending k.class s) ≡ true → Target es (buffer_of s) r k
 target-pending es s r k keeps h =
     let q : Event → Bool = λ e. not (is_settled k.class e.id (carried s.held)) in
     let P : Event → Type 0 = λ x. ((x.id ≤ length s.shown) × (is_kept_beside k.class es s.held x ≡ true)) in
     let Q : Event → Type 0 = λ x. P x × (q x ≡ true) in
-    let f = found Q (λ (e : Event). e.id == k.opener) (filter q (filter (is_kept_beside k.class es s.held) s.shown)) (all-filter P q (filter (is_kept_beside k.class es s.held) s.shown) (all-filter (λ (x : Event). x.id ≤ length s.shown) (is_kept_beside k.class es s.held) s.shown keeps.settles_so.ids))
-    (ap (λ l. has_id k.opener (filter q l)) (sym (keeps.uses k.class)) ∙ h) in
-    let is = nat-same f.at.id k.opener f.passes in
+    let f = found Q (λ (e : Event). e.id == k.event) (filter q (filter (is_kept_beside k.class es s.held) s.shown)) (all-filter P q (filter (is_kept_beside k.class es s.held) s.shown) (all-filter (λ (x : Event). x.id ≤ length s.shown) (is_kept_beside k.class es s.held) s.shown keeps.settles_so.ids))
+    (ap (λ l. has_id k.event (filter q l)) (sym (keeps.uses k.class)) ∙ h) in
+    let is = nat-same f.at.id k.event f.passes in
     let in_use = subst (λ n. in_use_by k.class es s.held n ≡ true) is (and-right (is_opening k.class (opens f.at.attributes)) _ f.holds.0.1) in
     record {
       bound = subst (λ n. n ≤ length s.shown) is f.holds.0.0;
       kept = in_use;
-      free = λ g. not-settled (is_settled k.class k.opener (attributes_of es)) (is_settled k.class k.opener (carried s.held)) in_use (subst (λ n. not (is_settled k.class n (carried s.held)) ≡ true) is f.holds.1);
+      free = λ g. not-settled (is_settled k.class k.event (attributes_of es)) (is_settled k.class k.event (carried s.held)) in_use (subst (λ n. not (is_settled k.class n (carried s.held)) ≡ true) is f.holds.1);
     }
 
-target : (es : List Made) (s : RunState) (r : Role) (k : Settled) → Keeps es (buffer_of s) (λ c. used c s) → may_settle r k s ≡ true → Target es (buffer_of s) r k
+target : (es : List Made) (s : RunState) (r : Role) (k : Opener) → Keeps es (buffer_of s) (λ c. used c s) → may_settle r k s ≡ true → Target es (buffer_of s) r k
 target es s (TimerCancels x) k keeps h = target-used es s (TimerCancels x) k keeps refl h
 target es s r k keeps h = target-pending es s r k keeps h
 
-aims-target : (es : List Made) (b : Buffer) (a : Attributes) (o : Option Settled) → settles a ≡ o → ((k : Settled) → o ≡ Some k → Target es b (role a) k) → Aims es b a
+aims-target : (es : List Made) (b : Buffer) (a : Attributes) (o : Option Opener) → settles a ≡ o → ((k : Opener) → o ≡ Some k → Target es b (role a) k) → Aims es b a
 aims-target es b a None is h = record {
   bound = λ c id g. absurd (let e = ap (is_settling c id) (sym is) ∙ g in cc);
   kept = λ c id g. absurd (let e = ap (is_settling c id) (sym is) ∙ g in cc);
@@ -127,14 +129,14 @@ aims-target es b a (Some k) is h =
     let at : (c : Class) (id : ℕ) → is_settling c id (settles a) ≡ true → Same c id k = λ c id g. same-as c id k (ap (is_settling c id) (sym is) ∙ g) in
     record {
       bound = λ c id g. subst (λ n. n ≤ length b.events) (sym (at c id g).id_is) t.bound;
-      kept = λ c id g. ap (λ n. in_use_by c es b.held n) (at c id g).id_is ∙ ap (λ d. in_use_by d es b.held k.opener) (at c id g).class_is ∙ t.kept;
-      free = λ n c id g. ap (λ i. is_settled c i (attributes_of es)) (at c id g).id_is ∙ ap (λ d. is_settled d k.opener (attributes_of es)) (at c id g).class_is ∙ t.free n;
+      kept = λ c id g. ap (λ n. in_use_by c es b.held n) (at c id g).id_is ∙ ap (λ d. in_use_by d es b.held k.event) (at c id g).class_is ∙ t.kept;
+      free = λ n c id g. ap (λ i. is_settled c i (attributes_of es)) (at c id g).id_is ∙ ap (λ d. is_settled d k.event (attributes_of es)) (at c id g).class_is ∙ t.free n;
     }
 
 pub aims-of : (es : List Made) (s : RunState) (r : Role) (a : Attributes) → Keeps es (buffer_of s) (λ c. used c s) → MaySettle (role a) (settles a) s → Aims es (buffer_of s) a
 aims-of es s r a keeps h = aims-target es (buffer_of s) a (settles a) refl (by_option (settles a) h)
   where
-    by_option : (o : Option Settled) → MaySettle (role a) o s → (k : Settled) → o ≡ Some k → Target es (buffer_of s) (role a) k
+    by_option : (o : Option Opener) → MaySettle (role a) o s → (k : Opener) → o ≡ Some k → Target es (buffer_of s) (role a) k
     by_option None g k e = absurd (cc)
     by_option (Some j) g k e = let is : j ≡ k = cc in subst (λ x. Target es (buffer_of s) (role a) x) is (target es s (role a) j keeps g)
 

@@ -3,7 +3,7 @@ use Rattle.std.specs.Prelude.{ℕ, cond, List, [], ◌++◌, flat_map, Option, N
 use Rattle.wf_event.specs.declared.event.Event.{Event}
 use Rattle.wf_event.specs.declared.payloads.WorkflowExecutionStarted.{WorkflowExecutionStarted as StartedAttributes}
 use Rattle.wf_event_values.specs.declared.policies.DeadlineClass.TheVariants.{RunTimeout, WorkflowTask as TaskTimeout}
-use Rattle.wf_event.specs.Role.{AnActivity, ATimer}
+use Rattle.wf_event.specs.declared.role.Class.TheVariants.{Activity, Timer}
 use Rattle.service_model.specs.Deadlines.{Due, due_after, timer_dues, activity_dues, pending_rows}
 use Rattle.service_model.specs.RunState.{RunState, pending}
 use Rattle.service_model.specs.Tasks.{is_started_task}
@@ -24,7 +24,7 @@ own_dues begun a t = due_after begun a.run_timeout RunTimeout 1 ++ task_dues a t
 
 -- those of a run's pending timers
 abbrev pub pending_timer_dues : RunState → List Due
-pending_timer_dues s = flat_map timer_dues (pending ATimer s)
+pending_timer_dues s = flat_map timer_dues (pending Timer s)
 
 abbrev pub dues_of : Option Event → List Due
 dues_of None = []
@@ -32,7 +32,7 @@ dues_of (Some e) = timer_dues e
 
 -- that of a thing that is kept, where it is a pending timer
 abbrev pub kept_dues : List Event → Open → List Due
-kept_dues es o = cond (is_pending_of ATimer o) (dues_of (event_at o.opener.event es)) []
+kept_dues es o = cond (is_pending_of Timer o) (dues_of (event_at o.opener.event es)) []
 
 -- those of a run's pending activities
 abbrev pub pending_activity_dues : RunState → List Due
@@ -44,4 +44,4 @@ activity_dues_of n (Some e) = activity_dues (kept_row n e)
 
 -- those of a thing that is kept, where it is a pending activity
 abbrev pub kept_activity_dues : List Event → Open → List Due
-kept_activity_dues es o = cond (is_pending_of AnActivity o) (activity_dues_of o.notes (event_at o.opener.event es)) []
+kept_activity_dues es o = cond (is_pending_of Activity o) (activity_dues_of o.notes (event_at o.opener.event es)) []

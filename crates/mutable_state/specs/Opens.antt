@@ -4,21 +4,20 @@ use Rattle.std.specs.List.{AllByRecursion}
 use Rattle.wf_event.specs.declared.event.Event.{Event}
 use Rattle.wf_event.specs.declared.attributes.Attributes.{Attributes}
 use Rattle.wf_event.specs.declared.attributes.Attributes.TheVariants.{ActivityTaskCancelRequested}
-use Rattle.wf_event.specs.Role.{Role, TimerCancels, role, is_closing_role, Class, AnActivity, opens, settles, class_number}
+use Rattle.wf_event.specs.declared.role.Class.{Class}
+use Rattle.wf_event.specs.declared.role.Class.TheVariants.{Activity}
+use Rattle.wf_event.specs.Role.{Role, TimerCancels, role, is_closing_role, opens, settles, class_number}
 use Rattle.service_model_types.specs.declared.journal.NoteFact.{NoteFact}
 use Rattle.service_model.specs.Pending.{Task, is_settling, is_settled}
 use Rattle.service_model.specs.RunState.{ActivityRow, is_open_status}
 use Rattle.wf_event_values.specs.declared.policies.Status.{Status}
 use Rattle.buffered.specs.Buffers.{Buffer, unheld, flushed}
 pub use Rattle.buffered.specs.Buffers.{event_at}
-use Rattle.wf_event.specs.declared.role.Class.{Class as KeptClass}
-use Rattle.wf_event.specs.declared.role.Class.TheVariants as kept
 use Rattle.wf_event.specs.declared.role.Opener.{Opener}
 use Rattle.mutable_state.specs.declared.open.Open.{Open}
 use Rattle.mutable_state.specs.Noted.{no_notes, asked, noted, kept_row}
 use Rattle.mutable_state.specs.Formed.{IdsTo, SettlesTo}
 use Rattle.mutable_state.specs.Steps.{carried, is_held_back, comes_last}
-use Rattle.wf_event.specs.Openers.{class_in, class_out, opener_in, opener_out}
 
 -- what is in use, for how much more there is room, and how many more attempts may end
 pub record OpenRows : Type 0 where
@@ -27,12 +26,12 @@ pub record OpenRows : Type 0 where
   pub attempts : ℕ
 
 -- what is opened, with no note on it
-abbrev pub new_open : KeptClass → ℕ → Open
+abbrev pub new_open : Class → ℕ → Open
 new_open c id = record { opener = record { class = c; event = id }; is_settled = false; notes = no_notes }
 
 -- whether it is this one
 abbrev pub is_one : Opener → Open → Bool
-is_one k o = is_settling (class_in o.opener.class) o.opener.event (Some (opener_in k))
+is_one k o = is_settling o.opener.class o.opener.event (Some k)
 
 abbrev pub is_unmarked : Open → Bool
 is_unmarked o = not o.is_settled
@@ -55,12 +54,12 @@ abbrev pub unmarked : List Open → List Open
 unmarked os = filter is_unmarked os
 
 -- and one more
-abbrev pub added : Option KeptClass → ℕ → List Open → List Open
+abbrev pub added : Option Class → ℕ → List Open → List Open
 added None id os = os
 added (Some c) id os = os ++ new_open c id ∷ []
 
 abbrev pub activity_of : ℕ → Opener
-activity_of id = record { class = kept.Activity; event = id }
+activity_of id = record { class = Activity; event = id }
 
 -- no activity is at a later attempt
 abbrev pub AreWithin : ℕ → List Open → Type 0
@@ -96,7 +95,7 @@ way_made false None b = b
 way_made false (Some started) b = unheld started b
 
 abbrev pub is_of : Class → Open → Bool
-is_of c o = class_number c == class_number (class_in o.opener.class)
+is_of c o = class_number c == class_number o.opener.class
 
 -- the event that opened it, where it is of the class
 abbrev pub opened_at : Class → List Event → Open → Option Event
@@ -108,7 +107,7 @@ used_in c os es = filter_map (opened_at c es) os
 
 -- the row of an activity that is kept
 abbrev pub row_at : List Event → Open → Option ActivityRow
-row_at es o = option_map (kept_row o.notes) (opened_at AnActivity es o)
+row_at es o = option_map (kept_row o.notes) (opened_at Activity es o)
 
 abbrev pub rows_in : List Open → List Event → List ActivityRow
 rows_in os es = filter_map (row_at es) os
@@ -120,9 +119,9 @@ is_pending_of c o = is_unmarked o && is_of c o
 -- what is kept with one more event, which asks no activity to cancel, and has this id where it is written
 abbrev pub open_with : Task → Attributes → ℕ → List Open → List Open
 open_with t a id os =
-    cond (is_held_back t a) (marked (option_map opener_out (settles a)) os)
+    cond (is_held_back t a) (marked (settles a) os)
     (cond (is_closing_role (role a)) []
-    (added (option_map class_out (opens a)) id (without (option_map opener_out (settles a)) (cond (comes_last t a) (unmarked os) os))))
+    (added (opens a) id (without (settles a) (cond (comes_last t a) (unmarked os) os))))
 
 -- what is kept stands in the order of the events that opened it
 abbrev pub Ascending : List Open → Type 0
@@ -139,4 +138,4 @@ pub record AgreesWith (b : Buffer) (os : List Open) : Type 0 where
   pub grounded : SettlesTo (length b.events) (carried b.held)
   pub there : AllByRecursion (λ (o : Open). IsSome (event_at o.opener.event b.events)) os
   pub ascending : Ascending os
-  pub marks : AllByRecursion (λ (o : Open). o.is_settled ≡ is_settled (class_in o.opener.class) o.opener.event (carried b.held)) os
+  pub marks : AllByRecursion (λ (o : Open). o.is_settled ≡ is_settled o.opener.class o.opener.event (carried b.held)) os

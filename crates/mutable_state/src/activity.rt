@@ -75,7 +75,8 @@ fn noted_among(
     rows: &[Open],
     history: &History,
 ) -> Result<Vec<NotedActivity>, AllocError>
-    ensures { IfOk result (λ noted. noted.items ≡ noted_among history.now.lists.events rows.now) }
+    ensures { IfOk result (λ noted.
+        noted.items ≡ noted_among history.now.lists.events rows.now) }
 {
     let mut noted = Vec::new(alloc);
     for row in rows {

@@ -5,7 +5,6 @@ ghost use Rattle.service_model.specs.Deliveries.{asked_id, pending_asked};
 ghost use Rattle.service_model.specs.RunState.{is_open};
 ghost use Rattle.mutable_state.specs.Asked.{kept_asked};
 ghost use Rattle.mutable_state.specs.Opens.{is_one};
-ghost use Rattle.wf_event.specs.Openers.{class_in};
 
 use crate::open::Open;
 use crate::run::Run;
@@ -19,7 +18,7 @@ impl Run {
     /// that this event made. A run that has closed has none pending.
     pub fn asked(&self, class: Class, id: u64) -> Result<Option<Id>, AllocError>
         ensures asked { IfOk result (λ asked.
-            asked ≡ pending_asked self.now.state (class_in class) id) }
+            asked ≡ pending_asked self.now.state class id) }
         ensures open { IfOk result (λ asked.
             IfSome asked (λ name. is_open self.now.state ≡ true)) }
     {

@@ -46,7 +46,8 @@ impl Run {
 
     /// The first deadline of its pending timers.
     fn first_timer_due(&self, ordinal: u64) -> Option<Due>
-        ensures { option_map run_due result ≡ first_of ordinal (pending_timer_dues self.now.state) }
+        ensures { option_map run_due result
+            ≡ first_of ordinal (pending_timer_dues self.now.state) }
     {
         first_kept_due(self.in_use.rows(), &self.history, ordinal)
     }

@@ -44,7 +44,8 @@ pub fn verdict_on(
     at: Moment,
     deadline: Option<u64>,
 ) -> Verdict
-    ensures { says result ≡ verdict policy.now (ending_of ended.entry) cancel_requested attempt at deadline }
+    ensures { says result
+        ≡ verdict policy.now (ending_of ended.entry) cancel_requested attempt at deadline }
 {
     if cancel_requested {
         return Verdict::GiveUp(RetryState::CancelRequested);
@@ -92,7 +93,9 @@ fn lists(policy: &RetryPolicy, error_type: Option<&Text>) -> bool
 
 /// Whether no attempt follows the one of this number. The last number of all ends each policy.
 fn is_last(policy: &RetryPolicy, attempt: u32) -> bool
-    ensures { result ≡ ((not (policy.now.attempts == 0) && nat_le policy.now.attempts attempt) || (attempt == 4294967295)) }
+    ensures { result
+        ≡ ((not (policy.now.attempts == 0) && nat_le policy.now.attempts attempt)
+        || (attempt == 4294967295)) }
 {
     let limit = policy.fields().attempts;
     (limit != 0 && limit <= u64::from(attempt)) || attempt == u32::MAX

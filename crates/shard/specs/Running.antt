@@ -1,6 +1,6 @@
 -- the running attempt of an activity that a token names
 use Rattle.std.specs.Prelude.{◌≡◌, ℕ, ◌<◌, true, Some, length}
-use Rattle.wf_event.specs.Role.{AnActivity}
+use Rattle.wf_event.specs.declared.role.Class.TheVariants.{Activity}
 use Rattle.service_model_types.specs.declared.request.TakenTask.{TakenTask}
 use Rattle.service_model.specs.Activities.{running_attempt}
 use Rattle.service_model.specs.RunState.{ActivityRow, is_open, pending}
@@ -20,4 +20,4 @@ pub record HasAttempt (v : ShardView) (t : TakenTask) (index : ℕ) (r : Activit
   pub place : ordinal_of index ≡ t.run
   pub there : index < length v.runs
   pub open_run : is_open (run_in v index) ≡ true
-  pub pending_one : has_id t.event (pending AnActivity (run_in v index)) ≡ true
+  pub pending_one : has_id t.event (pending Activity (run_in v index)) ≡ true

@@ -1,7 +1,7 @@
 //! Taking the attempt of an activity.
 
 ghost use Rattle.std.specs.Prelude.{◌≡◌, ◌<◌, ◌∷◌, [], length, true, IfOk, IfSome};
-ghost use Rattle.wf_event.specs.Role.{AnActivity};
+ghost use Rattle.wf_event.specs.declared.role.Class.TheVariants.{Activity};
 ghost use Rattle.wf_event_values.specs.declared.policies.TaskKind.TheVariants.{Activity as of_an_activity};
 ghost use Rattle.service_model_types.specs.declared.answer.Answer.TheVariants.{ActivityTask as an_activity_task};
 ghost use Rattle.service_model_types.specs.declared.journal.Note.TheVariants.{Taken};
@@ -54,7 +54,7 @@ fn attempt_for<T: KeepsRun>(
     ensures task { IfOk result (λ task. task ≡ task_for (runs_in store.now) hint
         (pending_row (run_in store.now index) hint.event)) }
     ensures in_use { IfOk result (λ task. IfSome task
-        (λ t. has_id hint.event (used AnActivity (run_in store.now index)) ≡ true)) }
+        (λ t. has_id hint.event (used Activity (run_in store.now index)) ≡ true)) }
     ensures open { IfOk result (λ task. IfSome task
         (λ t. is_open (run_in store.now index) ≡ true)) }
 {
@@ -79,7 +79,7 @@ fn take_attempt<T: KeepsRun>(
 ) -> Result<Plan<T>, AllocError>
     requires there { index < length store.old.runs }
     requires run { ordinal_of index ≡ hint.run }
-    requires in_use { has_id hint.event (used AnActivity (run_in store.old index)) ≡ true }
+    requires in_use { has_id hint.event (used Activity (run_in store.old index)) ≡ true }
     requires open { is_open (run_in store.old index) ≡ true }
     ensures same { state store.new ≡ state store.old }
     ensures plan { IfOk result (λ plan. FitsStep store.new plan moment

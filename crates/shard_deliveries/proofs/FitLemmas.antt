@@ -13,7 +13,9 @@ use Rattle.service_model_types.specs.declared.transfer.ChildStatus.TheVariants.{
 use Rattle.service_model_types.specs.declared.transfer.ExternalDoneTransfer.{ExternalDoneTransfer}
 use Rattle.service_model_types.specs.declared.transfer.ExternalKind.{ExternalKind}
 use Rattle.service_model_types.specs.declared.transfer.ExternalKind.TheVariants.{Signal as OfSignal, Cancel as OfCancel}
-use Rattle.wf_event.specs.Role.{AChild, Class, Role, is_closing_role, role, opens, settles, closing_status}
+use Rattle.wf_event.specs.declared.role.Class.{Class}
+use Rattle.wf_event.specs.declared.role.Class.TheVariants.{Child}
+use Rattle.wf_event.specs.Role.{Role, is_closing_role, role, opens, settles, closing_status}
 use Rattle.service_model_types.specs.declared.journal.Fact.{Fact}
 use Rattle.service_model.specs.Deliveries.{asked_id, child_closed_event, external_class, external_event, pending_asked}
 use Rattle.service_model.specs.Journal.{plain}
@@ -70,11 +72,11 @@ pub child-started-comes : (s : RunState) (id : ℕ) (name : List ℕ) (run : Run
 unfolding role opens settles closing_status
 child-started-comes s id name run opened = record { opened = opened; outside = refl; begins_none = refl; stays = refl; settled = tt; asked = refl; unsigned = refl }
 
-pub child-failed-comes : (s : RunState) (id : ℕ) (name : List ℕ) (cause : Cause) → is_open s ≡ true → has_id id (pending AChild s) ≡ true → IsFromOutside s (StartChildWorkflowExecutionFailed (record { initiated = id; workflow_id = name; cause = cause }))
+pub child-failed-comes : (s : RunState) (id : ℕ) (name : List ℕ) (cause : Cause) → is_open s ≡ true → has_id id (pending Child s) ≡ true → IsFromOutside s (StartChildWorkflowExecutionFailed (record { initiated = id; workflow_id = name; cause = cause }))
 unfolding role opens settles closing_status
 child-failed-comes s id name cause opened waits = record { opened = opened; outside = refl; begins_none = refl; stays = refl; settled = waits; asked = refl; unsigned = refl }
 
-pub child-closed-comes : (s : RunState) (c : ChildClosed) (status : ChildStatus) → is_open s ≡ true → has_id c.initiated (pending AChild s) ≡ true → IsFromOutside s (child_closed_event c status)
+pub child-closed-comes : (s : RunState) (c : ChildClosed) (status : ChildStatus) → is_open s ≡ true → has_id c.initiated (pending Child s) ≡ true → IsFromOutside s (child_closed_event c status)
 unfolding role opens settles closing_status
 child-closed-comes s c Completed opened waits = record { opened = opened; outside = refl; begins_none = refl; stays = refl; settled = waits; asked = refl; unsigned = refl }
 child-closed-comes s c Failed opened waits = record { opened = opened; outside = refl; begins_none = refl; stays = refl; settled = waits; asked = refl; unsigned = refl }

@@ -1,6 +1,6 @@
 -- requests of a shard's runs that wait for an answer
 use Rattle.std.specs.Prelude.{◌≡◌, ℕ, ◌<◌, List, true, length}
-use Rattle.wf_event.specs.Role.{Class}
+use Rattle.wf_event.specs.declared.role.Class.{Class}
 use Rattle.service_model.specs.RunState.{is_open, pending}
 use Rattle.mutable_state.specs.Steps.{has_id}
 use Rattle.shard_store.specs.View.{ShardView, ordinal_of, run_in}

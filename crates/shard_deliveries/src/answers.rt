@@ -4,7 +4,6 @@
 ghost use Rattle.std.specs.Prelude.{◌≡◌, IfOk, None};
 ghost use Rattle.service_model.specs.Deliveries.{effect, external_class};
 ghost use Rattle.service_model_types.specs.declared.transfer.TransferContent.TheVariants as content;
-ghost use Rattle.wf_event.specs.Openers.{class_in};
 ghost use Rattle.shard_store.specs.Fitting.{FitsStep};
 ghost use Rattle.shard_store.specs.View.{state, runs_in};
 ghost use Rattle.shard_deliveries.specs.Accepting.{MayAccept};
@@ -119,7 +118,7 @@ pub(crate) fn prepare_external_done<T: KeepsRun>(
 
 /// The class of what an external request made pending.
 fn external_class(kind: ExternalKind) -> Class
-    ensures { class_in result ≡ external_class kind }
+    ensures { result ≡ external_class kind }
 {
     match kind {
         ExternalKind::Signal => Class::Signal,

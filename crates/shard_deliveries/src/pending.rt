@@ -2,7 +2,6 @@
 
 ghost use Rattle.std.specs.Prelude.{◌≡◌, IfOk, IfSome, option_map};
 ghost use Rattle.service_model.specs.Deliveries.{own_run, pending_id};
-ghost use Rattle.wf_event.specs.Openers.{class_in};
 ghost use Rattle.shard_store.specs.View.{runs_in};
 ghost use Rattle.shard_deliveries.specs.Pending.{IsPending, said};
 
@@ -27,10 +26,10 @@ pub(crate) fn pending_request<T: KeepsRun>(
     initiated: u64,
 ) -> Result<Option<PendingRequest>, AllocError>
     ensures found { IfOk result (λ found. option_map said found
-        ≡ pending_id (runs_in store.now) (class_in class) initiated
+        ≡ pending_id (runs_in store.now) class initiated
         (own_run (runs_in store.now) run)) }
     ensures pending { IfOk result (λ found.
-        IfSome found (λ p. IsPending store.now (class_in class) initiated p.index)) }
+        IfSome found (λ p. IsPending store.now class initiated p.index)) }
 {
     let Some(index) = store.own(run) else {
         return Ok(None);

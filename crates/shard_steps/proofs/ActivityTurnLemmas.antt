@@ -2,7 +2,7 @@
 use Rattle.std.proofs.Common.{◌≡◌, ℕ, zero, suc, Bool, true, false, cond, ◌||◌, ◌==◌, List, [], ◌∷◌, refl, sym, ap, ◌∙◌, Option, Some, None}
 use Rattle.std.specs.Prelude.{filter, map, not, slice_get, unwrap_or}
 use Rattle.wf_event.specs.declared.payloads.ActivityTaskScheduled.{ActivityTaskScheduled as ScheduledAttributes}
-use Rattle.wf_event.specs.Role.{AnActivity}
+use Rattle.wf_event.specs.declared.role.Class.TheVariants.{Activity}
 use Rattle.wf_event_values.specs.declared.policies.RetryState.TheVariants.{Timeout}
 use Rattle.wf_event_values.specs.declared.policies.TimeoutKind.{TimeoutKind}
 use Rattle.service_model_types.specs.declared.journal.Note.TheVariants.{Ended, Ready}
@@ -25,11 +25,11 @@ closed-fits at s id kind None opened is = tt
 closed-fits at s id kind (Some r) opened is = ending-fits at s r (timed_out id kind Timeout) id (is_running_phase r.phase) opened (pending-named id s r is).1 refl
 
 -- a running attempt's time is over, after any verdict
-verdict-fits : (at : ℕ) (s : RunState) (id : ℕ) (kind : TimeoutKind) (r : ActivityRow) (v : Verdict) → is_open s ≡ true → r.opened.id ≡ id → has_id id (pending AnActivity s) ≡ true → FitStep at s (attempt_over s r kind v)
+verdict-fits : (at : ℕ) (s : RunState) (id : ℕ) (kind : TimeoutKind) (r : ActivityRow) (v : Verdict) → is_open s ≡ true → r.opened.id ≡ id → has_id id (pending Activity s) ≡ true → FitStep at s (attempt_over s r kind v)
 verdict-fits at s id kind r (GivesUp state) opened named there = ending-fits at s r (timed_out r.opened.id kind state) id true opened there (ap Some named)
-verdict-fits at s id kind r (RetriesAt ready) opened named there = note-fits at r.opened.id s Ended opened (ap (λ k. has_id k (pending AnActivity s)) named ∙ there)
+verdict-fits at s id kind r (RetriesAt ready) opened named there = note-fits at r.opened.id s Ended opened (ap (λ k. has_id k (pending Activity s)) named ∙ there)
 
-fields-fit : (at : ℕ) (s : RunState) (id : ℕ) (kind : TimeoutKind) (r : ActivityRow) (o : Option ScheduledAttributes) → is_open s ≡ true → r.opened.id ≡ id → has_id id (pending AnActivity s) ≡ true → FitStep at s (attempt_fields s at kind r o)
+fields-fit : (at : ℕ) (s : RunState) (id : ℕ) (kind : TimeoutKind) (r : ActivityRow) (o : Option ScheduledAttributes) → is_open s ≡ true → r.opened.id ≡ id → has_id id (pending Activity s) ≡ true → FitStep at s (attempt_fields s at kind r o)
 fields-fit at s id kind r None opened named there = tt
 fields-fit at s id kind r (Some a) opened named there = verdict-fits at s id kind r (verdict_at r a TimedOutAttempt at) opened named there
 
@@ -67,7 +67,7 @@ is-free false h = refl
 -- the next attempt is queued
 pub ready-fits : (at id : ℕ) (s : RunState) → is_open s ≡ true → HasActivity s id → FitStep at s (noted id Ready ∷ [])
 ready-fits at id s opened has =
-    let there : has_id id (used AnActivity s) ≡ true = ap (λ k. has_id k (used AnActivity s)) (sym has.named) ∙ has-kept (λ (r : ActivityRow). not (is_settled AnActivity r.opened.id (held_attributes s))) s.activities has.place has.row has.there in
-    let kept : not (is_settled AnActivity has.row.opened.id (held_attributes s)) ≡ true = is-kept (λ (r : ActivityRow). not (is_settled AnActivity r.opened.id (held_attributes s))) s.activities has.place has.row has.there in
-    let free : is_settled AnActivity id (held_attributes s) ≡ false = ap (λ k. is_settled AnActivity k (held_attributes s)) (sym has.named) ∙ is-free (is_settled AnActivity has.row.opened.id (held_attributes s)) kept in
+    let there : has_id id (used Activity s) ≡ true = ap (λ k. has_id k (used Activity s)) (sym has.named) ∙ has-kept (λ (r : ActivityRow). not (is_settled Activity r.opened.id (held_attributes s))) s.activities has.place has.row has.there in
+    let kept : not (is_settled Activity has.row.opened.id (held_attributes s)) ≡ true = is-kept (λ (r : ActivityRow). not (is_settled Activity r.opened.id (held_attributes s))) s.activities has.place has.row has.there in
+    let free : is_settled Activity id (held_attributes s) ≡ false = ap (λ k. is_settled Activity k (held_attributes s)) (sym has.named) ∙ is-free (is_settled Activity has.row.opened.id (held_attributes s)) kept in
     (record { open_run = opened; in_use = there; may_queue = (free, refl) }, tt)

@@ -2,7 +2,7 @@
 use Rattle.std.proofs.Common.{◌≡◌, ℕ, Bool, true, false, cond, ◌||◌, ◌==◌, List, [], ◌∷◌, refl, sym, ap, ◌∙◌, Option, Some, None}
 use Rattle.std.specs.Prelude.{find, map, IfSome}
 use Rattle.wf_event.specs.declared.payloads.ActivityTaskScheduled.{ActivityTaskScheduled as ScheduledAttributes}
-use Rattle.wf_event.specs.Role.{AnActivity}
+use Rattle.wf_event.specs.declared.role.Class.TheVariants.{Activity}
 use Rattle.service_model_types.specs.declared.answer.ActivityTask.{ActivityTask as Task}
 use Rattle.service_model_types.specs.declared.answer.Answer.TheVariants.{ActivityTask, Stale}
 use Rattle.service_model_types.specs.declared.journal.Note.TheVariants.{Taken}
@@ -47,10 +47,10 @@ row-there id (x ∷ rows) r h = by_test (x.opened.id == id) h (row-there id rows
     by_test true g again = refl
     by_test false g again = again g
 
-pub pending-there : (id : ℕ) (s : RunState) (r : ActivityRow) → pending_row s id ≡ Some r → has_id id (used AnActivity s) ≡ true
-pending-there id s r h = by_test (is_settled AnActivity id (held_attributes s)) h
+pub pending-there : (id : ℕ) (s : RunState) (r : ActivityRow) → pending_row s id ≡ Some r → has_id id (used Activity s) ≡ true
+pending-there id s r h = by_test (is_settled Activity id (held_attributes s)) h
   where
-    by_test : (b : Bool) → cond b None (find (λ (x : ActivityRow). x.opened.id == id) s.activities) ≡ Some r → has_id id (used AnActivity s) ≡ true
+    by_test : (b : Bool) → cond b None (find (λ (x : ActivityRow). x.opened.id == id) s.activities) ≡ Some r → has_id id (used Activity s) ≡ true
     by_test true g = absurd (cc)
     by_test false g = row-there id s.activities r g
 
@@ -65,12 +65,12 @@ pending-open id s r none h = by_test (is_open s) refl
     by_test : (b : Bool) → is_open s ≡ b → is_open s ≡ true
     by_test true is = is
     by_test false is = absurd (
-        let gone : pending_row s id ≡ None = ap (λ l. cond (is_settled AnActivity id (held_attributes s)) None (find (λ (x : ActivityRow). x.opened.id == id) l)) (none is) ∙ no (is_settled AnActivity id (held_attributes s)) in
+        let gone : pending_row s id ≡ None = ap (λ l. cond (is_settled Activity id (held_attributes s)) None (find (λ (x : ActivityRow). x.opened.id == id) l)) (none is) ∙ no (is_settled Activity id (held_attributes s)) in
         let clash : ◌≡◌ {A = Option ActivityRow} None (Some r) = sym gone ∙ h in
         cc)
 
 -- the note may come
-pub taken-fits : (at id : ℕ) (s : RunState) → is_open s ≡ true → has_id id (used AnActivity s) ≡ true → FitStep at s (noted id Taken ∷ [])
+pub taken-fits : (at id : ℕ) (s : RunState) → is_open s ≡ true → has_id id (used Activity s) ≡ true → FitStep at s (noted id Taken ∷ [])
 taken-fits at id s opened there = (record { open_run = opened; in_use = there; may_queue = tt }, tt)
 
 pub if-some : {A : Type 0} (o : Option A) (P : Type 0) → P → IfSome o (λ t. P)

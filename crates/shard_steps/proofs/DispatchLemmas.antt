@@ -3,7 +3,8 @@ use Rattle.std.proofs.Common.{◌≡◌, ℕ, ◌+◌, ◌-◌, ◌<◌, ◌≤�
 use Rattle.std.proofs.lemmas.List.{get_or-set_same, length-drop}
 use Rattle.std.specs.Prelude.{drop, filter_map, option_and_then, option_to_list, slice_get}
 use Rattle.std.specs.List.{cons_option}
-use Rattle.wf_event.specs.Role.{AnActivity, role}
+use Rattle.wf_event.specs.declared.role.Class.TheVariants.{Activity}
+use Rattle.wf_event.specs.Role.{role}
 use Rattle.service_model_types.specs.declared.content.Content.{Content}
 use Rattle.service_model_types.specs.declared.content.Dispatch.{Dispatch}
 use Rattle.service_model_types.specs.declared.content.Setup.{Setup}
@@ -24,7 +25,7 @@ use Rattle.shard_steps.specs.declared.changed.Changed.{Changed}
 use Rattle.shard_steps.proofs.EachLemmas.{index-push, shown-at}
 
 -- at the end of a step no event that is held back settles what none settled before
-pending-at-end : (id : ℕ) (s : RunState) → is_settled AnActivity id (held_attributes s) ≡ false → pending_row (step_ended s) id ≡ row_of (step_ended s) id
+pending-at-end : (id : ℕ) (s : RunState) → is_settled Activity id (held_attributes s) ≡ false → pending_row (step_ended s) id ≡ row_of (step_ended s) id
 pending-at-end id s none = by_task (is_started_task s.task)
   where
     by_task : (b : Bool) → pending_row (cond b s (all_written s)) id ≡ row_of (cond b s (all_written s)) id

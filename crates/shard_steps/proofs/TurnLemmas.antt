@@ -4,7 +4,8 @@ use Rattle.std.proofs.lemmas.Bool.Decides.{nat_tests}
 use Rattle.std.specs.Prelude.{slice_get, unwrap_or}
 use Rattle.wf_event.specs.declared.event.Event.{Event}
 use Rattle.wf_event.specs.declared.attributes.Attributes.TheVariants.{WorkflowExecutionTimedOut, TimerFired}
-use Rattle.wf_event.specs.Role.{ATimer, role, opens, settles, closing_status}
+use Rattle.wf_event.specs.declared.role.Class.TheVariants.{Timer}
+use Rattle.wf_event.specs.Role.{role, opens, settles, closing_status}
 use Rattle.wf_event_values.specs.declared.policies.DeadlineClass.{DeadlineClass}
 use Rattle.wf_event_values.specs.declared.policies.DeadlineClass.TheVariants.{RunTimeout, WorkflowTask, ScheduleToClose, ScheduleToStart, Heartbeat, StartToClose, RetryReady, UserTimer}
 use Rattle.wf_event_values.specs.declared.policies.TimeoutKind.TheVariants.{ScheduleToClose as ToClose, ScheduleToStart as ToStart, Heartbeat as NoHeartbeat, StartToClose as ToEnd}
@@ -59,8 +60,8 @@ timer-fits at s d class is = by_task s.task refl
     has : HasTimer s d.at.event
     has = due-timer s d.run d class is
 
-    pending_one : has_id d.at.event (pending ATimer s) ≡ true
-    pending_one = ap (λ n. has_id n (pending ATimer s)) (sym has.named) ∙ has-at (pending ATimer s) has.place has.event has.there
+    pending_one : has_id d.at.event (pending Timer s) ≡ true
+    pending_one = ap (λ n. has_id n (pending Timer s)) (sym has.named) ∙ has-at (pending Timer s) has.place has.event has.there
 
     now : (more : List Fact) → FitsEvent IsFirst s None (TimerFired (record { timer_id = timer_name s d.at.event; started = d.at.event })) more
     now more = record { open_run = opened; fits_role = tt; begins_none = refl; may_settle = pending_one; may_ask = refl; first_signal = refl }

@@ -5,7 +5,10 @@ use Rattle.std.specs.List.{list_any}
 use Rattle.wf_event.specs.declared.event.Event.{Event}
 use Rattle.wf_event.specs.declared.attributes.Attributes.{Attributes}
 use Rattle.wf_event.specs.declared.attributes.Attributes.TheVariants.{WorkflowExecutionCompleted, WorkflowExecutionFailed, WorkflowExecutionCanceled, WorkflowExecutionContinuedAsNew, WorkflowTaskCompleted, MarkerRecorded, ActivityTaskCancelRequested, ActivityTaskCanceled, TimerStarted, TimerCanceled}
-use Rattle.wf_event.specs.Role.{Role, TaskSchedules, TaskStarts, TaskEnds, Closes, TimerFires, TimerCancels, ComesFromOutside, Follows, role, is_closing_role, Class, AnActivity, ATimer, AChild, ASignal, ACancel, opens, Settled, settles, closing_status, schedules_task}
+use Rattle.wf_event.specs.declared.role.Class.{Class}
+use Rattle.wf_event.specs.declared.role.Class.TheVariants.{Activity, Timer, Child, Signal, Cancel}
+use Rattle.wf_event.specs.declared.role.Opener.{Opener}
+use Rattle.wf_event.specs.Role.{Role, TaskSchedules, TaskStarts, TaskEnds, Closes, TimerFires, TimerCancels, ComesFromOutside, Follows, role, is_closing_role, opens, settles, closing_status, schedules_task}
 use Rattle.wf_event_values.specs.Run.{Run}
 use Rattle.wf_event_values.specs.declared.policies.Cause.{Cause}
 use Rattle.wf_event_values.specs.declared.policies.Cause.TheVariants.{UnhandledCommand, CommandAfterClose, BadScheduleActivityAttributes, ScheduleActivityDuplicateId, PendingActivitiesLimitExceeded, BadRequestCancelActivityAttributes, StartTimerDuplicateId, BadContinueAsNewAttributes, BadStartChildExecutionAttributes, PendingChildWorkflowsLimitExceeded, PendingSignalsLimitExceeded, PendingRequestCancelLimitExceeded}
@@ -58,7 +61,7 @@ map-append : (xs ys : List Event) → map event_id (xs ++ ys) ≡ map event_id x
 map-append [] ys = refl
 map-append (x ∷ xs) ys = ap (λ l. x.id ∷ l) (map-append xs ys)
 
-left-ids : (c : Class) (o : Option Settled) (xs : List Event) → map event_id (left_by c event_id o xs) ≡ filter (λ n. not (is_settling c n o)) (map event_id xs)
+left-ids : (c : Class) (o : Option Opener) (xs : List Event) → map event_id (left_by c event_id o xs) ≡ filter (λ n. not (is_settling c n o)) (map event_id xs)
 left-ids c o xs = ap (map event_id) (left-is c event_id o xs) ∙ sym (filter-map (λ n. not (is_settling c n o)) event_id xs)
 
 opened-ids : (c : Class) (d e : Event) → d.id ≡ e.id → d.attributes ≡ e.attributes → map event_id (opened_by c itself d) ≡ map event_id (opened_by c itself e)
@@ -255,14 +258,14 @@ no-check : (r : Result (Unit {0}) Cause) (rest : Judged) (more : List Attributes
 no-check (Ok u) rest more G h = h
 no-check (Err cause) rest more G h = absurd (cc)
 
-may-cancel : (s : RunState) (F : List Attributes) (name : List ℕ) (e : Event) (t : RunState) → Now s F t → in_use_named ATimer name s F ≡ Some e → (e.id ≤ length s.shown + 1 + length F) × (has_id e.id (used ATimer t) ≡ true)
+may-cancel : (s : RunState) (F : List Attributes) (name : List ℕ) (e : Event) (t : RunState) → Now s F t → in_use_named Timer name s F ≡ Some e → (e.id ≤ length s.shown + 1 + length F) × (has_id e.id (used Timer t) ≡ true)
 may-cancel s F name e t now h =
-    let f = found-in (length s.shown + 1 + length F) (λ x. has_name name x.attributes) (in_use_so_far ATimer s F) e (used-ids ATimer s F now.so_far) h in
-    (f.0, same-ids e.id (used ATimer t) (in_use_so_far ATimer s F) (now.used_ids ATimer) ∙ f.1)
+    let f = found-in (length s.shown + 1 + length F) (λ x. has_name name x.attributes) (in_use_so_far Timer s F) e (used-ids Timer s F now.so_far) h in
+    (f.0, same-ids e.id (used Timer t) (in_use_so_far Timer s F) (now.used_ids Timer) ∙ f.1)
 
 goes-cancel : (at : ℕ) (setup : Setup) (next : Run) (s : RunState) (G F : List Attributes) (t : RunState) (cs : List Command) (name : List ℕ) → IsGrounded s → Now s F t →
     ((F' : List Attributes) (t' : RunState) → Now s F' t' → judge_all setup next s F' cs ≡ Ok G → Goes at s G F' t') →
-    (o : Option Event) → in_use_named ATimer name s F ≡ o → go_on (cancel_timer name o) (λ facts. judge_all setup next s (F ++ facts) cs) ≡ Ok G → Goes at s G F t
+    (o : Option Event) → in_use_named Timer name s F ≡ o → go_on (cancel_timer name o) (λ facts. judge_all setup next s (F ++ facts) cs) ≡ Ok G → Goes at s G F t
 unfolding role settles
 goes-cancel at setup next s G F t cs name g now again None found h = absurd (cc)
 goes-cancel at setup next s G F t cs name g now again (Some e) found h =
@@ -307,12 +310,12 @@ pending-there s F t c id now there free =
 -- it is canceled at once, where no attempt is running
 goes-asked : (at : ℕ) (setup : Setup) (next : Run) (s : RunState) (G F : List Attributes) (t : RunState) (cs : List Command) (id : ℕ) → IsGrounded s → Now s F t →
     ((F' : List Attributes) (t' : RunState) → Now s F' t' → judge_all setup next s F' cs ≡ Ok G → Goes at s G F' t') →
-    list_any (λ (e : Event). e.id == id) (in_use_so_far AnActivity s F) ≡ true → (b : Bool) → (b ≡ true → is_settled_so_far AnActivity id s F ≡ false) → judge_all setup next s (F ++ cancel_facts id b) cs ≡ Ok G → Goes at s G F t
+    list_any (λ (e : Event). e.id == id) (in_use_so_far Activity s F) ≡ true → (b : Bool) → (b ≡ true → is_settled_so_far Activity id s F ≡ false) → judge_all setup next s (F ++ cancel_facts id b) cs ≡ Ok G → Goes at s G F t
 unfolding role settles opens
 goes-asked at setup next s G F t cs id g now again there false free h =
     let a = ActivityTaskCancelRequested id in
     let is = plain-asked id in
-    goes-plain at s G F a t now is tt (in-use-there s F t AnActivity id now there) (again (F ++ a ∷ []) (with_event at None a t) (now-more at s F a t g now is (comes-quiet s F a refl refl)) h)
+    goes-plain at s G F a t now is tt (in-use-there s F t Activity id now there) (again (F ++ a ∷ []) (with_event at None a t) (now-more at s F a t g now is (comes-quiet s F a refl refl)) h)
 goes-asked at setup next s G F t cs id g now again there true free h =
     let a = ActivityTaskCancelRequested id in
     let b = ActivityTaskCanceled (record { scheduled = id; details = [] }) in
@@ -321,14 +324,14 @@ goes-asked at setup next s G F t cs id g now again there true free h =
     let t' = with_event at None a t in
     let F' = F ++ a ∷ [] in
     let now' = now-more at s F a t g now is (comes-quiet s F a refl refl) in
-    let still : is_settled_so_far AnActivity id s F' ≡ false = settled-more AnActivity id s F a ∙ or-false (is_settled_so_far AnActivity id s F) ∙ free refl in
-    let used_there : has_id id (used AnActivity t') ≡ true = ap (has_id id) (used-next at a t AnActivity now.none is ∙ append-nil (used AnActivity t)) ∙ in-use-there s F t AnActivity id now there in
-    let low = id-low AnActivity id s F now.so_far there in
+    let still : is_settled_so_far Activity id s F' ≡ false = settled-more Activity id s F a ∙ or-false (is_settled_so_far Activity id s F) ∙ free refl in
+    let used_there : has_id id (used Activity t') ≡ true = ap (has_id id) (used-next at a t Activity now.none is ∙ append-nil (used Activity t)) ∙ in-use-there s F t Activity id now there in
+    let low = id-low Activity id s F now.so_far there in
     let push = length-push F a in
-    let comes = comes-pending s F' b refl (λ c n k. let same = same-as c n (record { class = AnActivity; opener = id }) k in
-    (ap (λ d. is_settled_so_far d n s F') same.class_is ∙ ap (λ m. is_settled_so_far AnActivity m s F') same.id_is ∙ still, subst (λ m. m ≤ length s.shown + 1 + length F') (sym same.id_is) (omega (arith, low, push)))) in
-    goes-plain at s G F a t now is tt (in-use-there s F t AnActivity id now there)
-    (goes-plain at s G F' b t' now' ends (pending-there s F' t' AnActivity id now' used_there (left-free (is_settled AnActivity id (held_attributes s)) (is_settled AnActivity id F') still)) refl
+    let comes = comes-pending s F' b refl (λ c n k. let same = same-as c n (record { class = Activity; event = id }) k in
+    (ap (λ d. is_settled_so_far d n s F') same.class_is ∙ ap (λ m. is_settled_so_far Activity m s F') same.id_is ∙ still, subst (λ m. m ≤ length s.shown + 1 + length F') (sym same.id_is) (omega (arith, low, push)))) in
+    goes-plain at s G F a t now is tt (in-use-there s F t Activity id now there)
+    (goes-plain at s G F' b t' now' ends (pending-there s F' t' Activity id now' used_there (left-free (is_settled Activity id (held_attributes s)) (is_settled Activity id F') still)) refl
     (again (F' ++ b ∷ []) (with_event at None b t') (now-more at s F' b t' g now' ends comes) (ap (λ l. judge_all setup next s l cs) (append_assoc F (a ∷ []) (b ∷ [])) ∙ h)))
   where
     or-false : (b : Bool) → (b || false) ≡ b
@@ -341,10 +344,10 @@ goes-asked at setup next s G F t cs id g now again there true free h =
 
 goes-request : (at : ℕ) (setup : Setup) (next : Run) (s : RunState) (G F : List Attributes) (t : RunState) (cs : List Command) (id : ℕ) → IsGrounded s → Now s F t →
     ((F' : List Attributes) (t' : RunState) → Now s F' t' → judge_all setup next s F' cs ≡ Ok G → Goes at s G F' t') →
-    (not (list_any (λ (e : Event). e.id == id) (in_use_so_far AnActivity s F)) || was_asked_to_cancel id s F) ≡ false → judge_all setup next s (F ++ cancel_facts id (cancels_at_once id s F)) cs ≡ Ok G → Goes at s G F t
+    (not (list_any (λ (e : Event). e.id == id) (in_use_so_far Activity s F)) || was_asked_to_cancel id s F) ≡ false → judge_all setup next s (F ++ cancel_facts id (cancels_at_once id s F)) cs ≡ Ok G → Goes at s G F t
 goes-request at setup next s G F t cs id g now again free h =
-    goes-asked at setup next s G F t cs id g now again (there (list_any (λ (e : Event). e.id == id) (in_use_so_far AnActivity s F)) (was_asked_to_cancel id s F) free) (cancels_at_once id s F)
-    (λ k. unsettled_one (is_settled_so_far AnActivity id s F) (not (is_attempt_running s id)) k) h
+    goes-asked at setup next s G F t cs id g now again (there (list_any (λ (e : Event). e.id == id) (in_use_so_far Activity s F)) (was_asked_to_cancel id s F) free) (cancels_at_once id s F)
+    (λ k. unsettled_one (is_settled_so_far Activity id s F) (not (is_attempt_running s id)) k) h
   where
     there : (x y : Bool) → (not x || y) ≡ false → x ≡ true
     there true y k = refl
@@ -375,24 +378,24 @@ goes-one at setup next s G F t cs g now again (ScheduleActivityTask c) h =
     let a = scheduled_by c in
     let is = plain-scheduled c in
     let more : List Attributes → Judged = λ facts. judge_all setup next s (F ++ facts) cs in
-    let few : Judged = fault_if (is_full AnActivity s F) PendingActivitiesLimitExceeded (gives a) in
-    let free : Judged = fault_if (is_some (in_use_named AnActivity c.activity_id s F)) ScheduleActivityDuplicateId few in
+    let few : Judged = fault_if (is_full Activity s F) PendingActivitiesLimitExceeded (gives a) in
+    let free : Judged = fault_if (is_some (in_use_named Activity c.activity_id s F)) ScheduleActivityDuplicateId few in
     let good = no-check (attributes_fault (ScheduleActivityTask c)) (fault_if (not (knows_queue setup c.task_queue)) BadScheduleActivityAttributes free) more G h in
     let known = no-fault (not (knows_queue setup c.task_queue)) BadScheduleActivityAttributes free more G good in
-    let unused = no-fault (is_some (in_use_named AnActivity c.activity_id s F)) ScheduleActivityDuplicateId few more G known.1 in
-    let room = no-fault (is_full AnActivity s F) PendingActivitiesLimitExceeded (gives a) more G unused.1 in
+    let unused = no-fault (is_some (in_use_named Activity c.activity_id s F)) ScheduleActivityDuplicateId few more G known.1 in
+    let room = no-fault (is_full Activity s F) PendingActivitiesLimitExceeded (gives a) more G unused.1 in
     goes-plain at s G F a t now is tt refl (again (F ++ a ∷ []) (with_event at None a t) (now-more at s F a t g now is (comes-quiet s F a refl refl)) room.1)
 goes-one at setup next s G F t cs g now again (RequestCancelActivityTask id) h =
-    let free = no-fault (not (list_any (λ (e : Event). e.id == id) (in_use_so_far AnActivity s F)) || was_asked_to_cancel id s F) BadRequestCancelActivityAttributes (Ok (cancel_facts id (cancels_at_once id s F))) (λ facts. judge_all setup next s (F ++ facts) cs) G h in
+    let free = no-fault (not (list_any (λ (e : Event). e.id == id) (in_use_so_far Activity s F)) || was_asked_to_cancel id s F) BadRequestCancelActivityAttributes (Ok (cancel_facts id (cancels_at_once id s F))) (λ facts. judge_all setup next s (F ++ facts) cs) G h in
     goes-request at setup next s G F t cs id g now again free.0 free.1
 goes-one at setup next s G F t cs g now again (StartTimer c) h =
     let a = TimerStarted (record { timer_id = c.timer_id; duration = c.duration }) in
     let is = plain-timer c.timer_id c.duration in
     let more : List Attributes → Judged = λ facts. judge_all setup next s (F ++ facts) cs in
-    let good = no-check (attributes_fault (StartTimer c)) (fault_if (is_some (in_use_named ATimer c.timer_id s F)) StartTimerDuplicateId (gives a)) more G h in
-    let free = no-fault (is_some (in_use_named ATimer c.timer_id s F)) StartTimerDuplicateId (gives a) more G good in
+    let good = no-check (attributes_fault (StartTimer c)) (fault_if (is_some (in_use_named Timer c.timer_id s F)) StartTimerDuplicateId (gives a)) more G h in
+    let free = no-fault (is_some (in_use_named Timer c.timer_id s F)) StartTimerDuplicateId (gives a) more G good in
     goes-plain at s G F a t now is tt refl (again (F ++ a ∷ []) (with_event at None a t) (now-more at s F a t g now is (comes-quiet s F a refl refl)) free.1)
-goes-one at setup next s G F t cs g now again (CancelTimer name) h = goes-cancel at setup next s G F t cs name g now again (in_use_named ATimer name s F) refl h
+goes-one at setup next s G F t cs g now again (CancelTimer name) h = goes-cancel at setup next s G F t cs name g now again (in_use_named Timer name s F) refl h
 goes-one at setup next s G F t cs g now again (CompleteWorkflowExecution r) h =
     goes-close at setup next s G F (WorkflowExecutionCompleted r) t cs now refl (no-fault (is_some_held s F) UnhandledCommand (gives (WorkflowExecutionCompleted r)) (λ facts. judge_all setup next s (F ++ facts) cs) G h).1
 goes-one at setup next s G F t cs g now again (FailWorkflowExecution m) h =
@@ -406,11 +409,11 @@ goes-one at setup next s G F t cs g now again (ContinueAsNewWorkflowExecution c)
     goes-close at setup next s G F a t cs now refl (no-fault (is_some_held s F) UnhandledCommand (gives a) more G known.1).1
 goes-one at setup next s G F t cs g now again (StartChildWorkflowExecution c) h =
     let more : List Attributes → Judged = λ facts. judge_all setup next s (F ++ facts) cs in
-    let few : Judged = fault_if (is_full AChild s F) PendingChildWorkflowsLimitExceeded (gives (child_asked c)) in
+    let few : Judged = fault_if (is_full Child s F) PendingChildWorkflowsLimitExceeded (gives (child_asked c)) in
     let known = no-fault (not (knows_queue setup c.task_queue)) BadStartChildExecutionAttributes few more G h in
-    goes-asked-outward at setup next s G F t cs AChild PendingChildWorkflowsLimitExceeded (child_asked c) g now again (plain-child c) refl refl refl tt known.1
-goes-one at setup next s G F t cs g now again (SignalExternalWorkflowExecution c) h = goes-asked-outward at setup next s G F t cs ASignal PendingSignalsLimitExceeded (external_signal c) g now again (plain-signal c) refl refl refl tt h
-goes-one at setup next s G F t cs g now again (RequestCancelExternalWorkflowExecution c) h = goes-asked-outward at setup next s G F t cs ACancel PendingRequestCancelLimitExceeded (external_cancel c) g now again (plain-request c) refl refl refl tt h
+    goes-asked-outward at setup next s G F t cs Child PendingChildWorkflowsLimitExceeded (child_asked c) g now again (plain-child c) refl refl refl tt known.1
+goes-one at setup next s G F t cs g now again (SignalExternalWorkflowExecution c) h = goes-asked-outward at setup next s G F t cs Signal PendingSignalsLimitExceeded (external_signal c) g now again (plain-signal c) refl refl refl tt h
+goes-one at setup next s G F t cs g now again (RequestCancelExternalWorkflowExecution c) h = goes-asked-outward at setup next s G F t cs Cancel PendingRequestCancelLimitExceeded (external_cancel c) g now again (plain-request c) refl refl refl tt h
 
 goes-none : (at : ℕ) (s : RunState) (F : List Attributes) (t : RunState) → Now s F t → (b : Bool) → goes_on s F ≡ b → Goes at s F F t
 goes-none at s F t now true is = ([], sym (append-nil F), subst (λ b. FitFrom IsBehindEnd at t (map plain (cond b (schedule_task s 1 ∷ []) []))) (sym is) (fits-schedule 1 s t IsBehindEnd now.open_run now.none, tt))

@@ -4,7 +4,10 @@ use Rattle.std.specs.Prelude.{filter}
 use Rattle.std.proofs.lemmas.List.Elements.{filter-append}
 use Rattle.wf_event.specs.declared.event.Event.{Event}
 use Rattle.wf_event.specs.declared.attributes.Attributes.{Attributes}
-use Rattle.wf_event.specs.Role.{Class, AnActivity, ATimer, AChild, ASignal, ACancel, opens, Settled, settles, class_number}
+use Rattle.wf_event.specs.declared.role.Class.{Class}
+use Rattle.wf_event.specs.declared.role.Class.TheVariants.{Activity, Timer, Child, Signal, Cancel}
+use Rattle.wf_event.specs.declared.role.Opener.{Opener}
+use Rattle.wf_event.specs.Role.{opens, settles, class_number}
 use Rattle.service_model.specs.Pending.{is_opening, is_settling, is_settled}
 use Rattle.service_model.specs.RunState.{RunState, used, pending, held_attributes}
 use Rattle.service_model.specs.Completion.{opened_so_far, is_settled_so_far, pending_so_far}
@@ -18,7 +21,7 @@ use Rattle.task_completion.specs.declared.outward.Outward.{Outward}
 use Rattle.task_completion.proofs.SoFarLemmas.{next_event, opened-push, settled-more, unseen}
 
 -- whether a fact settles or opens something that was asked of another workflow
-abbrev pub settles_outward : Option Settled → Bool
+abbrev pub settles_outward : Option Opener → Bool
 settles_outward None = false
 settles_outward (Some d) = is_outward d.class
 
@@ -27,21 +30,21 @@ opens_outward None = false
 opens_outward (Some d) = is_outward d
 
 other-class : (c d : Class) → is_outward c ≡ true → is_outward d ≡ false → (class_number c == class_number d) ≡ false
-other-class AChild AnActivity out none = refl
-other-class AChild ATimer out none = refl
-other-class ASignal AnActivity out none = refl
-other-class ASignal ATimer out none = refl
-other-class ACancel AnActivity out none = refl
-other-class ACancel ATimer out none = refl
-other-class c AChild out none = absurd (cc)
-other-class c ASignal out none = absurd (cc)
-other-class c ACancel out none = absurd (cc)
-other-class AnActivity d out none = absurd (cc)
-other-class ATimer d out none = absurd (cc)
+other-class Child Activity out none = refl
+other-class Child Timer out none = refl
+other-class Signal Activity out none = refl
+other-class Signal Timer out none = refl
+other-class Cancel Activity out none = refl
+other-class Cancel Timer out none = refl
+other-class c Child out none = absurd (cc)
+other-class c Signal out none = absurd (cc)
+other-class c Cancel out none = absurd (cc)
+other-class Activity d out none = absurd (cc)
+other-class Timer d out none = absurd (cc)
 
-settles-none : (c : Class) (id : ℕ) (o : Option Settled) → is_outward c ≡ true → settles_outward o ≡ false → is_settling c id o ≡ false
+settles-none : (c : Class) (id : ℕ) (o : Option Opener) → is_outward c ≡ true → settles_outward o ≡ false → is_settling c id o ≡ false
 settles-none c id None out none = refl
-settles-none c id (Some d) out none = ap (λ b. b && (id == d.opener)) (other-class c d.class out none)
+settles-none c id (Some d) out none = ap (λ b. b && (id == d.event)) (other-class c d.class out none)
 
 opens-none : (c : Class) (o : Option Class) → is_outward c ≡ true → opens_outward o ≡ false → is_opening c o ≡ false
 opens-none c None out none = refl
@@ -81,11 +84,11 @@ all-pending c s =
     ∙ filter-agree (λ (e : Event). not (is_settled_so_far c e.id s [])) (λ (e : Event). not (is_settled c e.id (held_attributes s))) (λ e. ap not (or-false (is_settled c e.id (held_attributes s)))) (used c s)
 
 pub counts-first : (s : RunState) (p : Pending) → p ≡ pending_in s → Counts s [] (record { children = p.children; signals = p.signals; cancels = p.cancels })
-counts-first s p is AChild out = ap (λ (q : Pending). q.children) is ∙ ap length (sym (all-pending AChild s))
-counts-first s p is ASignal out = ap (λ (q : Pending). q.signals) is ∙ ap length (sym (all-pending ASignal s))
-counts-first s p is ACancel out = ap (λ (q : Pending). q.cancels) is ∙ ap length (sym (all-pending ACancel s))
-counts-first s p is AnActivity out = absurd (cc)
-counts-first s p is ATimer out = absurd (cc)
+counts-first s p is Child out = ap (λ (q : Pending). q.children) is ∙ ap length (sym (all-pending Child s))
+counts-first s p is Signal out = ap (λ (q : Pending). q.signals) is ∙ ap length (sym (all-pending Signal s))
+counts-first s p is Cancel out = ap (λ (q : Pending). q.cancels) is ∙ ap length (sym (all-pending Cancel s))
+counts-first s p is Activity out = absurd (cc)
+counts-first s p is Timer out = absurd (cc)
 
 -- with a fact that has to do with the run alone
 pub counts-same : (s : RunState) (F : List Attributes) (a : Attributes) (o : Outward) → IsGrounded s → IsSoFar s F → Counts s F o → settles_outward (settles a) ≡ false → opens_outward (opens a) ≡ false → Counts s (F ++ a ∷ []) o
@@ -96,19 +99,19 @@ counts-same s F a o g h counts settled opened c out =
     ∙ append-nil (pending_so_far c s F)))
 
 counted-one : (c d : Class) (o : Outward) (x : Event) → is_outward c ≡ true → is_outward d ≡ true → count_of c (one_more d o) ≡ count_of c o + length (cond (class_number c == class_number d) (x ∷ []) [])
-counted-one AChild AChild o x out is = refl
-counted-one AChild ASignal o x out is = omega arith
-counted-one AChild ACancel o x out is = omega arith
-counted-one ASignal AChild o x out is = omega arith
-counted-one ASignal ASignal o x out is = refl
-counted-one ASignal ACancel o x out is = omega arith
-counted-one ACancel AChild o x out is = omega arith
-counted-one ACancel ASignal o x out is = omega arith
-counted-one ACancel ACancel o x out is = refl
-counted-one AnActivity d o x out is = absurd (cc)
-counted-one ATimer d o x out is = absurd (cc)
-counted-one c AnActivity o x out is = absurd (cc)
-counted-one c ATimer o x out is = absurd (cc)
+counted-one Child Child o x out is = refl
+counted-one Child Signal o x out is = omega arith
+counted-one Child Cancel o x out is = omega arith
+counted-one Signal Child o x out is = omega arith
+counted-one Signal Signal o x out is = refl
+counted-one Signal Cancel o x out is = omega arith
+counted-one Cancel Child o x out is = omega arith
+counted-one Cancel Signal o x out is = omega arith
+counted-one Cancel Cancel o x out is = refl
+counted-one Activity d o x out is = absurd (cc)
+counted-one Timer d o x out is = absurd (cc)
+counted-one c Activity o x out is = absurd (cc)
+counted-one c Timer o x out is = absurd (cc)
 
 -- with a fact that asks something of another workflow
 pub counts-asked : (d : Class) (s : RunState) (F : List Attributes) (a : Attributes) (o : Outward) → IsGrounded s → IsSoFar s F → Counts s F o → is_outward d ≡ true → settles a ≡ None → opens a ≡ Some d → Counts s (F ++ a ∷ []) (one_more d o)

@@ -6,7 +6,10 @@ use Rattle.std.proofs.lemmas.List.Elements.{filter-append}
 use Rattle.wf_event.specs.declared.event.Event.{Event}
 use Rattle.wf_event.specs.declared.attributes.Attributes.{Attributes}
 use Rattle.wf_event.specs.declared.attributes.Attributes.TheVariants.{TimerCanceled}
-use Rattle.wf_event.specs.Role.{Role, TimerFires, TimerCancels, role, is_outside_role, Class, ATimer, opens, Settled, settles}
+use Rattle.wf_event.specs.declared.role.Class.{Class}
+use Rattle.wf_event.specs.declared.role.Class.TheVariants.{Timer}
+use Rattle.wf_event.specs.declared.role.Opener.{Opener}
+use Rattle.wf_event.specs.Role.{Role, TimerFires, TimerCancels, role, is_outside_role, opens, settles}
 use Rattle.service_model_types.specs.declared.journal.NewEvent.{NewEvent}
 use Rattle.service_model.specs.Shown.{is_cancel}
 use Rattle.service_model.specs.Pending.{is_opening, is_settling, is_settled}
@@ -119,7 +122,7 @@ so-far-none s g = record {
 
 -- a fact that settles nothing
 
-none-settling : (c : Class) (id : ℕ) (o : Option Settled) → o ≡ None → is_settling c id o ≡ false
+none-settling : (c : Class) (id : ℕ) (o : Option Opener) → o ≡ None → is_settling c id o ≡ false
 none-settling c id o h = ap (is_settling c id) h
 
 no-cancel : (n : ℕ) (r : Role) → cancels_timer r ≡ false → is_cancel n r ≡ false
@@ -171,13 +174,13 @@ IsOutside : Attributes → Type 0
 IsOutside a = is_outside_role (role a) ≡ true
 
 unfired-settled : (c : Class) (id started : ℕ) (l : List Attributes) → AllByRecursion IsOutside l →
-    is_settled c id (filter (λ a. not (fires started a)) l) ≡ (is_settled c id l && not (is_settling c id (Some (record { class = ATimer; opener = started }))))
+    is_settled c id (filter (λ a. not (fires started a)) l) ≡ (is_settled c id l && not (is_settling c id (Some (record { class = Timer; event = started }))))
 unfolding IsOutside
 unfired-settled c id started l h =
     ap (λ x. is_settled c id (filter (λ a. not (fires started a)) x)) (sym (back l))
     ∙ ap (is_settled c id) (filter-map (λ a. not (fires started a)) (λ (e : NewEvent). e.attributes) (as_new l))
     ∙ unheld-settled c id started (as_new l) (outside l h)
-    ∙ ap (λ x. is_settled c id x && not (is_settling c id (Some (record { class = ATimer; opener = started })))) (back l)
+    ∙ ap (λ x. is_settled c id x && not (is_settling c id (Some (record { class = Timer; event = started })))) (back l)
   where
     as_new : List Attributes → List NewEvent
     as_new [] = []
@@ -234,8 +237,8 @@ comes-cancel s F name started g low =
       aims = λ c id k. subst (λ n. n ≤ length s.shown + 1 + length F) (sym (same c id k)) low;
     }
   where
-    same : (c : Class) (id : ℕ) → is_settling c id (Some (record { class = ATimer; opener = started })) ≡ true → id ≡ started
-    same c id k = (same-as c id (record { class = ATimer; opener = started }) k).id_is
+    same : (c : Class) (id : ℕ) → is_settling c id (Some (record { class = Timer; event = started })) ≡ true → id ≡ started
+    same c id k = (same-as c id (record { class = Timer; event = started }) k).id_is
 
 -- what is found in use is one that was opened
 

@@ -2,7 +2,8 @@
 use Rattle.std.specs.Prelude.{◌≡◌, ℕ, ◌+◌, Bool, true, false, List, length}
 use Rattle.wf_event.specs.declared.attributes.Attributes.{Attributes}
 use Rattle.wf_event.specs.declared.attributes.Attributes.TheVariants.{StartChildWorkflowExecutionInitiated, SignalExternalWorkflowExecutionInitiated, RequestCancelExternalWorkflowExecutionInitiated}
-use Rattle.wf_event.specs.Role.{Class, AChild, ASignal, ACancel}
+use Rattle.wf_event.specs.declared.role.Class.{Class}
+use Rattle.wf_event.specs.declared.role.Class.TheVariants.{Child, Signal, Cancel}
 use Rattle.wf_command.specs.declared.command.StartChild.{StartChild}
 use Rattle.wf_command.specs.declared.command.SignalExternal.{SignalExternal}
 use Rattle.wf_command.specs.declared.command.RequestCancelExternal.{RequestCancelExternal}
@@ -22,21 +23,21 @@ external_cancel c = RequestCancelExternalWorkflowExecutionInitiated (record { wo
 
 -- what a run asks of other workflows
 abbrev pub is_outward : Class → Bool
-is_outward AChild = true
-is_outward ASignal = true
-is_outward ACancel = true
+is_outward Child = true
+is_outward Signal = true
+is_outward Cancel = true
 is_outward _ = false
 
 abbrev pub count_of : Class → Outward → ℕ
-count_of AChild o = o.children
-count_of ASignal o = o.signals
-count_of ACancel o = o.cancels
+count_of Child o = o.children
+count_of Signal o = o.signals
+count_of Cancel o = o.cancels
 count_of _ o = 0
 
 abbrev pub one_more : Class → Outward → Outward
-one_more AChild o = record o { children = o.children + 1 }
-one_more ASignal o = record o { signals = o.signals + 1 }
-one_more ACancel o = record o { cancels = o.cancels + 1 }
+one_more Child o = record o { children = o.children + 1 }
+one_more Signal o = record o { signals = o.signals + 1 }
+one_more Cancel o = record o { cancels = o.cancels + 1 }
 one_more _ o = o
 
 -- the counts are those of what is pending behind the facts so far

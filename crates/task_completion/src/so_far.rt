@@ -5,7 +5,7 @@ ghost use Rattle.std.specs.List.{list_any};
 ghost use Rattle.wf_event.specs.RetryPolicies.{good_policy};
 ghost use Rattle.service_model.specs.Completion.{has_members};
 ghost use Rattle.service_model.specs.Pending.{is_cancel_request_of};
-ghost use Rattle.wf_event.specs.Role.{ASignal, ACancel};
+ghost use Rattle.wf_event.specs.declared.role.Class.TheVariants.{Signal, Cancel};
 ghost use Rattle.wf_event_values.specs.declared.policies.Cause.TheVariants.{PendingSignalsLimitExceeded, PendingRequestCancelLimitExceeded};
 ghost use Rattle.wf_command.specs.declared.command.Command.TheVariants as a_command;
 ghost use Rattle.task_completion.specs.Outward.{external_signal, external_cancel};
@@ -272,7 +272,8 @@ impl<'a> SoFar<'a> {
 
     /// A timer whose firing is held back may be canceled: the firing is taken away.
     fn cancel_timer(&mut self, timer_id: &Id) -> Result<Result<(), Cause>, AllocError>
-        ensures { IfOk result (Leaves self.new (timer_canceled timer_id.now (event_named timer_id.now self.old.timers) self.old)) }
+        ensures { IfOk result (Leaves self.new (timer_canceled timer_id.now
+            (event_named timer_id.now self.old.timers) self.old)) }
     {
         let Some(started) = event_named(self.timers.as_slice(), timer_id) else {
             return Ok(Err(Cause::BadCancelTimerAttributes));
@@ -336,7 +337,7 @@ impl<'a> SoFar<'a> {
     }
 
     fn signal_external(&mut self, command: &SignalExternal) -> Result<Result<(), Cause>, AllocError>
-        ensures { IfOk result (Leaves self.new (asked ASignal
+        ensures { IfOk result (Leaves self.new (asked Signal
             PendingSignalsLimitExceeded (external_signal command.now) self.old)) }
     {
         if MOST_PENDING <= self.outward.signals {
@@ -351,7 +352,7 @@ impl<'a> SoFar<'a> {
         &mut self,
         command: &RequestCancelExternal,
     ) -> Result<Result<(), Cause>, AllocError>
-        ensures { IfOk result (Leaves self.new (asked ACancel
+        ensures { IfOk result (Leaves self.new (asked Cancel
             PendingRequestCancelLimitExceeded (external_cancel command.now) self.old)) }
     {
         if MOST_PENDING <= self.outward.cancels {

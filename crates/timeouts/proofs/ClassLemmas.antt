@@ -7,7 +7,7 @@ use Rattle.wf_event.specs.declared.attributes.Attributes.{Attributes}
 use Rattle.wf_event.specs.declared.attributes.Attributes.TheVariants.{TimerStarted}
 use Rattle.wf_event.specs.declared.payloads.TimerStarted.{TimerStarted as TimerFields}
 use Rattle.wf_event.specs.declared.payloads.ActivityTaskScheduled.{ActivityTaskScheduled as ScheduledAttributes}
-use Rattle.wf_event.specs.Role.{ATimer}
+use Rattle.wf_event.specs.declared.role.Class.TheVariants.{Timer}
 use Rattle.wf_event_values.specs.declared.policies.DeadlineClass.{DeadlineClass}
 use Rattle.wf_event_values.specs.declared.policies.DeadlineClass.TheVariants.{RunTimeout, WorkflowTask, ScheduleToClose, ScheduleToStart, Heartbeat, StartToClose, RetryReady, UserTimer}
 use Rattle.service_model.specs.Deadlines.{Due, dues, due_after, run_timeout_dues, workflow_task_dues, task_timeout, activity_dues, row_dues, by_phase, timer_dues, pending_rows, scheduled_fields}
@@ -88,14 +88,14 @@ module _ (P : Due → Type 0) where
   task s NoTask over = tt
   task s IsScheduled over = tt
 
-  all-dues : (s : RunState) → OfClass RunTimeout → (s.task ≡ IsStarted → OfClass WorkflowTask) → Are (flat_map activity_dues (pending_rows s)) → Are (flat_map timer_dues (pending ATimer s)) → Are (dues s)
+  all-dues : (s : RunState) → OfClass RunTimeout → (s.task ≡ IsStarted → OfClass WorkflowTask) → Are (flat_map activity_dues (pending_rows s)) → Are (flat_map timer_dues (pending Timer s)) → Are (dues s)
   unfolding Are dues
   all-dues s over task_over rows timer_rows = by_test (is_open s)
     where
-      by_test : (b : Bool) → AllByRecursion P (cond b (run_timeout_dues s.beginning ++ workflow_task_dues s s.task ++ flat_map activity_dues (pending_rows s) ++ flat_map timer_dues (pending ATimer s)) [])
+      by_test : (b : Bool) → AllByRecursion P (cond b (run_timeout_dues s.beginning ++ workflow_task_dues s s.task ++ flat_map activity_dues (pending_rows s) ++ flat_map timer_dues (pending Timer s)) [])
       by_test false = tt
       by_test true =
-          both (run_timeout_dues s.beginning ++ workflow_task_dues s s.task ++ flat_map activity_dues (pending_rows s)) (flat_map timer_dues (pending ATimer s))
+          both (run_timeout_dues s.beginning ++ workflow_task_dues s s.task ++ flat_map activity_dues (pending_rows s)) (flat_map timer_dues (pending Timer s))
           (both (run_timeout_dues s.beginning ++ workflow_task_dues s s.task) (flat_map activity_dues (pending_rows s)) (both (run_timeout_dues s.beginning) (workflow_task_dues s s.task) (own over s.beginning) (task s s.task task_over)) rows)
           timer_rows
 
@@ -104,7 +104,7 @@ pub due-open : (s : RunState) (n : ℕ) (d : RunDue) → IsOneOf d (of_run n (du
 unfolding dues
 due-open s n d is = by_test (is_open s) is
   where
-    by_test : (b : Bool) → IsOneOf d (of_run n (cond b (run_timeout_dues s.beginning ++ workflow_task_dues s s.task ++ flat_map activity_dues (pending_rows s) ++ flat_map timer_dues (pending ATimer s)) [])) → b ≡ true
+    by_test : (b : Bool) → IsOneOf d (of_run n (cond b (run_timeout_dues s.beginning ++ workflow_task_dues s s.task ++ flat_map activity_dues (pending_rows s) ++ flat_map timer_dues (pending Timer s)) [])) → b ≡ true
     by_test true h = refl
     by_test false h = absurd h
 
@@ -120,7 +120,7 @@ due-task s n d class is =
     let none : (c : DeadlineClass) → is_task_class c ≡ false → (due event : ℕ) → is_task_class c ≡ true → s.task ≡ IsStarted = λ c h _ _ e. absurd (let clash : true ≡ false = sym e ∙ h in cc) in
     one P n (dues s) d (all-dues P s (none RunTimeout refl) (λ started _ _ _. started)
     (flat P activity_dues (pending_rows s) (λ _ r _. activities P r (λ due. none ScheduleToClose refl due r.opened.id) (λ due. none ScheduleToStart refl due r.opened.id) (λ due. none Heartbeat refl due r.opened.id) (λ due. none StartToClose refl due r.opened.id) (λ due. none RetryReady refl due r.opened.id)))
-    (flat P timer_dues (pending ATimer s) (λ _ e _. timers P e (λ _ due _. none UserTimer refl due e.id)))) is (ap is_task_class class)
+    (flat P timer_dues (pending Timer s) (λ _ e _. timers P e (λ _ due _. none UserTimer refl due e.id)))) is (ap is_task_class class)
 
 is_timer_class : DeadlineClass → Bool
 is_timer_class UserTimer = true
@@ -134,7 +134,7 @@ due-timer s n d class is =
     let none : (c : DeadlineClass) → is_timer_class c ≡ false → (due event : ℕ) → is_timer_class c ≡ true → HasTimer s event = λ c h _ _ e. absurd (let clash : true ≡ false = sym e ∙ h in cc) in
     one P n (dues s) d (all-dues P s (none RunTimeout refl) (λ _. none WorkflowTask refl)
     (flat P activity_dues (pending_rows s) (λ _ r _. activities P r (λ due. none ScheduleToClose refl due r.opened.id) (λ due. none ScheduleToStart refl due r.opened.id) (λ due. none Heartbeat refl due r.opened.id) (λ due. none StartToClose refl due r.opened.id) (λ due. none RetryReady refl due r.opened.id)))
-    (flat P timer_dues (pending ATimer s) (λ k e there. timers P e (λ a _ starts _. record { place = k; event = e; timer = a; there = there; named = refl; starts = starts })))) is (ap is_timer_class class)
+    (flat P timer_dues (pending Timer s) (λ k e there. timers P e (λ a _ starts _. record { place = k; event = e; timer = a; there = there; named = refl; starts = starts })))) is (ap is_timer_class class)
 
 is_retry_class : DeadlineClass → Bool
 is_retry_class RetryReady = true
@@ -148,4 +148,4 @@ due-retry s n d class is =
     let none : (c : DeadlineClass) → is_retry_class c ≡ false → (due event : ℕ) → is_retry_class c ≡ true → HasActivity s event = λ c h _ _ e. absurd (let clash : true ≡ false = sym e ∙ h in cc) in
     one P n (dues s) d (all-dues P s (none RunTimeout refl) (λ _. none WorkflowTask refl)
     (flat P activity_dues (pending_rows s) (λ k r there. activities P r (λ due. none ScheduleToClose refl due r.opened.id) (λ due. none ScheduleToStart refl due r.opened.id) (λ due. none Heartbeat refl due r.opened.id) (λ due. none StartToClose refl due r.opened.id) (λ _ _. record { place = k; row = r; there = there; named = refl })))
-    (flat P timer_dues (pending ATimer s) (λ _ e _. timers P e (λ _ due _. none UserTimer refl due e.id)))) is (ap is_retry_class class)
+    (flat P timer_dues (pending Timer s) (λ _ e _. timers P e (λ _ due _. none UserTimer refl due e.id)))) is (ap is_retry_class class)

@@ -3,7 +3,7 @@ use Rattle.std.specs.Prelude.{◌≡◌, ℕ, ◌+◌, ◌-◌, ◌≤◌, List,
 use Rattle.wf_event.specs.declared.event.Event.{Event}
 use Rattle.wf_event.specs.declared.attributes.Attributes.TheVariants.{TimerStarted}
 use Rattle.wf_event.specs.declared.payloads.TimerStarted.{TimerStarted as TimerFields}
-use Rattle.wf_event.specs.Role.{ATimer}
+use Rattle.wf_event.specs.declared.role.Class.TheVariants.{Timer}
 use Rattle.service_model.specs.Deadlines.{Due, dues, pending_rows}
 use Rattle.service_model.specs.RunState.{RunState, ActivityRow, no_run, pending}
 use Rattle.service_model.specs.TimerTurns.{RunDue, least}
@@ -38,7 +38,7 @@ pub record HasTimer (s : RunState) (id : ℕ) : Type 0 where
   pub place : ℕ
   pub event : Event
   pub timer : TimerFields
-  pub there : slice_get (pending ATimer s) place ≡ Some event
+  pub there : slice_get (pending Timer s) place ≡ Some event
   pub named : event.id ≡ id
   pub starts : event.attributes ≡ TimerStarted timer
 

@@ -41,8 +41,10 @@ impl Inbox {
     /// What the shard would say of a transfer.
     pub fn judge(&self, transfer: &Transfer) -> Delivery
         requires { transfer.now.from < length self.now }
-        ensures value { result ≡ delivery_of (accepted_from self.now transfer.now.from) transfer.now.number }
-        ensures countable { result ≡ IsNext → accepted_from self.now transfer.now.from + 1 < 2 ^ 64 }
+        ensures value { result
+            ≡ delivery_of (accepted_from self.now transfer.now.from) transfer.now.number }
+        ensures countable { result ≡ IsNext →
+            accepted_from self.now transfer.now.from + 1 < 2 ^ 64 }
     {
         let accepted = self.accepted[usize::from(transfer.from)];
         if transfer.number <= accepted {
@@ -67,7 +69,8 @@ impl Inbox {
     /// Accepts a transfer, where it is the next one of its source.
     pub fn accept(&mut self, transfer: &Transfer) -> Delivery
         requires { transfer.now.from < length self.old }
-        ensures value { result ≡ delivery_of (accepted_from self.old transfer.now.from) transfer.now.number }
+        ensures value { result
+            ≡ delivery_of (accepted_from self.old transfer.now.from) transfer.now.number }
         ensures accepted { self.new ≡ accepted_then self.old transfer.now.from result }
         ensures shards { length self.new ≡ length self.old }
     {

@@ -73,7 +73,8 @@ impl Outbox {
         requires room { 0 < room_to self.old to }
         ensures issued { outgoing self.new ≡ issued_to (outgoing self.old) to content }
         ensures shards { length self.new ≡ length self.old }
-        ensures room { (shard : ℕ) → room_to self.old shard ≤ room_to self.new shard + (if shard == to then 1 else 0) }
+        ensures room { (shard : ℕ) →
+            room_to self.old shard ≤ room_to self.new shard + (if shard == to then 1 else 0) }
     {
         let log = &mut self.logs[usize::from(to)];
         log.issue(content);
@@ -137,7 +138,8 @@ impl Outbox {
         requires { to < length self.now }
         ensures content { let o = outgoing_to (outgoing self.now) to in
             option_map (λ f. f.1.now) result ≡ slice_get o.issued o.acknowledged }
-        ensures number { IfSome result (λ f. f.0 ≡ (outgoing_to (outgoing self.now) to).acknowledged + 1) }
+        ensures number { IfSome result (λ f.
+            f.0 ≡ (outgoing_to (outgoing self.now) to).acknowledged + 1) }
     {
         let log = &self.logs[usize::from(to)];
         log.first()
@@ -169,8 +171,10 @@ impl Outbox {
     /// Acknowledges the next number of a destination.
     pub fn acknowledge_next(&mut self, to: u16)
         requires there { to < length self.old }
-        requires issued { let o = outgoing_to (outgoing self.old) to in o.acknowledged < length o.issued }
-        ensures counted { outgoing self.new ≡ acknowledged_to (outgoing self.old) to Acknowledged.Acknowledged }
+        requires issued { let o = outgoing_to (outgoing self.old) to in
+            o.acknowledged < length o.issued }
+        ensures counted { outgoing self.new
+            ≡ acknowledged_to (outgoing self.old) to Acknowledged.Acknowledged }
         ensures shards { length self.new ≡ length self.old }
         ensures room { (shard : ℕ) → room_to self.old shard ≤ room_to self.new shard }
     {

@@ -1,6 +1,6 @@
 use Rattle.std.proofs.Common.{◌≡◌, ◌∙◌, sym, ap, true, Some}
 use Rattle.std.specs.Prelude.{option_map}
-use Rattle.wf_event.specs.Role.{AnActivity}
+use Rattle.wf_event.specs.declared.role.Class.TheVariants.{Activity}
 use Rattle.service_model.specs.RunState.{RunState, is_open, used}
 use Rattle.service_model.specs.Tasks.{pending_row}
 use Rattle.mutable_state.specs.Activities.{row_said}
@@ -16,7 +16,7 @@ returns-clause-in_use g c =
     sym c.run.ensures in
     let found : pending_row (run_in c.args.store.now c.args.index) c.args.hint.event ≡ Some (row_said c.in-Some.activity) =
     ap (λ s. pending_row s c.args.hint.event) there ∙ sym c.in_ok-activity.ensures.found ∙ ap (option_map row_said) c.in-Some.is in
-    if-some c.in_ok-task.task (has_id c.args.hint.event (used AnActivity (run_in c.args.store.now c.args.index)) ≡ true) (pending-there c.args.hint.event (run_in c.args.store.now c.args.index) (row_said c.in-Some.activity) found)
+    if-some c.in_ok-task.task (has_id c.args.hint.event (used Activity (run_in c.args.store.now c.args.index)) ≡ true) (pending-there c.args.hint.event (run_in c.args.store.now c.args.index) (row_said c.in-Some.activity) found)
 
 pub returns-clause-open : goal.returns-clause-open
 returns-clause-open g c =

@@ -1,14 +1,13 @@
 use Rattle.std.proofs.Common.{◌≡◌, ◌∙◌, true, sym, subst, Option}
 use Rattle.std.specs.Prelude.{ℕ, List, IfSome}
 use Rattle.service_model.specs.RunState.{RunState, is_open, pending}
-use Rattle.wf_event.specs.Openers.{class_in}
 use Rattle.mutable_state.specs.Steps.{has_id}
 use Rattle.shard_deliveries.proofs.FitLemmas.{asked-waits}
 use Rattle.shard_deliveries.proofs.pending.pending_request.Goals as goal
 
 pub returns-in-Some-2-clause-pending : goal.returns-in-Some-2-clause-pending
 returns-in-Some-2-clause-pending g c =
-    let class = class_in c.args.class in
+    let class = c.args.class in
     let id = c.args.initiated in
     let s = c.run.result.now.state in
     let name = c.in-Some-2.workflow_id in
