@@ -15,9 +15,7 @@ use wf_event_values::Moment;
 impl Service {
     ghost use Rattle.service.specs.Services.{IsPassOf, IsServedBy, IsTried};
 
-    /// Completes a running activity (Temporal, RespondActivityTaskCompleted), with a result text. A
-    /// shard that is not there, or a run, an event or an attempt 0, is an invalid token (ours). An
-    /// attempt that isn't running is not found. It never waits.
+    /// [`Service::complete_activity`] that never waits.
     ///
     /// # Errors
     /// As [`Service::try_serve`].
@@ -52,10 +50,7 @@ impl Service {
         self.serve(rt, pass, request(at, Operation::CompleteActivity(asked)))
     }
 
-    /// Fails a running attempt of an activity (Temporal, RespondActivityTaskFailed): the activity
-    /// is tried again by its retry policy, and the reply says when, or it has failed, and the reply
-    /// says why. A shard that is not there, or a run, an event or an attempt 0, is an invalid token
-    /// (ours). An attempt that isn't running is not found. It never waits.
+    /// [`Service::fail_activity`] that never waits.
     ///
     /// # Errors
     /// As [`Service::try_serve`].
@@ -91,10 +86,7 @@ impl Service {
         self.serve(rt, pass, request(at, Operation::FailActivity(asked)))
     }
 
-    /// Cancels a running activity that was asked to cancel (Temporal, RespondActivityTaskCanceled),
-    /// with details. A shard that is not there, or a run, an event or an attempt 0, is an invalid
-    /// token (ours). An attempt that isn't running is not found; an activity that wasn't asked to
-    /// cancel is an invalid argument `token` (ours). It never waits.
+    /// [`Service::cancel_activity`] that never waits.
     ///
     /// # Errors
     /// As [`Service::try_serve`].
@@ -130,10 +122,7 @@ impl Service {
         self.serve(rt, pass, request(at, Operation::CancelActivity(asked)))
     }
 
-    /// Reports that a running attempt goes on (Temporal, RecordActivityTaskHeartbeat), with details
-    /// that the next attempt is given; the reply says whether the activity was asked to cancel. A
-    /// shard that is not there, or a run, an event or an attempt 0, is an invalid token (ours). An
-    /// attempt that isn't running is not found. It never waits.
+    /// [`Service::heartbeat`] that never waits.
     ///
     /// # Errors
     /// As [`Service::try_serve`].

@@ -14,7 +14,7 @@ use wf_event_values::Moment;
 impl Service {
     ghost use Rattle.service.specs.Services.{IsPassOf, IsServedBy, IsTried};
 
-    /// Starts a run of a workflow ID, where the policies allow it. It never waits.
+    /// [`Service::start`] that never waits.
     ///
     /// # Errors
     /// As [`Service::try_serve`].
@@ -47,7 +47,7 @@ impl Service {
         self.serve(rt, pass, request(at, Operation::Start(asked)))
     }
 
-    /// Signals the workflow ID's open run, the named one or the latest. It never waits.
+    /// [`Service::signal`] that never waits.
     ///
     /// # Errors
     /// As [`Service::try_serve`].
@@ -80,7 +80,7 @@ impl Service {
         self.serve(rt, pass, request(at, Operation::Signal(asked)))
     }
 
-    /// Shows the history of the workflow ID's run, the named one or the latest. It never waits.
+    /// [`Service::history`] that never waits.
     ///
     /// # Errors
     /// As [`Service::try_serve`].
@@ -113,9 +113,7 @@ impl Service {
         self.serve(rt, pass, request(at, Operation::History(asked)))
     }
 
-    /// Describes the workflow ID's run, the named one or the latest (Temporal,
-    /// DescribeWorkflowExecution): its status, and how much is pending, held back and in its history.
-    /// It never waits.
+    /// [`Service::describe`] that never waits.
     ///
     /// # Errors
     /// As [`Service::try_serve`].

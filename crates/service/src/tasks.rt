@@ -17,8 +17,7 @@ use wf_event_values::Moment;
 impl Service {
     ghost use Rattle.service.specs.Services.{IsPassOf, IsServedBy, IsTried};
 
-    /// Takes the task that a hint names for a worker, where it still waits to be taken, else answers
-    /// `Stale`. A shard that is not there is an invalid argument `shard`. It never waits.
+    /// [`Service::start_task`] that never waits.
     ///
     /// # Errors
     /// As [`Service::try_serve`].
@@ -52,11 +51,7 @@ impl Service {
         self.serve(rt, pass, request(at, Operation::StartTask(hint)))
     }
 
-    /// Completes a taken workflow task by commands (Temporal, RespondWorkflowTaskCompleted): all of
-    /// them take effect, or the first faulty one fails the task. A shard that is not there, or a run,
-    /// an event or an attempt 0, is an invalid token; then more than 10,000 commands are an invalid
-    /// argument `commands` (ours). A task that isn't running at that attempt is not found.
-    /// It never waits.
+    /// [`Service::complete_workflow_task`] that never waits.
     ///
     /// # Errors
     /// As [`Service::try_serve`].
@@ -98,9 +93,7 @@ impl Service {
         )
     }
 
-    /// Fails a taken workflow task (Temporal, RespondWorkflowTaskFailed). A shard that is not there,
-    /// or a run, an event or an attempt 0, is an invalid token (ours). A task that isn't running at
-    /// that attempt is not found. It never waits.
+    /// [`Service::fail_workflow_task`] that never waits.
     ///
     /// # Errors
     /// As [`Service::try_serve`].

@@ -17,9 +17,7 @@ use wf_event_values::Moment;
 impl Service {
     ghost use Rattle.service.specs.Services.{IsPassOf, IsServedStep, IsServedOnBy, IsTriedStep, IsTriedOn, settings_of};
 
-    /// Lets the first deadline of a shard fire, if it is due at that moment, else answers `NothingDue`.
-    /// The order of deadlines is by due moment, then by run, class and event (ours). A shard that is
-    /// not there is an invalid argument `shard`. It never waits.
+    /// [`Service::timer_turn`] that never waits.
     ///
     /// # Errors
     /// As [`Service::try_serve`].
@@ -62,7 +60,7 @@ impl Service {
         self.serve_on(rt, pass, refusal, usize::from(shard), turn)
     }
 
-    /// Serves a call of any kind. It never waits.
+    /// [`Service::serve_step`] that never waits.
     ///
     /// # Errors
     /// As [`Service::try_serve`], with the request of the step that the call makes.

@@ -15,8 +15,7 @@ use wf_event_values::Moment;
 impl Service {
     ghost use Rattle.service.specs.Services.{IsPassOf, IsServedBy, IsTried};
 
-    /// Signals the workflow ID's open run, or starts a run that is signaled, where the reuse policy
-    /// allows it (Temporal, SignalWithStartWorkflowExecution). It never waits.
+    /// [`Service::signal_with_start`] that never waits.
     ///
     /// # Errors
     /// As [`Service::try_serve`].
@@ -50,8 +49,7 @@ impl Service {
         self.serve(rt, pass, request(at, Operation::SignalWithStart(asked)))
     }
 
-    /// Asks the workflow ID's open run, the named one or the latest, to cancel (Temporal,
-    /// RequestCancelWorkflowExecution). It never waits.
+    /// [`Service::request_cancel`] that never waits.
     ///
     /// # Errors
     /// As [`Service::try_serve`].
@@ -85,8 +83,7 @@ impl Service {
         self.serve(rt, pass, request(at, Operation::RequestCancel(asked)))
     }
 
-    /// Terminates the workflow ID's open run, the named one or the latest (Temporal,
-    /// TerminateWorkflowExecution). It never waits.
+    /// [`Service::terminate`] that never waits.
     ///
     /// # Errors
     /// As [`Service::try_serve`].
