@@ -15,5 +15,5 @@ mod serving;
 pub use fault::ScriptFault;
 pub use line::{LINE_LIMIT, Line, cut};
 pub use reading::asked;
-pub use run::{Outcome, run_one};
+pub use run::{CHUNK, Outcome, run_one};
 pub use serving::opening_fault;
