@@ -1,10 +1,8 @@
-//! The tasks that a run hands to their queues.
+//! The tasks that a run hands to their queues, by the events that schedule them.
 
 ghost use Rattle.std.specs.Prelude.{◌≡◌, drop, filter_map, IfOk};
-ghost use Rattle.service_model.specs.Issued.{task_dispatch, row_dispatch};
-ghost use Rattle.mutable_state.specs.Activities.{row_said};
+ghost use Rattle.service_model.specs.Issued.{task_dispatch};
 
-use crate::activity::Activity;
 use service_model_types::content::{Dispatch, Setup};
 use service_model_types::request::Hint;
 use std::alloc::{AllocError, Global};
@@ -13,7 +11,7 @@ use wf_event_values::TaskKind;
 
 /// The dispatch of the task that an event schedules in the run with this ordinal, if it schedules
 /// one.
-pub fn task_dispatch(setup: &Setup, run: u64, event: &Event) -> Result<Option<Dispatch>, AllocError>
+fn task_dispatch(setup: &Setup, run: u64, event: &Event) -> Result<Option<Dispatch>, AllocError>
     ensures { IfOk result (λ found. found ≡ task_dispatch setup.now run event.now) }
 {
     let (queue, kind, attempt) = match &event.attributes {
@@ -33,30 +31,6 @@ pub fn task_dispatch(setup: &Setup, run: u64, event: &Event) -> Result<Option<Di
         attempt,
     };
     Ok(Some(Dispatch { queue, hint }))
-}
-
-/// The dispatch of an activity's attempt in the run with this ordinal.
-pub fn attempt_dispatch(
-    setup: &Setup,
-    run: u64,
-    activity: &Activity,
-) -> Result<Option<Dispatch>, AllocError>
-    ensures { IfOk result (λ found. found ≡ row_dispatch setup.now run (row_said activity.now)) }
-{
-    let Attributes::ActivityTaskScheduled(scheduled) = &activity.scheduled.attributes else {
-        return Ok(None);
-    };
-    let hint = Hint {
-        kind: TaskKind::Activity,
-        shard: setup.shard,
-        run,
-        event: activity.scheduled.id,
-        attempt: activity.notes.attempt,
-    };
-    Ok(Some(Dispatch {
-        queue: scheduled.task_queue.clone()?,
-        hint,
-    }))
 }
 
 /// The dispatches of the tasks that these events schedule, but for so many first ones, in the run
