@@ -3,11 +3,13 @@
 ghost use Rattle.std.specs.Prelude.{◌≡◌};
 
 use service_model_types::limits::DEFAULT_CAPACITY;
-use service_model_types::request::{Signal, Start};
+use service_model_types::request::{Hint, Signal, Start, TakenTask};
 use service_model_types::settings::{Settings, main_queue};
 use std::alloc::AllocGlobal;
 use std::process::Abort;
-use wf_event_values::{ConflictPolicy, Field, Id, Moment, ReusePolicy, RunId, Span, Text};
+use wf_event_values::{
+    ConflictPolicy, Field, Id, Moment, ReusePolicy, RunId, Span, TaskKind, Text,
+};
 
 /// So many shards and passes, and the queue `main`.
 pub(crate) fn settings<R: Abort + AllocGlobal>(
@@ -87,6 +89,27 @@ pub(crate) fn signal<R: Abort + AllocGlobal>(rt: &R, workflow_id: &str) -> Signa
         name: text(rt, "s"),
         input: text(rt, ""),
         request_id: None,
+    }
+}
+
+/// A task of the shard's first run that waits to be taken, by the event that scheduled it.
+pub(crate) fn waiting(kind: TaskKind, shard: u16, event: u64, attempt: u32) -> Hint {
+    Hint {
+        kind,
+        shard,
+        run: 1,
+        event,
+        attempt,
+    }
+}
+
+/// The same once it was taken.
+pub(crate) fn taken(shard: u16, event: u64, attempt: u32) -> TakenTask {
+    TakenTask {
+        shard,
+        run: 1,
+        event,
+        attempt,
     }
 }
 

@@ -3,11 +3,9 @@
 #![tactic(auto)]
 
 #[cfg(test)]
-mod activities;
-#[cfg(test)]
 mod asked;
 #[cfg(test)]
-mod called;
+mod calls;
 #[cfg(test)]
 mod limits;
 #[cfg(test)]
@@ -15,10 +13,14 @@ mod passes;
 #[cfg(test)]
 mod queues;
 #[cfg(test)]
+mod ranges;
+#[cfg(test)]
 mod refusals;
+#[cfg(test)]
+mod shown;
 #[cfg(test)]
 mod threads;
 #[cfg(test)]
 mod transfers;
 #[cfg(test)]
-mod workflows;
+mod turns;

@@ -1,16 +1,17 @@
 //! Services near their limits.
 
-ghost use Rattle.std.specs.Prelude.{◌≡◌};
 ghost use Rattle.service.specs.Services.{IsPassOf};
+ghost use Rattle.service_tests.specs.Passes.{ComesBack};
 
 use crate::asked::{id, settings, signal, start};
 use crate::passes::{close, give_back, open, take_pass};
-use service::{Pass, Service};
+use crate::shown::shown;
+use service::{Pass, Record, Service};
 use service_model_types::answer::{Answer, Reply};
-use service_model_types::request::Read;
+use service_model_types::request::{Read, Request};
 use std::alloc::AllocGlobal;
 use std::process::Abort;
-use wf_event_values::{Moment, Refusal};
+use wf_event_values::Moment;
 
 /// The largest number that a service may have.
 const LAST_SERVICE: u64 = 281_474_976_710_655;
@@ -21,10 +22,34 @@ const RUNS: u64 = 1200;
 const SIGNALS: u64 = 20_998;
 
 /// The ordinal of the run that was started on a shard, or 0.
-fn started_on(reply: &Reply, shard: u16) -> u64 {
-    match reply {
-        Ok(Answer::Started(run)) if run.shard() == shard => run.ordinal(),
+fn started_on<E: Drop>(came: Result<Reply, E>, shard: u16) -> u64 {
+    match &came {
+        Ok(Ok(Answer::Started(run))) if run.shard() == shard => run.ordinal(),
         _ => 0,
+    }
+}
+
+/// Starts a run, which lies on this shard and has this ordinal.
+fn assert_starts<R: Abort + AllocGlobal>(
+    rt: &R,
+    service: &Service,
+    pass: &mut Pass,
+    workflow_id: &str,
+    wanted: (u16, u64),
+)
+    requires { IsPassOf pass.old service.now }
+    ensures { ComesBack service.now pass.old pass.new }
+{
+    let (shard, ordinal) = wanted;
+    let came = service.try_start(pass, start(rt, workflow_id, None), Moment::zero());
+    assert_eq!(rt; started_on(came, shard), ordinal, "{workflow_id}");
+}
+
+/// Of 64 records only the last one has a step.
+fn assert_last_stepped<R: Abort>(rt: &R, records: &[Record<Request>]) {
+    assert_eq!(rt; records.len(), 64);
+    for (shard, record) in records.iter().enumerate() {
+        assert_eq!(rt; record.len(), usize::from(shard == 63), "{shard}");
     }
 }
 
@@ -34,17 +59,11 @@ fn as_many_shards_and_passes_as_there_may_be(rt: HostRuntime) {
     let (service, mut passes) = open(&rt, &settings(&rt, 64, 256, LAST_SERVICE));
     let mut last = take_pass(&service, &mut passes);
     let mut other = take_pass(&service, &mut passes);
-    match service.try_start(&mut last, start(&rt, "cw", None), Moment::zero()) {
-        Ok(reply) => assert_eq!(rt; started_on(&reply, 63), 1),
-        Err(_) => panic!(rt; "the shard was free"),
-    }
+    assert_starts(&rt, &service, &mut last, "cw", (63, 1));
     service.meet(&mut other, &mut last);
     give_back(&rt, &service, &mut passes, other);
     give_back(&rt, &service, &mut passes, last);
-    let records = close(service, passes);
-    assert_eq!(rt; records.len(), 64);
-    assert!(rt; records[62].is_empty());
-    assert_eq!(rt; records[63].len(), 1);
+    assert_last_stepped(&rt, &close(service, passes));
 }
 
 /// Starts runs of different workflows on one shard.
@@ -53,11 +72,8 @@ fn start_each<R: Abort + AllocGlobal>(rt: &R, service: &Service, pass: &mut Pass
     ensures { IsPassOf pass.new service.now }
 {
     for ordinal in 1..=RUNS {
-        let Ok(name) = format!(in rt.alloc(); "w{ordinal}") else {
-            panic!(rt; "no memory")
-        };
-        match service.try_start(pass, start(rt, name.as_str(), None), Moment::zero()) {
-            Ok(reply) => assert_eq!(rt; started_on(&reply, 0), ordinal),
+        match format!(in rt.alloc(); "w{ordinal}") {
+            Ok(name) => assert_starts(rt, service, pass, name.as_str(), (0, ordinal)),
             Err(_) => panic!(rt; "no memory"),
         }
     }
@@ -69,10 +85,8 @@ fn signal_often<R: Abort + AllocGlobal>(rt: &R, service: &Service, pass: &mut Pa
     ensures { IsPassOf pass.new service.now }
 {
     for _ in 0..SIGNALS {
-        match service.try_signal(pass, signal(rt, "w1"), Moment::zero()) {
-            Ok(reply) => assert!(rt; matches!(&reply, Ok(Answer::Signaled))),
-            Err(_) => panic!(rt; "no memory"),
-        }
+        let came = service.try_signal(pass, signal(rt, "w1"), Moment::zero());
+        assert_eq!(rt; shown(came), "signaled");
     }
 }
 
@@ -106,22 +120,4 @@ fn runs_and_events_by_the_thousand(rt: HostRuntime) {
     start_each(&rt, &service, &mut pass);
     signal_often(&rt, &service, &mut pass);
     assert_eq!(rt; length_of_history(&rt, &service, &mut pass), 21_000);
-}
-
-/// Numbers of passes out of their range, which no command line sets, behind those of shards and
-/// before those of services.
-#[test]
-fn settings_out_of_range(rt: HostRuntime) {
-    let wrong = [
-        (65, 257, 1, "shards"),
-        (64, 0, 1, "passes"),
-        (64, 257, 281_474_976_710_656, "passes"),
-        (1, 256, 281_474_976_710_656, "service"),
-    ];
-    for (shards, passes, service, name) in wrong {
-        match Service::open(rt.alloc(), &settings(&rt, shards, passes, service)) {
-            Err(Refusal::InvalidArgument(field)) => assert_eq!(rt; field.name(), name),
-            _ => panic!(rt; "{name} is in its range"),
-        }
-    }
 }

@@ -1,8 +1,9 @@
 //! Passes that are taken from those of a service, and given back.
 
-ghost use Rattle.std.specs.Prelude.{◌≡◌, ℕ, ◌+◌, ◌<◌, Some, length, slice_get};
+ghost use Rattle.std.specs.Prelude.{◌≡◌, ◌+◌, ◌<◌, length};
 ghost use Rattle.gate.specs.Passes.{number};
 ghost use Rattle.service.specs.Services.{IsPassOf, known_by, settings_of};
+ghost use Rattle.service_tests.specs.Passes.{InOrder};
 
 use service::{Pass, Record, Service};
 use service_model_types::request::Request;
@@ -12,7 +13,7 @@ use std::process::Abort;
 
 /// A service, and its passes in the order of their numbers.
 pub(crate) fn open<R: Abort + AllocGlobal>(rt: &R, settings: &Settings) -> (Service, Vec<Pass>)
-    ensures own { (k : ℕ) (p : Pass) → slice_get result.1.items k ≡ Some p → IsPassOf p result.0 × (number (known_by p) ≡ k) }
+    ensures own { InOrder result.0 result.1.items }
     ensures count { length result.1.items ≡ settings.now.passes }
     ensures settings { settings_of result.0 ≡ settings.now }
 {
@@ -25,11 +26,11 @@ pub(crate) fn open<R: Abort + AllocGlobal>(rt: &R, settings: &Settings) -> (Serv
 /// Takes the last pass.
 pub(crate) fn take_pass(service: &Service, passes: &mut Vec<Pass>) -> Pass
     requires some { 0 < length passes.old.items }
-    requires own { (k : ℕ) (p : Pass) → slice_get passes.old.items k ≡ Some p → IsPassOf p service.now × (number (known_by p) ≡ k) }
+    requires own { InOrder service.now passes.old.items }
     ensures own { IsPassOf result service.now }
     ensures last { length passes.old.items ≡ number (known_by result) + 1 }
     ensures less { length passes.old.items ≡ length passes.new.items + 1 }
-    ensures rest { (k : ℕ) (p : Pass) → slice_get passes.new.items k ≡ Some p → IsPassOf p service.now × (number (known_by p) ≡ k) }
+    ensures rest { InOrder service.now passes.new.items }
 {
     let Some(pass) = passes.pop() else {
         unreachable!()
@@ -39,9 +40,10 @@ pub(crate) fn take_pass(service: &Service, passes: &mut Vec<Pass>) -> Pass
 
 /// Gives a pass back, behind those with lower numbers.
 pub(crate) fn give_back<R: Abort>(rt: &R, service: &Service, passes: &mut Vec<Pass>, pass: Pass)
-    requires own { (k : ℕ) (p : Pass) → slice_get passes.old.items k ≡ Some p → IsPassOf p service.now × (number (known_by p) ≡ k) }
-    requires pass { IsPassOf pass service.now × (number (known_by pass) ≡ length passes.old.items) }
-    ensures own { (k : ℕ) (p : Pass) → slice_get passes.new.items k ≡ Some p → IsPassOf p service.now × (number (known_by p) ≡ k) }
+    requires own { InOrder service.now passes.old.items }
+    requires pass { IsPassOf pass service.now
+        × (number (known_by pass) ≡ length passes.old.items) }
+    ensures own { InOrder service.now passes.new.items }
     ensures more { length passes.new.items ≡ length passes.old.items + 1 }
 {
     match passes.push(pass) {
@@ -52,7 +54,7 @@ pub(crate) fn give_back<R: Abort>(rt: &R, service: &Service, passes: &mut Vec<Pa
 
 /// The records of the service, where its passes lie in the order of their numbers.
 pub(crate) fn close(service: Service, passes: Vec<Pass>) -> Vec<Record<Request>>
-    requires own { (k : ℕ) (p : Pass) → slice_get passes.items k ≡ Some p → IsPassOf p service × (number (known_by p) ≡ k) }
+    requires own { InOrder service passes.items }
     requires count { length passes.items ≡ (settings_of service).passes }
     ensures { length result.items ≡ (settings_of service).shards }
 {

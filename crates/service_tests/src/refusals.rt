@@ -1,30 +1,26 @@
-//! Requests that are refused before any shard is entered, by hints and tokens that no line can bear.
+//! Requests that are refused before any shard is entered, by hints and tokens that no line can
+//! bear.
 
-ghost use Rattle.std.specs.Prelude.{◌≡◌};
-ghost use Rattle.gate.specs.Passes.{number};
-ghost use Rattle.service.specs.Services.{IsPassOf, known_by};
+ghost use Rattle.service.specs.Services.{IsPassOf};
+ghost use Rattle.service_tests.specs.Passes.{ComesBack};
 
-use crate::asked::two_shards;
-use crate::passes::{close_two, open, take_pass};
-use service::{Pass, Service};
+use crate::asked::{settings, taken, waiting};
+use crate::passes::{close, give_back, open, take_pass};
+use crate::shown::shown;
+use service::{Pass, Record, Service};
 use service_model_types::request::{
-    CompleteWorkflowTask, FailWorkflowTask, Hint, Operation, Request, TakenTask,
+    CompleteWorkflowTask, FailWorkflowTask, Operation, Request, TakenTask,
 };
 use std::alloc::{AllocError, AllocGlobal, Global};
 use std::process::Abort;
 use std::sync::Wait;
 use wf_command::Command;
 use wf_command::command::RecordMarker;
-use wf_event_values::{Items, Moment, Refusal, TaskKind, Text};
+use wf_event_values::{Items, Moment, TaskKind, Text};
 
 /// The first task of a shard's first run.
 fn task(shard: u16) -> TakenTask {
-    TakenTask {
-        shard,
-        run: 1,
-        event: 2,
-        attempt: 1,
-    }
+    taken(shard, 2, 1)
 }
 
 fn markers(alloc: Global, count: u64) -> Result<Items<Command>, AllocError> {
@@ -63,25 +59,19 @@ fn assert_refused<R: Abort + Wait>(
     expected: &'static str,
 )
     requires { IsPassOf pass.old service.now }
-    ensures own { IsPassOf pass.new service.now }
-    ensures named { number (known_by pass.new) ≡ number (known_by pass.old) }
+    ensures { ComesBack service.now pass.old pass.new }
 {
     let request = Request {
         at: Moment::zero(),
         operation,
     };
-    match &service.serve(rt, pass, request) {
-        Ok(Err(Refusal::InvalidArgument(field))) => assert_eq!(rt; field.name(), expected),
-        Ok(Err(refusal)) => assert_eq!(rt; refusal.name(), expected),
-        _ => panic!(rt; "{expected}"),
-    }
+    assert_eq!(rt; shown(service.serve(rt, pass, request)), expected);
 }
 
 /// A token that counts from 0 is refused, and one of a shard that is not there.
 fn assert_no_tokens<R: Abort + AllocGlobal + Wait>(rt: &R, service: &Service, pass: &mut Pass)
     requires { IsPassOf pass.old service.now }
-    ensures own { IsPassOf pass.new service.now }
-    ensures named { number (known_by pass.new) ≡ number (known_by pass.old) }
+    ensures { ComesBack service.now pass.old pass.new }
 {
     let no_run = TakenTask { run: 0, ..task(1) };
     let no_event = TakenTask {
@@ -105,27 +95,32 @@ fn assert_no_tokens<R: Abort + AllocGlobal + Wait>(rt: &R, service: &Service, pa
     assert_refused(rt, service, pass, complete(rt, task(1), 10_001), "commands");
 }
 
+/// A hint of a shard that is not there is refused, and so are the requests of turns, which name no
+/// shard.
+fn assert_no_shards<R: Abort + Wait>(rt: &R, service: &Service, pass: &mut Pass)
+    requires { IsPassOf pass.old service.now }
+    ensures { ComesBack service.now pass.old pass.new }
+{
+    let hint = Operation::StartTask(waiting(TaskKind::Workflow, 2, 2, 1));
+    assert_refused(rt, service, pass, hint, "shard");
+    assert_refused(rt, service, pass, Operation::TimerTurn, "shard");
+    assert_refused(rt, service, pass, Operation::NextTransfer(1), "shard");
+    assert_refused(rt, service, pass, Operation::NextDispatch, "shard");
+    assert_refused(rt, service, pass, Operation::Dispatched(1), "shard");
+}
+
+/// Two records without steps.
+fn assert_no_steps<R: Abort>(rt: &R, records: &[Record<Request>]) {
+    assert_eq!(rt; records.len(), 2);
+    assert!(rt; records.iter().all(|record| record.is_empty()));
+}
+
 #[test]
 fn what_is_refused_enters_no_shard(rt: HostRuntime) {
-    let (service, mut passes) = open(&rt, &two_shards(&rt));
-    let second = take_pass(&service, &mut passes);
-    let mut first = take_pass(&service, &mut passes);
-    assert_no_tokens(&rt, &service, &mut first);
-    let hint = Operation::StartTask(Hint {
-        kind: TaskKind::Workflow,
-        shard: 2,
-        run: 1,
-        event: 2,
-        attempt: 1,
-    });
-    assert_refused(&rt, &service, &mut first, hint, "shard");
-    // The requests of turns name no shard.
-    assert_refused(&rt, &service, &mut first, Operation::TimerTurn, "shard");
-    let next = Operation::NextTransfer(1);
-    assert_refused(&rt, &service, &mut first, next, "shard");
-    assert_refused(&rt, &service, &mut first, Operation::NextDispatch, "shard");
-    assert_refused(&rt, &service, &mut first, Operation::Dispatched(1), "shard");
-    let records = close_two(&rt, service, first, second);
-    assert_eq!(rt; records.len(), 2);
-    assert!(rt; records[0].is_empty() && records[1].is_empty());
+    let (service, mut passes) = open(&rt, &settings(&rt, 2, 1, 1));
+    let mut pass = take_pass(&service, &mut passes);
+    assert_no_tokens(&rt, &service, &mut pass);
+    assert_no_shards(&rt, &service, &mut pass);
+    give_back(&rt, &service, &mut passes, pass);
+    assert_no_steps(&rt, &close(service, passes));
 }

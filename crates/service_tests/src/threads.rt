@@ -1,16 +1,17 @@
 //! Passes on threads of their own.
 
-ghost use Rattle.std.specs.Prelude.{◌≡◌};
-ghost use Rattle.gate.specs.Passes.{number};
-ghost use Rattle.service.specs.Services.{IsPassOf, known_by};
+ghost use Rattle.service.specs.Services.{IsPassOf};
+ghost use Rattle.service_tests.specs.Passes.{ComesBack};
 ghost use Rattle.std.specs.Thread.{IsSync};
 
 use crate::asked::{id, is_first_run, moment, settings, signal, start, two_shards};
+use crate::calls::start_one;
 use crate::passes::{close, close_two, give_back, open, take_pass};
+use crate::shown::shown;
 use service::{Pass, Record, Refused, Service};
 use service_model_types::answer::{Answer, Reply};
 use service_model_types::request::{Operation, Request};
-use std::alloc::AllocGlobal;
+use std::alloc::{AllocError, AllocGlobal};
 use std::process::Abort;
 use std::sync::Wait;
 use std::thread;
@@ -22,12 +23,14 @@ const WORKFLOWS: [&str; 5] = ["a", "b", "c", "d", "e"];
 
 const SIGNALS: u64 = 3000;
 
-fn is_started(reply: &Reply, shard: u16) -> bool {
-    matches!(reply, Ok(Answer::Started(run)) if is_first_run(*run, shard))
-}
-
-fn is_already_started(reply: &Reply) -> bool {
-    matches!(reply, Err(Refusal::AlreadyStarted(run)) if is_first_run(*run, 0))
+/// What came of a start, where the run that it names is its shard's first.
+fn began<E: Drop>(came: Result<Reply, E>, shard: u16) -> &'static str {
+    match &came {
+        Ok(Ok(Answer::Started(run))) if is_first_run(*run, shard) => "started",
+        Ok(Err(Refusal::AlreadyStarted(run))) if is_first_run(*run, shard) => "already started",
+        Ok(_) => "another answer",
+        Err(_) => "no answer",
+    }
 }
 
 /// The workflow ID that a request names, where it names one.
@@ -63,32 +66,34 @@ fn has_steps(record: &Record<Request>, steps: &[(u8, &str)]) -> bool {
             && workflow_of(&entry.1) == step.1)
 }
 
+/// Whether a start of `a` came back, since another pass was on its shard.
+fn is_kept_out(came: Result<Reply, (Refused, Request)>) -> bool {
+    match &came {
+        Err((Refused::Busy, request)) => workflow_of(request) == "a",
+        _ => false,
+    }
+}
+
 /// While another pass stays on the shard of `a`, `b` can be started and `a` can't.
 fn start_both<R: Abort + AllocGlobal>(rt: &R, service: &Service, mut pass: Pass) -> Pass
     requires { IsPassOf pass service.now }
-    ensures { IsPassOf result service.now × (number (known_by result) ≡ number (known_by pass)) }
+    ensures { ComesBack service.now pass result }
 {
-    match service.try_start(&mut pass, start(rt, "b", None), Moment::zero()) {
-        Ok(reply) => assert!(rt; is_started(&reply, 1)),
-        Err(_) => panic!(rt; "the other shard was free"),
-    }
-    match service.try_start(&mut pass, start(rt, "a", None), Moment::zero()) {
-        Err((Refused::Busy, request)) => assert_eq!(rt; workflow_of(&request), "a"),
-        _ => panic!(rt; "a pass was on the shard"),
-    }
+    let at = Moment::zero();
+    let b = service.try_start(&mut pass, start(rt, "b", None), at);
+    assert_eq!(rt; began(b, 1), "started");
+    let a = service.try_start(&mut pass, start(rt, "a", None), at);
+    assert!(rt; is_kept_out(a), "another pass was on the shard");
     pass
 }
 
 /// Once it has left, `a` is found started.
-fn start_again<R: Abort + AllocGlobal>(rt: &R, service: &Service, mut pass: Pass) -> Pass
-    requires { IsPassOf pass service.now }
-    ensures { IsPassOf result service.now × (number (known_by result) ≡ number (known_by pass)) }
+fn start_again<R: Abort + AllocGlobal>(rt: &R, service: &Service, pass: &mut Pass)
+    requires { IsPassOf pass.old service.now }
+    ensures { ComesBack service.now pass.old pass.new }
 {
-    match service.try_start(&mut pass, start(rt, "a", None), Moment::zero()) {
-        Ok(reply) => assert!(rt; is_already_started(&reply)),
-        Err(_) => panic!(rt; "the shard was free"),
-    }
-    pass
+    let came = service.try_start(pass, start(rt, "a", None), Moment::zero());
+    assert_eq!(rt; began(came, 0), "already started");
 }
 
 /// One pass stays on the shard of `a` while another makes its calls, and then leaves.
@@ -99,9 +104,8 @@ fn stay_and_leave<R: Abort + AllocGlobal + Threads + Sync>(
     second: Pass,
 ) -> (Pass, Pass)
     requires { IsPassOf first service.now × IsPassOf second service.now }
-    ensures own { IsPassOf result.0 service.now × IsPassOf result.1 service.now }
-    ensures named { (number (known_by result.0) ≡ number (known_by first))
-        × (number (known_by result.1) ≡ number (known_by second)) }
+    ensures first { ComesBack service.now first result.0 }
+    ensures second { ComesBack service.now second result.1 }
 {
     let Ok(held) = service.try_enter_start(first, start(rt, "a", None), Moment::zero()) else {
         panic!(rt; "the shard was free")
@@ -110,14 +114,19 @@ fn stay_and_leave<R: Abort + AllocGlobal + Threads + Sync>(
         rt,
         move || -> Pass
             requires { IsSync R.row × IsPassOf second service.now }
-            ensures { IsPassOf result service.entry.now
-                × (number (known_by result) ≡ number (known_by second)) }
+            ensures { ComesBack service.entry.now second result }
         { start_both(rt, service, second) },
         || (),
     );
     let (first, reply) = held.leave();
-    assert!(rt; is_started(&reply, 0));
+    assert_eq!(rt; began::<AllocError>(Ok(reply), 0), "started");
     (first, second)
+}
+
+fn assert_kept_out<R: Abort>(rt: &R, records: &[Record<Request>]) {
+    assert_eq!(rt; records.len(), 2);
+    assert!(rt; has_steps(&records[0], &[(0, "a"), (1, "a")]));
+    assert!(rt; has_steps(&records[1], &[(1, "b")]));
 }
 
 #[test]
@@ -125,60 +134,67 @@ fn a_pass_on_a_shard_keeps_others_out(rt: HostRuntime) {
     let (service, mut passes) = open(&rt, &two_shards(&rt));
     let second = take_pass(&service, &mut passes);
     let first = take_pass(&service, &mut passes);
-    let (first, second) = stay_and_leave(&rt, &service, first, second);
-    let second = start_again(&rt, &service, second);
-    let records = close_two(&rt, service, first, second);
-    assert_eq!(rt; records.len(), 2);
-    assert!(rt; has_steps(&records[0], &[(0, "a"), (1, "a")]));
-    assert!(rt; has_steps(&records[1], &[(1, "b")]));
+    let (first, mut second) = stay_and_leave(&rt, &service, first, second);
+    start_again(&rt, &service, &mut second);
+    assert_kept_out(&rt, &close_two(&rt, service, first, second));
 }
 
-/// Starts `a` under a request id, waiting for its shard.
+/// Whether a start won over the one that was made at the same time.
+fn has_won<R: Abort>(rt: &R, came: &str) -> bool {
+    match came {
+        "started" => true,
+        "already started" => false,
+        other => panic!(rt; "{other}"),
+    }
+}
+
+/// Starts `a` under a request id, waiting for its shard. False where `a` was found started.
 fn start_as<R: Abort + AllocGlobal + Wait>(
     rt: &R,
     service: &Service,
     mut pass: Pass,
     request_id: &str,
-) -> (Pass, Reply)
+) -> (Pass, bool)
     requires { IsPassOf pass service.now }
-    ensures { IsPassOf result.0 service.now
-        × (number (known_by result.0) ≡ number (known_by pass)) }
+    ensures { ComesBack service.now pass result.0 }
 {
     let asked = start(rt, "a", Some(id(rt, request_id)));
-    match service.start(rt, &mut pass, asked, Moment::zero()) {
-        Ok(reply) => (pass, reply),
-        Err(_) => panic!(rt; "no memory"),
-    }
+    let came = service.start(rt, &mut pass, asked, Moment::zero());
+    (pass, has_won(rt, began(came, 0)))
 }
 
-/// Two passes start `a` at the same time. One finds it started; whether that is the second.
+/// Two passes start `a` at the same time. Which of them did.
 fn start_at_once<R: Abort + AllocGlobal + Wait + Threads + Sync>(
     rt: &R,
     service: &Service,
     first: Pass,
     second: Pass,
-) -> (Pass, Pass, bool)
+) -> ((Pass, bool), (Pass, bool))
     requires { IsPassOf first service.now × IsPassOf second service.now }
-    ensures own { IsPassOf result.0 service.now × IsPassOf result.1 service.now }
-    ensures named { (number (known_by result.0) ≡ number (known_by first))
-        × (number (known_by result.1) ≡ number (known_by second)) }
+    ensures first { ComesBack service.now first result.0.0 }
+    ensures second { ComesBack service.now second result.1.0 }
 {
-    let ((first, one), (second, two)) = thread::join(
+    thread::join(
         rt,
-        move || -> (Pass, Reply)
+        move || -> (Pass, bool)
             requires { IsSync R.row × IsPassOf first service.now }
-            ensures { IsPassOf result.0 service.entry.now
-                × (number (known_by result.0) ≡ number (known_by first)) }
+            ensures { ComesBack service.entry.now first result.0 }
         { start_as(rt, service, first, "r1") },
-        move || -> (Pass, Reply)
+        move || -> (Pass, bool)
             requires { IsSync R.row × IsPassOf second service.now }
-            ensures { IsPassOf result.0 service.entry.now
-                × (number (known_by result.0) ≡ number (known_by second)) }
+            ensures { ComesBack service.entry.now second result.0 }
         { start_as(rt, service, second, "r2") },
-    );
-    let first_won = is_started(&one, 0) && is_already_started(&two);
-    assert!(rt; first_won || is_started(&two, 0) && is_already_started(&one));
-    (first, second, first_won)
+    )
+}
+
+/// One pass has started `a`, and the other one found it started afterwards.
+fn assert_one_won<R: Abort>(rt: &R, won: (bool, bool), records: &[Record<Request>]) {
+    let (first, second) = won;
+    assert!(rt; first != second);
+    let (winner, loser) = if first { (0, 1) } else { (1, 0) };
+    assert_eq!(rt; records.len(), 2);
+    assert!(rt; has_steps(&records[0], &[(winner, "a"), (loser, "a")]));
+    assert!(rt; records[1].is_empty());
 }
 
 #[test]
@@ -186,25 +202,19 @@ fn two_threads_start_one_workflow(rt: HostRuntime) {
     let (service, mut passes) = open(&rt, &two_shards(&rt));
     let second = take_pass(&service, &mut passes);
     let first = take_pass(&service, &mut passes);
-    let (first, second, first_won) = start_at_once(&rt, &service, first, second);
-    let records = close_two(&rt, service, first, second);
-    assert_eq!(rt; records.len(), 2);
-    let (one, two) = if first_won { (0, 1) } else { (1, 0) };
-    assert!(rt; has_steps(&records[0], &[(one, "a"), (two, "a")]));
-    assert!(rt; records[1].is_empty());
+    let ((first, one), (second, two)) = start_at_once(&rt, &service, first, second);
+    assert_one_won(&rt, (one, two), &close_two(&rt, service, first, second));
 }
 
 /// Signals the workflows in turn. The moments rise by one from one signal to the next.
 fn signal_in_turn<R: Abort + AllocGlobal + Wait>(rt: &R, service: &Service, mut pass: Pass) -> Pass
     requires { IsPassOf pass service.now }
-    ensures { IsPassOf result service.now × (number (known_by result) ≡ number (known_by pass)) }
+    ensures { ComesBack service.now pass result }
 {
     for i in 0..SIGNALS {
         let asked = signal(rt, WORKFLOWS[i as usize % WORKFLOWS.len()]);
-        match service.signal(rt, &mut pass, asked, moment(rt, i)) {
-            Ok(reply) => assert!(rt; matches!(&reply, Ok(Answer::Signaled))),
-            Err(_) => panic!(rt; "no memory"),
-        }
+        let came = service.signal(rt, &mut pass, asked, moment(rt, i));
+        assert_eq!(rt; shown(came), "signaled");
     }
     pass
 }
@@ -217,21 +227,18 @@ fn signal_both<R: Abort + AllocGlobal + Wait + Threads + Sync>(
     two: Pass,
 ) -> (Pass, Pass)
     requires { IsPassOf one service.now × IsPassOf two service.now }
-    ensures own { IsPassOf result.0 service.now × IsPassOf result.1 service.now }
-    ensures named { (number (known_by result.0) ≡ number (known_by one))
-        × (number (known_by result.1) ≡ number (known_by two)) }
+    ensures one { ComesBack service.now one result.0 }
+    ensures two { ComesBack service.now two result.1 }
 {
     let (mut one, mut two) = thread::join(
         rt,
         move || -> Pass
             requires { IsSync R.row × IsPassOf one service.now }
-            ensures { IsPassOf result service.entry.now
-                × (number (known_by result) ≡ number (known_by one)) }
+            ensures { ComesBack service.entry.now one result }
         { signal_in_turn(rt, service, one) },
         move || -> Pass
             requires { IsSync R.row × IsPassOf two service.now }
-            ensures { IsPassOf result service.entry.now
-                × (number (known_by result) ≡ number (known_by two)) }
+            ensures { ComesBack service.entry.now two result }
         { signal_in_turn(rt, service, two) },
     );
     service.meet(&mut one, &mut two);
@@ -239,17 +246,13 @@ fn signal_both<R: Abort + AllocGlobal + Wait + Threads + Sync>(
 }
 
 /// Starts the workflows.
-fn start_all<R: Abort + AllocGlobal>(rt: &R, service: &Service, mut pass: Pass) -> Pass
-    requires { IsPassOf pass service.now }
-    ensures { IsPassOf result service.now × (number (known_by result) ≡ number (known_by pass)) }
+fn start_all<R: Abort + AllocGlobal + Wait>(rt: &R, service: &Service, pass: &mut Pass)
+    requires { IsPassOf pass.old service.now }
+    ensures { ComesBack service.now pass.old pass.new }
 {
     for workflow in WORKFLOWS {
-        match service.try_start(&mut pass, start(rt, workflow, None), Moment::zero()) {
-            Ok(reply) => assert!(rt; matches!(&reply, Ok(Answer::Started(_)))),
-            Err(_) => panic!(rt; "the shards were free"),
-        }
+        start_one(rt, service, pass, workflow);
     }
-    pass
 }
 
 /// The moment that comes after the pass's signals to the workflow in the record, of which the first
@@ -288,28 +291,22 @@ fn signal_all<R: Abort + AllocGlobal + Wait + Threads + Sync>(
 ) -> ((Pass, Pass), (Pass, Pass))
     requires one { IsPassOf one.0 service.now × IsPassOf one.1 service.now }
     requires two { IsPassOf two.0 service.now × IsPassOf two.1 service.now }
-    ensures one { IsPassOf result.0.0 service.now × IsPassOf result.0.1 service.now }
-    ensures two { IsPassOf result.1.0 service.now × IsPassOf result.1.1 service.now }
-    ensures one_named { (number (known_by result.0.0) ≡ number (known_by one.0))
-        × (number (known_by result.0.1) ≡ number (known_by one.1)) }
-    ensures two_named { (number (known_by result.1.0) ≡ number (known_by two.0))
-        × (number (known_by result.1.1) ≡ number (known_by two.1)) }
+    ensures one { ComesBack service.now one.0 result.0.0
+        × ComesBack service.now one.1 result.0.1 }
+    ensures two { ComesBack service.now two.0 result.1.0
+        × ComesBack service.now two.1 result.1.1 }
 {
     let (mut one, mut two) = thread::join(
         rt,
         move || -> (Pass, Pass)
             requires { IsSync R.row × IsPassOf one.0 service.now × IsPassOf one.1 service.now }
-            ensures own { IsPassOf result.0 service.entry.now
-                × IsPassOf result.1 service.entry.now }
-            ensures named { (number (known_by result.0) ≡ number (known_by one.0))
-                × (number (known_by result.1) ≡ number (known_by one.1)) }
+            ensures { ComesBack service.entry.now one.0 result.0
+                × ComesBack service.entry.now one.1 result.1 }
         { signal_both(rt, service, one.0, one.1) },
         move || -> (Pass, Pass)
             requires { IsSync R.row × IsPassOf two.0 service.now × IsPassOf two.1 service.now }
-            ensures own { IsPassOf result.0 service.entry.now
-                × IsPassOf result.1 service.entry.now }
-            ensures named { (number (known_by result.0) ≡ number (known_by two.0))
-                × (number (known_by result.1) ≡ number (known_by two.1)) }
+            ensures { ComesBack service.entry.now two.0 result.0
+                × ComesBack service.entry.now two.1 result.1 }
         { signal_both(rt, service, two.0, two.1) },
     );
     service.meet(&mut one.0, &mut two.1);
@@ -325,7 +322,7 @@ fn count_steps(records: &[Record<Request>]) -> usize {
     steps
 }
 
-/// All signals of each pass stand in the records, in the order in which it sent them.
+/// Each pass's signals stand in the records, in the order in which it sent them.
 fn assert_in_order<R: Abort>(rt: &R, records: &[Record<Request>], pass: u8) {
     for (first, workflow) in WORKFLOWS.iter().enumerate() {
         assert!(rt;
@@ -335,21 +332,26 @@ fn assert_in_order<R: Abort>(rt: &R, records: &[Record<Request>], pass: u8) {
     }
 }
 
+/// The starts and all signals stand in the records, and nothing else.
+fn assert_all_signaled<R: Abort>(rt: &R, records: &[Record<Request>]) {
+    assert_eq!(rt; count_steps(records), 5 + 4 * 3000);
+    for pass in 0..4 {
+        assert_in_order(rt, records, pass);
+    }
+}
+
 #[test]
 fn four_threads_signal_on_four_shards(rt: HostRuntime) {
     let (service, mut passes) = open(&rt, &settings(&rt, 4, 4, 1));
     let d = take_pass(&service, &mut passes);
     let c = take_pass(&service, &mut passes);
     let b = take_pass(&service, &mut passes);
-    let a = start_all(&rt, &service, take_pass(&service, &mut passes));
+    let mut a = take_pass(&service, &mut passes);
+    start_all(&rt, &service, &mut a);
     let ((a, b), (c, d)) = signal_all(&rt, &service, (a, b), (c, d));
     give_back(&rt, &service, &mut passes, a);
     give_back(&rt, &service, &mut passes, b);
     give_back(&rt, &service, &mut passes, c);
     give_back(&rt, &service, &mut passes, d);
-    let records = close(service, passes);
-    assert_eq!(rt; count_steps(&records), 5 + 4 * 3000);
-    for pass in 0..4 {
-        assert_in_order(&rt, &records, pass);
-    }
+    assert_all_signaled(&rt, &close(service, passes));
 }

@@ -1,24 +1,24 @@
-//! Transfer turns: shards that are not there, and signals to another workflow that two threads deliver
-//! at the same time.
+//! Signals to another workflow that two threads deliver at the same time.
 
-ghost use Rattle.std.specs.Prelude.{◌≡◌};
 ghost use Rattle.service.specs.Services.{IsPassOf};
 ghost use Rattle.std.specs.Thread.{IsSync};
 
-use crate::asked::{id, start, two_shards};
+use crate::asked::{id, taken, text, two_shards, waiting};
+use crate::calls::start_one;
 use crate::passes::{open, take_pass};
+use crate::shown::shown;
 use service::{Pass, Service};
-use service_model_types::answer::{Answer, Reply};
+use service_model_types::answer::Answer;
 use service_model_types::call::Stop;
-use service_model_types::request::{CompleteWorkflowTask, Hint, Read, TakenTask};
-use std::alloc::{AllocError, AllocGlobal, Global};
+use service_model_types::request::{CompleteWorkflowTask, Read};
+use std::alloc::{AllocGlobal, Global};
 use std::process::Abort;
 use std::sync::Wait;
 use std::thread::{self, Threads};
 use wf_command::Command;
 use wf_command::command::SignalExternal;
 use wf_event::{Attributes, Event};
-use wf_event_values::{Field, Id, Items, Moment, Refusal, TaskKind, Text};
+use wf_event_values::{Items, Moment, TaskKind};
 
 /// How many signals the workflow of the first shard sends.
 const COUNT: u64 = 50;
@@ -26,151 +26,55 @@ const COUNT: u64 = 50;
 /// How often a thread tries before it gives up.
 const TURNS: u64 = 100_000_000;
 
-/// What a turn answered in a word, and the transfer's number.
-fn turned(came: &Result<Reply, AllocError>) -> (&'static str, u64) {
-    match came {
-        Ok(Ok(Answer::Accepted(number))) => ("accepted", *number),
-        Ok(Ok(Answer::AlreadyDelivered(number))) => ("already", *number),
-        Ok(Ok(Answer::OutOfOrder(number))) => ("out_of_order", *number),
-        Ok(Ok(Answer::Taken(number))) => ("taken", *number),
-        Ok(Ok(Answer::NoTransfer)) => ("none", 0),
-        Ok(Ok(_)) => ("another answer", 0),
-        Ok(Err(Refusal::InvalidArgument(field))) => (field.name(), 0),
-        Ok(Err(refusal)) => (refusal.name(), 0),
-        Err(_) => ("no answer", 0),
-    }
-}
-
-fn assert_turn<R: Abort + AllocGlobal + Wait>(
-    rt: &R,
-    service: &Service,
-    pass: &mut Pass,
-    ends: (u16, u16),
-    stop: Stop,
-    wanted: (&str, u64),
-)
-    requires { IsPassOf pass.old service.now }
-    ensures { IsPassOf pass.new service.now }
-{
-    let (from, to) = ends;
-    let (answer, number) = wanted;
-    let result = service.transfer_turn(rt, pass, from, to, stop, Moment::zero());
-    let (what, which) = turned(&result);
-    assert_eq!(rt; what, answer);
-    assert_eq!(rt; which, number, "{answer}");
-}
-
-#[test]
-fn shards_that_are_not_there(rt: HostRuntime) {
-    let (service, mut passes) = open(&rt, &two_shards(&rt));
-    let mut pass = take_pass(&service, &mut passes);
-    assert_turn(&rt, &service, &mut pass, (2, 2), Stop::AtEnd, ("from", 0));
-    assert_turn(&rt, &service, &mut pass, (1, 2), Stop::AtEnd, ("to", 0));
-    assert_turn(&rt, &service, &mut pass, (1, 0), Stop::AtEnd, ("none", 0));
-}
-
-fn start_one<R: Abort + AllocGlobal + Wait>(
-    rt: &R,
-    service: &Service,
-    pass: &mut Pass,
-    workflow_id: &str,
-)
-    requires { IsPassOf pass.old service.now }
-    ensures { IsPassOf pass.new service.now }
-{
-    let reply = service.start(rt, pass, start(rt, workflow_id, None), Moment::zero());
-    assert!(rt; matches!(&reply, Ok(Ok(Answer::Started(_)))));
-}
-
-/// So many signals to the workflow of the second shard, each with its number as its name.
-fn signals(alloc: Global, count: u64) -> Result<Items<Command>, Refusal> {
-    let mut commands = Vec::new(alloc);
-    for place in 0..count {
-        let name = format!(in alloc; "{place}")?;
-        commands.push(Command::SignalExternalWorkflowExecution(SignalExternal {
-            workflow_id: Id::new(alloc, Field::WorkflowId, "b")?,
+/// A signal to the workflow of the second shard, with its number as its name.
+fn signal_to<R: Abort + AllocGlobal>(rt: &R, place: u64) -> Command {
+    match format!(in rt.alloc(); "{place}") {
+        Ok(name) => Command::SignalExternalWorkflowExecution(SignalExternal {
+            workflow_id: id(rt, "b"),
             run: None,
-            name: Text::new(alloc, Field::Name, name.as_str())?,
-            input: Text::empty(alloc),
-        }))?;
+            name: text(rt, name.as_str()),
+            input: text(rt, ""),
+        }),
+        Err(_) => panic!(rt; "no memory"),
     }
-    Ok(Items::from_vec(commands))
 }
 
-/// Takes the task of the first shard's workflow.
-fn take_task<R: Abort + AllocGlobal + Wait>(rt: &R, service: &Service, pass: &mut Pass)
+/// All signals, in their order.
+fn signals<R: Abort + AllocGlobal>(rt: &R) -> Items<Command> {
+    let mut commands = Vec::new(rt.alloc());
+    for place in 0..COUNT {
+        match commands.push(signal_to(rt, place)) {
+            Ok(()) => {}
+            Err(_) => panic!(rt; "no memory"),
+        }
+    }
+    Items::from_vec(commands)
+}
+
+/// Takes the task of the first shard's workflow, and completes it by all signals.
+fn send<R: Abort + AllocGlobal + Wait>(rt: &R, service: &Service, pass: &mut Pass)
     requires { IsPassOf pass.old service.now }
     ensures { IsPassOf pass.new service.now }
 {
-    let hint = Hint {
-        kind: TaskKind::Workflow,
-        shard: 0,
-        run: 1,
-        event: 2,
-        attempt: 1,
+    let at = Moment::zero();
+    let hint = waiting(TaskKind::Workflow, 0, 2, 1);
+    assert_eq!(rt; shown(service.start_task(rt, pass, hint, at)), "task");
+    let completion = CompleteWorkflowTask {
+        task: taken(0, 2, 1),
+        commands: signals(rt),
     };
-    let reply = service.start_task(rt, pass, hint, Moment::zero());
-    assert!(rt; matches!(&reply, Ok(Ok(Answer::WorkflowTask(_)))));
+    let came = service.complete_workflow_task(rt, pass, completion, at);
+    assert_eq!(rt; shown(came), "completed");
 }
 
-/// Completes it by so many signals.
-fn send<R: Abort + AllocGlobal + Wait>(rt: &R, service: &Service, pass: &mut Pass, count: u64)
-    requires { IsPassOf pass.old service.now }
-    ensures { IsPassOf pass.new service.now }
-{
-    let Ok(commands) = signals(rt.alloc(), count) else {
-        panic!(rt; "no memory")
-    };
-    let task = TakenTask {
-        shard: 0,
-        run: 1,
-        event: 2,
-        attempt: 1,
-    };
-    let completion = CompleteWorkflowTask { task, commands };
-    let reply = service.complete_workflow_task(rt, pass, completion, Moment::zero());
-    assert!(rt; matches!(&reply, Ok(Ok(Answer::Completed))));
-}
-
-/// A workflow on each shard, of which the first one has sent the second one so many signals.
-fn open_sent<R: Abort + AllocGlobal + Wait>(rt: &R, service: &Service, pass: &mut Pass, count: u64)
+/// A workflow on each shard, of which the first one has sent the second one all signals.
+fn open_sent<R: Abort + AllocGlobal + Wait>(rt: &R, service: &Service, pass: &mut Pass)
     requires { IsPassOf pass.old service.now }
     ensures { IsPassOf pass.new service.now }
 {
     start_one(rt, service, pass, "a");
     start_one(rt, service, pass, "b");
-    take_task(rt, service, pass);
-    send(rt, service, pass, count);
-}
-
-/// A turn that ended before its last part: the next one delivers the same transfer again.
-#[test]
-fn a_turn_that_ends_before_its_last_part(rt: HostRuntime) {
-    let (service, mut passes) = open(&rt, &two_shards(&rt));
-    let mut pass = take_pass(&service, &mut passes);
-    open_sent(&rt, &service, &mut pass, 2);
-    let first = Stop::AfterFirstPart;
-    let second = Stop::AfterSecondPart;
-    assert_turn(&rt, &service, &mut pass, (0, 1), first, ("taken", 1));
-    assert_turn(&rt, &service, &mut pass, (0, 1), second, ("accepted", 1));
-    assert_turn(&rt, &service, &mut pass, (0, 1), second, ("already", 1));
-    assert_turn(
-        &rt,
-        &service,
-        &mut pass,
-        (0, 1),
-        Stop::AtEnd,
-        ("already", 1),
-    );
-    assert_turn(
-        &rt,
-        &service,
-        &mut pass,
-        (0, 1),
-        Stop::AtEnd,
-        ("accepted", 2),
-    );
-    assert_turn(&rt, &service, &mut pass, (0, 1), Stop::AtEnd, ("none", 0));
+    send(rt, service, pass);
 }
 
 /// Turns until no transfer waits. How many were accepted.
@@ -184,12 +88,12 @@ fn turn_often<R: Abort + AllocGlobal + Wait>(
 {
     let mut accepted = 0_u64;
     for _ in 0..TURNS {
-        let result = service.transfer_turn(rt, &mut pass, 0, 1, Stop::AtEnd, Moment::zero());
-        match turned(&result) {
-            ("accepted", _) => accepted = accepted.saturating_add(1),
-            ("already", _) => {}
-            ("none", _) => return (pass, accepted),
-            (other, _) => panic!(rt; "{other}"),
+        let came = service.transfer_turn(rt, &mut pass, 0, 1, Stop::AtEnd, Moment::zero());
+        match shown(came) {
+            "accepted" => accepted = accepted.saturating_add(1),
+            "already delivered" => {}
+            "none" => return (pass, accepted),
+            other => panic!(rt; "{other}"),
         }
         thread::yield_now();
     }
@@ -263,7 +167,7 @@ fn two_threads_deliver_signals(rt: HostRuntime) {
     let (service, mut passes) = open(&rt, &two_shards(&rt));
     let second = take_pass(&service, &mut passes);
     let mut first = take_pass(&service, &mut passes);
-    open_sent(&rt, &service, &mut first, COUNT);
+    open_sent(&rt, &service, &mut first);
     let (mut first, accepted) = turn_both(&rt, &service, first, second);
     assert_eq!(rt; accepted, COUNT);
     assert_signals(&rt, &service, &mut first);

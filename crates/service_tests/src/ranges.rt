@@ -1,0 +1,58 @@
+//! Settings out of their ranges, which no service is opened by.
+
+use crate::asked::{id, settings};
+use service::Service;
+use service_model_types::limits::DEFAULT_CAPACITY;
+use service_model_types::settings::Settings;
+use std::alloc::AllocGlobal;
+use std::process::Abort;
+use wf_event_values::{Items, Refusal};
+
+/// The field that is out of its range.
+fn refused<R: AllocGlobal>(rt: &R, settings: &Settings) -> &'static str {
+    match &Service::open(rt.alloc(), settings) {
+        Ok(_) => "none",
+        Err(Refusal::InvalidArgument(field)) => field.name(),
+        Err(refusal) => refusal.name(),
+    }
+}
+
+/// Numbers of passes behind those of shards and before those of services.
+#[test]
+fn numbers_out_of_range(rt: HostRuntime) {
+    let wrong = [
+        (65, 257, 1, "shards"),
+        (64, 0, 1, "passes"),
+        (64, 257, 281_474_976_710_656, "passes"),
+        (1, 256, 281_474_976_710_656, "service"),
+    ];
+    for (shards, passes, service, name) in wrong {
+        assert_eq!(rt; refused(&rt, &settings(&rt, shards, passes, service)), name);
+    }
+}
+
+/// Settings with these queues and this capacity are refused by that name.
+fn assert_refused<R: Abort + AllocGlobal>(rt: &R, names: &[&str], capacity: u64, wanted: &str) {
+    let mut queues = Vec::new(rt.alloc());
+    for name in names {
+        if queues.push(id(rt, name)).is_err() {
+            panic!(rt; "no memory");
+        }
+    }
+    let settings = Settings {
+        shards: 1,
+        passes: 1,
+        service: 1,
+        queues: Items::from_vec(queues),
+        capacity,
+    };
+    assert_eq!(rt; refused(rt, &settings), wanted);
+}
+
+#[test]
+fn queues_out_of_their_range(rt: HostRuntime) {
+    assert_refused(&rt, &[], DEFAULT_CAPACITY, "queues");
+    assert_refused(&rt, &["a", "b", "a"], 0, "queues");
+    assert_refused(&rt, &["a", "b"], 0, "capacity");
+    assert_refused(&rt, &["a", "b"], 65_537, "capacity");
+}
