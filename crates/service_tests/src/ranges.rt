@@ -9,11 +9,10 @@ use std::process::Abort;
 use wf_event_values::{Items, Refusal};
 
 /// The field that is out of its range.
-fn refused<R: AllocGlobal>(rt: &R, settings: &Settings) -> &'static str {
-    match &Service::open(rt.alloc(), settings) {
-        Ok(_) => "none",
+fn refused<R: Abort + AllocGlobal>(rt: &R, settings: &Settings) -> &'static str {
+    match Service::open(rt.alloc(), settings) {
         Err(Refusal::InvalidArgument(field)) => field.name(),
-        Err(refusal) => refusal.name(),
+        _ => panic!(rt; "no field is out of its range"),
     }
 }
 

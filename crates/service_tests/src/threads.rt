@@ -1,6 +1,8 @@
 //! Passes on threads of their own.
 
-ghost use Rattle.service.specs.Services.{IsPassOf};
+ghost use Rattle.std.specs.Prelude.{◌≡◌};
+ghost use Rattle.gate.specs.Passes.{number};
+ghost use Rattle.service.specs.Services.{IsPassOf, known_by};
 ghost use Rattle.service_tests.specs.Passes.{ComesBack};
 ghost use Rattle.std.specs.Thread.{IsSync};
 
@@ -104,8 +106,9 @@ fn stay_and_leave<R: Abort + AllocGlobal + Threads + Sync>(
     second: Pass,
 ) -> (Pass, Pass)
     requires { IsPassOf first service.now × IsPassOf second service.now }
-    ensures first { ComesBack service.now first result.0 }
-    ensures second { ComesBack service.now second result.1 }
+    ensures own { IsPassOf result.0 service.now × IsPassOf result.1 service.now }
+    ensures named { (number (known_by result.0) ≡ number (known_by first))
+        × (number (known_by result.1) ≡ number (known_by second)) }
 {
     let Ok(held) = service.try_enter_start(first, start(rt, "a", None), Moment::zero()) else {
         panic!(rt; "the shard was free")
