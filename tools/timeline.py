@@ -177,7 +177,8 @@ svg { font: 12px ui-monospace, monospace; fill: currentColor; }
 """
 
 
-def picture(events):
+def picture(events, style=""):
+    """The history as SVG. As a file of its own it has its style within."""
     scale, held = Scale(events), held_back(events)
     height = TOP + len(events) * ROW
     width = LEFT + WIDTH + RIGHT + 60
@@ -185,8 +186,27 @@ def picture(events):
     rows = "".join(drawn_event(event, scale, held) for event in events)
     return (
         f'<svg xmlns="http://www.w3.org/2000/svg" width="{width}" height="{height}" '
-        f'viewBox="0 0 {width} {height}">{axis(scale, height)}{bars}{rows}</svg>'
+        f'viewBox="0 0 {width} {height}">{style}{axis(scale, height)}{bars}{rows}</svg>'
     )
+
+
+def since_the_first(events):
+    """The events with moments that count from the first one, as those of a wall's clock are long."""
+    first = min(event["at"] for event in events)
+    counted = []
+    for event in events:
+        attrs = dict(event["attrs"])
+        if "taken" in attrs:
+            attrs["taken"] -= first
+        counted.append({**event, "at": event["at"] - first, "attrs": attrs})
+    return counted
+
+
+def picture_file(events):
+    """The history as an SVG file, for a page that shows it as an image. Its moments count from the start."""
+    events = since_the_first(events)
+    dark = "@media (prefers-color-scheme: dark) { svg { color: #e9ecef; } }"
+    return picture(events, f"<style>{STYLE}{dark}</style>")
 
 
 def page(history):

@@ -18,7 +18,7 @@ def order(history):
         return [{
             "type": "ScheduleActivityTask", "activity_id": "payment", "activity_type": "Charge",
             "task_queue": "main", "input": "49.90 EUR", "start_to_close": 30_000,
-            "retry": {"initial": 1_000, "factor": 2, "attempts": 5},
+            "retry": {"initial": 1_000, "coefficient": 200, "attempts": 5},
         }]
     if "ActivityTaskFailed" in types:
         return [{"type": "FailWorkflowExecution", "message": "the card was declined"}]

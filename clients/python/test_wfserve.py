@@ -2,16 +2,13 @@
 
 import json
 import os
-import pathlib
 import sys
 import tempfile
 import unittest
 
 import order
+from programs import BUILT, needs_program
 from wfserve import Clock, Ended, Refused, Service
-
-ROOT = pathlib.Path(__file__).resolve().parents[2]
-BUILT = ROOT / "out/build/crates/wfserve/out/wfserve"
 
 # A program that writes down each line that it reads and answers with the next of its stored replies.
 ECHO = """
@@ -92,7 +89,7 @@ class Stored(unittest.TestCase):
         self.assertIsNone(service.poll_workflow_task())
 
 
-@unittest.skipUnless(BUILT.exists(), "wfserve is not built: ./serve builds it")
+@needs_program
 class Built(unittest.TestCase):
     def types(self, calls_off):
         return [event["type"] for event in order.run([str(BUILT)], calls_off)]

@@ -11,6 +11,7 @@ It needs nothing but Python 3.8. The program is proved; this module is not.
 
 import json
 import subprocess
+import threading
 
 
 class Refused(Exception):
@@ -30,6 +31,10 @@ class Refused(Exception):
 
 class Ended(Exception):
     """The program ended while a reply was awaited, or said what is no reply to the line."""
+
+
+class Unavailable(Exception):
+    """The call was not served now. One with a request id can be made again."""
 
 
 class Clock:
@@ -57,52 +62,31 @@ class Task:
         self.details = reply.get("details")
 
 
-class Service:
-    """A running wfserve. Each method writes one line and reads its reply; a refusal raises Refused."""
+def request_of(op, at, fields):
+    """What a call asks; fields that are None are left out."""
+    request = {"op": op, "at": at}
+    request.update((name, value) for name, value in fields.items() if value is not None)
+    return request
 
-    def __init__(self, command, clock=None):
-        self.clock = clock or Clock()
-        self._line = 0
-        self._program = subprocess.Popen(
-            list(command), stdin=subprocess.PIPE, stdout=subprocess.PIPE, text=True, encoding="utf-8"
-        )
 
-    def __enter__(self):
-        return self
+def text_of(request):
+    """The line of a request."""
+    return json.dumps(request, separators=(",", ":"))
 
-    def __exit__(self, *_):
-        self.close()
 
-    def close(self):
-        """Ends the input and waits for the program. Its status: 0, or 1 where a reply was a refusal."""
-        if not self._program.stdin.closed:
-            self._program.stdin.close()
-        status = self._program.wait()
-        self._program.stdout.close()
-        return status
+def answered(request, reply):
+    """The reply, or Refused where it is a refusal."""
+    if "error" in reply:
+        raise Refused(request, reply)
+    return reply
+
+
+class Calls:
+    """The calls of a service, each over one line. What speaks with the program has `call`."""
 
     def call(self, op, **fields):
-        """The reply to one line; fields that are None are left out."""
-        request = {"op": op, "at": self.clock.now}
-        request.update((name, value) for name, value in fields.items() if value is not None)
-        self._line += 1
-        reply = self._exchange(json.dumps(request, separators=(",", ":")))
-        if reply.get("line") != self._line:
-            raise Ended(f"line {self._line}: the reply is to another line: {reply}")
-        if "error" in reply:
-            raise Refused(request, reply)
-        return reply
-
-    def _exchange(self, line):
-        try:
-            self._program.stdin.write(line + "\n")
-            self._program.stdin.flush()
-            text = self._program.stdout.readline()
-        except BrokenPipeError:
-            text = ""
-        if not text.endswith("\n"):
-            raise Ended(f"line {self._line}: the program ended with status {self._program.wait()}")
-        return json.loads(text)
+        """The reply to one line; fields that are None are left out. A refusal raises Refused."""
+        raise NotImplementedError
 
     # Workflows.
 
@@ -118,6 +102,22 @@ class Service:
             "signal", workflow_id=workflow_id, name=name, input=input, run=run, request_id=request_id
         )
         return reply["ok"] == "signaled"
+
+    def signal_with_start(self, workflow_id, workflow_type, name, task_queue="main", **fields):
+        """Signals the open run of a workflow ID, or starts one and signals it. Its run."""
+        return self.call(
+            "signal_with_start", workflow_id=workflow_id, workflow_type=workflow_type, task_queue=task_queue,
+            name=name, **fields
+        )["run"]
+
+    def request_cancel(self, workflow_id, run=None, request_id=None):
+        """Asks a workflow to cancel. False where this request id asked it before."""
+        reply = self.call("request_cancel", workflow_id=workflow_id, run=run, request_id=request_id)
+        return reply["ok"] == "cancel_requested"
+
+    def terminate(self, workflow_id, run=None, reason=None):
+        """Ends a workflow at once."""
+        self.call("terminate", workflow_id=workflow_id, run=run, reason=reason)
 
     def history(self, workflow_id, run=None):
         """The events of a run, the latest where none is named."""
@@ -185,8 +185,67 @@ class Service:
         return None if reply["ok"] == "none" else reply
 
 
+class Service(Calls):
+    """A running wfserve. Each method writes one line and reads its reply; a refusal raises Refused."""
+
+    def __init__(self, command, clock=None):
+        self.clock = clock or Clock()
+        self._line = 0
+        # Threads speak one after another.
+        self._turn = threading.Lock()
+        self._program = subprocess.Popen(
+            list(command), stdin=subprocess.PIPE, stdout=subprocess.PIPE, text=True, encoding="utf-8"
+        )
+
+    def __enter__(self):
+        return self
+
+    def __exit__(self, *_):
+        self.close()
+
+    def close(self):
+        """Ends the input and waits for the program. Its status: 0, or 1 where a reply was a refusal."""
+        if not self._program.stdin.closed:
+            self._program.stdin.close()
+        status = self._program.wait()
+        self._program.stdout.close()
+        return status
+
+    def call(self, op, **fields):
+        """The reply to one line; fields that are None are left out."""
+        with self._turn:
+            request = request_of(op, self.clock.now, fields)
+            self._line += 1
+            reply = self._exchange(text_of(request))
+            if reply.get("line") != self._line:
+                raise Ended(f"line {self._line}: the reply is to another line: {reply}")
+        return answered(request, reply)
+
+    def _exchange(self, line):
+        try:
+            self._program.stdin.write(line + "\n")
+            self._program.stdin.flush()
+            text = self._program.stdout.readline()
+        except BrokenPipeError:
+            text = ""
+        if not text.endswith("\n"):
+            raise Ended(f"line {self._line}: the program ended with status {self._program.wait()}")
+        return json.loads(text)
+
+
 class ActivityFailed(Exception):
     """An activity raises it to fail its attempt, with a message for the history."""
+
+
+def dispatched(service, shard):
+    """Hands the shard's next task to its queue. False where none waits, or its queue is full now."""
+    try:
+        return service.dispatch_turn(shard)
+    except Refused as refused:
+        # There is room again once tasks were polled.
+        if refused.name == "QueueFull":
+            return False
+        raise
 
 
 class Worker:
@@ -214,18 +273,9 @@ class Worker:
         for shard in range(self.shards):
             while self.service.timer_turn(shard):
                 turns += 1
-            while self._dispatches(shard):
+            while dispatched(self.service, shard):
                 turns += 1
         return turns
-
-    def _dispatches(self, shard):
-        try:
-            return self.service.dispatch_turn(shard)
-        except Refused as refused:
-            # A queue that is full has room again once its tasks were polled.
-            if refused.name == "QueueFull":
-                return False
-            raise
 
     def _work(self):
         """How many tasks were done."""

@@ -1,0 +1,52 @@
+"use strict";
+// What both pages need. Texts of workflows are only ever put into the page as text.
+
+const REFRESH = 1000;
+
+function element(id) {
+  return document.getElementById(id);
+}
+
+// An element with a text or with other elements within.
+function made(tag, content, kind) {
+  const it = document.createElement(tag);
+  if (kind) it.className = kind;
+  if (Array.isArray(content)) it.append(...content);
+  else it.textContent = content;
+  return it;
+}
+
+function moment(milliseconds) {
+  return new Date(milliseconds).toLocaleString();
+}
+
+function say(text) {
+  element("said").textContent = text;
+}
+
+async function asked(path) {
+  const answer = await fetch(path, { cache: "no-store" });
+  if (!answer.ok) throw new Error(`the server answered ${answer.status}`);
+  return answer.json();
+}
+
+async function called(call) {
+  const answer = await fetch("/calls", {
+    method: "POST",
+    headers: { "Content-Type": "application/json" },
+    body: JSON.stringify(call),
+  });
+  return answer.json();
+}
+
+// Does something again and again; what goes wrong is said, and it goes on.
+async function repeat(work) {
+  for (;;) {
+    try {
+      await work();
+    } catch (fault) {
+      say(String(fault));
+    }
+    await new Promise((go) => setTimeout(go, REFRESH));
+  }
+}

@@ -1,0 +1,78 @@
+"use strict";
+// One run: its history, what is pending, and the buttons. It is read again every second.
+
+const [, , workflowId, run] = location.pathname.split("/").map(decodeURIComponent);
+const path = `/workflows/${encodeURIComponent(workflowId)}/${run}`;
+let length = -1;
+
+function eventRow(event) {
+  return made("tr", [
+    made("td", String(event.id)),
+    made("td", moment(event.at)),
+    made("td", event.type),
+    made("td", [attributes(event.attrs)]),
+  ]);
+}
+
+function attributes(attrs) {
+  const list = made("dl", []);
+  for (const [name, value] of Object.entries(attrs)) {
+    if (value === "" || value === 0) continue;
+    list.append(made("dt", name), made("dd", typeof value === "string" ? value : JSON.stringify(value)));
+  }
+  return list;
+}
+
+function showPending(pending) {
+  element("pending-part").hidden = pending.length === 0;
+  const items = pending.map((it) => made("li", `${it.kind} ${it.id}, since event ${it.event}, ${moment(it.since)}`));
+  element("pending").replaceChildren(...items);
+}
+
+function showWorkflow(workflow) {
+  document.title = workflow.workflow_id;
+  element("title").textContent = workflow.workflow_id;
+  element("type").textContent = workflow.type;
+  element("run").textContent = workflow.run;
+  element("status").textContent = workflow.status;
+  element("status").className = `status ${workflow.status}`;
+  element("actions").hidden = workflow.status !== "Running";
+}
+
+function showPicture() {
+  const image = document.createElement("img");
+  image.src = `${path}/picture.svg?length=${length}`;
+  image.alt = "The history: events down, time across";
+  element("picture").replaceChildren(image);
+}
+
+async function show() {
+  const answer = await asked(`/api${path}?length=${length}`);
+  showWorkflow(answer.workflow);
+  if (answer.events) {
+    length = answer.events.length;
+    showPending(answer.pending);
+    element("events").replaceChildren(...answer.events.map(eventRow));
+    showPicture();
+  }
+}
+
+// Each press of a button is one request, which takes effect once.
+function button(form, call) {
+  element(form).addEventListener("submit", async (event) => {
+    event.preventDefault();
+    const reply = await called({ workflow_id: workflowId, run, ...call() });
+    say(reply.error ? `${form}: ${reply.error}` : `${form}: ${reply.ok}`);
+    await show();
+  });
+}
+
+button("signal", () => ({
+  op: "signal",
+  name: element("signal-name").value,
+  input: element("signal-input").value,
+  request_id: crypto.randomUUID(),
+}));
+button("cancel", () => ({ op: "request_cancel", request_id: crypto.randomUUID() }));
+button("terminate", () => ({ op: "terminate", reason: element("reason").value }));
+repeat(show);

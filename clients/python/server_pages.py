@@ -1,0 +1,144 @@
+"""The pages: the list of workflows, a workflow's history, and what their scripts ask for.
+
+A workflow's texts go to the page as JSON, and its script puts them there as text; the picture of a
+history is an image, in which no script runs.
+"""
+
+from __future__ import annotations
+
+import importlib.util
+import pathlib
+from typing import List
+
+from aiohttp import web
+
+from server_calls import Backend
+from server_list import Entry, Workflows
+
+HERE = pathlib.Path(__file__).resolve().parent
+MOST_ROWS = 200
+POLICY = (
+    "default-src 'none'; script-src 'self'; style-src 'self'; img-src 'self'; connect-src 'self'; "
+    "form-action 'none'; frame-ancestors 'none'; base-uri 'none'"
+)
+PICTURE_POLICY = "default-src 'none'; style-src 'unsafe-inline'"
+KINDS = {"js": "text/javascript", "css": "text/css", "html": "text/html"}
+# What opens something that is pending until one of the other events names it.
+PENDING = {
+    "ActivityTaskScheduled": ("scheduled", "activity", "activity_id"),
+    "TimerStarted": ("started", "timer", "timer_id"),
+    "StartChildWorkflowExecutionInitiated": ("initiated", "child", "workflow_id"),
+}
+NOT_AN_END = {"ActivityTaskStarted", "ActivityTaskCancelRequested", "ChildWorkflowExecutionStarted"}
+
+
+def load_timeline():
+    """tools/timeline.py, which draws histories."""
+    path = HERE.parents[1] / "tools" / "timeline.py"
+    spec = importlib.util.spec_from_file_location("timeline", path)
+    module = importlib.util.module_from_spec(spec)
+    spec.loader.exec_module(module)
+    return module
+
+
+def pending(events: List[dict]) -> List[dict]:
+    """What a history opened and did not end."""
+    ended = {
+        (key, event["attrs"][key])
+        for event in events if event["type"] not in NOT_AN_END
+        for key in ("scheduled", "started", "initiated") if key in event["attrs"]
+    }
+    found = []
+    for event in events:
+        key, kind, name = PENDING.get(event["type"], (None, None, None))
+        if key is not None and (key, event["id"]) not in ended:
+            found.append({"kind": kind, "id": event["attrs"][name], "event": event["id"], "since": event["at"]})
+    return found
+
+
+class Pages:
+    """What the server answers a browser."""
+
+    def __init__(self, backend: Backend, workflows: Workflows):
+        self._backend = backend
+        self._workflows = workflows
+        self._timeline = load_timeline()
+
+    def routes(self) -> List[web.RouteDef]:
+        return [
+            web.get("/", self.index),
+            web.get("/page/{file}", self.file),
+            web.get("/workflows/{workflow_id}/{run}", self.workflow),
+            web.get("/workflows/{workflow_id}/{run}/picture.svg", self.picture),
+            web.get("/api/workflows", self.rows),
+            web.get("/api/workflows/{workflow_id}/{run}", self.history),
+        ]
+
+    # Files.
+
+    async def index(self, request: web.Request) -> web.Response:
+        return self._answer_file("index.html")
+
+    async def workflow(self, request: web.Request) -> web.Response:
+        return self._answer_file("workflow.html")
+
+    async def file(self, request: web.Request) -> web.Response:
+        return self._answer_file(request.match_info["file"])
+
+    def _answer_file(self, name: str) -> web.Response:
+        files = {path.name: path for path in (HERE / "page").iterdir()}
+        if name not in files:
+            raise web.HTTPNotFound()
+        kind = KINDS[name.rpartition(".")[2]]
+        headers = {"Content-Security-Policy": POLICY, "X-Content-Type-Options": "nosniff", "Cache-Control": "no-cache"}
+        return web.Response(
+            text=files[name].read_text(encoding="utf-8"), content_type=kind, charset="utf-8", headers=headers
+        )
+
+    # What the scripts ask for.
+
+    async def rows(self, request: web.Request) -> web.Response:
+        """The latest workflows of a search, with their status."""
+        text, status = request.query.get("search", ""), request.query.get("status", "")
+        entries = self._workflows.search(text, status, MOST_ROWS)
+        for entry in entries:
+            await self._read(entry)
+        rows = [entry.row() for entry in entries if not status or entry.status == status]
+        return web.json_response({"workflows": rows})
+
+    async def history(self, request: web.Request) -> web.Response:
+        """A history, or only that it is as long as before."""
+        entry = await self._entry(request)
+        row = entry.row()
+        if request.query.get("length") == str(len(entry.events)):
+            return web.json_response({"workflow": row})
+        found = [] if row["status"] != "Running" else pending(entry.events)
+        return web.json_response({"workflow": row, "events": entry.events, "pending": found})
+
+    async def picture(self, request: web.Request) -> web.Response:
+        entry = await self._entry(request)
+        return web.Response(
+            text=self._timeline.picture_file(entry.events), content_type="image/svg+xml",
+            headers={"Content-Security-Policy": PICTURE_POLICY, "Cache-Control": "no-cache"},
+        )
+
+    async def _entry(self, request: web.Request) -> Entry:
+        """The run that a path names, as it is now. One that the list doesn't have, as a child, is added."""
+        workflow_id, run = request.match_info["workflow_id"], request.match_info["run"]
+        entry = self._workflows.find(workflow_id, run)
+        if entry is None:
+            reply = await self._backend.call({"op": "history", "workflow_id": workflow_id, "run": run})
+            if "error" in reply:
+                raise web.HTTPNotFound()
+            started = reply["events"][0]
+            entry = self._workflows.add(workflow_id, run, started["attrs"]["workflow_type"], started["at"])
+        await self._read(entry)
+        return entry
+
+    async def _read(self, entry: Entry) -> None:
+        if entry.stale:
+            entry.stale = False
+            reply = await self._backend.call(
+                {"op": "history", "workflow_id": entry.workflow_id, "run": entry.run}
+            )
+            entry.events = reply.get("events", entry.events)

@@ -1,0 +1,25 @@
+"""An order that survives being killed: python3 survive.py ../../serve order.log
+
+Kill it while it waits, and run it again: it goes on, and the card is charged once.
+"""
+
+import sys
+
+from workflows import run, seconds, workflow
+
+
+def charge(card):
+    print("charging", card, flush=True)
+    return "receipt 4711"
+
+
+@workflow
+async def order(ctx, card):
+    receipt = await ctx.activity(charge, card, start_to_close=seconds(30))
+    await ctx.timer(seconds(10))
+    return f"shipped with {receipt}"
+
+
+if __name__ == "__main__":
+    program, log = sys.argv[1:]
+    print(run([program], log, order, [charge], "order-17", "card 42"))

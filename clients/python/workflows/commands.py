@@ -1,0 +1,98 @@
+"""Commands, and the events that they write: what of a command has to be as the history has it."""
+
+from __future__ import annotations
+
+import json
+from dataclasses import dataclass
+from typing import Any, Dict, List, Optional
+
+from .errors import NonDeterminism
+
+# For each type of a command its event's type, and the members that say what was asked. How it is
+# to be done (a queue, timeouts, a retry policy) may change from one version of the code to the next.
+KINDS = {
+    "ScheduleActivityTask": ("ActivityTaskScheduled", ("activity_id", "activity_type", "input")),
+    "RequestCancelActivityTask": ("ActivityTaskCancelRequested", ("scheduled",)),
+    "StartTimer": ("TimerStarted", ("timer_id", "duration")),
+    "CancelTimer": ("TimerCanceled", ("timer_id",)),
+    "RecordMarker": ("MarkerRecorded", ("name", "details")),
+    "StartChildWorkflowExecution": (
+        "StartChildWorkflowExecutionInitiated", ("workflow_id", "workflow_type", "input"),
+    ),
+    "SignalExternalWorkflowExecution": (
+        "SignalExternalWorkflowExecutionInitiated", ("workflow_id", "run", "name", "input"),
+    ),
+    "RequestCancelExternalWorkflowExecution": (
+        "RequestCancelExternalWorkflowExecutionInitiated", ("workflow_id", "run"),
+    ),
+    "CompleteWorkflowExecution": ("WorkflowExecutionCompleted", ("result",)),
+    "FailWorkflowExecution": ("WorkflowExecutionFailed", ("message",)),
+    "CancelWorkflowExecution": ("WorkflowExecutionCanceled", ("details",)),
+    "ContinueAsNewWorkflowExecution": ("WorkflowExecutionContinuedAsNew", ()),
+}
+EVENTS = {event: members for event, members in KINDS.values()}
+
+
+@dataclass(eq=False)
+class Command:
+    """A command as a workflow asks for it. Two of them with the same members are two commands."""
+
+    type: str
+    members: Dict[str, Any]
+    # Who learns which event the command wrote: an operation of the code, where there is one.
+    operation: Optional[Any] = None
+
+    def line(self) -> dict:
+        """The command as a completion has it."""
+        return {"type": self.type, **self.members}
+
+    @property
+    def event_type(self) -> str:
+        return KINDS[self.type][0]
+
+    def said(self) -> Dict[str, Any]:
+        """What of it has to be as in its event."""
+        return said_of(self.members, KINDS[self.type][1])
+
+
+def said_of(members: Dict[str, Any], names) -> Dict[str, Any]:
+    """Members that are absent are as empty texts."""
+    return {name: members.get(name, "") for name in names}
+
+
+def is_recorded_command(event: dict) -> bool:
+    """Whether an event was written by a command."""
+    return event["type"] in EVENTS
+
+
+def described(event_type: str, said: Dict[str, Any]) -> str:
+    about = ", ".join(f"{name} {json.dumps(value, ensure_ascii=False)}" for name, value in said.items() if value != "")
+    return f"{event_type} ({about})" if about else event_type
+
+
+def asked(command: Optional[Command]) -> str:
+    return "nothing more" if command is None else described(command.event_type, command.said())
+
+
+def has(event: Optional[dict]) -> str:
+    if event is None:
+        return "no command behind it"
+    return described(event["type"], said_of(event["attrs"], EVENTS[event["type"]]))
+
+
+def agrees(command: Optional[Command], event: Optional[dict]) -> bool:
+    if command is None or event is None:
+        return False
+    return command.event_type == event["type"] and command.said() == said_of(event["attrs"], EVENTS[event["type"]])
+
+
+def match(commands: List[Command], recorded: List[dict], completed: int) -> None:
+    """Holds what the code asked for to what the history has behind a completed workflow task."""
+    for i in range(max(len(commands), len(recorded))):
+        command = commands[i] if i < len(commands) else None
+        event = recorded[i] if i < len(recorded) else None
+        if not agrees(command, event):
+            at = event["id"] if event else recorded[-1]["id"] if recorded else completed
+            raise NonDeterminism(at, has(event), asked(command))
+        if command.operation is not None:
+            command.operation.opened(event["id"])

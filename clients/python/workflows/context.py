@@ -1,0 +1,151 @@
+"""What a workflow's code sees: what it asks for, its moment, and its randomness."""
+
+from __future__ import annotations
+
+import inspect
+import random
+from typing import TYPE_CHECKING, Any, Callable, Coroutine, List, NoReturn, Optional, Union
+
+from .commands import Command
+from .definitions import Named, type_of
+from .errors import ContinueAsNew, ReplayOver
+from .loop import FirstOf, Future, Gathered, Task
+from .operations import Activity, Child, Signal, Timer, Word
+from .values import Retry, input_of, retry_members, text_of, value_of
+
+if TYPE_CHECKING:
+    from .replay import Replay
+
+Awaited = Union[Future, Coroutine]
+
+
+def given(**members: Any) -> dict:
+    """The members that say something: no empty text, no duration of 0, no empty policy."""
+    return {name: value for name, value in members.items() if value not in (None, "", 0, {})}
+
+
+class Context:
+    """Handed to a workflow as its first argument. Durations are in milliseconds."""
+
+    def __init__(self, replay: "Replay", started: dict, run: str):
+        attrs = started["attrs"]
+        self.workflow_id: str = attrs["workflow_id"]
+        self.workflow_type: str = attrs["workflow_type"]
+        self.task_queue: str = attrs["task_queue"]
+        self.run = run
+        # The run that began this one as its child, or that went on as this one.
+        self.parent_run: Optional[str] = attrs.get("parent_run")
+        self.continued_from: Optional[str] = attrs.get("continued_from")
+        self.random = random.Random(run)
+        self._replay = replay
+        self._counts = {}
+
+    @property
+    def now(self) -> int:
+        """The moment at which the task was taken by a worker, as the history has it."""
+        return self._replay.turn.moment
+
+    @property
+    def cancel_requested(self) -> bool:
+        return self._replay.cancel_requested
+
+    def _asking(self) -> "Replay":
+        if self._replay.loop.closed:
+            raise ReplayOver()
+        return self._replay
+
+    def _counted(self, kind: str) -> str:
+        """The next number of a kind. The code asks in one order, so numbers name what it asks for."""
+        self._counts[kind] = self._counts.get(kind, 0) + 1
+        return str(self._counts[kind])
+
+    # What a workflow asks for.
+
+    def activity(
+        self, activity: Named, *arguments: Any, start_to_close: int = 0, schedule_to_close: int = 0,
+        schedule_to_start: int = 0, heartbeat: int = 0, retry: Retry = Retry(),
+        queue: Optional[str] = None, id: Optional[str] = None,
+    ) -> Activity:
+        """Has a worker call a function. Its value, or ActivityFailed, or ActivityTimedOut.
+
+        One of start_to_close and schedule_to_close has to be given."""
+        number = self._counted("activity")
+        members = {
+            "activity_id": id or number, "activity_type": type_of(activity),
+            "task_queue": queue or self.task_queue,
+        }
+        members.update(given(
+            input=input_of(arguments), start_to_close=start_to_close, schedule_to_close=schedule_to_close,
+            schedule_to_start=schedule_to_start, heartbeat=heartbeat, retry=retry_members(retry),
+        ))
+        return Activity(self._asking(), Command("ScheduleActivityTask", members))
+
+    def timer(self, duration: int, id: Optional[str] = None) -> Timer:
+        """Is done after so long; at once where that is 0 or less."""
+        number = self._counted("timer")
+        command = Command("StartTimer", {"timer_id": id or number, "duration": max(duration, 1)})
+        return Timer(self._asking(), command)
+
+    def signal(self, name: str) -> Signal:
+        """The value of the next signal of this name."""
+        return self._asking().inbox.next(name)
+
+    def child(
+        self, workflow: Named, *arguments: Any, id: Optional[str] = None, queue: Optional[str] = None,
+        parent_close: str = "Terminate", reuse: str = "AllowDuplicate", run_timeout: int = 0,
+        task_timeout: int = 0,
+    ) -> Child:
+        """Starts another workflow, and waits for its end: its value, or ChildFailed."""
+        number = self._counted("child")
+        members = {
+            "workflow_id": id or f"{self.workflow_id}/{number}", "workflow_type": type_of(workflow),
+            "task_queue": queue or self.task_queue, "parent_close": parent_close, "reuse": reuse,
+        }
+        members.update(given(input=input_of(arguments), run_timeout=run_timeout, task_timeout=task_timeout))
+        return Child(self._asking(), Command("StartChildWorkflowExecution", members))
+
+    def signal_workflow(self, workflow_id: str, name: str, value: Any = None, run: Optional[str] = None) -> Word:
+        """Signals another workflow. Done once it has the signal; NoSuchWorkflow where it isn't open."""
+        members = {"workflow_id": workflow_id, "name": name, **given(input=text_of(value), run=run)}
+        return Word(self._asking(), Command("SignalExternalWorkflowExecution", members))
+
+    def cancel_workflow(self, workflow_id: str, run: Optional[str] = None) -> Word:
+        """Asks another workflow to cancel."""
+        members = {"workflow_id": workflow_id, **given(run=run)}
+        return Word(self._asking(), Command("RequestCancelExternalWorkflowExecution", members))
+
+    def once(self, make: Callable[[], Any]) -> Any:
+        """A value that is made once and remembered in the history: for what is not the same twice."""
+        name = f"once {self._counted('once')}"
+        replay = self._asking()
+        details = replay.recorded_marker(name)
+        if details is None:
+            details = text_of(make())
+        replay.ask(Command("RecordMarker", {"name": name, "details": details}))
+        return value_of(details)
+
+    def continue_as_new(
+        self, *arguments: Any, workflow: Optional[Named] = None, queue: Optional[str] = None,
+    ) -> NoReturn:
+        """Ends this run, and begins the next one of this workflow with a history of its own."""
+        raise ContinueAsNew(given(
+            input=input_of(arguments), task_queue=queue, workflow_type=type_of(workflow) if workflow else None,
+        ))
+
+    # Several at once.
+
+    def task(self, coroutine: Coroutine) -> Task:
+        """Lets a coroutine of this workflow run beside the others."""
+        return self._asking().loop.task(coroutine)
+
+    def gather(self, *awaited: Awaited) -> Gathered:
+        """All values, in their order. The first fault is raised, and cancels the others."""
+        return Gathered(self._asking().loop, self._futures(awaited))
+
+    def first(self, *awaited: Awaited) -> FirstOf:
+        """The index and the value of the first that is done. The others are cancelled; a signal that
+        nobody took stays for the next one who asks."""
+        return FirstOf(self._asking().loop, self._futures(awaited))
+
+    def _futures(self, awaited) -> List[Future]:
+        return [self.task(it) if inspect.iscoroutine(it) else it for it in awaited]

@@ -1,0 +1,75 @@
+#!/usr/bin/env python3
+"""Calls a second of the client in Python: straight to the program, through the log, and over HTTP.
+
+    tools/calls_a_second.py PROGRAM [FOLDER]
+
+Each call signals a workflow, with a request id. The log lies in FOLDER, on whose disk its syncs depend.
+"""
+import pathlib
+import sys
+import tempfile
+import threading
+import time
+
+HERE = pathlib.Path(__file__).resolve().parent
+sys.path.insert(0, str(HERE.parent / "clients" / "python"))
+
+from durable import DurableService  # noqa: E402
+from served import Server  # noqa: E402
+from wfserve import Service  # noqa: E402
+
+SECONDS = 5
+
+
+def signals(service, thread, until, made):
+    """Signals a workflow of the thread's own until it is time."""
+    service.start(f"w{thread}", "Measured", request_id=f"start {thread}")
+    count = 0
+    while time.monotonic() < until:
+        service.signal(f"w{thread}", "s", request_id=f"{thread} {count}")
+        count += 1
+    made.append(count)
+
+
+def measured(name, service, threads):
+    """Calls for some seconds from so many threads, and says how many that were a second."""
+    made, until = [], time.monotonic() + SECONDS
+    running = [threading.Thread(target=signals, args=(service, i, until, made)) for i in range(threads)]
+    for thread in running:
+        thread.start()
+    for thread in running:
+        thread.join()
+    print(f"{name}, {threads} {'thread' if threads == 1 else 'threads'}: {sum(made) / SECONDS:,.0f} calls a second", flush=True)
+
+
+def through_a_log(program, folder, name, threads, most_a_sync):
+    log = folder / f"{most_a_sync}-{threads}.log"
+    with DurableService([program], str(log), most_a_sync=most_a_sync) as service:
+        measured(name, service, threads)
+        lines = service.lines
+    begun = time.monotonic()
+    with DurableService([program], str(log)):
+        print(f"    opened again: {lines / (time.monotonic() - begun):,.0f} lines a second", flush=True)
+
+
+def over_http(program, folder, threads):
+    server = Server(program, folder / f"http-{threads}.log")
+    try:
+        measured("over HTTP, through the log", server.client(), threads)
+    finally:
+        server.stop()
+
+
+def main(program, folder):
+    with Service([program]) as service:
+        measured("straight to the program", service, 1)
+    for threads in (1, 16, 64):
+        through_a_log(program, folder, "through the log, a sync for each", threads, 1)
+        through_a_log(program, folder, "through the log, grouped syncs", threads, 1_000)
+    for threads in (1, 16, 50):
+        over_http(program, folder, threads)
+
+
+if __name__ == "__main__":
+    with tempfile.TemporaryDirectory(dir=sys.argv[2] if sys.argv[2:] else None) as made:
+        main(sys.argv[1], pathlib.Path(made))
