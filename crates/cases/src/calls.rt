@@ -8,8 +8,8 @@ use script::LINE_LIMIT;
 use script_settings::settings_of;
 use service::{Pass, Service};
 use service_model_types::answer::Reply;
-use service_model_types::call::{Call, StepCall};
-use service_model_types::request::{Hint, Operation, Request};
+use service_model_types::call::{Call, StartTask, StepCall};
+use service_model_types::request::Hint;
 use service_model_types::settings::Settings;
 use std::alloc::{AllocError, AllocGlobal, Global};
 use std::io;
@@ -83,8 +83,7 @@ impl Opened {
 
 /// The call that takes a task.
 fn start_task(hint: Hint, at: Moment) -> Call {
-    let operation = Operation::StartTask(hint);
-    Call::Step(StepCall::Request(Request { at, operation }))
+    Call::Step(StepCall::StartTask(StartTask { hint, at }))
 }
 
 /// The call that a line asks for, which a barrier doesn't, or the fault that a script finds in it.

@@ -6,7 +6,7 @@ ghost use Rattle.std.specs.Thread.{IsSync};
 ghost use Rattle.gate_bench.specs.Lanes.{lane_count};
 
 use crate::{Lanes, Outcome};
-use gate::{Gate, Pass, Record};
+use gate::{Gate, Pass};
 use gate_tests::Counter;
 use std::alloc::{AllocError, Global};
 use std::rt::Clock;
@@ -14,6 +14,7 @@ use std::sync::Wait;
 use std::thread::Threads;
 use std::time::Instant;
 use std::{io, thread};
+use step_record::Record;
 
 /// So many new counters, with empty records.
 fn counters(alloc: Global, count: usize) -> Result<Vec<(Counter, Record<u64>)>, AllocError>

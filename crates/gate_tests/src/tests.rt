@@ -4,7 +4,7 @@ ghost use Rattle.gate.specs.Passes.{view, number};
 ghost use Rattle.std.specs.Thread.{IsSync};
 
 use crate::Counter;
-use gate::{Gate, Pass, Record, Refused};
+use gate::{ClosedSlot, Gate, Pass, Refused};
 use std::alloc::{AllocError, Global};
 use std::rt::Clock;
 use std::sync::{Barrier, Wait};
@@ -12,6 +12,7 @@ use std::test::Fail;
 use std::thread;
 use std::thread::Threads;
 use std::time::Duration;
+use step_record::{Entry, Record};
 
 const SLOTS: u64 = 3;
 
@@ -53,7 +54,7 @@ fn close_two(
     gate: Gate<Counter>,
     one: Pass<Counter>,
     two: Pass<Counter>,
-) -> Result<Vec<(Counter, Record<u64>)>, AllocError>
+) -> Result<Vec<ClosedSlot<Counter>>, AllocError>
     requires own { IsPassOf one gate × IsPassOf two gate }
     requires numbers { (number (view one) ≡ 0) × (number (view two) ≡ 1) }
     requires given { given gate ≡ 2 }
@@ -82,8 +83,14 @@ fn one_pass_steps(rt: HostRuntime) -> Result<(), Fail> {
 #[test]
 fn an_opened_record_goes_on(rt: HostRuntime) -> Result<(), Fail> {
     let mut entries = Vec::new(rt.alloc());
-    entries.push((0, 5))?;
-    entries.push((1, 2))?;
+    entries.push(Entry {
+        pass: 0,
+        request: 5,
+    })?;
+    entries.push(Entry {
+        pass: 1,
+        request: 2,
+    })?;
     let mut objects = Vec::new(rt.alloc());
     objects.push((Counter::at(7), Record::from_vec(entries)))?;
     let (gate, mut passes) = Gate::open(rt.alloc(), objects, 1)?;
@@ -91,12 +98,12 @@ fn an_opened_record_goes_on(rt: HostRuntime) -> Result<(), Fail> {
     assert!(rt; gate.try_step(&mut pass, 0, 3) == Ok(10));
     passes.push(pass)?;
     let mut closed = gate.close(passes);
-    let Some((counter, record)) = closed.pop() else {
+    let Some(slot) = closed.pop() else {
         panic!(rt; "one object was put in")
     };
-    assert!(rt; counter.value() == 10);
-    assert!(rt; !record.is_empty());
-    assert!(rt; record.into_vec().as_slice() == [(0, 5), (1, 2), (0, 3)].as_slice());
+    assert!(rt; slot.object.value() == 10);
+    assert!(rt; !slot.entries.is_empty());
+    assert!(rt; has_steps(&slot.entries, &[(0, 5), (1, 2), (0, 3)]));
     Ok(())
 }
 
@@ -123,9 +130,9 @@ fn a_pass_inside_keeps_others_out(rt: HostRuntime) -> Result<(), Fail> {
     gate.meet(&mut one, &mut two);
     let all = close_two(rt.alloc(), gate, one, two)?;
     assert!(rt; all.len() == 2);
-    assert!(rt; all[0].0.value() == 9);
-    assert!(rt; all[0].1.as_slice() == [(0, 5), (1, 4)].as_slice());
-    assert!(rt; all[1].1.as_slice() == [(1, 3)].as_slice());
+    assert!(rt; all[0].object.value() == 9);
+    assert!(rt; has_steps(&all[0].entries, &[(0, 5), (1, 4)]));
+    assert!(rt; has_steps(&all[1].entries, &[(1, 3)]));
     Ok(())
 }
 
@@ -221,12 +228,19 @@ fn step_both<R: Wait + Threads + Sync>(
     (one, two)
 }
 
+// Whether the record has just these steps, each a pass's number and its request.
+fn has_steps(record: &Record<u64>, steps: &[(u8, u64)]) -> bool {
+    record.len() == steps.len()
+        && record.as_slice().iter().zip(steps).all(|(entry, step)| entry.pass == step.0
+            && entry.request == step.1)
+}
+
 // Whether the pass's entries in the slot's record are the steps that it made there, in their order.
 fn has_own_steps(record: &Record<u64>, pass: u8, slot: u64) -> bool {
     let mut next = slot.wrapping_add(1);
-    for (number, request) in record.as_slice() {
-        if *number == pass {
-            if *request != next {
+    for entry in record.as_slice() {
+        if entry.pass == pass {
+            if entry.request != next {
                 return false;
             }
             next = next.wrapping_add(SLOTS);
@@ -240,7 +254,7 @@ fn close_four(
     gate: Gate<Counter>,
     first: (Pass<Counter>, Pass<Counter>),
     second: (Pass<Counter>, Pass<Counter>),
-) -> Result<Vec<(Counter, Record<u64>)>, AllocError>
+) -> Result<Vec<ClosedSlot<Counter>>, AllocError>
     requires first { IsPassOf first.0 gate × IsPassOf first.1 gate
         × (number (view first.0) ≡ 0) × (number (view first.1) ≡ 1) }
     requires second { IsPassOf second.0 gate × IsPassOf second.1 gate
@@ -284,12 +298,12 @@ fn four_threads_step_on_three_slots(rt: HostRuntime) -> Result<(), Fail> {
     let closed = close_four(rt.alloc(), gate, first, second)?;
     assert!(rt; closed.len() == 3);
     for slot in 0..SLOTS {
-        let (counter, record) = &closed[slot as usize];
-        assert!(rt; record.len() == 400);
+        let here = &closed[slot as usize];
+        assert!(rt; here.entries.len() == 400);
         // 100 requests of each of four passes: slot + 1, slot + 4, ...
-        assert!(rt; counter.value() == 4 * (100 * (slot + 1) + 3 * 4950));
+        assert!(rt; here.object.value() == 4 * (100 * (slot + 1) + 3 * 4950));
         for pass in 0..4 {
-            assert!(rt; has_own_steps(record, pass, slot));
+            assert!(rt; has_own_steps(&here.entries, pass, slot));
         }
     }
     Ok(())

@@ -1,4 +1,4 @@
--- the transfers that a run issues, by the events that it shows
+-- MEANING: the transfers that a run issues, by the events that it shows
 use Rattle.std.specs.Prelude.{ℕ, Bool, cond, List, [], ◌++◌, drop, filter_map, Option}
 use Rattle.wf_event.specs.declared.event.Event.{Event}
 use Rattle.wf_event.specs.declared.payloads.Parent.{Parent}

@@ -1,5 +1,5 @@
 -- what was printed before a fault is a beginning of replies to the lines that were read
-use Rattle.std.proofs.Common.{◌≡◌, ℕ, ◌+◌, List, [], ◌∷◌, ◌++◌, length, map, take, drop, true, false, Option, Some, Result, Ok, inl, inr, refl, sym, ap, subst, ◌∙◌, append_assoc}
+use Rattle.std.proofs.Common.{◌≡◌, ℕ, ◌+◌, List, [], ◌∷◌, ◌++◌, length, map, take, drop, true, false, Option, Some, Result, Ok, inl, inr, refl, sym, ap, subst, ◌∙◌, append-nil, append_assoc, Bool}
 use Rattle.std.proofs.lemmas.List.{map-append, take-append-drop}
 use Rattle.std.specs.Io.KnownBytes.{Appends, Consumes, Keeps}
 use Rattle.wf_event_values.specs.declared.refusal.Refusal.{Refusal}
@@ -18,7 +18,7 @@ use Rattle.wire_counted.specs.Written.{AppendsBeginning}
 use Rattle.wire_counted.proofs.Known.{Consumes-keeps, Consumes-none, Consumes-then, beginning_behind, beginning_of_all, beginning_of_nothing}
 use Rattle.lanes.specs.declared.run.Script.{Script}
 use Rattle.lanes.specs.Course.{Serves, Meets, Course, InTurn, LineServed, asks_of}
-use Rattle.lanes.specs.Endings.{Beginning, Broke, Halted}
+use Rattle.lanes.specs.Endings.{Beginning, Broke, Ended, Halted}
 use Rattle.lanes.specs.Lanes.{Took, WereAsked, is_barrier, own_calls, passes_of, place_in}
 use Rattle.lanes.specs.Told.{Added, BeginsLine, Progress, Stopped, TellsLine, TextTold, Told}
 use Rattle.lanes.proofs.PhaseLemmas.{phase-part, phase-part-barrier}
@@ -26,6 +26,22 @@ use Rattle.lanes.proofs.PrintLemmas.{numbered-append}
 use Rattle.lanes.proofs.ToldLemmas.{asks-push, barrier-asked, barrier-places, lines-clean, lines-end, lines-last, next-number, told-longer}
 use Rattle.lanes.proofs.TurnLemmas.{turn-append}
 use Rattle.lanes.proofs.WorkLemmas.{waiting-same}
+
+-- what was printed whole is a beginning
+pub ended-begun : {serves : Serves} {meets : Meets} {K : Settings} {ps : List Pass} (text : List ℕ) (held held' : Option (List ℕ)) (refused : Bool) (ends : List Pass) → Ended serves meets K ps text held held' refused ends → Beginning serves meets K ps (all_lines text) held held'
+ended-begun {serves} {meets} {K} {ps} text held held' refused ends h = record {
+  front = asks_of K (all_lines text);
+  rest = [];
+  replies = h.replies;
+  served = h.served;
+  parts = sym (append-nil (asks_of K (all_lines text)));
+  course = h.course;
+  written = beginning_of_all held held' (numbered_from 1 h.replies) h.written;
+}
+
+-- it ended alike with passes that are the same
+pub ended-same : {serves : Serves} {meets : Meets} {K : Settings} {ps : List Pass} {text : List ℕ} {held held' : Option (List ℕ)} {refused : Bool} {ends ends' : List Pass} → ends' ≡ ends → Ended serves meets K ps text held held' refused ends → Ended serves meets K ps text held held' refused ends'
+ended-same {serves} {meets} {K} {ps} {text} {held} {held'} {refused} is h = subst (λ x. Ended serves meets K ps text held held' refused x) (sym is) h
 
 -- nothing was printed
 begins-nothing : {serves : Serves} {meets : Meets} {K : Settings} {ps : List Pass} (lines : List Line) (held : Option (List ℕ)) → Beginning serves meets K ps lines held held

@@ -1,5 +1,5 @@
 -- what holds of the passes of all lanes
-use Rattle.std.proofs.Common.{◌≡◌, ◌<◌, ℕ, List, All, Some, map, length, get_or, sym, ap, ◌∙◌, subst, arith}
+use Rattle.std.proofs.Common.{◌≡◌, ◌<◌, ℕ, zero, suc, List, [], ◌∷◌, All, Some, map, length, get_or, sym, ap, ◌∙◌, subst, arith}
 use Rattle.std.specs.Prelude.{slice_get}
 use Rattle.std.proofs.lemmas.List.{get_or-map, length-map}
 use Rattle.std.proofs.lemmas.Option.{slice_get-get_or}
@@ -24,3 +24,9 @@ own-of P ps ys is all k d below =
 -- it holds of all members, where it holds of each that stands at some place
 pub all-there : {A : Type 0} (P : A → Type 0) (xs : List A) → ((k : ℕ) (x : A) → slice_get xs k ≡ Some x → P x) → All P xs
 all-there P xs each k d below = each k (get_or xs k d) (slice_get-get_or xs k d below)
+
+-- it holds of each pass of such lanes
+pub passes-own : (P : Pass → Type 0) (ls : List Lane) → All (λ (l : Lane). P l.pass) ls → (k : ℕ) (p : Pass) → slice_get (map (λ (l : Lane). l.pass) ls) k ≡ Some p → P p
+passes-own P [] all k p there = absurd (cc there)
+passes-own P (l ∷ ls) all zero p there = let is : l.pass ≡ p = cc there in subst P is (all 0 l (omega arith))
+passes-own P (l ∷ ls) all (suc k) p there = passes-own P ls (λ j d below. all (suc j) d (omega (arith, below))) k p there

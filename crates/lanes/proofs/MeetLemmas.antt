@@ -5,7 +5,7 @@ use Rattle.std.proofs.lemmas.List.{get_or-map, get_or-set_other, get_or-set_same
 use Rattle.std.proofs.Math.Seq.{map-set_same}
 use Rattle.service.specs.declared.service.Pass.{Pass}
 use Rattle.lanes.specs.declared.lane.Lane.{Lane}
-use Rattle.lanes.specs.Course.{Meets, AllMet, InTurn}
+use Rattle.lanes.specs.Course.{Meets, FirstMet, InTurn}
 use Rattle.lanes.specs.Lanes.{KeepsReplies, passes_of}
 use Rattle.lanes.proofs.TurnLemmas.{turn-append, turn-one}
 
@@ -27,7 +27,7 @@ met-one meets p q q' xs ys i x y below count same is met h =
     rw (before, now) (turn-append (λ q other other' q'. meets q other q' other') p q q' (take i (passes_of xs)) (x.pass ∷ []) (take i (passes_of ys)) (y.pass ∷ []) h (turn-one (λ q other other' q'. meets q other q' other') q q' x.pass y.pass met))
 
 -- it met all
-pub met-all : (meets : Meets) (first first' : Lane) (xs ys : List Lane) (i : ℕ) → length xs ≤ i → length ys ≡ length xs → HasMet meets first.pass (take i (passes_of xs)) (take i (passes_of ys)) first'.pass → AllMet meets (passes_of (first ∷ xs)) (passes_of (first' ∷ ys))
+pub met-all : (meets : Meets) (first first' : Lane) (xs ys : List Lane) (i : ℕ) → length xs ≤ i → length ys ≡ length xs → HasMet meets first.pass (take i (passes_of xs)) (take i (passes_of ys)) first'.pass → FirstMet meets (passes_of (first ∷ xs)) (passes_of (first' ∷ ys))
 met-all meets first first' xs ys i past count h =
     let before : take i (passes_of xs) ≡ passes_of xs = take_all i (passes_of xs) (omega (arith, past, length-map xs (λ (l : Lane). l.pass))) in
     let now : take i (passes_of ys) ≡ passes_of ys = take_all i (passes_of ys) (omega (arith, past, count, length-map ys (λ (l : Lane). l.pass))) in

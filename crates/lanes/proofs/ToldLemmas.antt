@@ -21,7 +21,7 @@ use Rattle.script.proofs.Steps.{ended-append, left-append}
 use Rattle.wire_counted.proofs.Known.{Appends-none, Appends-then}
 use Rattle.lanes.specs.declared.print.Place.{Place}
 use Rattle.lanes.specs.declared.run.Script.{Script}
-use Rattle.lanes.specs.Course.{Serves, Meets, Course, InTurn, LineServed, asks_of}
+use Rattle.lanes.specs.Course.{AllMet, Serves, Meets, Course, InTurn, LineServed, asks_of}
 use Rattle.lanes.specs.Endings.{Ended}
 use Rattle.lanes.specs.Lanes.{ArePlain, Took, Waiting, WereAsked, is_barrier, own_calls, passes_of, place_in}
 use Rattle.lanes.specs.Told.{Added, Closed, Opened, TellsLine, TextTold, Told}
@@ -126,7 +126,7 @@ told-barrier {serves} {meets} {K} {ps} lines line s s1 s' held w w' a barrier c 
 
 -- the end, and what waited before it
 pub told-ended : {serves : Serves} {meets : Meets} {K : Settings} {ps : List Pass} (text : List ℕ) (lines : List Line) (s s' : Script) (held w w' : Option (List ℕ)) → lines ≡ all_lines text
-    → Closed serves meets s s' w w' → Told serves meets K ps lines s held w → Ended serves meets K ps text held w' s'.refused
+    → Closed serves meets s s' w w' → Told serves meets K ps lines s held w → Ended serves meets K ps text held w' s'.refused (passes_of s'.lanes.items)
 told-ended {serves} {meets} {K} {ps} text lines s s' held w w' all c h =
     let p = c.printed in
     let rs = p.printed.replies in
@@ -134,10 +134,9 @@ told-ended {serves} {meets} {K} {ps} text lines s s' held w w' all c h =
     record {
       replies = h.replies ++ rs;
       served = passes_of p.phase.worked;
-      ends = passes_of p.after;
       course = subst (λ x. Course serves meets ps x (h.replies ++ rs) (passes_of p.phase.worked)) (sym h.parts ∙ ap (asks_of K) all)
           (turn-append (LineServed serves meets) ps (passes_of s.lanes.items) (passes_of p.phase.worked) h.done h.waits h.replies rs h.course phase.course);
-      met = p.phase.met;
+      met = subst (AllMet meets (passes_of p.phase.worked)) (sym p.passes) p.phase.met;
       written = both-written s.first h.replies rs held w w' (next-number lines s held w h) h.written p.printed.written;
       refused_is = both-refused s.refused c.refused s'.refused h.replies rs c.refused_is h.refused_is p.printed.refused_is;
     }
@@ -206,11 +205,11 @@ lines-last text line is some =
 
 -- the end behind a line feed
 pub ended-clean : {serves : Serves} {meets : Meets} {K : Settings} {ps : List Pass} (text : List ℕ) (s s' : Script) (held w w' : Option (List ℕ)) → is_empty_line s.line ≡ true → Closed serves meets s s' w w'
-    → TextTold serves meets K ps text s held w → Ended serves meets K ps text held w' s'.refused
+    → TextTold serves meets K ps text s held w → Ended serves meets K ps text held w' s'.refused (passes_of s'.lanes.items)
 ended-clean text s s' held w w' empty c h = told-ended text (ended (Some []) text) s s' held w w' (lines-clean text s.line h.line empty) c h.told
 
 -- the end behind a last line without its line feed
 pub ended-line : {serves : Serves} {meets : Meets} {K : Settings} {ps : List Pass} (text : List ℕ) (s s1 s' : Script) (held w w1 w' : Option (List ℕ)) → is_empty_line s.line ≡ false
-    → TellsLine serves meets K s.line s s1 w w1 → Closed serves meets s1 s' w1 w' → TextTold serves meets K ps text s held w → Ended serves meets K ps text held w' s'.refused
+    → TellsLine serves meets K s.line s s1 w w1 → Closed serves meets s1 s' w1 w' → TextTold serves meets K ps text s held w → Ended serves meets K ps text held w' s'.refused (passes_of s'.lanes.items)
 ended-line {serves} {meets} {K} {ps} text s s1 s' held w w1 w' some step c h =
     told-ended text (ended (Some []) text ++ s.line ∷ []) s1 s' held w1 w' (lines-last text s.line h.line some) c (step ps (ended (Some []) text) held h.told)

@@ -1,4 +1,4 @@
--- how the lines of a script are served over several lanes: line by line, in the order of the lines
+-- MEANING: how the lines of a script are served over several lanes: line by line, in the order of the lines
 use Rattle.std.specs.Prelude.{◌≡◌, ℕ, List, [], ◌∷◌, map, set, slice_get, Option, None, Some, Result, Ok, Err}
 use Rattle.wf_event_values.specs.declared.field.Field.TheVariants as field
 use Rattle.wf_event_values.specs.declared.refusal.Refusal.{Refusal}
@@ -28,10 +28,14 @@ InTurn step s (x ∷ xs) [] s' = ⊥
 InTurn {S} step s (x ∷ xs) (y ∷ ys) s' = (between : S) × step s x y between × InTurn step between xs ys s'
 
 -- the first pass met every other, in their order
+abbrev pub FirstMet : Meets → List Pass → List Pass → Type 0
+FirstMet meets [] ps' = ps' ≡ []
+FirstMet meets (p ∷ ps) [] = ⊥
+FirstMet meets (p ∷ ps) (p' ∷ ps') = InTurn (λ q other other' q'. meets q other q' other') p ps ps' p'
+
+-- it met every other twice: by the first round it learned what they know, and by the second each of them what all do
 abbrev pub AllMet : Meets → List Pass → List Pass → Type 0
-AllMet meets [] ps' = ps' ≡ []
-AllMet meets (p ∷ ps) [] = ⊥
-AllMet meets (p ∷ ps) (p' ∷ ps') = InTurn (λ q other other' q'. meets q other q' other') p ps ps' p'
+AllMet meets ps ps' = (between : List Pass) × FirstMet meets ps between × FirstMet meets between ps'
 
 -- the pass of a lane served a call, and the others stayed
 pub record ServedIn (serves : Serves) (lane : ℕ) (call : Call) (p : Pass) (ps : List Pass) (r : Option Reply) (ps' : List Pass) : Type 0 where
@@ -46,7 +50,7 @@ abbrev pub LaneServed : Serves → ℕ → Call → Option Pass → List Pass �
 LaneServed serves lane call None ps r ps' = (r ≡ Some (Err (InvalidArgument field.Lane))) × (ps' ≡ ps)
 LaneServed serves lane call (Some p) ps r ps' = ServedIn serves lane call p ps r ps'
 
--- A line by what it asks. At a barrier the first pass meets every other, and there is no reply; a call is served in its lane;
+-- A line by what it asks. At a barrier the first pass meets every other twice, and there is no reply; a call is served in its lane;
 -- a line that is refused has its refusal, and the passes stay.
 abbrev pub LineServed : Serves → Meets → List Pass → Result Asked Refusal → Option Reply → List Pass → Type 0
 LineServed serves meets ps (Ok a_barrier) r ps' = (r ≡ None) × AllMet meets ps ps'

@@ -1,4 +1,4 @@
--- what becomes of lanes within a phase
+-- PROOF: what becomes of lanes within a phase
 use Rattle.std.specs.Prelude.{◌≡◌, ℕ, ◌<◌, ◌==◌, if◌then◌else◌, Bool, true, false, List, [], ◌∷◌, ◌++◌, length, map, set, get_or, slice_get, Option, None, Some, Result, Ok, Err}
 use Rattle.std.specs.List.{flat_map, list_any}
 use Rattle.wf_event_values.specs.declared.field.Field.TheVariants as field

@@ -1,4 +1,4 @@
--- what a service's passes come to when they meet
+-- MEANING: what a service's passes come to when they meet
 use Rattle.std.specs.Prelude.{◌≡◌, ℕ, ◌<◌}
 use Rattle.gate.specs.Passes.{Agree, KeepsOwn}
 use Rattle.service.specs.Services.{hints_by, known_by, settings_of}

@@ -1,4 +1,4 @@
--- what is printed of a phase: the replies in the order of the lines, each under its line's number
+-- PROOF: what is printed of a phase: the replies in the order of the lines, each under its line's number
 use Rattle.std.specs.Prelude.{◌≡◌, ℕ, List, take, Bool, Option}
 use Rattle.std.specs.List.{list_any}
 use Rattle.std.specs.Io.KnownBytes.{Appends}

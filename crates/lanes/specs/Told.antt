@@ -1,4 +1,4 @@
--- what a script over lanes has told of its lines
+-- PROOF: what a script over lanes has told of its lines
 use Rattle.std.specs.Prelude.{◌≡◌, ◌⊎◌, ℕ, ◌+◌, List, [], ◌∷◌, ◌++◌, length, Bool, false, ◌||◌, Option, Some, Result}
 use Rattle.std.specs.List.{list_any}
 use Rattle.std.specs.Io.KnownBytes.{Appends, Consumes}
@@ -98,7 +98,7 @@ Breaks serves meets K s r r' w w' = (ps : List Pass) (unread held : Option (List
 
 -- all was told of a text, and then of its last line too
 abbrev pub TellsAll : Serves → Meets → Settings → Script → Script → Option (List ℕ) → Option (List ℕ) → Type 0
-TellsAll serves meets K s s' w w' = (ps : List Pass) (text : List ℕ) (held : Option (List ℕ)) → TextTold serves meets K ps text s held w → Ended serves meets K ps text held w' s'.refused
+TellsAll serves meets K s s' w w' = (ps : List Pass) (text : List ℕ) (held : Option (List ℕ)) → TextTold serves meets K ps text s held w → Ended serves meets K ps text held w' s'.refused (passes_of s'.lanes.items)
 
 -- all was told of a text, and then a beginning of all its lines
 abbrev pub BeginsAll : Serves → Meets → Settings → Script → Option (List ℕ) → Option (List ℕ) → Type 0

@@ -33,6 +33,18 @@ impl Lane {
         }
     }
 
+    /// Its pass.
+    pub(crate) fn into_pass(self) -> Pass
+        ensures { result ≡ self.pass }
+    {
+        let Lane {
+            pass,
+            asked: _,
+            answered: _,
+        } = self;
+        pass
+    }
+
     /// One call more.
     pub(crate) fn ask(&mut self, call: Call) -> Result<(), AllocError>
         ensures pass { self.new.pass ≡ self.old.pass }

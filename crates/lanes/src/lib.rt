@@ -11,4 +11,4 @@ mod print;
 mod run;
 
 pub use door::Door;
-pub use run::run_lanes;
+pub use run::{LanesOutcome, run_lanes};

@@ -2,7 +2,7 @@
 
 ghost use Rattle.std.specs.Prelude.{◌≡◌, ◌+◌, ◌<◌, ◌≤◌, ◌^◌, All, length, IfOk, IfErr, OnErr};
 ghost use Rattle.script.specs.Endings.{IsWriteFault};
-ghost use Rattle.lanes.specs.Course.{AllMet};
+ghost use Rattle.lanes.specs.Course.{AllMet, FirstMet};
 ghost use Rattle.lanes.specs.Lanes.{EachWorked, KeepsReplies, Worked, passes_of};
 ghost use Rattle.lanes.specs.Printed.{PhaseBegun, PhasePrinted};
 
@@ -45,11 +45,11 @@ fn serve_lanes<R: Threads + Wait + Sync, D: Door + Sync>(
 }
 
 /// The first lane meets every other, in their order.
-fn meet_all<D: Door>(door: &D, lanes: &mut [Lane])
+fn meet_others<D: Door>(door: &D, lanes: &mut [Lane])
     requires { All (λ l. D.admits door.now l.pass) lanes.old }
     ensures own { All (λ l. D.admits door.now l.pass) lanes.new }
     ensures count { length lanes.new ≡ length lanes.old }
-    ensures met { AllMet (D.meets door.now) (passes_of lanes.old) (passes_of lanes.new) }
+    ensures met { FirstMet (D.meets door.now) (passes_of lanes.old) (passes_of lanes.new) }
     ensures kept { KeepsReplies lanes.old lanes.new }
 {
     if let Some((first, rest)) = lanes.split_first_mut() {
@@ -57,6 +57,18 @@ fn meet_all<D: Door>(door: &D, lanes: &mut [Lane])
             door.meet(&mut first.pass, &mut other.pass);
         }
     }
+}
+
+/// The first lane meets every other twice, so that all of them have seen what any of them did.
+fn meet_all<D: Door>(door: &D, lanes: &mut [Lane])
+    requires { All (λ l. D.admits door.now l.pass) lanes.old }
+    ensures own { All (λ l. D.admits door.now l.pass) lanes.new }
+    ensures count { length lanes.new ≡ length lanes.old }
+    ensures met { AllMet (D.meets door.now) (passes_of lanes.old) (passes_of lanes.new) }
+    ensures kept { KeepsReplies lanes.old lanes.new }
+{
+    meet_others(door, lanes);
+    meet_others(door, lanes);
 }
 
 /// Lets all lanes make their calls, lets the first one meet every other, and writes the replies to the

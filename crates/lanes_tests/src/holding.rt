@@ -1,11 +1,10 @@
 //! Lanes run at the same time: the call of one is held until that of the other was answered.
 
+use crate::serving::open;
 use lanes::{Door, run_lanes};
-use service::{Pass, Service};
+use service::Pass;
 use service_model_types::answer::{Answer, Reply};
 use service_model_types::call::Call;
-use service_model_types::limits::DEFAULT_CAPACITY;
-use service_model_types::settings::{Settings, main_queue};
 use std::alloc::{AllocError, AllocGlobal};
 use std::process::Abort;
 use std::sync::Wait;
@@ -78,26 +77,9 @@ impl Door for HoldingDoor {
     fn meet(&self, _one: &mut Pass, _other: &mut Pass) {}
 }
 
-/// Three shards and three passes.
-fn settings<R: Abort + AllocGlobal>(rt: &R) -> Settings {
-    match main_queue(rt.alloc()) {
-        Ok(queues) => Settings {
-            shards: 3,
-            passes: 3,
-            service: 1,
-            queues,
-            capacity: DEFAULT_CAPACITY,
-        },
-        Err(_) => panic!(rt; "no memory"),
-    }
-}
-
 /// Both calls are answered while the one on this shard is held, and printed in the order of the lines.
 fn holds_one<R: Abort + AllocGlobal + Threads + Wait + Sync>(rt: &R, held: u16) {
-    let settings = settings(rt);
-    let Ok((_service, passes)) = Service::open(rt.alloc(), &settings) else {
-        panic!(rt; "the service was not opened")
-    };
+    let (settings, _service, passes) = open(rt, 3, 3);
     let door = HoldingDoor {
         held,
         answered: AtomicU64::new(0),

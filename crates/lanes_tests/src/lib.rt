@@ -1,6 +1,12 @@
-//! Lanes over threads: what no contract says of them, that they run at the same time and that they
-//! succeed.
+//! Lanes over threads: what no contract says of them, that they run at the same time, that they
+//! succeed, and what is printed where a device fails.
 #![tactic(auto)]
 
 #[cfg(test)]
+mod devices;
+#[cfg(test)]
 mod holding;
+#[cfg(test)]
+mod limits;
+#[cfg(test)]
+mod serving;

@@ -1,4 +1,4 @@
--- What each step on a queue tells the pass that makes it.
+-- MEANING: What each step on a queue tells the pass that makes it.
 use Rattle.std.specs.Prelude.{◌≡◌, ℕ, ◌+◌, ◌<◌, List, [], ◌∷◌, ◌++◌, length}
 use Rattle.service_model_types.specs.declared.request.Hint.{Hint}
 use Rattle.matching.specs.declared.view.View.{View}

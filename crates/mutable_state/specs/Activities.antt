@@ -1,4 +1,4 @@
--- the activities of a run as they are asked for
+-- PROOF: the activities of a run as they are asked for
 use Rattle.std.specs.Prelude.{◌≡◌, ℕ, Bool, false, cond, List, [], filter_map, find, map, Option, None, option_map, option_and_then}
 use Rattle.wf_event.specs.declared.event.Event.{Event}
 use Rattle.service_model.specs.Completion.{is_running_phase}

@@ -1,4 +1,4 @@
--- the deadlines that a run has of itself, and those of its pending timers and activities
+-- PROOF: the deadlines that a run has of itself, and those of its pending timers and activities
 use Rattle.std.specs.Prelude.{ℕ, cond, List, [], ◌++◌, flat_map, Option, None, Some}
 use Rattle.wf_event.specs.declared.event.Event.{Event}
 use Rattle.wf_event.specs.declared.payloads.WorkflowExecutionStarted.{WorkflowExecutionStarted as StartedAttributes}

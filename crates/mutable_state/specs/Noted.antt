@@ -1,4 +1,4 @@
--- what is kept of the notes on an activity, and of its requests to cancel
+-- PROOF: what is kept of the notes on an activity, and of its requests to cancel
 use Rattle.std.specs.Prelude.{ℕ, ◌+◌, Bool, false, ◌||◌, None, Some}
 use Rattle.wf_event.specs.declared.event.Event.{Event}
 use Rattle.service_model_types.specs.declared.journal.Note.{Note}

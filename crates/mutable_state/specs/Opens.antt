@@ -1,4 +1,4 @@
--- what is kept of what is in use in a run: each thing by its class and the id of the event that opened it
+-- PROOF: what is kept of what is in use in a run: each thing by its class and the id of the event that opened it
 use Rattle.std.specs.Prelude.{◌≡◌, ◌<◌, ◌≤◌, ℕ, Bool, true, false, cond, not, ◌&&◌, ◌||◌, ◌==◌, List, [], ◌∷◌, ◌++◌, filter, filter_map, map, length, Option, None, Some, option_map, IsSome}
 use Rattle.std.specs.List.{AllByRecursion}
 use Rattle.wf_event.specs.declared.event.Event.{Event}

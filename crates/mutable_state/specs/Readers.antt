@@ -1,4 +1,4 @@
--- what a run answers when it is asked what is in use in it, and what is held back
+-- PROOF: what a run answers when it is asked what is in use in it, and what is held back
 use Rattle.std.specs.Prelude.{◌≡◌, ℕ, Bool, false, cond, bytes_eq, List, map, length, Option, None, Some, option_map}
 use Rattle.std.specs.Option.{option_map_or}
 use Rattle.std.specs.List.{AllByRecursion}

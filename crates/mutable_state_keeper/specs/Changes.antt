@@ -1,4 +1,4 @@
--- what a step's change does to a run's state
+-- PROOF: what a step's change does to a run's state
 use Rattle.std.specs.Prelude.{◌≡◌, false}
 use Rattle.service_model.specs.Pending.{NoTask}
 use Rattle.service_model.specs.RunState.{RunState, is_open}

@@ -1,4 +1,4 @@
--- how the calls' types are read as those of the definitions
+-- MEANING: how the calls' types are read as those of the definitions
 use Rattle.std.specs.Prelude.{option_copied}
 use Rattle.retry.specs.declared.verdict.Ended.{Ended}
 use Rattle.retry.specs.declared.verdict.Ended.TheVariants.{Timeout, Failure}

@@ -1,22 +1,21 @@
 //! How long an activity waits before it is tried again.
 
-ghost use Rattle.std.specs.Prelude.{◌≡◌, IsTrue};
+ghost use Rattle.std.specs.Prelude.{◌≡◌, ◌≤◌, IsTrue};
 ghost use Rattle.wf_event.specs.RetryPolicies.{good_policy};
-ghost use Rattle.service_model.specs.Retry.{maximum_of, wait};
+ghost use Rattle.service_model.specs.Retry.{maximum_of, next_wait, wait};
 ghost use Rattle.wf_event_values.specs.Limits.{IsSpan};
 
 use wf_event::RetryPolicy;
 use wf_event::payloads::PolicyFields;
 use wf_event_values::LONGEST_SPAN;
 
-/// So many doublings of a millisecond are longer than the longest wait, since 2^40 is above 10^12.
-const MOST_TURNS: u32 = 40;
-
 /// How many milliseconds the next attempt waits after the one of this number ended: the initial
-/// interval times the factor for each attempt before it, and never more than the maximum.
+/// interval after the first, and then so many hundredths of the wait before as the policy's
+/// coefficient says, rounded up each time, and never more than the maximum.
 ///
-/// Attempts count from 1, and 0 is read as 1. No product is ever above 10^15, and there are at most
-/// 40, however many attempts there were.
+/// Attempts count from 1, and 0 is read as 1. No product is ever above 10^17. The turns end where a
+/// wait is followed by itself. Until then each is longer than the one before it, by at least a
+/// hundredth, so there are at most some 2,400, however many attempts there were.
 pub fn wait_after(policy: &RetryPolicy, attempt: u32) -> u64
     ensures value { result ≡ wait policy.now attempt }
     ensures limit { IsSpan result }
@@ -44,10 +43,23 @@ fn wait(fields: &PolicyFields, maximum: u64, attempt: u32) -> u64
     ensures value { result ≡ wait fields.now attempt }
     ensures limit { IsSpan result }
 {
-    let factor = fields.factor;
-    let mut wait = fields.initial;
-    for _turn in 0..attempt.saturating_sub(1).min(MOST_TURNS) {
-        wait = (wait * factor).min(maximum);
+    let mut wait = maximum.min(fields.initial);
+    for _turn in 1..attempt {
+        let next = next_wait(fields, maximum, wait);
+        if next == wait {
+            return wait;
+        }
+        wait = next;
     }
     wait
+}
+
+/// How many milliseconds the wait behind one of so many lasts.
+fn next_wait(fields: &PolicyFields, maximum: u64, wait: u64) -> u64
+    requires good { IsTrue (good_policy fields.now) }
+    requires maximum { maximum ≡ maximum_of fields.now }
+    requires within { wait ≤ maximum }
+    ensures { result ≡ next_wait fields.now wait }
+{
+    maximum.min((wait * fields.coefficient).div_ceil(100))
 }

@@ -6,6 +6,7 @@ use Rattle.wire_counted.proofs.Known.{Appends-then, Consumes-none, beginning_beh
 use Rattle.script.specs.Lines.{Line, all_lines, whole_lines}
 use Rattle.script.specs.Pending.{ended, left, last}
 use Rattle.script.specs.Cursor.{Cursor, at_opening, after_lines, lines_text}
+use Rattle.script.specs.World.{opening_world}
 use Rattle.script.specs.Output.{output, refuses}
 use Rattle.script.specs.Progress.{Progress, Stopped}
 use Rattle.script.specs.Endings.{Ran, Halted, IfSetting, IsDeviceFault, IsScriptFault, IsWriteFault}
@@ -17,21 +18,21 @@ use Rattle.script.proofs.OutputLemmas.{lines_text-is, refused-is}
 use Rattle.script.proofs.Steps.{after_lines-append, lines_text-append}
 
 -- the texts of the whole lines, and then of a last one, are the output
-whole_output : (K : Settings) (text : List ℕ) → lines_text (at_opening K) (ended (Some []) text) ≡ output K (whole_lines text)
+whole_output : (K : Settings) (text : List ℕ) → lines_text (at_opening K) (ended (Some []) text) ≡ output K (opening_world K) (whole_lines text)
 whole_output K text = ap (lines_text (at_opening K)) (ended-whole text) ∙ lines_text-is (at_opening K) (whole_lines text)
 
-all_output : (K : Settings) (text : List ℕ) → lines_text (at_opening K) (ended (Some []) text) ++ lines_text (after_lines (at_opening K) (ended (Some []) text)) (last (left (Some []) text)) ≡ output K (all_lines text)
+all_output : (K : Settings) (text : List ℕ) → lines_text (at_opening K) (ended (Some []) text) ++ lines_text (after_lines (at_opening K) (ended (Some []) text)) (last (left (Some []) text)) ≡ output K (opening_world K) (all_lines text)
 all_output K text =
     sym (lines_text-append (at_opening K) (ended (Some []) text) (last (left (Some []) text)))
     ∙ ap (lines_text (at_opening K)) (ended-all text) ∙ lines_text-is (at_opening K) (all_lines text)
 
-all_refused : (K : Settings) (text : List ℕ) → (after_lines (after_lines (at_opening K) (ended (Some []) text)) (last (left (Some []) text))).refused ≡ refuses K (all_lines text)
+all_refused : (K : Settings) (text : List ℕ) → (after_lines (after_lines (at_opening K) (ended (Some []) text)) (last (left (Some []) text))).refused ≡ refuses K (opening_world K) (all_lines text)
 all_refused K text =
     ap (λ (c : Cursor). c.refused) (sym (after_lines-append (at_opening K) (ended (Some []) text) (last (left (Some []) text))))
     ∙ ap (λ ls. (after_lines (at_opening K) ls).refused) (ended-all text) ∙ refused-is (at_opening K) (all_lines text)
 
 pub ran : (K : Settings) (r w r1 : Option (List ℕ)) (c1 : Cursor) (p1 : Line) (w1 : Option (List ℕ)) (c2 : Cursor) (w2 : Option (List ℕ)) → Progress r (at_opening K) (Some []) w r1 c1 p1 w1 → IsAtEnd r1
-    → c2 ≡ after_lines c1 (last p1) → Appends w1 w2 (lines_text c1 (last p1)) → Ran K r w r1 w2 c2.refused
+    → c2 ≡ after_lines c1 (last p1) → Appends w1 w2 (lines_text c1 (last p1)) → Ran K (opening_world K) r w r1 w2 c2.refused
 ran K r w r1 c1 p1 w1 c2 w2 a end cursor written =
     let first = lines_text (at_opening K) (ended (Some []) a.text) in
     let rest : Appends w1 w2 (lines_text (after_lines (at_opening K) (ended (Some []) a.text)) (last (left (Some []) a.text))) = rw (← a.served.cursor_is, ← a.served.line_is) written in
@@ -44,17 +45,17 @@ ran K r w r1 c1 p1 w1 c2 w2 a end cursor written =
       refused_is = ap (λ (c : Cursor). c.refused) is ∙ all_refused K a.text;
     }
 
-pub broke : (K : Settings) (r w r1 w1 : Option (List ℕ)) → Stopped r (at_opening K) (Some []) w r1 w1 → Halted K r w r1 w1
+pub broke : (K : Settings) (r w r1 w1 : Option (List ℕ)) → Stopped r (at_opening K) (Some []) w r1 w1 → Halted K (opening_world K) r w r1 w1
 broke K r w r1 w1 a = inl (record { text = a.text; read = a.read; begun = rw (← whole_output K a.text) a.begun })
 
 pub broke_at_end : (K : Settings) (r w r1 : Option (List ℕ)) (c1 : Cursor) (p1 : Line) (w1 w2 : Option (List ℕ)) → Progress r (at_opening K) (Some []) w r1 c1 p1 w1 → IsAtEnd r1
-    → AppendsBeginning w1 w2 (lines_text c1 (last p1)) → Halted K r w r1 w2
+    → AppendsBeginning w1 w2 (lines_text c1 (last p1)) → Halted K (opening_world K) r w r1 w2
 broke_at_end K r w r1 c1 p1 w1 w2 a end begun =
     let first = lines_text (at_opening K) (ended (Some []) a.text) in
     let rest : AppendsBeginning w1 w2 (lines_text (after_lines (at_opening K) (ended (Some []) a.text)) (last (left (Some []) a.text))) = rw (← a.served.cursor_is, ← a.served.line_is) begun in
     inr (record { text = a.text; read = a.read; at_end = end; begun = rw (← all_output K a.text) (beginning_behind w w1 w2 first _ a.served.written rest) })
 
-pub nothing_done : (K : Settings) (r w : Option (List ℕ)) → Halted K r w r w
+pub nothing_done : (K : Settings) (r w : Option (List ℕ)) → Halted K (opening_world K) r w r w
 nothing_done K r w = inl (record { text = []; read = Consumes-none r; begun = beginning_of_nothing w _ })
 
 -- ---- whose fault it was

@@ -9,7 +9,7 @@ use Rattle.service_model_types.specs.declared.content.Content.{Content}
 use Rattle.service_model_types.specs.declared.request.Request.{Request}
 use Rattle.service_model_types.specs.declared.settings.Settings.{Settings}
 use Rattle.service_model_types.specs.Replies.{Reply}
-use Rattle.service_model.specs.Service.{answer, after, opening}
+use Rattle.service_model.specs.Service.{Entry, answer, after, opening}
 use Rattle.gate.specs.declared.view.View.{View}
 use Rattle.gate.specs.Passes as gate
 use Rattle.gate.specs.Records.{replay, by, past, FromGiven, Begins}
@@ -22,10 +22,10 @@ use Rattle.script.specs.OnePass.{KnowsAll, content_seen, contents_seen, world_se
 use Rattle.script.specs.World.{Came, World, content_at, stepped, unless}
 
 -- all entries are of the one pass
-by-only : (es : List (ℕ × Request)) → FromGiven 1 es → by 0 es ≡ es
+by-only : (es : List Entry) → FromGiven 1 es → by 0 es ≡ es
 by-only [] h = refl
 by-only (e ∷ es) h =
-    let its : (0 == e.0) ≡ true = let low : e.0 < 1 = h.0 in grind (arith, nat_tests) in
+    let its : (0 == e.pass) ≡ true = let low : e.pass < 1 = h.0 in grind (arith, nat_tests) in
     ap (λ b. if b then e ∷ by 0 es else by 0 es) its ∙ ap (λ t. e ∷ t) (by-only es h.1)
 
 pub nothing-more : {A : Type 0} (rest : List A) → length rest ≡ 0 → rest ≡ []
@@ -33,14 +33,14 @@ nothing-more [] h = refl
 nothing-more (e ∷ rest) h = absurd (omega arith)
 
 -- what is followed by one entry alike is alike
-same-front : (xs front : List (ℕ × Request)) (e : ℕ × Request) → Begins xs front → front ++ e ∷ [] ≡ xs ++ e ∷ [] → front ≡ xs
+same-front : (xs front : List Entry) (e : Entry) → Begins xs front → front ++ e ∷ [] ≡ xs ++ e ∷ [] → front ≡ xs
 same-front xs front e (rest, is) same =
     let none : length rest ≡ 0 = omega (arith, ap length is, length-append xs rest, ap length same, length-append front (e ∷ []), length-append xs (e ∷ [])) in
     is ∙ ap (λ t. xs ++ t) (nothing-more rest none) ∙ append-nil xs
 
-replay-push : (c : Content) (es : List (ℕ × Request)) (e : ℕ × Request) → replay after c (es ++ e ∷ []) ≡ after (replay after c es) e.1
+replay-push : (c : Content) (es : List Entry) (e : Entry) → replay after c (es ++ e ∷ []) ≡ after (replay after c es) e.request
 replay-push c [] e = refl
-replay-push c (x ∷ es) e = replay-push (after c x.1) es e
+replay-push c (x ∷ es) e = replay-push (after c x.request) es e
 
 pub same-or-apart : (m n : ℕ) → (m ≡ n) ⊎ (m ≢ n)
 same-or-apart zero zero = inl refl
@@ -53,7 +53,7 @@ own-alone : (x : Service) (v w : View Request Content) (s : ℕ) (q : Request) (
 own-alone x v w s q r h done =
     let es = gate.seen w s in
     let none = h.bases s in
-    let G : List (ℕ × Request) → Type 0 = λ b. FromGiven (gate.passes v) (past b es) in
+    let G : List Entry → Type 0 = λ b. FromGiven (gate.passes v) (past b es) in
     let N : ℕ → Type 0 = λ n. FromGiven n es in
     let given : FromGiven 1 es = subst N h.one (subst G none done.step.given) in
     sym (by-only es given)
@@ -88,8 +88,8 @@ knows-same v w h nothing = record {
 -- the step found all that the pass had seen
 front-is : (x : Service) (v w : View Request Content) (s : ℕ) (q : Request) (r : Reply) (h : KnowsAll v) (done : IsServedOn x v w s q r) → done.step.front ≡ gate.seen v s
 front-is x v w s q r h done =
-    same-front (gate.seen v s) done.step.front (gate.number v, q) done.step.extends
-    (sym done.step.last ∙ own-alone x v w s q r h done ∙ done.step.adds ∙ ap (λ t. t ++ (gate.number v, q) ∷ []) (sym (h.alone s)))
+    same-front (gate.seen v s) done.step.front (record { pass = gate.number v; request = q }) done.step.extends
+    (sym done.step.last ∙ own-alone x v w s q r h done ∙ done.step.adds ∙ ap (λ t. t ++ (record { pass = gate.number v; request = q }) ∷ []) (sym (h.alone s)))
 
 same-map : {X : Type 0} (f g : ℕ → X) (b m : ℕ) → ((k : ℕ) → b ≤ k → g k ≡ f k) → map g (range_with_len b m) ≡ map f (range_with_len b m)
 same-map f g b zero same = refl
@@ -118,7 +118,7 @@ contents-served x v w s q r h below done =
     let K = x.settings in
     let start = opening (setup_of K s) in
     let here : content_seen K w s ≡ after (content_at K (contents_seen K v) s) q =
-    ap (replay after start) done.step.last ∙ replay-push start done.step.front (gate.number v, q)
+    ap (replay after start) done.step.last ∙ replay-push start done.step.front (record { pass = gate.number v; request = q })
     ∙ ap (λ c. after c q) (ap (replay after start) (front-is x v w s q r h done) ∙ sym (content-here K v s below)) in
     map-set (content_seen K v) (content_seen K w) 0 K.shards s _ below
     (ap (content_seen K w) (omega arith) ∙ here)

@@ -1,4 +1,4 @@
--- What a line asks.
+-- MEANING: What a line asks.
 use Rattle.std.specs.Prelude.{if◌then◌else◌, Some, None, Result, Err}
 use Rattle.std.specs.Str.{is_utf8}
 use Rattle.wf_event_values.specs.declared.field.Field.TheVariants as field

@@ -1,4 +1,4 @@
--- Where a script stands.
+-- PROOF: Where a script stands.
 use Rattle.script.specs.declared.script.Script.{Script}
 use Rattle.script.specs.Cursor.{Cursor}
 

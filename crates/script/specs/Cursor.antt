@@ -1,4 +1,4 @@
--- Where a script stands between two lines.
+-- PROOF: Where a script stands between two lines.
 use Rattle.std.specs.Prelude.{ℕ, ◌+◌, ◌||◌, List, [], ◌∷◌, ◌++◌, Bool, false}
 use Rattle.script.specs.Lines.{Line}
 use Rattle.script.specs.Serving.{is_refusal, reply_to, text_of, world_after}

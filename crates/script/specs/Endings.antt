@@ -1,4 +1,4 @@
--- How a script ends.
+-- MEANING: How a script ends.
 use Rattle.std.specs.Prelude.{◌≡◌, ℕ, ◌⊎◌, List, Bool, Option}
 use Rattle.std.specs.Io.KnownBytes.{Appends, Consumes, IsAtEnd}
 use Rattle.wire_counted.specs.Failures.{Rose}
@@ -6,6 +6,7 @@ use Rattle.wire_counted.specs.Written.{AppendsBeginning}
 use Rattle.script.specs.Lines.{all_lines, whole_lines}
 use Rattle.script.specs.Output.{output, refuses}
 use Rattle.script.specs.Serving.{IsOutOfRange}
+use Rattle.script.specs.World.{World}
 use Rattle.script.specs.declared.fault.ScriptFault.{ScriptFault}
 use Rattle.script.specs.declared.fault.ScriptFault.TheVariants.{Memory, Read, Write, Setting}
 use Rattle.wf_event_values.specs.declared.refusal.Refusal.{Refusal}
@@ -14,28 +15,28 @@ use Rattle.wf_event_values.specs.Names.{field_name}
 use Rattle.service_model_types.specs.declared.settings.Settings.{Settings}
 
 -- the input was read to its end, just its output was written, and `refused` says whether a reply in it is a refusal
-pub record Ran (K : Settings) (unread held unread' held' : Option (List ℕ)) (refused : Bool) : Type 0 where
+pub record Ran (K : Settings) (W : World) (unread held unread' held' : Option (List ℕ)) (refused : Bool) : Type 0 where
   pub text : List ℕ
   pub read : Consumes unread unread' text
   pub at_end : IsAtEnd unread'
-  pub written : Appends held held' (output K (all_lines text))
-  pub refused_is : refused ≡ refuses K (all_lines text)
+  pub written : Appends held held' (output K W (all_lines text))
+  pub refused_is : refused ≡ refuses K W (all_lines text)
 
 -- some input was read, and a beginning of the output of its whole lines was written
-pub record Broke (K : Settings) (unread held unread' held' : Option (List ℕ)) : Type 0 where
+pub record Broke (K : Settings) (W : World) (unread held unread' held' : Option (List ℕ)) : Type 0 where
   pub text : List ℕ
   pub read : Consumes unread unread' text
-  pub begun : AppendsBeginning held held' (output K (whole_lines text))
+  pub begun : AppendsBeginning held held' (output K W (whole_lines text))
 
 -- the input was read to its end, and a beginning of its output was written
-pub record BrokeAtEnd (K : Settings) (unread held unread' held' : Option (List ℕ)) : Type 0 where
+pub record BrokeAtEnd (K : Settings) (W : World) (unread held unread' held' : Option (List ℕ)) : Type 0 where
   pub text : List ℕ
   pub read : Consumes unread unread' text
   pub at_end : IsAtEnd unread'
-  pub begun : AppendsBeginning held held' (output K (all_lines text))
+  pub begun : AppendsBeginning held held' (output K W (all_lines text))
 
-abbrev pub Halted : Settings → (unread held unread' held' : Option (List ℕ)) → Type 0
-Halted K unread held unread' held' = Broke K unread held unread' held' ⊎ BrokeAtEnd K unread held unread' held'
+abbrev pub Halted : Settings → World → (unread held unread' held' : Option (List ℕ)) → Type 0
+Halted K W unread held unread' held' = Broke K W unread held unread' held' ⊎ BrokeAtEnd K W unread held unread' held'
 
 -- a fault is of the writer or of memory, and of the writer only where its count of failed calls rose
 abbrev pub IsWriteFault : ScriptFault → ℕ → ℕ → Type 0

@@ -1,4 +1,4 @@
--- The lines of a text. A line ends at a line feed, and a last one without it counts.
+-- MEANING: The lines of a text. A line ends at a line feed, and a last one without it counts.
 use Rattle.std.specs.Prelude.{ℕ, ◌==◌, List, [], ◌∷◌, length, map, nat_lt, if◌then◌else◌, Option, Some, None}
 use Rattle.std.specs.List.{slice_split}
 

@@ -1,4 +1,4 @@
--- a service with one pass: what the pass has seen is all that was done
+-- PROOF: a service with one pass: what the pass has seen is all that was done
 use Rattle.std.specs.Prelude.{◌≡◌, ℕ, ◌*◌, ◌<◌, List, [], length, map}
 use Rattle.std.specs.List.{range_with_len}
 use Rattle.service_model_types.specs.declared.content.Content.{Content}

@@ -1,10 +1,10 @@
--- What a script prints: the replies of the sequential service to its lines, one after another.
+-- MEANING: What a script prints: the replies of the sequential service to its lines, one after another.
 use Rattle.std.specs.Prelude.{ℕ, ◌+◌, List, [], ◌∷◌, ◌++◌, Bool, Option}
 use Rattle.std.specs.List.{list_any}
 use Rattle.service_model_types.specs.Replies.{Reply}
 use Rattle.script.specs.Lines.{Line}
 use Rattle.script.specs.Serving.{is_refusal, reply_to, text_of, world_after}
-use Rattle.script.specs.World.{World, opening_world}
+use Rattle.script.specs.World.{World}
 use Rattle.service_model_types.specs.declared.settings.Settings.{Settings}
 
 -- the replies to lines that are served one after another, where they have one
@@ -17,14 +17,10 @@ abbrev pub numbered_from : ℕ → List (Option Reply) → List ℕ
 numbered_from number [] = []
 numbered_from number (reply ∷ replies) = text_of number reply ++ numbered_from (number + 1) replies
 
--- the replies to the lines of a script
-abbrev pub replies_to : Settings → List Line → List (Option Reply)
-replies_to K lines = replies_from K (opening_world K) lines
-
--- what a script of these lines prints
-abbrev pub output : Settings → List Line → List ℕ
-output K lines = numbered_from 1 (replies_to K lines)
+-- what a script of these lines prints, from a world on
+abbrev pub output : Settings → World → List Line → List ℕ
+output K W lines = numbered_from 1 (replies_from K W lines)
 
 -- whether a reply to one of these lines is a refusal
-abbrev pub refuses : Settings → List Line → Bool
-refuses K lines = list_any is_refusal (replies_to K lines)
+abbrev pub refuses : Settings → World → List Line → Bool
+refuses K W lines = list_any is_refusal (replies_from K W lines)

@@ -1,4 +1,4 @@
--- The lines of a text that comes in by parts, behind a line so far.
+-- PROOF: The lines of a text that comes in by parts, behind a line so far.
 use Rattle.std.specs.Prelude.{ℕ, ◌==◌, List, [], ◌∷◌, ◌++◌, fold, length, nat_lt, if◌then◌else◌, Bool, true, false, Some, None}
 use Rattle.std.specs.List.{list_any}
 use Rattle.script.specs.Lines.{Line, limit}

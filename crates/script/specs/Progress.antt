@@ -1,4 +1,4 @@
--- How far a script has come, from one place to another.
+-- PROOF: How far a script has come, from one place to another.
 use Rattle.std.specs.Prelude.{◌≡◌, ℕ, List, Option}
 use Rattle.std.specs.Io.KnownBytes.{Appends, Consumes}
 use Rattle.wire_counted.specs.Written.{AppendsBeginning}

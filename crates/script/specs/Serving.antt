@@ -1,4 +1,4 @@
--- A line as the sequential service serves it.
+-- MEANING: A line as the sequential service serves it.
 use Rattle.std.specs.Prelude.{◌≡◌, ℕ, ◌^◌, ◌<◌, ◌≤◌, ◌⊎◌, List, [], Bool, true, false, codes, Option, None, Some, Result, Ok, Err}
 use Rattle.wf_event_values.specs.declared.refusal.Refusal.{Refusal}
 use Rattle.service_model_types.specs.declared.settings.Settings.{Settings}

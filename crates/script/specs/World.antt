@@ -1,4 +1,4 @@
--- The sequential service as a whole: its shards, and the hints that wait in its task queues. A step is its shard's; a poll and a dispatch turn are made of steps and of what they take from a queue or put into it, a transfer turn of steps.
+-- MEANING: The sequential service as a whole: its shards, and the hints that wait in its task queues. A step is its shard's; a poll and a dispatch turn are made of steps and of what they take from a queue or put into it, a transfer turn of steps.
 use Rattle.std.specs.Prelude.{ℕ, ◌*◌, Bool, true, false, List, [], ◌∷◌, ◌++◌, length, nat_lt, if◌then◌else◌, replicate, slice_index_or, slice_set, Option, None, Some, Result, Ok, Err}
 use Rattle.wf_event_values.specs.declared.policies.TaskKind.{TaskKind}
 use Rattle.wf_event_values.specs.declared.refusal.Refusal.{Refusal}

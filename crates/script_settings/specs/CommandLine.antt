@@ -1,4 +1,4 @@
--- The command line, as clap's definitions read it.
+-- MEANING: The command line, as clap's definitions read it.
 use Rattle.std.specs.Prelude.{◌≡◌, ℕ, ◌^◌, ◌<◌, List, codes, Some}
 use Rattle.std.specs.Option.{MatchOption}
 use Rattle.std.specs.Str.Parse.{IsNumeral, digits_value, without_leading_plus}

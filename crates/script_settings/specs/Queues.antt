@@ -1,4 +1,4 @@
--- The names of the task queues, as the command line gives them.
+-- MEANING: The names of the task queues, as the command line gives them.
 use Rattle.std.specs.Prelude.{◌≡◌, ◌<◌, List, [], ◌∷◌, All, Any, length, codes}
 use Rattle.std.specs.Option.{MatchOption}
 use Rattle.std.specs.List.{join_with_byte}

@@ -1,4 +1,4 @@
--- What the words of a command line set.
+-- MEANING: What the words of a command line set.
 use Rattle.std.specs.Prelude.{◌≡◌, List, [], codes, Option}
 use Rattle.clap.specs.Words.{HasKind, Row, Text, first_of}
 use Rattle.script_settings.specs.CommandLine.{HasNoNumber, IsSetTo, faults_in, matches_in}

@@ -54,10 +54,10 @@ token-below K t h = let there : nat_lt t.shard K.shards ≡ true = first-test _ 
 pub shard-below : (K : Settings) (o : Operation) → 1 ≤ K.shards → refusal_of K o ≡ None → shard_of K o < K.shards
 shard-below K (operation.Start q) some none = mod_below (hash_of q.workflow_id) K.shards (omega (arith, some))
 shard-below K (operation.Signal q) some none = mod_below (hash_of q.workflow_id) K.shards (omega (arith, some))
-shard-below K (operation.SignalWithStart q) some none = mod_below (hash_of q.start.workflow_id) K.shards (omega (arith, some))
+shard-below K (operation.SignalWithStart q) some none = mod_below (hash_of q.workflow_id) K.shards (omega (arith, some))
 shard-below K (operation.RequestCancel q) some none = mod_below (hash_of q.workflow_id) K.shards (omega (arith, some))
 shard-below K (operation.Terminate q) some none = mod_below (hash_of q.workflow_id) K.shards (omega (arith, some))
-shard-below K (operation.StartTask h) some none = let there : nat_lt h.shard K.shards ≡ true = unrefused _ _ _ none in grind (arith, nat_tests)
+shard-below K (operation.StartTask t) some none = absurd (cc)
 shard-below K (operation.CompleteWorkflowTask q) some none = token-below K q.task (unrefused _ _ _ none)
 shard-below K (operation.FailWorkflowTask q) some none = token-below K q.task (unrefused _ _ _ none)
 shard-below K (operation.CompleteActivity q) some none = token-below K q.task (unrefused _ _ _ none)
@@ -89,6 +89,7 @@ ends-below K from to none = by_tests (nat_lt from K.shards) refl (nat_lt to K.sh
 -- so is the shard of a call
 pub call-below : (K : Settings) (c : StepCall) → 1 ≤ K.shards → refusal_of_step K c ≡ None → slot_of_step K c < K.shards
 call-below K (call.Request q) some none = shard-below K q.operation some none
+call-below K (call.StartTask c) some none = named-below K c.hint.shard none
 call-below K (call.TimerTurn t) some none = named-below K t.shard none
 
 -- the content that a pass knows a shard to have been opened with

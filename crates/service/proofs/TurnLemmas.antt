@@ -10,7 +10,7 @@ use Rattle.service_model_types.specs.declared.content.Content.{Content}
 use Rattle.service_model_types.specs.declared.request.Hint.{Hint}
 use Rattle.service_model_types.specs.declared.request.Request.{Request}
 use Rattle.service_model_types.specs.Replies.{dispatch_of, Reply}
-use Rattle.service_model.specs.Service.{after}
+use Rattle.service_model.specs.Service.{Entry, after}
 use Rattle.service_model.proofs.DispatchLemmas.{NamesShard, names-after, names-opening, next-named}
 use Rattle.gate.specs.declared.view.View.{View}
 use Rattle.gate.specs.Records.{replay}
@@ -22,9 +22,9 @@ use Rattle.service.specs.Contents.{setup_of}
 use Rattle.service.specs.Services.{Answered, IsServedAtLast}
 use Rattle.service.specs.Turns.{AnsweredOn, Polls}
 
-names-replayed : (shard : ℕ) (S : Content) (R : List (ℕ × Request)) → NamesShard shard S → NamesShard shard (replay after S R)
+names-replayed : (shard : ℕ) (S : Content) (R : List Entry) → NamesShard shard S → NamesShard shard (replay after S R)
 names-replayed shard S [] h = h
-names-replayed shard S (e ∷ R) h = names-replayed shard (after S e.1) R (names-after shard S e.1 h)
+names-replayed shard S (e ∷ R) h = names-replayed shard (after S e.request) R (names-after shard S e.request h)
 
 -- the dispatch that the next one of a shard is names that shard, so one that is there
 pub next-below : (x : Service) (shard at : ℕ) (v w : View Request Content) (r : Reply) → AnsweredOn x shard v w (to_next_dispatch at) r → (d : NumberedDispatch) → dispatch_of r ≡ Some d → d.dispatch.hint.shard < x.settings.shards

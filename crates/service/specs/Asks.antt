@@ -1,4 +1,4 @@
--- the requests that the calls make
+-- MEANING: the requests that the calls make
 use Rattle.std.specs.Prelude.{ℕ}
 use Rattle.service_model_types.specs.declared.request.Operation.TheVariants as operation
 use Rattle.service_model_types.specs.declared.request.Request.{Request}
@@ -14,6 +14,7 @@ use Rattle.service_model_types.specs.declared.request.FailWorkflowTask.{FailWork
 use Rattle.service_model_types.specs.declared.request.ActivityText.{ActivityText}
 use Rattle.service_model_types.specs.declared.request.FailActivity.{FailActivity}
 use Rattle.service_model_types.specs.declared.transfer.Transfer.{Transfer}
+use Rattle.service_model_types.specs.Hints.{task_of}
 
 abbrev pub to_start : ℕ → Start → Request
 to_start at q = record { at = at; operation = operation.Start q }
@@ -31,7 +32,7 @@ abbrev pub to_terminate : ℕ → Terminate → Request
 to_terminate at q = record { at = at; operation = operation.Terminate q }
 
 abbrev pub to_start_task : ℕ → Hint → Request
-to_start_task at h = record { at = at; operation = operation.StartTask h }
+to_start_task at h = record { at = at; operation = operation.StartTask (task_of h) }
 
 abbrev pub to_complete_workflow_task : ℕ → CompleteWorkflowTask → Request
 to_complete_workflow_task at q = record { at = at; operation = operation.CompleteWorkflowTask q }

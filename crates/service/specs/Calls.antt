@@ -1,4 +1,4 @@
--- what a call of any kind comes to
+-- MEANING: what a call of any kind comes to
 use Rattle.std.specs.Prelude.{◌≡◌, Option, None, Some, Result, Ok, Err}
 use Rattle.service_model_types.specs.declared.answer.Answer.TheVariants as answer
 use Rattle.service_model_types.specs.declared.call.Call.{Call}

@@ -1,4 +1,4 @@
--- the shards of a service: what each is opened with, which calls are refused before any is entered, and on which one the others are served
+-- MEANING: the shards of a service: what each is opened with, which calls are refused before any is entered, and on which one the others are served
 use Rattle.std.specs.Prelude.{ℕ, ◌%◌, ◌&&◌, nat_le, nat_lt, Bool, if◌then◌else◌, List, length, map, Option, None, Some}
 use Rattle.std.specs.List.{range_with_len}
 use Rattle.wf_event_values.specs.declared.field.Field.TheVariants as field
@@ -53,7 +53,7 @@ refusal_of K (operation.Signal q) = None
 refusal_of K (operation.SignalWithStart q) = None
 refusal_of K (operation.RequestCancel q) = None
 refusal_of K (operation.Terminate q) = None
-refusal_of K (operation.StartTask h) = shard_refusal K h.shard
+refusal_of K (operation.StartTask t) = Some (InvalidArgument field.Shard)
 refusal_of K (operation.CompleteWorkflowTask q) = completion_refusal K q
 refusal_of K (operation.FailWorkflowTask q) = token_refusal K q.task
 refusal_of K (operation.CompleteActivity q) = token_refusal K q.task
@@ -73,14 +73,14 @@ refusal_of K (operation.Dispatched number) = Some (InvalidArgument field.Shard)
 abbrev pub shard_of_id : Settings → List ℕ → ℕ
 shard_of_id K id = hash_of id % K.shards
 
--- the shard of an operation: that of its workflow ID, or the one that its hint or its token names; where it names none, the first
+-- the shard of an operation: that of its workflow ID, or the one that its token names; where it names none, the first
 abbrev pub shard_of : Settings → Operation → ℕ
 shard_of K (operation.Start q) = shard_of_id K q.workflow_id
 shard_of K (operation.Signal q) = shard_of_id K q.workflow_id
-shard_of K (operation.SignalWithStart q) = shard_of_id K q.start.workflow_id
+shard_of K (operation.SignalWithStart q) = shard_of_id K q.workflow_id
 shard_of K (operation.RequestCancel q) = shard_of_id K q.workflow_id
 shard_of K (operation.Terminate q) = shard_of_id K q.workflow_id
-shard_of K (operation.StartTask h) = h.shard
+shard_of K (operation.StartTask t) = 0
 shard_of K (operation.CompleteWorkflowTask q) = q.task.shard
 shard_of K (operation.FailWorkflowTask q) = q.task.shard
 shard_of K (operation.CompleteActivity q) = q.task.shard
@@ -102,9 +102,11 @@ slot_of K q = shard_of K q.operation
 -- as what a call is refused before any shard is entered, where it is
 abbrev pub refusal_of_step : Settings → StepCall → Option Refusal
 refusal_of_step K (call.Request q) = refusal_of K q.operation
+refusal_of_step K (call.StartTask c) = shard_refusal K c.hint.shard
 refusal_of_step K (call.TimerTurn t) = shard_refusal K t.shard
 
 -- the shard of a call: its request's, or the one that it names
 abbrev pub slot_of_step : Settings → StepCall → ℕ
 slot_of_step K (call.Request q) = slot_of K q
+slot_of_step K (call.StartTask c) = c.hint.shard
 slot_of_step K (call.TimerTurn t) = t.shard

@@ -1,9 +1,11 @@
--- what a clause reads of a pass that stays on a shard
+-- MEANING: what a clause reads of a pass that stays on a shard
+use Rattle.std.specs.Prelude.{List}
 use Rattle.service_model_types.specs.declared.content.Content.{Content}
 use Rattle.service_model_types.specs.declared.request.Request.{Request}
 use Rattle.service_model_types.specs.Replies.{Reply}
 use Rattle.gate.specs.declared.view.View.{View}
 use Rattle.gate.specs.Helds as of_held
+use Rattle.matching.specs.declared.view.View.{View as HintView}
 use Rattle.matching.specs.Named as matching
 use Rattle.shard.specs.Standing as shard
 use Rattle.service.specs.declared.held.Held.{Held}
@@ -14,6 +16,10 @@ use Rattle.service.specs.Services.{known_by, IsOpened, IsServed}
 -- what the pass will know once it has left
 abbrev pub leaving : Held → View Request Content
 leaving h = of_held.leaving h.inner
+
+-- what the pass knows of the hints in each queue
+abbrev pub hints_of : Held → List HintView
+hints_of h = matching.known_by h.hints
 
 -- the reply that `leave` hands over
 abbrev pub promised : Held → Reply

@@ -1,4 +1,4 @@
--- the first setting that is out of its range
+-- MEANING: the first setting that is out of its range
 use Rattle.std.specs.Prelude.{ℕ, ◌&&◌, Bool, true, not, nat_le, nat_lt, bytes_eq, length, if◌then◌else◌, List, [], ◌∷◌, Result, Ok, Err}
 use Rattle.std.specs.List.{list_any}
 use Rattle.wf_event_values.specs.declared.field.Field.TheVariants.{Shards, Passes, Service, Queues, Capacity}

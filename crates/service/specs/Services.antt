@@ -1,4 +1,4 @@
--- what a clause reads of a service and of its passes
+-- MEANING: what a clause reads of a service and of its passes
 use Rattle.std.specs.Prelude.{◌≡◌, ℕ, ◌<◌, ◌≤◌, true, List, [], length, map, Option, None, Some, Err, Result, IfOk, IfErr}
 use Rattle.wf_event_values.specs.declared.refusal.Refusal.{Refusal}
 use Rattle.service_model_types.specs.declared.call.StepCall.{StepCall}

@@ -1,4 +1,4 @@
--- what a transfer turn does, part by part
+-- MEANING: what a transfer turn does, part by part
 use Rattle.std.specs.Prelude.{◌≡◌, ◌⊎◌, ℕ, Bool, true, false, Option, None, Some, Ok}
 use Rattle.service_model_types.specs.declared.answer.Answer.TheVariants as answer
 use Rattle.service_model_types.specs.declared.call.Stop.{Stop}

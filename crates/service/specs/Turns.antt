@@ -1,4 +1,4 @@
--- what a poll and a dispatch turn do, part by part
+-- MEANING: what a poll and a dispatch turn do, part by part
 use Rattle.std.specs.Prelude.{◌≡◌, ◌⊎◌, ℕ, List, Option, None, Some, Result, Ok, Err, IfOk, IfErr}
 use Rattle.wf_event_values.specs.declared.policies.TaskKind.{TaskKind}
 use Rattle.wf_event_values.specs.declared.refusal.Refusal.{Refusal}

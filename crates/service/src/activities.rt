@@ -28,7 +28,7 @@ impl Service {
         requires { IsPassOf pass.old self.now }
         ensures { IsTried self.now pass.old pass.new (to_complete_activity at asked) result }
     {
-        self.try_serve(pass, request(at, Operation::CompleteActivity(asked)))
+        self.try_serve_request(pass, request(at, Operation::CompleteActivity(asked)))
     }
 
     /// Completes a running activity (Temporal, RespondActivityTaskCompleted), with a result text. A
@@ -47,7 +47,7 @@ impl Service {
         requires { IsPassOf pass.old self.now }
         ensures { IsServedBy self.now pass.old pass.new (to_complete_activity at asked) result }
     {
-        self.serve(rt, pass, request(at, Operation::CompleteActivity(asked)))
+        self.serve_request(rt, pass, request(at, Operation::CompleteActivity(asked)))
     }
 
     /// [`Service::fail_activity`] that never waits.
@@ -63,7 +63,7 @@ impl Service {
         requires { IsPassOf pass.old self.now }
         ensures { IsTried self.now pass.old pass.new (to_fail_activity at asked) result }
     {
-        self.try_serve(pass, request(at, Operation::FailActivity(asked)))
+        self.try_serve_request(pass, request(at, Operation::FailActivity(asked)))
     }
 
     /// Fails a running attempt of an activity (Temporal, RespondActivityTaskFailed): the activity
@@ -83,7 +83,7 @@ impl Service {
         requires { IsPassOf pass.old self.now }
         ensures { IsServedBy self.now pass.old pass.new (to_fail_activity at asked) result }
     {
-        self.serve(rt, pass, request(at, Operation::FailActivity(asked)))
+        self.serve_request(rt, pass, request(at, Operation::FailActivity(asked)))
     }
 
     /// [`Service::cancel_activity`] that never waits.
@@ -99,7 +99,7 @@ impl Service {
         requires { IsPassOf pass.old self.now }
         ensures { IsTried self.now pass.old pass.new (to_cancel_activity at asked) result }
     {
-        self.try_serve(pass, request(at, Operation::CancelActivity(asked)))
+        self.try_serve_request(pass, request(at, Operation::CancelActivity(asked)))
     }
 
     /// Cancels a running activity that was asked to cancel (Temporal, RespondActivityTaskCanceled),
@@ -119,7 +119,7 @@ impl Service {
         requires { IsPassOf pass.old self.now }
         ensures { IsServedBy self.now pass.old pass.new (to_cancel_activity at asked) result }
     {
-        self.serve(rt, pass, request(at, Operation::CancelActivity(asked)))
+        self.serve_request(rt, pass, request(at, Operation::CancelActivity(asked)))
     }
 
     /// [`Service::heartbeat`] that never waits.
@@ -135,7 +135,7 @@ impl Service {
         requires { IsPassOf pass.old self.now }
         ensures { IsTried self.now pass.old pass.new (to_heartbeat at asked) result }
     {
-        self.try_serve(pass, request(at, Operation::Heartbeat(asked)))
+        self.try_serve_request(pass, request(at, Operation::Heartbeat(asked)))
     }
 
     /// Reports that a running attempt goes on (Temporal, RecordActivityTaskHeartbeat), with details
@@ -155,6 +155,6 @@ impl Service {
         requires { IsPassOf pass.old self.now }
         ensures { IsServedBy self.now pass.old pass.new (to_heartbeat at asked) result }
     {
-        self.serve(rt, pass, request(at, Operation::Heartbeat(asked)))
+        self.serve_request(rt, pass, request(at, Operation::Heartbeat(asked)))
     }
 }

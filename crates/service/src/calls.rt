@@ -27,7 +27,7 @@ impl Service {
         requires { IsPassOf pass.old self.now }
         ensures { IsTried self.now pass.old pass.new (to_start at asked) result }
     {
-        self.try_serve(pass, request(at, Operation::Start(asked)))
+        self.try_serve_request(pass, request(at, Operation::Start(asked)))
     }
 
     /// Starts a run of a workflow ID, where the policies allow it. It may wait for ever.
@@ -44,7 +44,7 @@ impl Service {
         requires { IsPassOf pass.old self.now }
         ensures { IsServedBy self.now pass.old pass.new (to_start at asked) result }
     {
-        self.serve(rt, pass, request(at, Operation::Start(asked)))
+        self.serve_request(rt, pass, request(at, Operation::Start(asked)))
     }
 
     /// [`Service::signal`] that never waits.
@@ -60,7 +60,7 @@ impl Service {
         requires { IsPassOf pass.old self.now }
         ensures { IsTried self.now pass.old pass.new (to_signal at asked) result }
     {
-        self.try_serve(pass, request(at, Operation::Signal(asked)))
+        self.try_serve_request(pass, request(at, Operation::Signal(asked)))
     }
 
     /// Signals the workflow ID's open run, the named one or the latest. It may wait for ever.
@@ -77,7 +77,7 @@ impl Service {
         requires { IsPassOf pass.old self.now }
         ensures { IsServedBy self.now pass.old pass.new (to_signal at asked) result }
     {
-        self.serve(rt, pass, request(at, Operation::Signal(asked)))
+        self.serve_request(rt, pass, request(at, Operation::Signal(asked)))
     }
 
     /// [`Service::history`] that never waits.
@@ -93,7 +93,7 @@ impl Service {
         requires { IsPassOf pass.old self.now }
         ensures { IsTried self.now pass.old pass.new (to_show_history at asked) result }
     {
-        self.try_serve(pass, request(at, Operation::History(asked)))
+        self.try_serve_request(pass, request(at, Operation::History(asked)))
     }
 
     /// Shows the history of the workflow ID's run, the named one or the latest. It may wait for ever.
@@ -110,7 +110,7 @@ impl Service {
         requires { IsPassOf pass.old self.now }
         ensures { IsServedBy self.now pass.old pass.new (to_show_history at asked) result }
     {
-        self.serve(rt, pass, request(at, Operation::History(asked)))
+        self.serve_request(rt, pass, request(at, Operation::History(asked)))
     }
 
     /// [`Service::describe`] that never waits.
@@ -126,7 +126,7 @@ impl Service {
         requires { IsPassOf pass.old self.now }
         ensures { IsTried self.now pass.old pass.new (to_describe at asked) result }
     {
-        self.try_serve(pass, request(at, Operation::Describe(asked)))
+        self.try_serve_request(pass, request(at, Operation::Describe(asked)))
     }
 
     /// Describes the workflow ID's run, the named one or the latest (Temporal,
@@ -145,7 +145,7 @@ impl Service {
         requires { IsPassOf pass.old self.now }
         ensures { IsServedBy self.now pass.old pass.new (to_describe at asked) result }
     {
-        self.serve(rt, pass, request(at, Operation::Describe(asked)))
+        self.serve_request(rt, pass, request(at, Operation::Describe(asked)))
     }
 }
 

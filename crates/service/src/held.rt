@@ -20,8 +20,8 @@ pub struct Held<'a> {
 }
 
 impl Service {
-    ghost use Rattle.service.specs.Services.{IsPassOf, known_by, shard_of_request};
-    ghost use Rattle.service.specs.Helds.{IsHeldBy, Enters};
+    ghost use Rattle.service.specs.Services.{IsPassOf, hints_by, known_by, shard_of_request};
+    ghost use Rattle.service.specs.Helds.{IsHeldBy, Enters, hints_of};
 
     /// Starts a run of a workflow ID as `try_start` does, and stays on its shard. What the pass will
     /// have seen and done, and the reply, are known from then on, and handed over by `leave`.
@@ -42,6 +42,8 @@ impl Service {
         ensures err { IfErr result (λ e. Refuses
             e.0 (known_by pass) (known_by e.1)
             (shard_of_request self.entry.now (to_start at asked))) }
+        ensures hints { IfOk result (λ h. hints_of h ≡ hints_by pass) }
+        ensures back_hints { IfErr result (λ e. hints_by e.1 ≡ hints_by pass) }
     {
         let request = request(at, Operation::Start(asked));
         let slot = self.slot_of(&request);
@@ -54,14 +56,15 @@ impl Service {
 }
 
 impl Held<'_> {
-    ghost use Rattle.service.specs.Services.{IsPassOf, known_by};
-    ghost use Rattle.service.specs.Helds.{IsHeldBy, leaving, promised};
+    ghost use Rattle.service.specs.Services.{IsPassOf, hints_by, known_by};
+    ghost use Rattle.service.specs.Helds.{IsHeldBy, hints_of, leaving, promised};
 
     /// Leaves the shard, and hands the pass and the start's reply over. It takes no memory.
     pub fn leave(self) -> (Pass, Reply)
         ensures own { (x : Service) → IsHeldBy self.entry x → IsPassOf result.0 x }
         ensures seen { known_by result.0 ≡ leaving self.entry }
         ensures reply { result.1 ≡ promised self.entry }
+        ensures hints { hints_by result.0 ≡ hints_of self.entry }
     {
         let Held { inner, hints } = self;
         let (inner, reply) = inner.leave();

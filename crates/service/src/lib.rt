@@ -25,7 +25,8 @@ mod transfer_turns;
 mod turns;
 mod workflows;
 
+pub use close::Closed;
 pub use dispatch_turns::Turned;
-pub use gate::{Record, Refused};
+pub use gate::Refused;
 pub use held::Held;
 pub use service::{Pass, Service};

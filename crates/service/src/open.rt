@@ -18,7 +18,7 @@ ghost use Rattle.service.specs.Services.{IsPassOf, IsInRange, known_by, settings
 
 use crate::close::PassRoom;
 use crate::service::{Pass, Service, Shard};
-use gate::{Gate, Record};
+use gate::Gate;
 use matching::{Queues, QueuesPass};
 use service_model_types::content::Setup;
 use service_model_types::limits::{
@@ -28,6 +28,7 @@ use service_model_types::request::Request;
 use service_model_types::settings::Settings;
 use std::alloc::{AllocError, Global};
 use std::sync::Mutex;
+use step_record::Record;
 use wf_event_values::{Field, Id, Refusal};
 
 impl Service {

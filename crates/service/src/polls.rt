@@ -104,7 +104,7 @@ impl Service {
             hint.shard (to_start_task at hint) r) }
         ensures err { OnErr result (Waited (known_by pass.old) (known_by pass.new) hint.shard) }
     {
-        let asked = request(at, Operation::StartTask(hint));
+        let asked = request(at, Operation::StartTask(hint.task()));
         match self.serve_on(rt, pass, None, usize::from(hint.shard), asked) {
             Ok(reply) => Ok(reply),
             Err(_) => Err(AllocError),

@@ -14,13 +14,13 @@ use wf_event_values::{Field, Id, Refusal};
 impl Service {
     ghost use Rattle.service.specs.Services.{settings_of, shard_of_request};
 
-    /// As what an operation is refused before any shard is entered, where it is. A timer turn and the
-    /// parts of other turns don't name their shard: they are served for a call that does.
+    /// As what an operation is refused before any shard is entered, where it is. A task that waits, a
+    /// timer turn and the parts of other turns don't name their shard: they are served for a call that
+    /// does.
     pub(crate) fn refusal_of(&self, operation: &Operation) -> Option<Refusal>
         ensures { result ≡ refusal_of (settings_of self.now) operation.now }
     {
         match operation {
-            Operation::StartTask(hint) => shard_refusal(&self.settings, hint.shard),
             Operation::CompleteWorkflowTask(asked) => completion_refusal(&self.settings, asked),
             Operation::FailWorkflowTask(asked) => token_refusal(&self.settings, &asked.task),
             Operation::CompleteActivity(asked)
@@ -34,7 +34,8 @@ impl Service {
             | Operation::Terminate(_)
             | Operation::History(_)
             | Operation::Describe(_) => None,
-            Operation::TimerTurn
+            Operation::StartTask(_)
+            | Operation::TimerTurn
             | Operation::NextTransfer(_)
             | Operation::Deliver(_)
             | Operation::Acknowledge(_)
@@ -51,22 +52,20 @@ impl Service {
         match &request.operation {
             Operation::Start(start) => shard_of_id(&self.settings, &start.workflow_id),
             Operation::Signal(signal) => shard_of_id(&self.settings, &signal.workflow_id),
-            Operation::SignalWithStart(both) => {
-                shard_of_id(&self.settings, &both.start.workflow_id)
-            }
+            Operation::SignalWithStart(both) => shard_of_id(&self.settings, &both.workflow_id),
             Operation::RequestCancel(cancel) => { shard_of_id(&self.settings, &cancel.workflow_id) }
             Operation::Terminate(end) => shard_of_id(&self.settings, &end.workflow_id),
             Operation::History(read) | Operation::Describe(read) => {
                 shard_of_id(&self.settings, &read.workflow_id)
             }
-            Operation::StartTask(hint) => usize::from(hint.shard),
             Operation::CompleteWorkflowTask(asked) => usize::from(asked.task.shard),
             Operation::FailWorkflowTask(asked) => usize::from(asked.task.shard),
             Operation::CompleteActivity(asked)
             | Operation::CancelActivity(asked)
             | Operation::Heartbeat(asked) => usize::from(asked.task.shard),
             Operation::FailActivity(asked) => usize::from(asked.task.shard),
-            Operation::TimerTurn
+            Operation::StartTask(_)
+            | Operation::TimerTurn
             | Operation::NextTransfer(_)
             | Operation::Deliver(_)
             | Operation::Acknowledge(_)
@@ -80,7 +79,8 @@ impl Service {
         ensures { result ≡ refusal_of_step (settings_of self.now) call.now }
     {
         match call {
-            StepCall::Request(request) => self.refusal_of(&request.operation),
+            StepCall::Request(request) => self.refusal_of(&request.request().operation),
+            StepCall::StartTask(start) => shard_refusal(&self.settings, start.hint.shard),
             StepCall::TimerTurn(turn) => shard_refusal(&self.settings, turn.shard),
         }
     }
@@ -91,7 +91,8 @@ impl Service {
         ensures { result ≡ slot_of_step (settings_of self.now) call.now }
     {
         match call {
-            StepCall::Request(request) => self.slot_of(request),
+            StepCall::Request(request) => self.slot_of(request.request()),
+            StepCall::StartTask(start) => usize::from(start.hint.shard),
             StepCall::TimerTurn(turn) => usize::from(turn.shard),
         }
     }

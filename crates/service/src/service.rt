@@ -3,13 +3,15 @@
 ghost use Rattle.std.specs.Prelude.{◌≡◌, ◌<◌, ◌≤◌, None, length, vec_capacity};
 
 use crate::close::PassRoom;
-use gate::{Gate, Record, Refused};
+use gate::{Gate, Refused};
 use matching::{Queues, QueuesPass};
 use service_model_types::answer::Reply;
+use service_model_types::client::ClientRequest;
 use service_model_types::request::Request;
 use service_model_types::settings::Settings;
 use std::alloc::AllocError;
 use std::sync::{Mutex, Wait};
+use step_record::Record;
 use wf_event_values::Refusal;
 
 /// A shard, whose runs are kept by tables.
@@ -96,7 +98,23 @@ impl Service {
     /// # Errors
     /// With the request, and nothing seen or done: `Busy` where another pass was on that very shard,
     /// `NoMemory` where a growth was refused.
-    pub fn try_serve(&self, pass: &mut Pass, request: Request) -> Result<Reply, (Refused, Request)>
+    pub fn try_serve(
+        &self,
+        pass: &mut Pass,
+        request: ClientRequest,
+    ) -> Result<Reply, (Refused, Request)>
+        requires { IsPassOf pass.old self.now }
+        ensures { IsTried self.now pass.old pass.new request result }
+    {
+        self.try_serve_request(pass, request.into_request())
+    }
+
+    /// [`Service::try_serve`] of any request.
+    pub(crate) fn try_serve_request(
+        &self,
+        pass: &mut Pass,
+        request: Request,
+    ) -> Result<Reply, (Refused, Request)>
         requires { IsPassOf pass.old self.now }
         ensures { IsTried self.now pass.old pass.new request result }
     {
@@ -111,6 +129,19 @@ impl Service {
     /// # Errors
     /// With the request, where a growth was refused. Nothing is seen or done then.
     pub fn serve<R: Wait>(
+        &self,
+        rt: &R,
+        pass: &mut Pass,
+        request: ClientRequest,
+    ) -> Result<Reply, (AllocError, Request)>
+        requires { IsPassOf pass.old self.now }
+        ensures { IsServedBy self.now pass.old pass.new request result }
+    {
+        self.serve_request(rt, pass, request.into_request())
+    }
+
+    /// [`Service::serve`] of any request.
+    pub(crate) fn serve_request<R: Wait>(
         &self,
         rt: &R,
         pass: &mut Pass,

@@ -2,8 +2,10 @@
 //! that its hint or its task token names.
 
 ghost use Rattle.service.specs.Asks.{to_start_task, to_complete_workflow_task, to_fail_workflow_task};
+ghost use Rattle.service.specs.Contents.{shard_refusal};
 
 use crate::calls::request;
+use crate::route::shard_refusal;
 use crate::service::{Pass, Service};
 use gate::Refused;
 use service_model_types::answer::Reply;
@@ -15,7 +17,7 @@ use std::sync::Wait;
 use wf_event_values::Moment;
 
 impl Service {
-    ghost use Rattle.service.specs.Services.{IsPassOf, IsServedBy, IsTried};
+    ghost use Rattle.service.specs.Services.{IsPassOf, IsServedBy, IsServedOnBy, IsTried, IsTriedOn, settings_of};
 
     /// [`Service::start_task`] that never waits.
     ///
@@ -28,9 +30,13 @@ impl Service {
         at: Moment,
     ) -> Result<Reply, (Refused, Request)>
         requires { IsPassOf pass.old self.now }
-        ensures { IsTried self.now pass.old pass.new (to_start_task at hint) result }
+        ensures { IsTriedOn self.now pass.old pass.new
+            (shard_refusal (settings_of self.now) hint.shard) hint.shard
+            (to_start_task at hint) result }
     {
-        self.try_serve(pass, request(at, Operation::StartTask(hint)))
+        let refusal = shard_refusal(&self.settings, hint.shard);
+        let start = request(at, Operation::StartTask(hint.task()));
+        self.try_serve_on(pass, refusal, usize::from(hint.shard), start)
     }
 
     /// Takes the task that a hint names for a worker, where it still waits to be taken, else answers
@@ -46,9 +52,13 @@ impl Service {
         at: Moment,
     ) -> Result<Reply, (AllocError, Request)>
         requires { IsPassOf pass.old self.now }
-        ensures { IsServedBy self.now pass.old pass.new (to_start_task at hint) result }
+        ensures { IsServedOnBy self.now pass.old pass.new
+            (shard_refusal (settings_of self.now) hint.shard) hint.shard
+            (to_start_task at hint) result }
     {
-        self.serve(rt, pass, request(at, Operation::StartTask(hint)))
+        let refusal = shard_refusal(&self.settings, hint.shard);
+        let start = request(at, Operation::StartTask(hint.task()));
+        self.serve_on(rt, pass, refusal, usize::from(hint.shard), start)
     }
 
     /// [`Service::complete_workflow_task`] that never waits.
@@ -64,7 +74,7 @@ impl Service {
         requires { IsPassOf pass.old self.now }
         ensures { IsTried self.now pass.old pass.new (to_complete_workflow_task at asked) result }
     {
-        self.try_serve(pass, request(at, Operation::CompleteWorkflowTask(asked)))
+        self.try_serve_request(pass, request(at, Operation::CompleteWorkflowTask(asked)))
     }
 
     /// Completes a taken workflow task by commands (Temporal, RespondWorkflowTaskCompleted): all of
@@ -86,7 +96,7 @@ impl Service {
         ensures { IsServedBy self.now pass.old pass.new
             (to_complete_workflow_task at asked) result }
     {
-        self.serve(
+        self.serve_request(
             rt,
             pass,
             request(at, Operation::CompleteWorkflowTask(asked)),
@@ -106,7 +116,7 @@ impl Service {
         requires { IsPassOf pass.old self.now }
         ensures { IsTried self.now pass.old pass.new (to_fail_workflow_task at asked) result }
     {
-        self.try_serve(pass, request(at, Operation::FailWorkflowTask(asked)))
+        self.try_serve_request(pass, request(at, Operation::FailWorkflowTask(asked)))
     }
 
     /// Fails a taken workflow task (Temporal, RespondWorkflowTaskFailed). A shard that is not there,
@@ -125,6 +135,6 @@ impl Service {
         requires { IsPassOf pass.old self.now }
         ensures { IsServedBy self.now pass.old pass.new (to_fail_workflow_task at asked) result }
     {
-        self.serve(rt, pass, request(at, Operation::FailWorkflowTask(asked)))
+        self.serve_request(rt, pass, request(at, Operation::FailWorkflowTask(asked)))
     }
 }

@@ -28,7 +28,7 @@ impl Service {
         requires { IsPassOf pass.old self.now }
         ensures { IsTried self.now pass.old pass.new (to_signal_with_start at asked) result }
     {
-        self.try_serve(pass, request(at, Operation::SignalWithStart(asked)))
+        self.try_serve_request(pass, request(at, Operation::SignalWithStart(asked)))
     }
 
     /// Signals the workflow ID's open run, or starts a run that is signaled, where the reuse policy
@@ -46,7 +46,7 @@ impl Service {
         requires { IsPassOf pass.old self.now }
         ensures { IsServedBy self.now pass.old pass.new (to_signal_with_start at asked) result }
     {
-        self.serve(rt, pass, request(at, Operation::SignalWithStart(asked)))
+        self.serve_request(rt, pass, request(at, Operation::SignalWithStart(asked)))
     }
 
     /// [`Service::request_cancel`] that never waits.
@@ -62,7 +62,7 @@ impl Service {
         requires { IsPassOf pass.old self.now }
         ensures { IsTried self.now pass.old pass.new (to_request_cancel at asked) result }
     {
-        self.try_serve(pass, request(at, Operation::RequestCancel(asked)))
+        self.try_serve_request(pass, request(at, Operation::RequestCancel(asked)))
     }
 
     /// Asks the workflow ID's open run, the named one or the latest, to cancel (Temporal,
@@ -80,7 +80,7 @@ impl Service {
         requires { IsPassOf pass.old self.now }
         ensures { IsServedBy self.now pass.old pass.new (to_request_cancel at asked) result }
     {
-        self.serve(rt, pass, request(at, Operation::RequestCancel(asked)))
+        self.serve_request(rt, pass, request(at, Operation::RequestCancel(asked)))
     }
 
     /// [`Service::terminate`] that never waits.
@@ -96,7 +96,7 @@ impl Service {
         requires { IsPassOf pass.old self.now }
         ensures { IsTried self.now pass.old pass.new (to_terminate at asked) result }
     {
-        self.try_serve(pass, request(at, Operation::Terminate(asked)))
+        self.try_serve_request(pass, request(at, Operation::Terminate(asked)))
     }
 
     /// Terminates the workflow ID's open run, the named one or the latest (Temporal,
@@ -114,6 +114,6 @@ impl Service {
         requires { IsPassOf pass.old self.now }
         ensures { IsServedBy self.now pass.old pass.new (to_terminate at asked) result }
     {
-        self.serve(rt, pass, request(at, Operation::Terminate(asked)))
+        self.serve_request(rt, pass, request(at, Operation::Terminate(asked)))
     }
 }

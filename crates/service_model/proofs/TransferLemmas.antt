@@ -17,6 +17,7 @@ use Rattle.wf_event_values.specs.declared.refusal.Refusal.TheVariants.{InvalidAr
 use Rattle.service_model_types.specs.declared.answer.Acknowledged.{Acknowledged as Acknowledgement}
 use Rattle.service_model_types.specs.declared.answer.Acknowledged.TheVariants.{Acknowledged, Already, OutOfOrder as NotInOrder}
 use Rattle.service_model_types.specs.declared.answer.Answer.{Answer}
+use Rattle.service_model_types.specs.declared.answer.Answer.TheVariants as answers
 use Rattle.service_model_types.specs.declared.content.Content.{Content}
 use Rattle.service_model_types.specs.declared.content.Outgoing.{Outgoing}
 use Rattle.service_model_types.specs.declared.content.Setup.{Setup}
@@ -27,7 +28,7 @@ use Rattle.service_model_types.specs.declared.request.ActivityText.{ActivityText
 use Rattle.service_model_types.specs.declared.request.CompleteWorkflowTask.{CompleteWorkflowTask}
 use Rattle.service_model_types.specs.declared.request.FailActivity.{FailActivity}
 use Rattle.service_model_types.specs.declared.request.FailWorkflowTask.{FailWorkflowTask}
-use Rattle.service_model_types.specs.declared.request.Hint.{Hint}
+use Rattle.service_model_types.specs.declared.request.WaitingTask.{WaitingTask}
 use Rattle.service_model_types.specs.declared.request.Operation.{Operation}
 use Rattle.service_model_types.specs.declared.request.Operation.TheVariants as operation
 use Rattle.service_model_types.specs.declared.request.Read.{Read}
@@ -58,7 +59,7 @@ use Rattle.service_model_types.specs.Routing.{knows_queue, shard_of}
 use Rattle.service_model.specs.Reads.{history, history_at, describe, describe_at}
 use Rattle.service_model.specs.Retry.{FailedAttempt, Verdict, GivesUp, RetriesAt}
 use Rattle.service_model.specs.RunState.{ActivityRow, parent_of}
-use Rattle.service_model.specs.Service.{Entry, after, moment_of, one_more_acknowledged, opening, outcome, replay, runs_of, with_all_sent, with_count}
+use Rattle.service_model.specs.Service.{Entry, after, moment_of, one_more_acknowledged, opening, outcome, replay, runs_of, sent_for, with_all_sent, with_count}
 use Rattle.service_model.specs.Signals.{signal, signal_at, signal_or_start, signal_with_start, signals, was_signaled}
 use Rattle.service_model.specs.Starts.{by_decision, start}
 use Rattle.service_model.specs.Tasks.{complete_judged, complete_workflow_task, fail_workflow_task, pending_row, runs_workflow, start_task, take_by_kind, take_fields, take_row, waits_activity, waits_workflow}
@@ -66,8 +67,8 @@ use Rattle.service_model.specs.TimerTurns.{RunDue, all_dues, due_now, fire_due, 
 use Rattle.service_model.specs.TransferLaws.{AcceptsNext, AcceptsOneByOne, AcknowledgesIssued}
 
 -- the count that a step moves on
-record Moves (c : Counting) (o : Outcome) : Type 0 where
-  is : o.counting ≡ c
+pub record Moves (c : Counting) (o : Outcome) : Type 0 where
+  pub is : o.counting ≡ c
 
 moves : {c : Counting} {o : Outcome} → o.counting ≡ c → Moves c o
 moves h = record { is = h }
@@ -107,7 +108,7 @@ signal-quiet R q = here-quiet R q.workflow_id _ (at (open_run R q.workflow_id q.
 
 signal_with_start-quiet : (R : Runs) (q : SignalWithStart) → Quiet (signal_with_start R q)
 unfolding signal_with_start
-signal_with_start-quiet R q = here-quiet R q.start.workflow_id _ (either (knows_queue R.setup q.start.task_queue) (at (open_run R q.start.workflow_id None)) (moves refl))
+signal_with_start-quiet R q = here-quiet R q.workflow_id _ (either (knows_queue R.setup q.task_queue) (at (open_run R q.workflow_id None)) (moves refl))
   where
     at : (n : Option ℕ) → Quiet (signal_or_start R q n)
     at None = decided-quiet R _ _ _
@@ -151,7 +152,7 @@ describe-quiet R q = here-quiet R q.workflow_id _ (at (named_run R q.workflow_id
     at (Some n) = moves refl
 
 -- nor does what is done of tasks
-start_task-quiet : (R : Runs) (h : Hint) → Quiet (start_task R h)
+start_task-quiet : (R : Runs) (h : WaitingTask) → Quiet (start_task R h)
 unfolding start_task
 start_task-quiet R h = by_kind h.kind
   where
@@ -165,7 +166,7 @@ start_task-quiet R h = by_kind h.kind
 
     by_kind : (k : TaskKind) → Quiet (take_by_kind R h k)
     by_kind Workflow = either (waits_workflow R h) (moves refl) (moves refl)
-    by_kind Activity = either ((h.shard == R.setup.shard) && has_run R h.run) (with_row (pending_row (run_at R h.run) h.event)) (moves refl)
+    by_kind Activity = either (has_run R h.run) (with_row (pending_row (run_at R h.run) h.event)) (moves refl)
 
 complete_workflow_task-quiet : (R : Runs) (q : CompleteWorkflowTask) → Quiet (complete_workflow_task R q)
 unfolding complete_workflow_task
@@ -235,34 +236,42 @@ next_dispatch-quiet : (S : Content) → Quiet (next_dispatch S.dispatches S.disp
 unfolding next_dispatch
 next_dispatch-quiet S = moves refl
 
--- each transfer that is accepted moves its source's count
-abbrev Accepts : Transfer → Outcome → Type 0
-Accepts t = Moves (AcceptsFrom t.from)
+-- each transfer that is accepted moves its source's count, and is answered so
+pub record Accepts (t : Transfer) (o : Outcome) : Type 0 where
+  pub is : o.counting ≡ AcceptsFrom t.from
+  pub says : o.reply ≡ Ok (answers.Accepted t.number)
+
+takes : {t : Transfer} {o : Outcome} → o.counting ≡ AcceptsFrom t.from → o.reply ≡ Ok (answers.Accepted t.number) → Accepts t o
+takes h k = record { is = h; says = k }
+
+takes-either : {t : Transfer} {x y : Outcome} (b : Bool) → Accepts t x → Accepts t y → Accepts t (cond b x y)
+takes-either true h k = h
+takes-either false h k = k
 
 answer-accepts : (R : Runs) (t : Transfer) (p : Option (ℕ × List ℕ)) (event : List ℕ → Attributes) → Accepts t (answers_pending R t p event)
-answer-accepts R t None event = moves refl
-answer-accepts R t (Some p) event = moves refl
+answer-accepts R t None event = takes refl refl
+answer-accepts R t (Some p) event = takes refl refl
 
 close-accepts : (R : Runs) (t : Transfer) (c : CloseChildContent) (n : Option ℕ) → Accepts t (close_child R t c n)
-close-accepts R t c None = moves refl
-close-accepts R t c (Some n) = either (is_child_of c.parent_run c.initiated (parent_of (run_at R n))) (by_policy c.policy) (moves refl)
+close-accepts R t c None = takes refl refl
+close-accepts R t c (Some n) = takes-either (is_child_of c.parent_run c.initiated (parent_of (run_at R n))) (by_policy c.policy) (takes refl refl)
   where
     by_policy : (p : ParentClosePolicy) → Accepts t (close_by R t n p)
-    by_policy policy.Terminate = moves refl
-    by_policy policy.RequestCancel = either (asked_before (run_at R n)) (moves refl) (moves refl)
-    by_policy policy.Abandon = moves refl
+    by_policy policy.Terminate = takes refl refl
+    by_policy policy.RequestCancel = takes-either (asked_before (run_at R n)) (takes refl refl) (takes refl refl)
+    by_policy policy.Abandon = takes refl refl
 
 signal-accepts : (R : Runs) (t : Transfer) (c : SignalExternalTransfer) (n : Option ℕ) → Accepts t (signal_external R t c n)
-signal-accepts R t c None = moves refl
-signal-accepts R t c (Some n) = moves refl
+signal-accepts R t c None = takes refl refl
+signal-accepts R t c (Some n) = takes refl refl
 
 cancel-accepts : (R : Runs) (t : Transfer) (c : CancelExternalTransfer) (n : Option ℕ) → Accepts t (cancel_external R t c n)
-cancel-accepts R t c None = moves refl
-cancel-accepts R t c (Some n) = either (asked_before (run_at R n)) (moves refl) (moves refl)
+cancel-accepts R t c None = takes refl refl
+cancel-accepts R t c (Some n) = takes-either (asked_before (run_at R n)) (takes refl refl) (takes refl refl)
 
-effect-accepts : (R : Runs) (t : Transfer) (c : TransferContent) → Accepts t (effect R t c)
+pub effect-accepts : (R : Runs) (t : Transfer) (c : TransferContent) → Accepts t (effect R t c)
 unfolding effect
-effect-accepts R t (content.StartChild c) = either (knows_queue R.setup c.task_queue && is_new (decide (option_map (λ n. (run_at R n).status) (latest_run R.states c.workflow_id)) false c.reuse Fail)) (moves refl) (moves refl)
+effect-accepts R t (content.StartChild c) = takes-either (knows_queue R.setup c.task_queue && is_new (decide (option_map (λ n. (run_at R n).status) (latest_run R.states c.workflow_id)) false c.reuse Fail)) (takes refl refl) (takes refl refl)
 effect-accepts R t (content.ChildStarted c) = answer-accepts R t _ _
 effect-accepts R t (content.ChildStartFailed c) = answer-accepts R t _ _
 effect-accepts R t (content.ChildClosed c) = answer-accepts R t _ _
@@ -282,11 +291,19 @@ record Delivers (S : Content) (a : Operation) (from : ℕ) : Type 0 where
 abbrev HasMore : List Outgoing → ℕ → Type 0
 HasMore all to = (outgoing_to all to).acknowledged < length (outgoing_to all to).issued
 
+-- the request acknowledges the transfer behind the last acknowledged one
+record Counts (S : Content) (a : Operation) (to : ℕ) : Type 0 where
+  more : HasMore S.outgoing to
+  counted : Acknowledge
+  asked : a ≡ operation.Acknowledge counted
+  destination : counted.to ≡ to
+  next : counted.number ≡ (outgoing_to S.outgoing to).acknowledged + 1
+
 -- what is so where a step moves a count
 abbrev HasGrounds : Content → Operation → Counting → Type 0
 HasGrounds S a CountsNothing = Unit {0}
 HasGrounds S a (AcceptsFrom from) = Delivers S a from
-HasGrounds S a (AcknowledgesTo to) = HasMore S.outgoing to
+HasGrounds S a (AcknowledgesTo to) = Counts S a to
 HasGrounds S a CountsDispatch = Unit {0}
 
 abbrev Grounded : Content → Operation → Outcome → Type 0
@@ -299,13 +316,21 @@ unless-refused : (S : Content) (a : Operation) (b : Bool) (r : Refusal) (o : Out
 unless-refused S a true r o h = tt
 unless-refused S a false r o h = h
 
-next-number : (so_far number : ℕ) → delivery_of so_far number ≡ IsNext → number ≡ so_far + 1
+pub next-number : (so_far number : ℕ) → delivery_of so_far number ≡ IsNext → number ≡ so_far + 1
 next-number so_far number = by_tests (nat_le number so_far) (number == so_far + 1) refl
   where
     by_tests : (b c : Bool) → (number == so_far + 1) ≡ c → cond b AlreadyDelivered (cond c IsNext OutOfOrder) ≡ IsNext → number ≡ so_far + 1
     by_tests true c at is = absurd (cc (is))
     by_tests false true at is = grind (at, arith, nat_tests)
     by_tests false false at is = absurd (cc (is))
+
+pub already-number : (so_far number : ℕ) → delivery_of so_far number ≡ AlreadyDelivered → number ≤ so_far
+already-number so_far number = by_tests (nat_le number so_far) refl (number == so_far + 1)
+  where
+    by_tests : (b : Bool) → nat_le number so_far ≡ b → (c : Bool) → cond b AlreadyDelivered (cond c IsNext OutOfOrder) ≡ AlreadyDelivered → number ≤ so_far
+    by_tests true low c is = grind (low, arith, nat_tests)
+    by_tests false low true is = absurd (cc (is))
+    by_tests false low false is = absurd (cc (is))
 
 deliver-grounded : (S : Content) (t : Transfer) → Grounded S (operation.Deliver t) (deliver (runs_of S) S.accepted t)
 unfolding deliver
@@ -328,12 +353,20 @@ more-issued issued so_far number = by_tests (nat_le number so_far) (number == so
     by_tests false true at false low is = absurd (cc (is))
     by_tests false false at d low is = absurd (cc (is))
 
+next-acknowledged : (issued so_far number : ℕ) → acknowledgement_of issued so_far number ≡ Acknowledged → number ≡ so_far + 1
+next-acknowledged issued so_far number = by_tests (nat_le number so_far) (number == so_far + 1) refl (nat_le number issued)
+  where
+    by_tests : (b c : Bool) → (number == so_far + 1) ≡ c → (d : Bool) → cond b Already (cond (c && d) Acknowledged NotInOrder) ≡ Acknowledged → number ≡ so_far + 1
+    by_tests true c at d is = absurd (cc (is))
+    by_tests false true at d is = grind (at, arith, nat_tests)
+    by_tests false false at d is = absurd (cc (is))
+
 acknowledge-grounded : (S : Content) (q : Acknowledge) → Grounded S (operation.Acknowledge q) (acknowledge S.setup S.outgoing q)
 unfolding acknowledge
 acknowledge-grounded S q = by_test (nat_lt q.to S.setup.shards)
   where
     by_word : (a : Acknowledgement) → acknowledgement_of (length (outgoing_to S.outgoing q.to).issued) (outgoing_to S.outgoing q.to).acknowledged q.number ≡ a → Grounded S (operation.Acknowledge q) (by_acknowledgement (AcknowledgesTo q.to) a)
-    by_word Acknowledged is = more-issued _ _ _ is
+    by_word Acknowledged is = record { more = more-issued _ _ _ is; counted = q; asked = refl; destination = refl; next = next-acknowledged _ _ _ is }
     by_word Already is = tt
     by_word NotInOrder is = tt
 
@@ -410,7 +443,7 @@ issued-acknowledged (o ∷ os) (suc n) h more =
 issued-counted : (S : Content) (a : Operation) (c : Counting) (T : Content) → HasGrounds S a c → AllIssued T.outgoing → ((to : ℕ) → HasMore S.outgoing to → HasMore T.outgoing to) → AllIssued (with_count c T).outgoing
 issued-counted S a CountsNothing T grounds h more = h
 issued-counted S a (AcceptsFrom from) T grounds h more = h
-issued-counted S a (AcknowledgesTo to) T grounds h more = issued-acknowledged T.outgoing to h (more to grounds)
+issued-counted S a (AcknowledgesTo to) T grounds h more = issued-acknowledged T.outgoing to h (more to grounds.more)
 issued-counted S a CountsDispatch T grounds h more = h
 
 issued-after : (S : Content) (q : Request) → AllIssued S.outgoing → AllIssued (after S q).outgoing
@@ -419,9 +452,9 @@ issued-after S q h =
     let o = outcome S (moment_of S q.at) q.operation in
     issued-counted S q.operation o.counting _ (grounded S (moment_of S q.at) q.operation) (issued-sent _ 0 S.outgoing h) (λ to. more-sent _ 0 S.outgoing to)
 
-issued-replayed : (S : Content) (R : List Entry) → AllIssued S.outgoing → AllIssued (fold (λ T (e : Entry). after T e.1) S R).outgoing
+issued-replayed : (S : Content) (R : List Entry) → AllIssued S.outgoing → AllIssued (fold (λ T (e : Entry). after T e.request) S R).outgoing
 issued-replayed S [] h = h
-issued-replayed S (e ∷ R) h = issued-replayed (after S e.1) R (issued-after S e.1 h)
+issued-replayed S (e ∷ R) h = issued-replayed (after S e.request) R (issued-after S e.request h)
 
 issued-opening : (n : ℕ) → AllIssued (replicate n (record { issued = []; acknowledged = 0 }))
 issued-opening zero = tt
@@ -443,7 +476,7 @@ one-more (x ∷ xs) (suc n) (suc m) = same (one-more xs n m)
     same (inr h) = inr (ap suc h.0, h.1)
 
 -- the numbers accepted from all sources behind a step
-abbrev counted : List ℕ → Counting → List ℕ
+abbrev pub counted : List ℕ → Counting → List ℕ
 counted all CountsNothing = all
 counted all (AcceptsFrom from) = slice_set all from (slice_index_or all from 0 + 1)
 counted all (AcknowledgesTo to) = all
@@ -455,7 +488,7 @@ accepted-counted (AcceptsFrom from) T = refl
 accepted-counted (AcknowledgesTo to) T = refl
 accepted-counted CountsDispatch T = refl
 
-accepted-after : (S : Content) (q : Request) → (after S q).accepted ≡ counted S.accepted (outcome S (moment_of S q.at) q.operation).counting
+pub accepted-after : (S : Content) (q : Request) → (after S q).accepted ≡ counted S.accepted (outcome S (moment_of S q.at) q.operation).counting
 unfolding after
 accepted-after S q = accepted-counted (outcome S (moment_of S q.at) q.operation).counting _
 
@@ -472,7 +505,7 @@ by-one S a from (AcceptsFrom at) grounds = same (one-more S.accepted at from)
 by-one S a from (AcknowledgesTo to) grounds = inl refl
 by-one S a from CountsDispatch grounds = inl refl
 
-accepts-step : (S : Content) (q : Request) (from : ℕ) → (accepted_from (after S q).accepted from ≡ accepted_from S.accepted from) ⊎ AcceptsNext S q from
+pub accepts-step : (S : Content) (q : Request) (from : ℕ) → (accepted_from (after S q).accepted from ≡ accepted_from S.accepted from) ⊎ AcceptsNext S q from
 accepts-step S q from = told (by-one S q.operation from _ (grounded S (moment_of S q.at) q.operation))
   where
     behind : accepted_from (after S q).accepted from ≡ accepted_from (counted S.accepted (outcome S (moment_of S q.at) q.operation).counting) from
@@ -484,3 +517,89 @@ accepts-step S q from = told (by-one S q.operation from _ (grounded S (moment_of
 
 pub accepts-one-by-one : AcceptsOneByOne
 accepts-one-by-one setup R q from = accepts-step (replay setup R) q from
+
+-- a count that moves on leaves what was issued
+one-more-issued : (all : List Outgoing) (at to : ℕ) → (outgoing_to (one_more_acknowledged all at) to).issued ≡ (outgoing_to all to).issued
+one-more-issued [] at to = refl
+one-more-issued (o ∷ os) at to = go (at == 0) to (λ n. one-more-issued os (at - 1) n)
+  where
+    go : (b : Bool) (to : ℕ) → ((n : ℕ) → (outgoing_to (one_more_acknowledged os (at - 1)) n).issued ≡ (outgoing_to os n).issued)
+        → (outgoing_to (cond b (record { issued = o.issued; acknowledged = o.acknowledged + 1 } ∷ os) (o ∷ one_more_acknowledged os (at - 1))) to).issued ≡ (outgoing_to (o ∷ os) to).issued
+    go true zero rest = refl
+    go true (suc n) rest = refl
+    go false zero rest = refl
+    go false (suc n) rest = rest n
+
+outgoing-counted : (c : Counting) (T : Content) (to : ℕ) → (outgoing_to (with_count c T).outgoing to).issued ≡ (outgoing_to T.outgoing to).issued
+outgoing-counted CountsNothing T to = refl
+outgoing-counted (AcceptsFrom from) T to = refl
+outgoing-counted (AcknowledgesTo at) T to = one-more-issued T.outgoing at to
+outgoing-counted CountsDispatch T to = refl
+
+sent-issued : (sent : List Sent) (base : ℕ) (all : List Outgoing) (to : ℕ) → (more : List TransferContent) × ((outgoing_to (with_all_sent sent base all) to).issued ≡ (outgoing_to all to).issued ++ more)
+sent-issued sent base [] to = ([], refl)
+sent-issued sent base (o ∷ os) zero = (contents sent base, refl)
+sent-issued sent base (o ∷ os) (suc n) = sent-issued sent (base + 1) os n
+
+pub issued-more : (S : Content) (q : Request) (to : ℕ) → (more : List TransferContent) × ((outgoing_to (after S q).outgoing to).issued ≡ (outgoing_to S.outgoing to).issued ++ more)
+unfolding after
+issued-more S q to =
+    let o = outcome S (moment_of S q.at) q.operation in
+    let sent = sent-issued (sent_for S (S.steps + 1) (moment_of S q.at) o.added ++ o.answers) 0 S.outgoing to in
+    (sent.0, outgoing-counted o.counting _ to ∙ sent.1)
+
+sent-acknowledged : (sent : List Sent) (base : ℕ) (all : List Outgoing) (to : ℕ) → (outgoing_to (with_all_sent sent base all) to).acknowledged ≡ (outgoing_to all to).acknowledged
+sent-acknowledged sent base [] to = refl
+sent-acknowledged sent base (o ∷ os) zero = refl
+sent-acknowledged sent base (o ∷ os) (suc n) = sent-acknowledged sent (base + 1) os n
+
+-- a count of acknowledged ones stays, or goes on by one
+one-more-counted : (all : List Outgoing) (at to : ℕ) → ((outgoing_to (one_more_acknowledged all at) to).acknowledged ≡ (outgoing_to all to).acknowledged) ⊎ ((at ≡ to) × ((outgoing_to (one_more_acknowledged all at) to).acknowledged ≡ (outgoing_to all to).acknowledged + 1))
+one-more-counted [] at to = inl refl
+one-more-counted (o ∷ os) zero zero = inr (refl, refl)
+one-more-counted (o ∷ os) zero (suc m) = inl refl
+one-more-counted (o ∷ os) (suc n) to =
+    let other : (suc n == 0) ≡ false = grind (arith, nat_tests) in
+    let before : suc n - 1 ≡ n = omega arith in
+    let later = ap (λ b. cond b (record { issued = o.issued; acknowledged = o.acknowledged + 1 } ∷ os) (o ∷ one_more_acknowledged os (suc n - 1))) other ∙ ap (λ k. o ∷ one_more_acknowledged os k) before in
+    subst (λ (l : List Outgoing). ((outgoing_to l to).acknowledged ≡ (outgoing_to (o ∷ os) to).acknowledged) ⊎ ((suc n ≡ to) × ((outgoing_to l to).acknowledged ≡ (outgoing_to (o ∷ os) to).acknowledged + 1))) (sym later) (go to (λ m. one-more-counted os n m))
+  where
+    go : (to : ℕ) → ((m : ℕ) → ((outgoing_to (one_more_acknowledged os n) m).acknowledged ≡ (outgoing_to os m).acknowledged) ⊎ ((n ≡ m) × ((outgoing_to (one_more_acknowledged os n) m).acknowledged ≡ (outgoing_to os m).acknowledged + 1)))
+        → ((outgoing_to (o ∷ one_more_acknowledged os n) to).acknowledged ≡ (outgoing_to (o ∷ os) to).acknowledged) ⊎ ((suc n ≡ to) × ((outgoing_to (o ∷ one_more_acknowledged os n) to).acknowledged ≡ (outgoing_to (o ∷ os) to).acknowledged + 1))
+    go zero rest = inl refl
+    go (suc m) rest = same (rest m)
+      where
+        same : {A B : Type 0} → A ⊎ ((n ≡ m) × B) → A ⊎ ((suc n ≡ suc m) × B)
+        same (inl h) = inl h
+        same (inr h) = inr (ap suc h.0, h.1)
+
+-- the request acknowledges the transfer to that shard of this number
+pub record CountsNext (a : Operation) (to n : ℕ) : Type 0 where
+  pub counted : Acknowledge
+  pub asked : a ≡ operation.Acknowledge counted
+  pub destination : counted.to ≡ to
+  pub next : n ≡ counted.number
+
+counted-next : (S : Content) (a : Operation) (to : ℕ) (c : Counting) (T : Content) → HasGrounds S a c → ((n : ℕ) → (outgoing_to T.outgoing n).acknowledged ≡ (outgoing_to S.outgoing n).acknowledged)
+    → ((outgoing_to (with_count c T).outgoing to).acknowledged ≡ (outgoing_to S.outgoing to).acknowledged) ⊎ CountsNext a to (outgoing_to (with_count c T).outgoing to).acknowledged
+counted-next S a to CountsNothing T g same = inl (same to)
+counted-next S a to (AcceptsFrom from) T g same = inl (same to)
+counted-next S a to (AcknowledgesTo at) T g same = told (one-more-counted T.outgoing at to)
+  where
+    told : ((outgoing_to (one_more_acknowledged T.outgoing at) to).acknowledged ≡ (outgoing_to T.outgoing to).acknowledged) ⊎ ((at ≡ to) × ((outgoing_to (one_more_acknowledged T.outgoing at) to).acknowledged ≡ (outgoing_to T.outgoing to).acknowledged + 1))
+        → ((outgoing_to (one_more_acknowledged T.outgoing at) to).acknowledged ≡ (outgoing_to S.outgoing to).acknowledged) ⊎ CountsNext a to (outgoing_to (one_more_acknowledged T.outgoing at) to).acknowledged
+    told (inl h) = inl (h ∙ same to)
+    told (inr h) = inr (record {
+      counted = g.counted;
+      asked = g.asked;
+      destination = g.destination ∙ h.0;
+      next = h.1 ∙ (ap (λ n. n + 1) (same to ∙ ap (λ n. (outgoing_to S.outgoing n).acknowledged) (sym h.0)) ∙ sym g.next);
+    })
+counted-next S a to CountsDispatch T g same = inl (same to)
+
+-- a step acknowledges nothing more of what was sent to a shard, or the transfer behind the last acknowledged one
+pub counts-step : (S : Content) (q : Request) (to : ℕ) → ((outgoing_to (after S q).outgoing to).acknowledged ≡ (outgoing_to S.outgoing to).acknowledged) ⊎ CountsNext q.operation to (outgoing_to (after S q).outgoing to).acknowledged
+unfolding after
+counts-step S q to =
+    let o = outcome S (moment_of S q.at) q.operation in
+    counted-next S q.operation to o.counting _ (grounded S (moment_of S q.at) q.operation) (sent-acknowledged _ 0 S.outgoing)

@@ -8,7 +8,7 @@ ghost use Rattle.service_model.specs.Service.{after, answer, replay};
 ghost use Rattle.shard.specs.Standing.{StandsFor};
 ghost use Rattle.shard.specs.View.{IsSetup};
 
-use gate::{Entry, Object};
+use gate::Object;
 use mutable_state_keeper::KeepsRun;
 use service_model_journal::JournalRun;
 use service_model_types::answer::Reply;
@@ -16,6 +16,7 @@ use service_model_types::content::Setup;
 use service_model_types::request::Request;
 use shard::Shard;
 use std::alloc::{AllocError, Global};
+use step_record::Entry;
 
 /// What a shard of this setup answers to the request after it has served a record, as a gate or a
 /// service gives it when it closes. All is found in whole journals.
@@ -44,8 +45,8 @@ fn answer_by<T: KeepsRun>(
     requires { StandsFor shard (replay shard.setup []) }
     ensures { IfOk result (λ reply. reply ≡ answer (replay shard.setup record.now) request.now) }
 {
-    for (_, earlier) in record {
-        let _ = serve(&mut shard, earlier)?;
+    for earlier in record {
+        let _ = serve(&mut shard, &earlier.request)?;
     }
     serve(&mut shard, request)
 }

@@ -28,7 +28,7 @@ fn go_through<R: Abort + AllocGlobal>(
 {
     let alloc = rt.alloc();
     let mut object = new_shard(alloc, place)?;
-    let mut half = Half::new(alloc);
+    let mut half = Half::new(alloc, place.shard);
     let mut draws = Draws::new(seed);
     seen.turn_to_another_service();
     for number in 0..COUNT {

@@ -174,7 +174,7 @@ fn activity(alloc: Global, draws: &mut Draws) -> Result<ScheduleActivityTask, Re
         heartbeat: span(draws, 200)?,
         retry: PolicyFields {
             attempts: draws.below(4),
-            factor: 1 + draws.below(3),
+            coefficient: 100 * (1 + draws.below(3)),
             initial: 1 + draws.below(50),
             maximum: 0,
             non_retryable: Items::from_vec(non_retryable),

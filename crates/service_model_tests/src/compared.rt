@@ -8,13 +8,14 @@ use crate::draws::Draws;
 use crate::known::Known;
 use crate::requests::request;
 use crate::tally::Tally;
-use gate::{Entry, Object};
+use gate::Object;
 use service_model_answer::answer;
 use service_model_types::answer::Reply;
 use service_model_types::content::Setup;
 use service_model_types::request::{Operation, Request};
 use std::alloc::{AllocError, AllocGlobal, Global};
 use std::process::Abort;
+use step_record::Entry;
 use wf_event_values::{Field, Id, Items, Moment, Refusal};
 use wire_replies::reply_text;
 
@@ -36,9 +37,9 @@ pub(crate) struct Half {
 }
 
 impl Half {
-    pub(crate) fn new(alloc: Global) -> Half {
+    pub(crate) fn new(alloc: Global, shard: u16) -> Half {
         Half {
-            known: Known::new(alloc),
+            known: Known::new(alloc, shard),
             record: Vec::new(alloc),
         }
     }
@@ -127,7 +128,10 @@ pub(crate) fn compare<R: Abort + AllocGlobal>(
     let Asked { tables, journals } = asked;
     let served = serve(object, &tables)?;
     let plain = answer(alloc, setup(alloc, place)?, &half.record, &journals)?;
-    half.record.push((0, journals))?;
+    half.record.push(Entry {
+        pass: 0,
+        request: journals,
+    })?;
     let served_text = reply_text(alloc, 1, &served)?;
     let plain_text = reply_text(alloc, 1, &plain)?;
     assert_eq!(rt; served_text.as_str(), plain_text.as_str());

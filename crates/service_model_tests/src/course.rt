@@ -34,8 +34,8 @@ pub(crate) struct Course {
 impl Course {
     pub(crate) fn new(alloc: Global, seed: u64) -> Course {
         Course {
-            first: Half::new(alloc),
-            second: Half::new(alloc),
+            first: Half::new(alloc, 0),
+            second: Half::new(alloc, 1),
             draws: Draws::for_two(seed),
         }
     }

@@ -2,7 +2,7 @@
 
 use crate::draws::Draws;
 use service_model_types::answer::{Answer, Fired, History, Reply};
-use service_model_types::request::{Hint, TakenTask};
+use service_model_types::request::{Hint, TakenTask, WaitingTask};
 use std::alloc::{AllocError, Global};
 use wf_event::Attributes;
 use wf_event_values::{DeadlineClass, Refusal, TaskKind};
@@ -23,10 +23,12 @@ pub(crate) enum Next {
     Cancel,
 }
 
-/// The hints and tokens that replies gave, old ones too, and the number of the last dispatch.
+/// The hints and tokens that replies of a shard gave, old ones too, and the number of the last
+/// dispatch.
 #[derive(Drop)]
 pub(crate) struct Known {
     pub(crate) next: Next,
+    shard: u16,
     hints: Vec<Hint>,
     tokens: Vec<TakenTask>,
     attempts: Vec<TakenTask>,
@@ -34,9 +36,10 @@ pub(crate) struct Known {
 }
 
 impl Known {
-    pub(crate) fn new(alloc: Global) -> Known {
+    pub(crate) fn new(alloc: Global, shard: u16) -> Known {
         Known {
             next: Next::Look,
+            shard,
             hints: Vec::new(alloc),
             tokens: Vec::new(alloc),
             attempts: Vec::new(alloc),
@@ -146,8 +149,18 @@ impl Known {
         }
     }
 
-    /// One of the last hints, now and then one that names another task.
-    pub(crate) fn hint(&self, draws: &mut Draws) -> Hint {
+    /// The task of one of the last hints, now and then another one, or none that is there.
+    pub(crate) fn waiting(&self, draws: &mut Draws) -> WaitingTask {
+        let hint = self.hint(draws);
+        let mut task = hint.task();
+        if hint.shard != self.shard {
+            // No shard has a run of that ordinal.
+            task.run = 0;
+        }
+        task
+    }
+
+    fn hint(&self, draws: &mut Draws) -> Hint {
         if draws.one_in(8) {
             return self.guess(draws);
         }

@@ -41,7 +41,7 @@ fn operation(alloc: Global, draws: &mut Draws, known: &Known) -> Result<Operatio
     match known.next {
         Next::Start => Ok(Operation::Start(start(alloc, draws)?)),
         Next::Look => Ok(Operation::History(read(alloc, draws)?)),
-        Next::Take => Ok(Operation::StartTask(known.hint(draws))),
+        Next::Take => Ok(Operation::StartTask(known.waiting(draws))),
         Next::Wake if draws.one_in(3) => Ok(Operation::TimerTurn),
         Next::Wake => Ok(Operation::Signal(signal(alloc, draws)?)),
         Next::Complete => Ok(Operation::CompleteWorkflowTask(completion(alloc, draws, known)?)),
@@ -58,7 +58,7 @@ fn any_operation(alloc: Global, draws: &mut Draws, known: &Known) -> Result<Oper
     match draws.below(kinds) {
         0..=2 => Ok(Operation::Start(start(alloc, draws)?)),
         3..=5 => Ok(Operation::Signal(signal(alloc, draws)?)),
-        6..=8 => Ok(Operation::StartTask(known.hint(draws))),
+        6..=8 => Ok(Operation::StartTask(known.waiting(draws))),
         9..=10 => Ok(Operation::CompleteWorkflowTask(completion(alloc, draws, known)?)),
         11 => Ok(Operation::FailWorkflowTask(FailWorkflowTask {
             task: known.token(draws),
@@ -101,6 +101,22 @@ fn error_type(alloc: Global, draws: &mut Draws) -> Result<Option<Text>, Refusal>
     Ok(Some(Text::new(alloc, Field::ErrorType, name)?))
 }
 
+fn reuse(draws: &mut Draws) -> ReusePolicy {
+    if draws.one_in(16) {
+        ReusePolicy::RejectDuplicate
+    } else {
+        ReusePolicy::AllowDuplicate
+    }
+}
+
+fn conflict(draws: &mut Draws) -> ConflictPolicy {
+    match draws.below(16) {
+        0 if draws.has_ends() => ConflictPolicy::TerminateExisting,
+        1 => ConflictPolicy::UseExisting,
+        _ => ConflictPolicy::Fail,
+    }
+}
+
 pub(crate) fn start(alloc: Global, draws: &mut Draws) -> Result<Start, Refusal> {
     Ok(Start {
         workflow_id: started_id(alloc, draws)?,
@@ -108,16 +124,8 @@ pub(crate) fn start(alloc: Global, draws: &mut Draws) -> Result<Start, Refusal> 
         task_queue: queue(alloc, draws)?,
         input: input(alloc, draws)?,
         request_id: request_id(alloc, draws)?,
-        reuse: if draws.one_in(16) {
-            ReusePolicy::RejectDuplicate
-        } else {
-            ReusePolicy::AllowDuplicate
-        },
-        conflict: match draws.below(16) {
-            0 if draws.has_ends() => ConflictPolicy::TerminateExisting,
-            1 => ConflictPolicy::UseExisting,
-            _ => ConflictPolicy::Fail,
-        },
+        reuse: reuse(draws),
+        conflict: conflict(draws),
         run_timeout: span(draws, 1000)?,
         task_timeout: span(draws, 200)?,
     })
@@ -135,7 +143,18 @@ fn signal(alloc: Global, draws: &mut Draws) -> Result<Signal, Refusal> {
 
 fn signal_with_start(alloc: Global, draws: &mut Draws) -> Result<SignalWithStart, Refusal> {
     Ok(SignalWithStart {
-        start: start(alloc, draws)?,
+        workflow_id: started_id(alloc, draws)?,
+        workflow_type: Text::new(alloc, Field::WorkflowType, "order")?,
+        task_queue: queue(alloc, draws)?,
+        input: input(alloc, draws)?,
+        request_id: request_id(alloc, draws)?,
+        reuse: reuse(draws),
+        // A draw is passed over, so that what follows stays what it was for each seed.
+        run_timeout: {
+            let _ = conflict(draws);
+            span(draws, 1000)?
+        },
+        task_timeout: span(draws, 200)?,
         name: Text::new(alloc, Field::Name, "paid")?,
         signal_input: input(alloc, draws)?,
     })

@@ -68,7 +68,11 @@ fn count(at: Moment, number: u64) -> Asked {
 }
 
 fn start(at: Moment, hint: Hint) -> Asked {
-    Asked::new(at, Operation::StartTask(hint), Operation::StartTask(hint))
+    Asked::new(
+        at,
+        Operation::StartTask(hint.task()),
+        Operation::StartTask(hint.task()),
+    )
 }
 
 /// The workflow task that was taken, if it was one.

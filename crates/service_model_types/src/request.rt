@@ -1,4 +1,8 @@
 //! What a shard is asked.
+
+ghost use Rattle.std.specs.Prelude.{◌≡◌};
+ghost use Rattle.service_model_types.specs.Hints.{task_of};
+
 use crate::transfer::Transfer;
 use wf_command::Command;
 use wf_event_values::{
@@ -55,9 +59,17 @@ impl Drop for Signal {
     }
 }
 
-/// Signals the open run of an ID, or starts one and signals it.
+/// Signals the open run of an ID, or starts one and signals it. It has no conflict policy: a run is
+/// started only where none is open.
 pub struct SignalWithStart {
-    pub start: Start,
+    pub workflow_id: Id,
+    pub workflow_type: Text,
+    pub task_queue: Id,
+    pub input: Text,
+    pub request_id: Option<Id>,
+    pub reuse: ReusePolicy,
+    pub run_timeout: Span,
+    pub task_timeout: Span,
     pub name: Text,
     pub signal_input: Text,
 }
@@ -65,7 +77,14 @@ pub struct SignalWithStart {
 impl Drop for SignalWithStart {
     fn drop(self) {
         let SignalWithStart {
-            start: _,
+            workflow_id: _,
+            workflow_type: _,
+            task_queue: _,
+            input: _,
+            request_id: _,
+            reuse: _,
+            run_timeout: _,
+            task_timeout: _,
             name: _,
             signal_input: _,
         } = self;
@@ -121,7 +140,17 @@ impl Drop for Read {
     }
 }
 
-/// A task that may wait to be taken.
+/// A task of a shard that may wait to be taken: its kind, the run's ordinal, the event that scheduled
+/// it, and the attempt, which all count from 1.
+#[derive(Clone, Copy)]
+pub struct WaitingTask {
+    pub kind: TaskKind,
+    pub run: u64,
+    pub event: u64,
+    pub attempt: u32,
+}
+
+/// What a task queue holds: a task that may wait to be taken, and its shard.
 #[derive(Clone, Copy)]
 pub struct Hint {
     pub kind: TaskKind,
@@ -129,6 +158,20 @@ pub struct Hint {
     pub run: u64,
     pub event: u64,
     pub attempt: u32,
+}
+
+impl Hint {
+    /// The task that it names on its shard.
+    pub fn task(&self) -> WaitingTask
+        ensures { result ≡ task_of self.now }
+    {
+        WaitingTask {
+            kind: self.kind,
+            run: self.run,
+            event: self.event,
+            attempt: self.attempt,
+        }
+    }
 }
 
 /// A task that was taken, as a task token names it; the call that bears it says of which kind it is.
@@ -220,7 +263,8 @@ pub enum Operation {
     SignalWithStart(SignalWithStart),
     RequestCancel(RequestCancel),
     Terminate(Terminate),
-    StartTask(Hint),
+    /// Takes a task that waits. It names no shard, so a service makes it of a hint, which does.
+    StartTask(WaitingTask),
     CompleteWorkflowTask(CompleteWorkflowTask),
     FailWorkflowTask(FailWorkflowTask),
     CompleteActivity(ActivityText),

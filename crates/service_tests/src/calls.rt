@@ -18,7 +18,7 @@ use std::sync::Wait;
 use wf_command::Command;
 use wf_command::command::ScheduleActivityTask;
 use wf_event::payloads::PolicyFields;
-use wf_event_values::{Items, Moment, Span, TaskKind, Text};
+use wf_event_values::{Items, Moment, ReusePolicy, Span, TaskKind, Text};
 
 /// The form in which a call is made.
 #[derive(Clone, Copy)]
@@ -119,7 +119,14 @@ fn workflow(shard: u16) -> &'static str {
 
 fn both<R: Abort + AllocGlobal>(rt: &R, shard: u16) -> SignalWithStart {
     SignalWithStart {
-        start: start(rt, workflow(shard), None),
+        workflow_id: id(rt, workflow(shard)),
+        workflow_type: text(rt, "w"),
+        task_queue: id(rt, "main"),
+        input: text(rt, ""),
+        request_id: None,
+        reuse: ReusePolicy::AllowDuplicate,
+        run_timeout: Span::none(),
+        task_timeout: Span::none(),
         name: text(rt, "s"),
         signal_input: text(rt, "i"),
     }
@@ -168,7 +175,7 @@ fn activity<R: Abort + AllocGlobal>(rt: &R, name: &str) -> Command {
         heartbeat: Span::none(),
         retry: PolicyFields {
             attempts: 1,
-            factor: 2,
+            coefficient: 200,
             initial: 1000,
             maximum: 0,
             non_retryable: Items::from_vec(Vec::new(rt.alloc())),

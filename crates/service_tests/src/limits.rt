@@ -6,11 +6,12 @@ ghost use Rattle.service_tests.specs.Passes.{ComesBack};
 use crate::asked::{id, settings, signal, start};
 use crate::passes::{close, give_back, open, take_pass};
 use crate::shown::shown;
-use service::{Pass, Record, Service};
+use service::{Pass, Service};
 use service_model_types::answer::{Answer, Reply};
 use service_model_types::request::{Read, Request};
 use std::alloc::AllocGlobal;
 use std::process::Abort;
+use step_record::Record;
 use wf_event_values::Moment;
 
 /// The largest number that a service may have.

@@ -5,11 +5,12 @@ ghost use Rattle.gate.specs.Passes.{number};
 ghost use Rattle.service.specs.Services.{IsPassOf, known_by, settings_of};
 ghost use Rattle.service_tests.specs.Passes.{InOrder};
 
-use service::{Pass, Record, Service};
+use service::{Pass, Service};
 use service_model_types::request::Request;
 use service_model_types::settings::Settings;
 use std::alloc::AllocGlobal;
 use std::process::Abort;
+use step_record::Record;
 
 /// A service, and its passes in the order of their numbers.
 pub(crate) fn open<R: Abort + AllocGlobal>(rt: &R, settings: &Settings) -> (Service, Vec<Pass>)
@@ -58,7 +59,7 @@ pub(crate) fn close(service: Service, passes: Vec<Pass>) -> Vec<Record<Request>>
     requires count { length passes.items ≡ (settings_of service).passes }
     ensures { length result.items ≡ (settings_of service).shards }
 {
-    service.close(passes)
+    service.close(passes).records
 }
 
 /// The records of a service that has two passes.

@@ -7,13 +7,15 @@ ghost use Rattle.service_tests.specs.Passes.{ComesBack};
 use crate::asked::{settings, taken, waiting};
 use crate::passes::{close, give_back, open, take_pass};
 use crate::shown::shown;
-use service::{Pass, Record, Service};
+use service::{Pass, Service};
+use service_model_types::client::{ClientRequest, is_clients};
 use service_model_types::request::{
     CompleteWorkflowTask, FailWorkflowTask, Operation, Request, TakenTask,
 };
 use std::alloc::{AllocError, AllocGlobal, Global};
 use std::process::Abort;
 use std::sync::Wait;
+use step_record::Record;
 use wf_command::Command;
 use wf_command::command::RecordMarker;
 use wf_event_values::{Items, Moment, TaskKind, Text};
@@ -65,6 +67,8 @@ fn assert_refused<R: Abort + Wait>(
         at: Moment::zero(),
         operation,
     };
+    assert!(rt; is_clients(&request.operation));
+    let request = ClientRequest::new(request);
     assert_eq!(rt; shown(service.serve(rt, pass, request)), expected);
 }
 
@@ -101,7 +105,7 @@ fn assert_no_shards<R: Abort + Wait>(rt: &R, service: &Service, pass: &mut Pass)
     requires { IsPassOf pass.old service.now }
     ensures { ComesBack service.now pass.old pass.new }
 {
-    let hint = Operation::StartTask(waiting(TaskKind::Workflow, 2, 2, 1));
+    let hint = Operation::StartTask(waiting(TaskKind::Workflow, 0, 2, 1).task());
     assert_refused(rt, service, pass, hint, "shard");
     assert_refused(rt, service, pass, Operation::TimerTurn, "shard");
     assert_refused(rt, service, pass, Operation::NextTransfer(1), "shard");

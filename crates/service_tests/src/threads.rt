@@ -10,7 +10,7 @@ use crate::asked::{id, is_first_run, moment, settings, signal, start, two_shards
 use crate::calls::start_one;
 use crate::passes::{close, close_two, give_back, open, take_pass};
 use crate::shown::shown;
-use service::{Pass, Record, Refused, Service};
+use service::{Pass, Refused, Service};
 use service_model_types::answer::{Answer, Reply};
 use service_model_types::request::{Operation, Request};
 use std::alloc::AllocGlobal;
@@ -18,6 +18,7 @@ use std::process::Abort;
 use std::sync::Wait;
 use std::thread;
 use std::thread::Threads;
+use step_record::Record;
 use wf_event_values::{Moment, Refusal};
 
 /// The workflows that the four threads signal, and how many signals each thread sends.
@@ -44,7 +45,7 @@ fn workflow_of(request: &Request) -> &str {
     match &request.operation {
         Operation::Start(asked) => asked.workflow_id.as_str(),
         Operation::Signal(asked) => asked.workflow_id.as_str(),
-        Operation::SignalWithStart(asked) => asked.start.workflow_id.as_str(),
+        Operation::SignalWithStart(asked) => asked.workflow_id.as_str(),
         Operation::RequestCancel(asked) => asked.workflow_id.as_str(),
         Operation::Terminate(asked) => asked.workflow_id.as_str(),
         Operation::History(asked) | Operation::Describe(asked) => asked.workflow_id.as_str(),
@@ -68,8 +69,8 @@ fn workflow_of(request: &Request) -> &str {
 fn has_steps(record: &Record<Request>, steps: &[(u8, &str)]) -> bool {
     let entries = record.as_slice();
     entries.len() == steps.len()
-        && entries.iter().zip(steps).all(|(entry, step)| entry.0 == step.0
-            && workflow_of(&entry.1) == step.1)
+        && entries.iter().zip(steps).all(|(entry, step)| entry.pass == step.0
+            && workflow_of(&entry.request) == step.1)
 }
 
 /// Whether a start of `a` came back, since another pass was on its shard.
@@ -267,12 +268,12 @@ fn start_all<R: Abort + AllocGlobal + Wait>(rt: &R, service: &Service, pass: &mu
 /// has this moment. None where they don't stand in their order.
 fn after_signals(record: &Record<Request>, pass: u8, workflow: &str, first: u64) -> Option<u64> {
     let mut next = first;
-    for (number, request) in record.as_slice() {
-        if let Operation::Signal(asked) = &request.operation
-            && *number == pass
+    for entry in record.as_slice() {
+        if let Operation::Signal(asked) = &entry.request.operation
+            && entry.pass == pass
             && asked.workflow_id.as_str() == workflow
         {
-            if request.at.millis() != next {
+            if entry.request.at.millis() != next {
                 return None;
             }
             next = next.saturating_add(WORKFLOWS.len() as u64);

@@ -1,4 +1,4 @@
--- what each request does to a shard, by what is known of it
+-- PROOF: what each request does to a shard, by what is known of it
 use Rattle.std.specs.Prelude.{ℕ, ◌∷◌, [], List, Option, unwrap_or}
 use Rattle.service_model_types.specs.declared.journal.Fact.{Fact}
 use Rattle.service_model_types.specs.declared.request.SignalWithStart.{SignalWithStart}
@@ -7,7 +7,7 @@ use Rattle.service_model_types.specs.declared.request.Operation.{Operation}
 use Rattle.service_model_types.specs.declared.request.Operation.TheVariants as served
 use Rattle.service_model.specs.Outcome.{Outcome, Runs, latest_run}
 use Rattle.service_model.specs.Starts.{started_fact, first_task, start, decision, by_decision}
-use Rattle.service_model.specs.Signals.{signal, signal_fact, signal_with_start, with_fail}
+use Rattle.service_model.specs.Signals.{signal, signal_fact, signal_with_start, start_in}
 use Rattle.service_model.specs.Cancels.{request_cancel, terminate}
 use Rattle.service_model.specs.Reads.{history, describe}
 use Rattle.service_model.specs.Tasks.{start_task, complete_workflow_task, fail_workflow_task}
@@ -27,11 +27,11 @@ decided R q = decided_by R q (latest_run R.states q.workflow_id)
 
 -- what a start with a signal writes in a new run
 abbrev pub signaled_facts : SignalWithStart → List Fact
-signaled_facts q = started_fact q.start ∷ signal_fact q.start.request_id q.name q.signal_input ∷ first_task q.start.task_queue ∷ []
+signaled_facts q = started_fact (start_in q) ∷ signal_fact q.request_id q.name q.signal_input ∷ first_task q.task_queue ∷ []
 
 -- what it does where the workflow ID has no open run, by the latest one
 abbrev pub signaled_by : Runs → SignalWithStart → Option ℕ → Outcome
-signaled_by R q latest_one = by_decision R (unwrap_or latest_one 0) (signaled_facts q) (decision R (with_fail q.start) latest_one)
+signaled_by R q latest_one = by_decision R (unwrap_or latest_one 0) (signaled_facts q) (decision R (start_in q) latest_one)
 
 -- the runs that requests are decided on
 abbrev pub runs_known : ShardState → Runs

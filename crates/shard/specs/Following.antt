@@ -1,4 +1,4 @@
--- the run that follows one which continues as new
+-- PROOF: the run that follows one which continues as new
 use Rattle.std.specs.Prelude.{ℕ, List, [], ◌∷◌, Option, None, Some, unwrap_or}
 use Rattle.wf_event.specs.declared.payloads.WorkflowExecutionStarted.{WorkflowExecutionStarted as StartedAttributes}
 use Rattle.wf_event_values.specs.Run.{Run}

@@ -1,4 +1,4 @@
--- the running attempt of an activity that a token names
+-- PROOF: the running attempt of an activity that a token names
 use Rattle.std.specs.Prelude.{◌≡◌, ℕ, ◌<◌, true, Some, length}
 use Rattle.wf_event.specs.declared.role.Class.TheVariants.{Activity}
 use Rattle.service_model_types.specs.declared.request.TakenTask.{TakenTask}

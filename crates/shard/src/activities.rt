@@ -17,7 +17,7 @@ use crate::more::prepare_more;
 use mutable_state_keeper::KeepsRun;
 use service_model_types::answer::{ActivityTask, Answer};
 use service_model_types::journal::Note;
-use service_model_types::request::Hint;
+use service_model_types::request::WaitingTask;
 use shard_steps::{attempt_task, note_facts};
 use shard_store::{Plan, Store, answered};
 use std::alloc::AllocError;
@@ -27,45 +27,45 @@ use wf_event_values::Moment;
 pub(crate) fn take_activity<T: KeepsRun>(
     store: &mut Store<T>,
     moment: Moment,
-    hint: Hint,
+    wanted: WaitingTask,
 ) -> Result<Plan<T>, AllocError>
     ensures same { state store.new ≡ state store.old }
     ensures plan { IfOk result (λ plan. FitsStep store.new plan moment
-        (take_by_kind (runs_in store.old) hint of_an_activity)) }
+        (take_by_kind (runs_in store.old) wanted of_an_activity)) }
 {
-    let Some(index) = store.place_on(hint.shard, hint.run) else {
+    let Some(index) = store.place_of(wanted.run) else {
         return Ok(answered(moment, Answer::Stale));
     };
-    let Some(task) = attempt_for(store, index, hint)? else {
+    let Some(task) = attempt_for(store, index, wanted)? else {
         return Ok(answered(moment, Answer::Stale));
     };
-    let plan = take_attempt(store, moment, index, hint, task)?;
+    let plan = take_attempt(store, moment, index, wanted, task)?;
     Ok(plan)
 }
 
-/// The attempt that the hint names in the run at a place, where it waits to be taken.
+/// The attempt that is named of the run at a place, where it waits to be taken.
 fn attempt_for<T: KeepsRun>(
     store: &Store<T>,
     index: usize,
-    hint: Hint,
+    wanted: WaitingTask,
 ) -> Result<Option<ActivityTask>, AllocError>
     requires there { index < length store.now.runs }
-    requires run { ordinal_of index ≡ hint.run }
-    ensures task { IfOk result (λ task. task ≡ task_for (runs_in store.now) hint
-        (pending_row (run_in store.now index) hint.event)) }
+    requires run { ordinal_of index ≡ wanted.run }
+    ensures task { IfOk result (λ task. task ≡ task_for (runs_in store.now) wanted
+        (pending_row (run_in store.now index) wanted.event)) }
     ensures in_use { IfOk result (λ task. IfSome task
-        (λ t. has_id hint.event (used Activity (run_in store.now index)) ≡ true)) }
+        (λ t. has_id wanted.event (used Activity (run_in store.now index)) ≡ true)) }
     ensures open { IfOk result (λ task. IfSome task
         (λ t. is_open (run_in store.now index) ≡ true)) }
 {
     let Some(activity) = store
         .run(index)
-        .pending_activity(store.alloc(), hint.event)?
+        .pending_activity(store.alloc(), wanted.event)?
     else {
         return Ok(None);
     };
     let workflow_id = store.run(index).workflow_id().clone()?;
-    let task = attempt_task(&activity, hint, store.run_id(index), workflow_id)?;
+    let task = attempt_task(&activity, wanted, store.run_id(index), workflow_id)?;
     Ok(task)
 }
 
@@ -74,18 +74,18 @@ fn take_attempt<T: KeepsRun>(
     store: &mut Store<T>,
     moment: Moment,
     index: usize,
-    hint: Hint,
+    wanted: WaitingTask,
     task: ActivityTask,
 ) -> Result<Plan<T>, AllocError>
     requires there { index < length store.old.runs }
-    requires run { ordinal_of index ≡ hint.run }
-    requires in_use { has_id hint.event (used Activity (run_in store.old index)) ≡ true }
+    requires run { ordinal_of index ≡ wanted.run }
+    requires in_use { has_id wanted.event (used Activity (run_in store.old index)) ≡ true }
     requires open { is_open (run_in store.old index) ≡ true }
     ensures same { state store.new ≡ state store.old }
     ensures plan { IfOk result (λ plan. FitsStep store.new plan moment
-        (adds hint.run (noted hint.event Taken ∷ []) (an_activity_task task))) }
+        (adds wanted.run (noted wanted.event Taken ∷ []) (an_activity_task task))) }
 {
-    let facts = note_facts(store.alloc(), hint.event, Note::Taken)?;
+    let facts = note_facts(store.alloc(), wanted.event, Note::Taken)?;
     let plan = prepare_more(store, moment, index, facts, Answer::ActivityTask(task))?;
     Ok(plan)
 }

@@ -40,7 +40,7 @@ pub fn prepare<T: KeepsRun>(store: &mut Store<T>, request: &Request) -> Result<P
         Operation::Terminate(end) => prepare_terminate(store, moment, end),
         Operation::History(read) => prepare_history(store, moment, read),
         Operation::Describe(read) => prepare_describe(store, moment, read),
-        Operation::StartTask(hint) => prepare_start_task(store, moment, *hint),
+        Operation::StartTask(task) => prepare_start_task(store, moment, *task),
         Operation::CompleteWorkflowTask(end) => prepare_completion(store, moment, end),
         Operation::FailWorkflowTask(end) => prepare_failure(store, moment, end),
         Operation::CompleteActivity(end) => prepare_complete_activity(store, moment, end),

@@ -30,11 +30,10 @@ pub(crate) fn prepare_signal_with_start<T: KeepsRun>(
     ensures plan { IfOk result (λ plan. FitsStep store.new plan moment
         (signal_with_start (runs_in store.old) request.now)) }
 {
-    let start = &request.start;
-    if !store.is_home_of(&start.workflow_id) {
+    if !store.is_home_of(&request.workflow_id) {
         return Ok(refused(moment, Refusal::InvalidArgument(Field::WorkflowId)));
     }
-    if !store.setup().knows_queue(&start.task_queue) {
+    if !store.setup().knows_queue(&request.task_queue) {
         return Ok(refused(moment, Refusal::UnknownTaskQueue));
     }
     prepare_signal_or_start(store, moment, request)
@@ -49,9 +48,9 @@ fn prepare_signal_or_start<T: KeepsRun>(
     ensures same { state store.new ≡ state store.old }
     ensures plan { IfOk result (λ plan. FitsStep store.new plan moment
         (signal_or_start (runs_in store.old) request.now
-        (open_run (runs_in store.old) request.now.start.workflow_id None))) }
+        (open_run (runs_in store.old) request.now.workflow_id None))) }
 {
-    match store.named_open(&request.start.workflow_id, None) {
+    match store.named_open(&request.workflow_id, None) {
         Some(index) => prepare_signal_open(store, moment, index, request),
         None => prepare_signal_start(store, moment, request),
     }
@@ -75,12 +74,11 @@ fn prepare_signal_open<T: KeepsRun>(
         first: Answer::SignaledRun(run),
         again: Answer::RepeatedRun(run),
     };
-    let request_id = &request.start.request_id;
     prepare_signal_of(
         store,
         moment,
         index,
-        request_id,
+        &request.request_id,
         &request.name,
         &request.signal_input,
         answers,
@@ -96,9 +94,9 @@ fn prepare_signal_start<T: KeepsRun>(
     ensures same { state store.new ≡ state store.old }
     ensures plan { IfOk result (λ plan. FitsStep store.new plan moment
         (signaled_by (runs_in store.old) request.now
-        (latest_run (states store.old.runs) request.now.start.workflow_id))) }
+        (latest_run (states store.old.runs) request.now.workflow_id))) }
 {
-    match store.latest(&request.start.workflow_id) {
+    match store.latest(&request.workflow_id) {
         Some(index) => prepare_signal_behind(store, moment, index, request),
         None => prepare_signaled(store, moment, request),
     }
@@ -112,14 +110,15 @@ fn prepare_signal_behind<T: KeepsRun>(
     request: &SignalWithStart,
 ) -> Result<Plan<T>, AllocError>
     requires there { index < length store.old.runs }
-    requires latest { latest_run (states store.old.runs) request.now.start.workflow_id
+    requires latest { latest_run (states store.old.runs) request.now.workflow_id
         ≡ Some (ordinal_of index) }
     ensures same { state store.new ≡ state store.old }
     ensures plan { IfOk result (λ plan. FitsStep store.new plan moment
         (signaled_by (runs_in store.old) request.now (Some (ordinal_of index)))) }
 {
     let run = store.run_id(index);
-    match decision_by(store, index, &request.start, ConflictPolicy::Fail) {
+    let given = &request.request_id;
+    match decision_by(store, index, given, request.reuse, ConflictPolicy::Fail) {
         Decision::New => prepare_signaled(store, moment, request),
         Decision::Same | Decision::Existing => Ok(answered(moment, Answer::Existing(run))),
         Decision::TerminateThenNew => unreachable!(),
@@ -133,7 +132,7 @@ fn prepare_signaled<T: KeepsRun>(
     moment: Moment,
     request: &SignalWithStart,
 ) -> Result<Plan<T>, AllocError>
-    requires { IsFree (states store.old.runs) request.now.start.workflow_id }
+    requires { IsFree (states store.old.runs) request.now.workflow_id }
     ensures same { state store.new ≡ state store.old }
     ensures plan { IfOk result (λ plan. FitsStep store.new plan moment
         (starts_new (runs_in store.old) None (signaled_facts request.now))) }

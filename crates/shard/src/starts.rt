@@ -18,7 +18,7 @@ use service_model_types::request::Start;
 use shard_steps::{Beginning, beginning_of, replaced_reason, terminated_facts};
 use shard_store::{Change, Count, Plan, Store, answered, refused};
 use std::alloc::AllocError;
-use wf_event_values::{ConflictPolicy, Field, Moment, Refusal};
+use wf_event_values::{ConflictPolicy, Field, Id, Moment, Refusal, ReusePolicy};
 
 #[tactic(auto, unfolding(service_model::specs::Starts::start))]
 pub(crate) fn prepare_start<T: KeepsRun>(
@@ -70,7 +70,8 @@ fn prepare_decided_by<T: KeepsRun>(
         (decided_by (runs_in store.old) request.now (Some (ordinal_of index)))) }
 {
     let run = store.run_id(index);
-    match decision_by(store, index, request, request.conflict) {
+    let given = &request.request_id;
+    match decision_by(store, index, given, request.reuse, request.conflict) {
         Decision::New => prepare_started(store, moment, request),
         Decision::Same | Decision::Existing => Ok(answered(moment, Answer::Existing(run))),
         Decision::TerminateThenNew => prepare_replaced(store, moment, index, request),
@@ -78,26 +79,26 @@ fn prepare_decided_by<T: KeepsRun>(
     }
 }
 
-/// What the policies decide where the workflow ID's latest run is at that place.
+/// What the policies decide on a start of that request id, where the workflow ID's latest run is at
+/// that place.
 pub(crate) fn decision_by<T: KeepsRun>(
     store: &Store<T>,
     index: usize,
-    request: &Start,
+    given: &Option<Id>,
+    reuse: ReusePolicy,
     conflict: ConflictPolicy,
 ) -> Decision
     requires there { index < length store.now.runs }
     ensures { let latest = run_in store.now index in
         says result ≡ decide (Some latest.status)
-        (is_same_request request.now.request_id (start_request latest))
-        request.now.reuse conflict }
+        (is_same_request given.now (start_request latest)) reuse conflict }
 {
     let run = store.run(index);
     let latest = Latest {
         status: run.status(),
         request_id: run.start_request(),
     };
-    let given = request.request_id.as_ref();
-    decide(Some(&latest), request.reuse, conflict, given)
+    decide(Some(&latest), reuse, conflict, given.as_ref())
 }
 
 /// The run of a start that nothing stands in the way of.

@@ -16,7 +16,9 @@ use crate::followers::prepare_follower;
 use crate::more::prepare_more;
 use mutable_state_keeper::KeepsRun;
 use service_model_types::answer::{Answer, WorkflowTask};
-use service_model_types::request::{CompleteWorkflowTask, FailWorkflowTask, Hint, TakenTask};
+use service_model_types::request::{
+    CompleteWorkflowTask, FailWorkflowTask, TakenTask, WaitingTask,
+};
 use shard_steps::{ended, started_facts};
 use shard_store::{Change, Count, MoreOf, Plan, Store, adding, answered, refused};
 use std::alloc::AllocError;
@@ -28,29 +30,29 @@ use wf_event_values::{Moment, Refusal, TaskKind};
 pub(crate) fn prepare_start_task<T: KeepsRun>(
     store: &mut Store<T>,
     moment: Moment,
-    hint: Hint,
+    wanted: WaitingTask,
 ) -> Result<Plan<T>, AllocError>
     ensures same { state store.new ≡ state store.old }
     ensures plan { IfOk result (λ plan. FitsStep store.new plan moment
-        (start_task (runs_in store.old) hint)) }
+        (start_task (runs_in store.old) wanted)) }
 {
-    match hint.kind {
-        TaskKind::Workflow => prepare_take(store, moment, hint),
-        TaskKind::Activity => take_activity(store, moment, hint),
+    match wanted.kind {
+        TaskKind::Workflow => prepare_take(store, moment, wanted),
+        TaskKind::Activity => take_activity(store, moment, wanted),
     }
 }
 
 fn prepare_take<T: KeepsRun>(
     store: &mut Store<T>,
     moment: Moment,
-    hint: Hint,
+    wanted: WaitingTask,
 ) -> Result<Plan<T>, AllocError>
     ensures same { state store.new ≡ state store.old }
     ensures plan { IfOk result (λ plan. FitsStep store.new plan moment
-        (take_workflow (runs_in store.old) hint)) }
+        (take_workflow (runs_in store.old) wanted)) }
 {
-    match waiting(store, hint)? {
-        Some(index) => prepare_taken(store, moment, index, hint),
+    match waiting(store, wanted)? {
+        Some(index) => prepare_taken(store, moment, index, wanted),
         None => Ok(answered(moment, Answer::Stale)),
     }
 }
@@ -60,42 +62,45 @@ fn prepare_taken<T: KeepsRun>(
     store: &mut Store<T>,
     moment: Moment,
     index: usize,
-    hint: Hint,
+    wanted: WaitingTask,
 ) -> Result<Plan<T>, AllocError>
     requires there { index < length store.old.runs }
-    requires run { ordinal_of index ≡ hint.run }
-    requires waits { waits_workflow (runs_in store.old) hint ≡ true }
+    requires run { ordinal_of index ≡ wanted.run }
+    requires waits { waits_workflow (runs_in store.old) wanted ≡ true }
     requires open { is_open (run_in store.old index) ≡ true }
     ensures same { state store.new ≡ state store.old }
     ensures plan { IfOk result (λ plan. FitsStep store.new plan moment
-        (take_workflow (runs_in store.old) hint)) }
+        (take_workflow (runs_in store.old) wanted)) }
 {
     let shown = store.run(index).shown(store.alloc())?;
     let task = WorkflowTask {
-        attempt: hint.attempt,
+        attempt: wanted.attempt,
         run: store.run_id(index),
-        scheduled: hint.event,
+        scheduled: wanted.event,
         started: shown as u64 + 1,
         workflow_id: store.run(index).workflow_id().clone()?,
     };
-    let facts = started_facts(store.alloc(), hint.event)?;
+    let facts = started_facts(store.alloc(), wanted.event)?;
     prepare_more(store, moment, index, facts, Answer::WorkflowTask(task))
 }
 
-/// The place of the run whose workflow task waits to be taken as the hint says.
-fn waiting<T: KeepsRun>(store: &Store<T>, hint: Hint) -> Result<Option<usize>, AllocError>
-    ensures waits { IfOk result (λ found. waits_workflow (runs_in store.now) hint
+/// The place of the run whose workflow task waits to be taken as it is named.
+fn waiting<T: KeepsRun>(store: &Store<T>, wanted: WaitingTask) -> Result<Option<usize>, AllocError>
+    ensures waits { IfOk result (λ found. waits_workflow (runs_in store.now) wanted
         ≡ is_some found) }
     ensures found { IfOk result (λ found. IfSome found
-        (λ index. (ordinal_of index ≡ hint.run) × (index < length store.now.runs))) }
+        (λ index. (ordinal_of index ≡ wanted.run) × (index < length store.now.runs))) }
     ensures open { IfOk result (λ found. IfSome found
         (λ index. is_open (run_in store.now index) ≡ true)) }
 {
-    let Some(index) = store.place_on(hint.shard, hint.run) else {
+    let Some(index) = store.place_of(wanted.run) else {
         return Ok(None);
     };
     let task = store.run(index).task(store.alloc())?;
-    if task.phase.is_scheduled() && task.scheduled == hint.event && task.attempt == hint.attempt {
+    if task.phase.is_scheduled()
+        && task.scheduled == wanted.event
+        && task.attempt == wanted.attempt
+    {
         Ok(Some(index))
     } else {
         Ok(None)

@@ -1,4 +1,4 @@
--- when a delivery is accepted, and what it may add
+-- PROOF: when a delivery is accepted, and what it may add
 use Rattle.std.specs.Prelude.{◌≡◌, false, true, None}
 use Rattle.wf_event.specs.declared.attributes.Attributes.{Attributes}
 use Rattle.wf_event.specs.Role.{ComesFromOutside, closing_status, role, settles}

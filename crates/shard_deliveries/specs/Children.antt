@@ -1,4 +1,4 @@
--- the start of a child
+-- PROOF: the start of a child
 use Rattle.std.specs.Prelude.{Bool, false, [], ◌∷◌, None, Some, option_map}
 use Rattle.wf_event_values.specs.declared.policies.ConflictPolicy.TheVariants.{Fail}
 use Rattle.service_model_types.specs.declared.transfer.StartChildTransfer.{StartChildTransfer}

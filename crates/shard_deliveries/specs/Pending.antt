@@ -1,4 +1,4 @@
--- requests of a shard's runs that wait for an answer
+-- PROOF: requests of a shard's runs that wait for an answer
 use Rattle.std.specs.Prelude.{◌≡◌, ℕ, ◌<◌, List, true, length}
 use Rattle.wf_event.specs.declared.role.Class.{Class}
 use Rattle.service_model.specs.RunState.{is_open, pending}

@@ -6,7 +6,7 @@ use Rattle.wf_event.specs.declared.role.Class.TheVariants.{Activity}
 use Rattle.service_model_types.specs.declared.answer.ActivityTask.{ActivityTask as Task}
 use Rattle.service_model_types.specs.declared.answer.Answer.TheVariants.{ActivityTask, Stale}
 use Rattle.service_model_types.specs.declared.journal.Note.TheVariants.{Taken}
-use Rattle.service_model_types.specs.declared.request.Hint.{Hint}
+use Rattle.service_model_types.specs.declared.request.WaitingTask.{WaitingTask}
 use Rattle.service_model.specs.Deadlines.{scheduled_fields}
 use Rattle.service_model.specs.Outcome.{Outcome, Runs, answered, adds, noted, run_at, run_id}
 use Rattle.service_model.specs.Pending.{is_settled}
@@ -16,11 +16,11 @@ use Rattle.mutable_state.specs.Steps.{has_id, FitStep}
 use Rattle.shard_steps.specs.Attempts.{task_by, task_for}
 
 -- what is done by the task, where there is one
-abbrev pub taking : Hint → Option Task → Outcome
+abbrev pub taking : WaitingTask → Option Task → Outcome
 taking h None = answered Stale
 taking h (Some t) = adds h.run (noted h.event Taken ∷ []) (ActivityTask t)
 
-fields-by : (R : Runs) (h : Hint) (r : ActivityRow) (o : Option ScheduledAttributes) → take_fields R h r o ≡ taking h (task_by h (run_id R.setup h.run) (id_of (run_at R h.run)) r o)
+fields-by : (R : Runs) (h : WaitingTask) (r : ActivityRow) (o : Option ScheduledAttributes) → take_fields R h r o ≡ taking h (task_by h (run_id R.setup h.run) (id_of (run_at R h.run)) r o)
 fields-by R h r None = refl
 fields-by R h r (Some a) = by_test (waits_activity h r)
   where
@@ -31,7 +31,7 @@ fields-by R h r (Some a) = by_test (waits_activity h r)
     by_test true = refl
     by_test false = refl
 
-pub taken-by : (R : Runs) (h : Hint) (row : Option ActivityRow) → take_row R h row ≡ taking h (task_for R h row)
+pub taken-by : (R : Runs) (h : WaitingTask) (row : Option ActivityRow) → take_row R h row ≡ taking h (task_for R h row)
 taken-by R h None = refl
 taken-by R h (Some r) = fields-by R h r (scheduled_fields r.opened.attributes)
 

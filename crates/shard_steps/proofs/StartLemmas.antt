@@ -99,7 +99,7 @@ no-signal (Some r) = refl
 pub signaled-fits : (at : ℕ) (q : SignalWithStart) → MayBegin at (signaled_beginning q)
 unfolding role opens settles closing_status
 signaled-fits at q = record {
-  fits = λ p. (record { open_run = refl; fits_role = tt; begins_none = refl; may_settle = tt; may_ask = refl; first_signal = no-signal q.start.request_id }, (record { open_run = refl; fits_role = (refl, refl); begins_none = refl; may_settle = tt; may_ask = refl; first_signal = refl }, tt));
+  fits = λ p. (record { open_run = refl; fits_role = tt; begins_none = refl; may_settle = tt; may_ask = refl; first_signal = no-signal q.request_id }, (record { open_run = refl; fits_role = (refl, refl); begins_none = refl; may_settle = tt; may_ask = refl; first_signal = refl }, tt));
   queues_none = refl;
 }
 

@@ -2,7 +2,7 @@
 use Rattle.std.proofs.Common.{◌≡◌, ℕ, Bool, true, false, ◌&&◌, [], ◌∷◌, refl, sym, ◌∙◌}
 use Rattle.wf_event.specs.declared.attributes.Attributes.TheVariants.{WorkflowTaskStarted}
 use Rattle.wf_event.specs.Role.{role, opens, settles}
-use Rattle.service_model_types.specs.declared.request.Hint.{Hint}
+use Rattle.service_model_types.specs.declared.request.WaitingTask.{WaitingTask}
 use Rattle.service_model_types.specs.declared.request.TakenTask.{TakenTask}
 use Rattle.service_model.specs.Journal.{plain}
 use Rattle.service_model.specs.Outcome.{Runs, run_at}
@@ -30,7 +30,7 @@ is-started NoTask h = absurd (cc)
 is-started IsScheduled h = absurd (cc)
 
 -- the task that waits is scheduled
-pub waiting-scheduled : (R : Runs) (h : Hint) → waits_workflow R h ≡ true → (run_at R h.run).task ≡ IsScheduled
+pub waiting-scheduled : (R : Runs) (h : WaitingTask) → waits_workflow R h ≡ true → (run_at R h.run).task ≡ IsScheduled
 waiting-scheduled R h waits = is-scheduled (run_at R h.run).task (and-right _ (is_scheduled_task (run_at R h.run).task) (and-left _ (is_last_task (run_at R h.run) h.event h.attempt) waits))
 
 -- the task that runs is started

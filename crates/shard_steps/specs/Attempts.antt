@@ -1,11 +1,11 @@
--- the attempt of an activity that a hint or a token names
+-- PROOF: the attempt of an activity that a hint or a token names
 use Rattle.std.specs.Prelude.{ℕ, ◌<◌, Bool, cond, ◌&&◌, ◌==◌, List, Option, None, Some}
 use Rattle.wf_event.specs.declared.attributes.Attributes.{Attributes}
 use Rattle.wf_event.specs.declared.attributes.Attributes.TheVariants.{ActivityTaskCompleted, ActivityTaskFailed, ActivityTaskTimedOut, ActivityTaskCanceled}
 use Rattle.wf_event.specs.declared.payloads.ActivityTaskScheduled.{ActivityTaskScheduled as ScheduledAttributes}
 use Rattle.wf_event_values.specs.Run.{Run}
 use Rattle.service_model_types.specs.declared.answer.ActivityTask.{ActivityTask}
-use Rattle.service_model_types.specs.declared.request.Hint.{Hint}
+use Rattle.service_model_types.specs.declared.request.WaitingTask.{WaitingTask}
 use Rattle.service_model.specs.Completion.{is_running_phase}
 use Rattle.service_model.specs.Deadlines.{scheduled_fields}
 use Rattle.service_model.specs.Outcome.{Runs, has_run, run_at, run_id}
@@ -17,18 +17,18 @@ abbrev pub waits_at : ℕ → ActivityRow → Bool
 waits_at attempt r = is_queued r.phase && (r.attempt == attempt)
 
 -- its task, where it waits
-abbrev pub task_by : Hint → Run → List ℕ → ActivityRow → Option ScheduledAttributes → Option ActivityTask
+abbrev pub task_by : WaitingTask → Run → List ℕ → ActivityRow → Option ScheduledAttributes → Option ActivityTask
 task_by h run id r None = None
 task_by h run id r (Some a) =
     cond (waits_at h.attempt r)
     (Some (record { activity_id = a.activity_id; activity_type = a.activity_type; attempt = h.attempt; details = r.details; input = a.input; run = run; scheduled = h.event; workflow_id = id }))
     None
 
-abbrev pub task_of : Hint → Run → List ℕ → ActivityRow → Option ActivityTask
+abbrev pub task_of : WaitingTask → Run → List ℕ → ActivityRow → Option ActivityTask
 task_of h run id r = task_by h run id r (scheduled_fields r.opened.attributes)
 
 -- the same, where the activity is pending
-abbrev pub task_for : Runs → Hint → Option ActivityRow → Option ActivityTask
+abbrev pub task_for : Runs → WaitingTask → Option ActivityRow → Option ActivityTask
 task_for R h None = None
 task_for R h (Some r) = task_of h (run_id R.setup h.run) (id_of (run_at R h.run)) r
 

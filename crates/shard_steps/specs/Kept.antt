@@ -1,4 +1,4 @@
--- what is kept of each run at its place: its first deadline, and how many events it shows
+-- PROOF: what is kept of each run at its place: its first deadline, and how many events it shows
 use Rattle.std.specs.Prelude.{◌≡◌, ◌≢◌, ℕ, ◌+◌, ◌<◌, List, length, Option, None, Some, IfSome, option_map, slice_get, slice_index_or}
 use Rattle.service_model.specs.RunState.{RunState}
 use Rattle.timeouts.specs.Firsts.{first_due}

@@ -1,4 +1,4 @@
--- the transfers that a shard sent and accepted, and what of it is looked up behind the step that sends it
+-- PROOF: the transfers that a shard sent and accepted, and what of it is looked up behind the step that sends it
 use Rattle.std.specs.Prelude.{◌≡◌, ℕ, ◌+◌, ◌<◌, List, [], ◌++◌, drop, length, option_to_list, slice_index_or, Option, None, Some, IfSome}
 use Rattle.service_model_types.specs.declared.content.Outgoing.{Outgoing}
 use Rattle.service_model_types.specs.declared.content.Setup.{Setup}

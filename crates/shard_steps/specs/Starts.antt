@@ -1,4 +1,4 @@
--- how the runs begin that steps make
+-- PROOF: how the runs begin that steps make
 use Rattle.std.specs.Prelude.{◌≡◌, ℕ, List, ◌∷◌, [], None}
 use Rattle.wf_event.specs.declared.attributes.Attributes.TheVariants.{WorkflowExecutionStarted}
 use Rattle.wf_event.specs.declared.payloads.WorkflowExecutionStarted.{WorkflowExecutionStarted as StartedAttributes}
@@ -8,7 +8,7 @@ use Rattle.service_model_types.specs.declared.request.Start.{Start}
 use Rattle.service_model.specs.Outcome.{made_by}
 use Rattle.service_model_types.specs.Limits.{used_task_timeout}
 use Rattle.service_model.specs.RunState.{RunState}
-use Rattle.service_model.specs.Signals.{signal_fact}
+use Rattle.service_model.specs.Signals.{signal_fact, start_in}
 use Rattle.service_model.specs.Starts.{first_task}
 use Rattle.mutable_state.specs.Steps.{begun, after_step, Place, FitFrom}
 use Rattle.shard_steps.specs.Issuing.{readied}
@@ -24,7 +24,7 @@ beginning_of q = record { started = started_by q; request_id = q.request_id; fac
 
 -- the same of a run that is signaled
 abbrev pub signaled_beginning : SignalWithStart → Beginning
-signaled_beginning q = record { started = started_by q.start; request_id = q.start.request_id; facts = signal_fact q.start.request_id q.name q.signal_input ∷ first_task q.start.task_queue ∷ [] }
+signaled_beginning q = record { started = started_by (start_in q); request_id = q.request_id; facts = signal_fact q.request_id q.name q.signal_input ∷ first_task q.task_queue ∷ [] }
 
 -- all that the first step adds to a run that begins so
 abbrev pub first_facts : Beginning → List Fact

@@ -1,4 +1,4 @@
--- the end of a workflow task
+-- PROOF: the end of a workflow task
 use Rattle.std.specs.Prelude.{Option, None, Some}
 use Rattle.wf_event_values.specs.declared.policies.Cause.{Cause}
 use Rattle.service_model_types.specs.declared.answer.Answer.{Answer}

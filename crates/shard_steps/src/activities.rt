@@ -6,34 +6,34 @@ ghost use Rattle.shard_steps.specs.Attempts.{task_of, waits_at};
 
 use mutable_state::{Activity, ActivityPhase};
 use service_model_types::answer::ActivityTask;
-use service_model_types::request::Hint;
+use service_model_types::request::WaitingTask;
 use std::alloc::AllocError;
 use wf_event::Attributes;
 use wf_event_values::{Id, RunId};
 
-/// The task of an activity's attempt, where that waits as the hint says.
+/// The task of an activity's attempt, where that waits as it is named.
 pub fn attempt_task(
     activity: &Activity,
-    hint: Hint,
+    waiting: WaitingTask,
     run: RunId,
     workflow_id: Id,
 ) -> Result<Option<ActivityTask>, AllocError>
-    ensures { IfOk result (λ task. task ≡ task_of hint run workflow_id (row_said activity.now)) }
+    ensures { IfOk result (λ task. task ≡ task_of waiting run workflow_id (row_said activity.now)) }
 {
     let Attributes::ActivityTaskScheduled(scheduled) = &activity.scheduled.attributes else {
         return Ok(None);
     };
-    if !waits(activity, hint.attempt) {
+    if !waits(activity, waiting.attempt) {
         return Ok(None);
     }
     Ok(Some(ActivityTask {
         activity_id: scheduled.activity_id.clone()?,
         activity_type: scheduled.activity_type.clone()?,
-        attempt: hint.attempt,
+        attempt: waiting.attempt,
         details: activity.notes.copy_details()?,
         input: scheduled.input.clone()?,
         run,
-        scheduled: hint.event,
+        scheduled: waiting.event,
         workflow_id,
     }))
 }

@@ -1,6 +1,7 @@
 //! The runs that steps make.
 
 ghost use Rattle.std.specs.Prelude.{◌≡◌, IfOk};
+ghost use Rattle.service_model.specs.Signals.{start_in};
 ghost use Rattle.service_model.specs.Starts.{first_task};
 ghost use Rattle.shard_steps.specs.Starts.{started_by, beginning_of, signaled_beginning, new_run, MayBegin};
 
@@ -60,13 +61,12 @@ pub fn beginning_of(alloc: Global, start: &Start) -> Result<Beginning, AllocErro
 pub fn signaled_beginning(alloc: Global, both: &SignalWithStart) -> Result<Beginning, AllocError>
     ensures { IfOk result (λ b. b ≡ signaled_beginning both.now) }
 {
-    let start = &both.start;
     let mut facts = Vec::new(alloc);
-    facts.push(signal_fact(&start.request_id, &both.name, &both.signal_input)?)?;
-    facts.push(first_task(&start.task_queue)?)?;
+    facts.push(signal_fact(&both.request_id, &both.name, &both.signal_input)?)?;
+    facts.push(first_task(&both.task_queue)?)?;
     Ok(Beginning {
-        started: started_by(start)?,
-        request_id: copied(&start.request_id)?,
+        started: started_with(both)?,
+        request_id: copied(&both.request_id)?,
         facts: Items::from_vec(facts),
     })
 }
@@ -92,6 +92,22 @@ fn started_by(start: &Start) -> Result<WorkflowExecutionStarted, AllocError>
         input: start.input.clone()?,
         run_timeout: start.run_timeout,
         task_timeout: used_task_timeout(start.task_timeout),
+        continued_from: None,
+        parent: None,
+    })
+}
+
+/// What the run of a start begins with that is signaled.
+fn started_with(both: &SignalWithStart) -> Result<WorkflowExecutionStarted, AllocError>
+    ensures { IfOk result (λ a. a ≡ started_by (start_in both.now)) }
+{
+    Ok(WorkflowExecutionStarted {
+        workflow_id: both.workflow_id.clone()?,
+        workflow_type: both.workflow_type.clone()?,
+        task_queue: both.task_queue.clone()?,
+        input: both.input.clone()?,
+        run_timeout: both.run_timeout,
+        task_timeout: used_task_timeout(both.task_timeout),
         continued_from: None,
         parent: None,
     })

@@ -3,6 +3,7 @@ use Rattle.std.proofs.Common.{◌≡◌, ℕ, ap, sym, ◌∙◌, subst, List}
 use Rattle.std.specs.Prelude.{slice_get}
 use Rattle.service_model_types.specs.declared.content.Content.{Content}
 use Rattle.service_model.specs.Outcome.{Outcome}
+use Rattle.service_model.specs.GroundGrowth.{outcome-accepted, outcome-issued}
 use Rattle.service_model.specs.Growth.{KeepsHistories}
 use Rattle.service_model.specs.RunState.{RunState, state_of}
 use Rattle.service_model.specs.Service.{content_after}
@@ -32,4 +33,6 @@ keeps-after v w S m o plan stands fits did =
           let were : IsOneOpen (states v.runs) = subst P (sym before) (of-journals S h) in
           let did_runs : states w.runs ≡ runs_created plan.change.created (runs_added plan.change.added (states v.runs)) = ap (λ s. s.runs) did in
           to-journals (content_after S m o) (subst P later (subst P (sym did_runs) (one-open-after v m plan.change o fits.change were)));
+      issued = λ to. outcome-issued S m o to;
+      accepted = λ from. outcome-accepted S m o from;
     }

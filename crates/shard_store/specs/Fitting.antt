@@ -1,4 +1,4 @@
--- a plan that was made for a step on a shard as it is
+-- PROOF: a plan that was made for a step on a shard as it is
 use Rattle.std.specs.Prelude.{◌≡◌, ℕ, ◌+◌, ◌-◌, ◌<◌, ◌≤◌, ◌^◌, false, IfSome, ◌∷◌, ◌++◌, [], List, Option, None, Some, length, slice_index_or, slice_set}
 use Rattle.std.specs.Prelude.{string_bytes}
 use Rattle.service_model_types.specs.declared.content.Dispatch.{Dispatch}

@@ -1,4 +1,4 @@
--- which runs of a workflow ID are open
+-- PROOF: which runs of a workflow ID are open
 use Rattle.std.specs.Prelude.{◌≡◌, ℕ, ◌<◌, false, List, Some, slice_get}
 use Rattle.service_model.specs.RunState.{RunState, id_of, is_open}
 

@@ -1,4 +1,4 @@
--- what it is for a shard to stand for a content
+-- PROOF: what it is for a shard to stand for a content
 use Rattle.std.specs.Prelude.{◌≡◌, ℕ, ◌≤◌, List, ◌++◌, length, map, slice_get, Some}
 use Rattle.std.specs.List.{AllByRecursion}
 use Rattle.wf_event.specs.declared.event.Event.{Event}

@@ -1,4 +1,4 @@
--- a shard as contracts see it: what it says of its journals, its dispatches and its transfers, what was not looked up since the last step, and for how many more runs there is room
+-- PROOF: a shard as contracts see it: what it says of its journals, its dispatches and its transfers, what was not looked up since the last step, and for how many more runs there is room
 use Rattle.std.specs.Prelude.{◌≡◌, ℕ, ◌+◌, ◌<◌, ◌^◌, List, map, Option, option_map}
 use Rattle.service_model_types.specs.declared.content.Outgoing.{Outgoing}
 use Rattle.service_model_types.specs.declared.content.Setup.{Setup}

@@ -1,4 +1,4 @@
--- what judged commands give, as the program says it
+-- PROOF: what judged commands give, as the program says it
 use Rattle.std.specs.Prelude.{◌≡◌, List, [], Result, Ok, Err}
 use Rattle.wf_event_values.specs.Run.{Run}
 use Rattle.wf_event_values.specs.declared.policies.Cause.{Cause}

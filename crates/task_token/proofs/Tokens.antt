@@ -11,7 +11,7 @@ use Rattle.base64.proofs.EngineFacts.{decode_of_strict, decode_of-encode_of}
 use Rattle.wf_event_values.specs.declared.policies.TaskKind.{TaskKind}
 use Rattle.wf_event_values.specs.declared.policies.TaskKind.TheVariants.{Workflow, Activity}
 use Rattle.task_token.specs.declared.token.TaskToken.{TaskToken}
-use Rattle.task_token.specs.TokenTexts.{kind_byte, kind_in, token_bytes, token_in, has_bytes, if_bytes, token_decoded, token_named, token_text, IsToken, NamedExactly}
+use Rattle.task_token.specs.TokenTexts.{kind_byte, kind_in, token_bytes, token_in, has_bytes, if_bytes, if_its_bytes, token_decoded, any_decoded, token_named, any_token_named, token_text, IsToken, FitsToken, NamedExactly, AnyNamedExactly}
 use Rattle.std.specs.List.{AllByRecursion}
 
 both : (a b : Bool) → (a && b) ≡ true → (a ≡ true) × (b ≡ true)
@@ -95,3 +95,42 @@ unfolding token_named
 names text input bytes seen o is decoded same found =
     let named : token_named text ≡ if_bytes bytes (token_in bytes) = rw (← is, decoded) refl in
     found ∙ ap (λ (b : List ℕ). if_bytes b (token_in b)) same ∙ sym named
+
+-- ---- a token of any numbers
+
+pub no_token : (bytes : List ℕ) (t : TaskToken) → (length bytes ≡ 24 → ⊥) → if_its_bytes bytes t ≡ None
+no_token bytes t h =
+    let differ : bytes_eq (token_bytes t) bytes ≡ false = false_from_ne_true (bytes_eq (token_bytes t) bytes) (λ e. h (sym (ap length ((bytes_eq-Decides (token_bytes t) bytes).0 e)))) in
+    rw differ refl
+
+any_in-token_bytes : (t : TaskToken) → FitsToken t → token_in (token_bytes t) ≡ t
+any_in-token_bytes t fits =
+    same_token (token_in (token_bytes t)) t (kind_again t.kind) (from_be_bytes-to_be_bytes_2 t.shard fits.shard) (from_be_bytes-to_be_bytes_8 t.run fits.run)
+    (from_be_bytes-to_be_bytes_8 t.event fits.event) (from_be_bytes-to_be_bytes_4 t.attempt fits.attempt)
+
+pub any_again : (t : TaskToken) → FitsToken t → any_token_named (token_text t) ≡ Some t
+unfolding any_token_named token_text
+any_again t fits =
+    let back : decode_of standard (encode_of standard (token_bytes t)) ≡ Ok (token_bytes t) = decode_of-encode_of standard (token_bytes t) refl (IsBytes-from (token_bytes t) (token_bytes_below t)) in
+    let same : bytes_eq (token_bytes t) (token_bytes t) ≡ true = (bytes_eq-Decides (token_bytes t) (token_bytes t)).1 refl in
+    rw back (ap (if_its_bytes (token_bytes t)) (any_in-token_bytes t fits) ∙ rw same refl)
+
+any_only : (text : List ℕ) (t : TaskToken) → IsBytes text → any_token_named text ≡ Some t → text ≡ token_text t
+unfolding any_token_named token_text
+any_only text t small e = from (decode_of standard text) refl e
+  where
+    from : (r : Result (List ℕ) DecodeError) → decode_of standard text ≡ r → any_decoded r ≡ Some t → text ≡ encode_of standard (token_bytes t)
+    from (Err d) is h = absurd cc
+    from (Ok bytes) is h =
+        let two = chosen (bytes_eq (token_bytes (token_in bytes)) bytes) (token_in bytes) t h in
+        let same : token_bytes (token_in bytes) ≡ bytes = (bytes_eq-Decides (token_bytes (token_in bytes)) bytes).0 two.0 in
+        decode_of_strict standard text bytes (refl, refl) small is ∙ ap (encode_of standard) (sym same ∙ ap token_bytes two.1)
+
+pub any_named_exactly : (text : List ℕ) → IsBytes text → AnyNamedExactly text (any_token_named text)
+any_named_exactly text small t fits = (any_only text t small, λ e. ap any_token_named e ∙ any_again t fits)
+
+pub any_names : (text input bytes seen : List ℕ) (o : Option TaskToken) → input ≡ text → decode_of standard input ≡ Ok bytes → seen ≡ bytes → o ≡ if_its_bytes seen (token_in seen) → o ≡ any_token_named text
+unfolding any_token_named
+any_names text input bytes seen o is decoded same found =
+    let named : any_token_named text ≡ if_its_bytes bytes (token_in bytes) = rw (← is, decoded) refl in
+    found ∙ ap (λ (b : List ℕ). if_its_bytes b (token_in b)) same ∙ sym named

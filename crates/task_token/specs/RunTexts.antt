@@ -1,4 +1,4 @@
--- the one text of a run id: a UUID of version 8 (RFC 9562), in lower case
+-- MEANING: the one text of a run id: a UUID of version 8 (RFC 9562), in lower case
 use Rattle.std.specs.Prelude.{ℕ, ◌+◌, ◌*◌, ◌/◌, ◌%◌, ◌^◌, List, ◌++◌, take, drop, Option, Some, None, option_and_then, bytes_eq, if◌then◌else◌}
 use Rattle.std.specs.Int.{w64, to_be_bytes, from_be_bytes}
 use Rattle.uuid.specs.Text.{hyphenated_text, lower, parsed}

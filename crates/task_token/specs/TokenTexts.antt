@@ -1,4 +1,4 @@
--- the one text of a task token: 24 bytes in base64 (RFC 4648)
+-- MEANING: the one text of a task token: 24 bytes in base64 (RFC 4648)
 use Rattle.std.specs.Prelude.{◌≡◌, ℕ, ◌≤◌, ◌^◌, ◌<◌, List, ◌∷◌, ◌++◌, take, drop, slice_index, bytes_eq, ◌==◌, ◌&&◌, nat_le, if◌then◌else◌, Bool, Option, Some, None, Result, Ok, Err, ◌↔◌}
 use Rattle.std.specs.Int.{w16, w32, w64, to_be_bytes, from_be_bytes}
 use Rattle.base64.specs.Engines.{standard}
@@ -27,6 +27,13 @@ pub record IsToken (t : TaskToken) : Type 0 where
   pub run : (1 ≤ t.run) × (t.run < 2 ^ 64)
   pub event : (1 ≤ t.event) × (t.event < 2 ^ 64)
   pub attempt : (1 ≤ t.attempt) × (t.attempt < 2 ^ 32)
+
+-- the tokens that there can be: each number within its type
+pub record FitsToken (t : TaskToken) : Type 0 where
+  pub shard : t.shard < 2 ^ 16
+  pub run : t.run < 2 ^ 64
+  pub event : t.event < 2 ^ 64
+  pub attempt : t.attempt < 2 ^ 32
 
 -- the kind that a byte is, where it is one
 abbrev pub kind_in : ℕ → TaskKind
@@ -62,3 +69,20 @@ token_named text = token_decoded (decode_of standard text)
 -- a text names a token exactly where it is the token's text
 abbrev pub NamedExactly : List ℕ → Option TaskToken → Type 0
 NamedExactly text named = (t : TaskToken) → IsToken t → (named ≡ Some t) ↔ (text ≡ token_text t)
+
+-- the token, where these are its bytes, whatever it counts from
+abbrev pub if_its_bytes : List ℕ → TaskToken → Option TaskToken
+if_its_bytes bytes t = if bytes_eq (token_bytes t) bytes then Some t else None
+
+-- the token of any numbers whose bytes were decoded
+abbrev pub any_decoded : Result (List ℕ) DecodeError → Option TaskToken
+any_decoded (Ok bytes) = if_its_bytes bytes (token_in bytes)
+any_decoded (Err e) = None
+
+-- the token of any numbers whose text this is
+unfoldable pub any_token_named : List ℕ → Option TaskToken
+any_token_named text = any_decoded (decode_of standard text)
+
+-- a text names a token of any numbers exactly where it is the token's text
+abbrev pub AnyNamedExactly : List ℕ → Option TaskToken → Type 0
+AnyNamedExactly text named = (t : TaskToken) → FitsToken t → (named ≡ Some t) ↔ (text ≡ token_text t)

@@ -1,9 +1,9 @@
 //! Task tokens and their texts.
 
-ghost use Rattle.std.specs.Prelude.{◌≡◌, ◌≤◌, None, Some, IfOk, ◌≢◌, length, string_bytes, MatchResult, take, drop};
+ghost use Rattle.std.specs.Prelude.{◌≡◌, ◌≤◌, None, Some, IfOk, ◌≢◌, bytes_eq, length, string_bytes, MatchResult, take, drop};
 ghost use Rattle.std.specs.Int.{w16, w32, w64, from_be_bytes};
 ghost use Rattle.wf_event_values.specs.declared.refusal.Refusal.TheVariants.{InvalidToken, NoMemory};
-ghost use Rattle.task_token.specs.TokenTexts.{token_bytes, kind_byte, kind_in, token_in, token_text, token_named, has_bytes, if_bytes, NamedExactly};
+ghost use Rattle.task_token.specs.TokenTexts.{token_bytes, kind_byte, kind_in, token_in, token_text, token_named, any_token_named, has_bytes, if_bytes, if_its_bytes, NamedExactly, AnyNamedExactly};
 
 use base64::DecodeAllocError;
 use base64::engine::general_purpose::STANDARD;
@@ -113,12 +113,18 @@ fn token_in(bytes: &[u8]) -> TaskToken
     }
 }
 
+/// Whether these are the token's bytes.
+fn are_bytes_of(token: &TaskToken, bytes: &[u8]) -> bool
+    ensures { result ≡ bytes_eq (token_bytes token.now) bytes.now }
+{
+    bytes_of(token).as_slice() == bytes
+}
+
 /// Whether these are the token's bytes, and its run, event and attempt count from 1.
 fn has_bytes(token: &TaskToken, bytes: &[u8]) -> bool
     ensures { result ≡ has_bytes token.now bytes.now }
 {
-    bytes_of(token).as_slice() == bytes
-        && (token.run >= 1 && (token.event >= 1 && token.attempt >= 1))
+    are_bytes_of(token, bytes) && (token.run >= 1 && (token.event >= 1 && token.attempt >= 1))
 }
 
 /// The token whose bytes these are.
@@ -148,6 +154,34 @@ fn token_named(alloc: Global, text: &str) -> Result<Option<TaskToken>, AllocErro
     }
 }
 
+/// The token of any numbers whose bytes these are.
+fn any_token_of(bytes: &[u8]) -> Option<TaskToken>
+    ensures { result ≡ if_its_bytes bytes.now (token_in bytes.now) }
+{
+    if bytes.len() != 24 {
+        return None;
+    }
+    let token = token_in(bytes);
+    if are_bytes_of(&token, bytes) {
+        Some(token)
+    } else {
+        None
+    }
+}
+
+/// The token of any numbers whose text this is.
+#[tactic(auto, unfolding(crate::specs::TokenTexts::any_token_named))]
+fn any_token_named(alloc: Global, text: &str) -> Result<Option<TaskToken>, AllocError>
+    ensures { IfOk result (λ o. o ≡ any_token_named text.now) }
+{
+    let encoded = text.as_bytes();
+    match STANDARD.decode(alloc, encoded) {
+        Ok(bytes) => Ok(any_token_of(&bytes)),
+        Err(DecodeAllocError::DecodeError(_)) => Ok(None),
+        Err(DecodeAllocError::OutOfMemory) => Err(AllocError),
+    }
+}
+
 impl TaskToken {
     /// The token's text: its 24 bytes in base64 (RFC 4648, the standard alphabet, no padding), 32 characters.
     ///
@@ -167,5 +201,14 @@ impl TaskToken {
         ensures exact { NamedExactly text.now (token_named text.now) }
     {
         token_named(alloc, text)?.ok_or(Refusal::InvalidToken)
+    }
+
+    /// The token whose text this is, also one whose run, event or attempt is 0. There is none for
+    /// every other text.
+    pub fn decode(alloc: Global, text: &str) -> Result<Option<TaskToken>, AllocError>
+        ensures value { IfOk result (λ o. o ≡ any_token_named text.now) }
+        ensures exact { AnyNamedExactly text.now (any_token_named text.now) }
+    {
+        any_token_named(alloc, text)
     }
 }

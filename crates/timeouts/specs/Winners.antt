@@ -1,4 +1,4 @@
--- a tree over slots: each of its nodes has the first of the two deadlines below it
+-- PROOF: a tree over slots: each of its nodes has the first of the two deadlines below it
 use Rattle.std.specs.Prelude.{◌≡◌, ℕ, ◌+◌, ◌*◌, ◌^◌, ◌/◌, ◌-◌, ◌<◌, ◌≤◌, ◌⊎◌, zero, suc, nat_lt, List, length, Option, None, slice_index_or, slice_set, if◌then◌else◌}
 use Rattle.timeouts.specs.Slots.{IsEarlier}
 use Rattle.timeouts.specs.declared.due.Due.{Due}

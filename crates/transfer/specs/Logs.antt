@@ -1,4 +1,4 @@
--- what was issued in order, and how much of it is acknowledged
+-- MEANING: what was issued in order, and how much of it is acknowledged
 use Rattle.std.specs.Prelude.{ℕ, ◌+◌, List}
 use Rattle.service_model_types.specs.declared.answer.Acknowledged.{Acknowledged}
 use Rattle.service_model_types.specs.declared.answer.Acknowledged.TheVariants.{Acknowledged as IsNext}

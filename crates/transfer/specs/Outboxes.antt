@@ -1,4 +1,4 @@
--- the transfers that a shard issued to each destination
+-- MEANING: the transfers that a shard issued to each destination
 use Rattle.std.specs.Prelude.{ℕ, ◌<◌, ◌≤◌, ◌==◌, List, [], ◌∷◌, ◌++◌, filter, length, map, slice_index, slice_set}
 use Rattle.service_model_types.specs.declared.answer.Acknowledged.{Acknowledged}
 use Rattle.service_model_types.specs.declared.content.Outgoing.{Outgoing}

@@ -1,4 +1,4 @@
--- the names that lines, replies and records use
+-- MEANING: the names that lines, replies and records use
 use Rattle.std.specs.Prelude.{List, ℕ, codes}
 use Rattle.wf_event_values.specs.declared.field.Field.{Field}
 use Rattle.wf_event_values.specs.declared.field.Field.TheVariants as field

@@ -1,4 +1,4 @@
--- The exit status of the program.
+-- MEANING: The exit status of the program.
 use Rattle.std.specs.Prelude.{ℕ, Result, Ok, Err, if◌then◌else◌}
 use Rattle.script.specs.declared.run.Outcome.{Outcome}
 use Rattle.wfserve_run.specs.declared.fault.Fault.{Fault}

@@ -1,4 +1,4 @@
--- How often a device failed.
+-- MEANING: How often a device failed.
 use Rattle.std.specs.Prelude.{ℕ, ◌+◌, ◌-◌, ◌^◌, ◌≤◌, min}
 
 -- one failed call more, up to the greatest count there is

@@ -1,4 +1,4 @@
--- What was written of some bytes.
+-- MEANING: What was written of some bytes.
 use Rattle.std.specs.Prelude.{◌≡◌, ℕ, List, ◌++◌, Option}
 use Rattle.std.specs.Io.KnownBytes.{Appends}
 

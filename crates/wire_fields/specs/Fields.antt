@@ -1,4 +1,4 @@
--- a field of an object: required, with a default, or optional; a kind says what its value is
+-- MEANING: a field of an object: required, with a default, or optional; a kind says what its value is
 use Rattle.std.specs.Prelude.{Option, Some, None, Result, Ok, Err}
 use Rattle.serde_json.specs.Data.{Data}
 use Rattle.serde_json.specs.Find.{get}

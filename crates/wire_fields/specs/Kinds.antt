@@ -1,4 +1,4 @@
--- what a field's value is, by its kind; a value of another kind, null among them, is an invalid argument
+-- MEANING: what a field's value is, by its kind; a value of another kind, null among them, is an invalid argument
 use Rattle.std.specs.Prelude.{ℕ, Bool, nat_le, List, [], ◌∷◌, length, bytes_eq, Option, find, option_and_then, Result, Ok, Err, if◌then◌else◌}
 use Rattle.std.specs.Option.{ok_or}
 use Rattle.serde_json.specs.Data.{Data, Items, no_items, item}

@@ -1,4 +1,4 @@
--- steps that may refuse, one after another: the first refusal is the whole's
+-- MEANING: steps that may refuse, one after another: the first refusal is the whole's
 use Rattle.std.specs.Prelude.{List, [], ◌∷◌, Result, Ok, Err}
 use Rattle.wf_event_values.specs.declared.refusal.Refusal.{Refusal}
 

@@ -1,4 +1,4 @@
--- the members of a reply, by its answer: the answer's name under `ok`, and what it says
+-- MEANING: the members of a reply, by its answer: the answer's name under `ok`, and what it says
 use Rattle.std.specs.Prelude.{ℕ, List, Bool, codes}
 use Rattle.serde_json.specs.Data.{Members, no_members, put}
 use Rattle.wf_event_values.specs.declared.policies.Cause.{Cause}

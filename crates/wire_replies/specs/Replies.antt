@@ -1,4 +1,4 @@
--- the line of a reply
+-- MEANING: the line of a reply
 use Rattle.std.specs.Prelude.{ℕ, List, [], ◌∷◌, ◌++◌, codes, Result, Ok, Err}
 use Rattle.serde_json.specs.Data.{Data, object, Members, no_members}
 use Rattle.serde_json.specs.Written.{compact_text}

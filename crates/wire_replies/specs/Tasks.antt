@@ -1,4 +1,4 @@
--- tasks that were taken
+-- MEANING: tasks that were taken
 use Rattle.std.specs.Prelude.{ℕ, codes}
 use Rattle.serde_json.specs.Data.{Members}
 use Rattle.wf_event_values.specs.declared.policies.TaskKind.{TaskKind}

@@ -1,4 +1,4 @@
--- what is asked of a running activity
+-- MEANING: what is asked of a running activity
 use Rattle.std.specs.Prelude.{[], false, Result, Ok}
 use Rattle.serde_json.specs.Data.{Data}
 use Rattle.wf_event_values.specs.declared.field.Field.{Field}

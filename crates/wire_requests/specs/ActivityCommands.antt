@@ -1,4 +1,4 @@
--- the commands on activities
+-- MEANING: the commands on activities
 use Rattle.std.specs.Prelude.{[], Result, Ok}
 use Rattle.serde_json.specs.Data.{Data}
 use Rattle.wf_event_values.specs.declared.field.Field.TheVariants as field

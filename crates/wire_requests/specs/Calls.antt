@@ -1,4 +1,4 @@
--- what a line asks for
+-- MEANING: what a line asks for
 use Rattle.std.specs.Prelude.{ℕ, List, Bool, false, ◌&&◌, nat_lt, codes, if◌then◌else◌, option_and_then, Option, None, Some, Result, Ok, Err}
 use Rattle.serde_json.specs.Data.{Data, object}
 use Rattle.serde_json.specs.Find.{get, as_bool}

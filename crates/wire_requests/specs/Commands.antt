@@ -1,4 +1,4 @@
--- the commands of a completion
+-- MEANING: the commands of a completion
 use Rattle.std.specs.Prelude.{ℕ, List, [], ◌∷◌, codes, Option, Result, Ok}
 use Rattle.std.specs.Option.{ok_or}
 use Rattle.serde_json.specs.Data.{Data}

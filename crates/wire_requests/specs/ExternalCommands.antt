@@ -1,4 +1,4 @@
--- the commands that reach other workflows: children, and runs outside
+-- MEANING: the commands that reach other workflows: children, and runs outside
 use Rattle.std.specs.Prelude.{[], Result, Ok}
 use Rattle.std.specs.Option.{ok_or}
 use Rattle.serde_json.specs.Data.{Data}

@@ -1,4 +1,4 @@
--- what reading a flat object, token by token, has read
+-- PROOF: what reading a flat object, token by token, has read
 use Rattle.std.specs.Prelude.{◌≡◌, ℕ, List, ◌∷◌, length, Option, None, Some, String, string_bytes}
 use Rattle.std.specs.Prelude.{⊤}
 use Rattle.std.specs.declared.alloc.Global.{Global}

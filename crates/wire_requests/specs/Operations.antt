@@ -1,4 +1,4 @@
--- the fields of each operation: their faults are looked for in the order in which they stand here
+-- MEANING: the fields of each operation: their faults are looked for in the order in which they stand here
 use Rattle.std.specs.Prelude.{ℕ, true, [], Result, Ok}
 use Rattle.serde_json.specs.Data.{Data}
 use Rattle.wf_event_values.specs.declared.refusal.Refusal.{Refusal}
@@ -64,7 +64,7 @@ asks at operation = Ok (call.Step (step.Request (record { at = at; operation = o
 
 -- what a line of this operation asks for, at the line's moment
 abbrev pub call_of : Settings → Op → ℕ → Data → Result Call Refusal
-call_of settings op.Start at line = start_of true line >>= (λ x. asks at (operation.Start x))
+call_of settings op.Start at line = start_of line >>= (λ x. asks at (operation.Start x))
 call_of settings op.Signal at line = signal_of line >>= (λ x. asks at (operation.Signal x))
 call_of settings op.SignalWithStart at line = signal_with_start_of line >>= (λ x. asks at (operation.SignalWithStart x))
 call_of settings op.RequestCancel at line = request_cancel_of line >>= (λ x. asks at (operation.RequestCancel x))

@@ -1,4 +1,4 @@
--- what a line can ask for
+-- MEANING: what a line can ask for
 use Rattle.std.specs.Prelude.{List, ℕ, [], ◌∷◌, codes, Option, Result}
 use Rattle.std.specs.Option.{ok_or}
 use Rattle.serde_json.specs.Data.{Data}

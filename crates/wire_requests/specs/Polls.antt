@@ -1,4 +1,4 @@
--- the lines that ask a task queue for a task
+-- MEANING: the lines that ask a task queue for a task
 use Rattle.std.specs.Prelude.{ℕ, Result, Ok}
 use Rattle.serde_json.specs.Data.{Data}
 use Rattle.wf_event_values.specs.declared.policies.TaskKind.{TaskKind}

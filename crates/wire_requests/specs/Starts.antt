@@ -1,10 +1,9 @@
--- the fields of a start: their faults are looked for in the order in which they stand here
-use Rattle.std.specs.Prelude.{Bool, true, false, [], Result, Ok}
+-- MEANING: the fields of a start: their faults are looked for in the order in which they stand here
+use Rattle.std.specs.Prelude.{[], Result, Ok}
 use Rattle.serde_json.specs.Data.{Data}
 use Rattle.wf_event_values.specs.declared.refusal.Refusal.{Refusal}
 use Rattle.wf_event_values.specs.declared.field.Field.TheVariants as field
 use Rattle.wf_event_values.specs.declared.policies.ReusePolicy.TheVariants.{AllowDuplicate}
-use Rattle.wf_event_values.specs.declared.policies.ConflictPolicy.{ConflictPolicy}
 use Rattle.wf_event_values.specs.declared.policies.ConflictPolicy.TheVariants.{Fail}
 use Rattle.service_model_types.specs.declared.request.SignalWithStart.{SignalWithStart}
 use Rattle.service_model_types.specs.declared.request.Start.{Start}
@@ -12,21 +11,16 @@ use Rattle.wire_fields.specs.Steps.{◌>>=◌}
 use Rattle.wire_fields.specs.Kinds.{text_of, id_of, span_of, reuse_of, conflict_of}
 use Rattle.wire_fields.specs.Fields.{required, or_default, optional}
 
--- the conflict policy, of a line that has one
-abbrev pub conflict_in : Bool → Data → Result ConflictPolicy Refusal
-conflict_in true line = or_default conflict_of Fail field.Conflict line
-conflict_in false line = Ok Fail
-
--- start, and the same fields of a line that has no conflict policy
-unfoldable pub start_of : Bool → Data → Result Start Refusal
-start_of has_conflict line = do
+-- start
+unfoldable pub start_of : Data → Result Start Refusal
+start_of line = do
   workflow_id ← required id_of field.WorkflowId line
   workflow_type ← required text_of field.WorkflowType line
   task_queue ← required id_of field.TaskQueue line
   input ← or_default text_of [] field.Input line
   request_id ← optional id_of field.RequestId line
   reuse ← or_default reuse_of AllowDuplicate field.Reuse line
-  conflict ← conflict_in has_conflict line
+  conflict ← or_default conflict_of Fail field.Conflict line
   run_timeout ← or_default span_of 0 field.RunTimeout line
   task_timeout ← or_default span_of 0 field.TaskTimeout line
   Ok (record {
@@ -44,7 +38,25 @@ start_of has_conflict line = do
 -- signal_with_start: the fields of a start without a conflict policy, and those of the signal
 unfoldable pub signal_with_start_of : Data → Result SignalWithStart Refusal
 signal_with_start_of line = do
-  start ← start_of false line
+  workflow_id ← required id_of field.WorkflowId line
+  workflow_type ← required text_of field.WorkflowType line
+  task_queue ← required id_of field.TaskQueue line
+  input ← or_default text_of [] field.Input line
+  request_id ← optional id_of field.RequestId line
+  reuse ← or_default reuse_of AllowDuplicate field.Reuse line
+  run_timeout ← or_default span_of 0 field.RunTimeout line
+  task_timeout ← or_default span_of 0 field.TaskTimeout line
   name ← required text_of field.Name line
   signal_input ← or_default text_of [] field.SignalInput line
-  Ok (record { start = start; name = name; signal_input = signal_input })
+  Ok (record {
+    workflow_id = workflow_id;
+    workflow_type = workflow_type;
+    task_queue = task_queue;
+    input = input;
+    request_id = request_id;
+    reuse = reuse;
+    run_timeout = run_timeout;
+    task_timeout = task_timeout;
+    name = name;
+    signal_input = signal_input;
+  })

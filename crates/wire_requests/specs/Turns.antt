@@ -1,4 +1,4 @@
--- the lines that ask a shard for a turn
+-- MEANING: the lines that ask a shard for a turn
 use Rattle.std.specs.Prelude.{ℕ, ◌&&◌, ◌==◌, nat_lt, if◌then◌else◌, Result, Ok, Err}
 use Rattle.serde_json.specs.Data.{Data}
 use Rattle.wf_event_values.specs.declared.refusal.Refusal.{Refusal}

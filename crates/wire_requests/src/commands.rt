@@ -21,7 +21,7 @@ use wire_fields::{FieldValue, elements, optional, or_default, required};
 
 /// The types of command.
 #[derive(Clone, Copy)]
-enum CommandType {
+pub enum CommandType {
     ScheduleActivityTask,
     RequestCancelActivityTask,
     StartTimer,
@@ -169,7 +169,7 @@ fn command(alloc: Global, value: &Value) -> Result<Command, Refusal>
 }
 
 /// All commands, or the fault of the first faulty one.
-fn each_command(alloc: Global, values: &[Value]) -> Result<Items<Command>, Refusal>
+pub fn each_command(alloc: Global, values: &[Value]) -> Result<Items<Command>, Refusal>
     ensures { Gives result (for_each command_of (map view values.now)) }
 {
     let mut commands = Vec::new(alloc);

@@ -10,8 +10,9 @@ use std::alloc::Global;
 use wf_event_values::{Field, Refusal, Text};
 use wire_fields::{optional, or_default, required};
 
+/// The fields of what asks a run to cancel.
 #[tactic(auto, unfolding(crate::specs::Ends::request_cancel_of))]
-pub(crate) fn request_cancel(alloc: Global, line: &Value) -> Result<RequestCancel, Refusal>
+pub fn request_cancel(alloc: Global, line: &Value) -> Result<RequestCancel, Refusal>
     ensures { Gives result (request_cancel_of (view line.now)) }
 {
     let workflow_id = required(alloc, line, Field::WorkflowId)?;
@@ -24,8 +25,9 @@ pub(crate) fn request_cancel(alloc: Global, line: &Value) -> Result<RequestCance
     })
 }
 
+/// The fields of what terminates a run.
 #[tactic(auto, unfolding(crate::specs::Ends::terminate_of))]
-pub(crate) fn terminate(alloc: Global, line: &Value) -> Result<Terminate, Refusal>
+pub fn terminate(alloc: Global, line: &Value) -> Result<Terminate, Refusal>
     ensures { Gives result (terminate_of (view line.now)) }
 {
     let workflow_id = required(alloc, line, Field::WorkflowId)?;

@@ -17,3 +17,9 @@ mod tasks;
 mod turns;
 
 pub use calls::{Asked, LaneCall, LineReader, read_line};
+pub use commands::{CommandType, each_command};
+pub use ends::{request_cancel, terminate};
+pub use operations::{read, signal};
+pub use retry_policy::counts_as;
+pub use starts::{signal_with_start, start};
+pub use tasks::{is_workflow, task_of_kind};

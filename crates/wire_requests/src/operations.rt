@@ -1,7 +1,8 @@
 //! The fields of each operation, in the order in which their faults are looked for.
 
-ghost use Rattle.std.specs.Prelude.{◌≡◌, [], Ok, Err};
+ghost use Rattle.std.specs.Prelude.{◌≡◌, [], Ok, Err, true};
 ghost use Rattle.serde_json.specs.View.{view};
+ghost use Rattle.service_model_types.specs.Clients.{is_clients};
 ghost use Rattle.wf_event_values.specs.Gives.{Gives};
 ghost use Rattle.wire_requests.specs.Operations.{signal_of, complete_workflow_task_of, fail_workflow_task_of, read_of, asks, call_of};
 
@@ -15,6 +16,7 @@ use crate::tasks::workflow_task_in;
 use crate::turns::{dispatch_turn, timer_turn, transfer_turn};
 use serde_json::Value;
 use service_model_types::call::{Call, StepCall};
+use service_model_types::client::ClientRequest;
 use service_model_types::request::{
     CompleteWorkflowTask, FailWorkflowTask, Operation, Read, Request, Signal,
 };
@@ -23,8 +25,9 @@ use std::alloc::Global;
 use wf_event_values::{Field, Moment, Refusal, TaskKind, Text};
 use wire_fields::{optional, or_default, required};
 
+/// The fields of a signal.
 #[tactic(auto, unfolding(crate::specs::Operations::signal_of))]
-fn signal(alloc: Global, line: &Value) -> Result<Signal, Refusal>
+pub fn signal(alloc: Global, line: &Value) -> Result<Signal, Refusal>
     ensures { Gives result (signal_of (view line.now)) }
 {
     let workflow_id = required(alloc, line, Field::WorkflowId)?;
@@ -72,8 +75,9 @@ fn fail_workflow_task(
     Ok(FailWorkflowTask { task, message })
 }
 
+/// The run that is to be read.
 #[tactic(auto, unfolding(crate::specs::Operations::read_of))]
-fn read(alloc: Global, line: &Value) -> Result<Read, Refusal>
+pub fn read(alloc: Global, line: &Value) -> Result<Read, Refusal>
     ensures { Gives result (read_of (view line.now)) }
 {
     let workflow_id = required(alloc, line, Field::WorkflowId)?;
@@ -83,9 +87,11 @@ fn read(alloc: Global, line: &Value) -> Result<Read, Refusal>
 
 /// The request of an operation at a moment.
 fn asks(at: Moment, operation: Operation) -> Call
+    requires { is_clients operation ≡ true }
     ensures { Ok result ≡ asks at operation }
 {
-    Call::Step(StepCall::Request(Request { at, operation }))
+    let request = ClientRequest::new(Request { at, operation });
+    Call::Step(StepCall::Request(request))
 }
 
 /// What an operation's line asks for, at the line's moment.
@@ -99,7 +105,7 @@ pub(crate) fn call_of(
     ensures { Gives result (call_of settings.now op at (view line.now)) }
 {
     match op {
-        Op::Start => Ok(asks(at, Operation::Start(start(alloc, true, line)?))),
+        Op::Start => Ok(asks(at, Operation::Start(start(alloc, line)?))),
         Op::Signal => Ok(asks(at, Operation::Signal(signal(alloc, line)?))),
         Op::SignalWithStart => {
             let both = signal_with_start(alloc, line)?;

@@ -5,7 +5,7 @@ ghost use Rattle.serde_json.specs.View.{view};
 ghost use Rattle.wf_event_values.specs.Gives.{Gives};
 ghost use Rattle.wire_fields.specs.Kinds.{text_of};
 ghost use Rattle.wire_fields.specs.Steps.{for_each};
-ghost use Rattle.wire_requests.specs.RetryPolicies.{texts_of, policy_fields_of, policy_of, default_policy};
+ghost use Rattle.wire_requests.specs.RetryPolicies.{texts_of, counts_as, growth_of, policy_fields_of, policy_of, default_policy};
 
 use serde_json::Value;
 use std::alloc::Global;
@@ -70,12 +70,38 @@ impl Policy {
         Policy {
             fields: PolicyFields {
                 attempts: 0,
-                factor: 2,
+                coefficient: 200,
                 initial: 1000,
                 maximum: 0,
                 non_retryable: Items::from_vec(Vec::new(alloc)),
             },
         }
+    }
+}
+
+/// What a whole factor counts as, in hundredths: one above a thousand as the first coefficient that
+/// is out of range.
+pub fn counts_as(factor: u64) -> u64
+    ensures { result ≡ counts_as factor }
+{
+    if factor <= 1000 {
+        100 * factor
+    } else {
+        100_001
+    }
+}
+
+/// A policy's coefficient, in hundredths. It may be written as a whole factor, but not as both.
+fn growth(alloc: Global, object: &Value) -> Result<u64, Refusal>
+    ensures { Gives result (growth_of (view object.now)) }
+{
+    let coefficient = object.get(Field::Coefficient.name());
+    let factor = object.get(Field::Factor.name());
+    match (coefficient, factor) {
+        (None, None) => Ok(200),
+        (Some(value), None) => u64::from_value(alloc, Field::Coefficient, value),
+        (None, Some(value)) => Ok(counts_as(u64::from_value(alloc, Field::Factor, value)?)),
+        (Some(_), Some(_)) => Err(Refusal::InvalidArgument(Field::Coefficient)),
     }
 }
 
@@ -87,13 +113,13 @@ fn policy_fields(alloc: Global, object: &Value) -> Result<PolicyFields, Refusal>
         all: Items::from_vec(Vec::new(alloc)),
     };
     let attempts = or_default(alloc, object, Field::Attempts, 0)?;
-    let factor = or_default(alloc, object, Field::Factor, 2)?;
+    let coefficient = growth(alloc, object)?;
     let initial = or_default(alloc, object, Field::Initial, 1000)?;
     let maximum = or_default(alloc, object, Field::Maximum, 0)?;
     let types = or_default(alloc, object, Field::NonRetryable, none)?;
     Ok(PolicyFields {
         attempts,
-        factor,
+        coefficient,
         initial,
         maximum,
         non_retryable: types.all,

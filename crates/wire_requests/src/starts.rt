@@ -3,7 +3,7 @@
 ghost use Rattle.std.specs.Prelude.{◌≡◌};
 ghost use Rattle.serde_json.specs.View.{view};
 ghost use Rattle.wf_event_values.specs.Gives.{Gives};
-ghost use Rattle.wire_requests.specs.Starts.{conflict_in, start_of, signal_with_start_of};
+ghost use Rattle.wire_requests.specs.Starts.{start_of, signal_with_start_of};
 
 use serde_json::Value;
 use service_model_types::request::{SignalWithStart, Start};
@@ -11,20 +11,10 @@ use std::alloc::Global;
 use wf_event_values::{ConflictPolicy, Field, Refusal, ReusePolicy, Span, Text};
 use wire_fields::{optional, or_default, required};
 
-/// The conflict policy of a line, where it has one.
-fn conflict_in(alloc: Global, has_conflict: bool, line: &Value) -> Result<ConflictPolicy, Refusal>
-    ensures { Gives result (conflict_in has_conflict (view line.now)) }
-{
-    if !has_conflict {
-        return Ok(ConflictPolicy::Fail);
-    }
-    or_default(alloc, line, Field::Conflict, ConflictPolicy::Fail)
-}
-
 /// The fields of a start.
 #[tactic(auto, unfolding(crate::specs::Starts::start_of))]
-pub(crate) fn start(alloc: Global, has_conflict: bool, line: &Value) -> Result<Start, Refusal>
-    ensures { Gives result (start_of has_conflict (view line.now)) }
+pub fn start(alloc: Global, line: &Value) -> Result<Start, Refusal>
+    ensures { Gives result (start_of (view line.now)) }
 {
     let workflow_id = required(alloc, line, Field::WorkflowId)?;
     let workflow_type = required(alloc, line, Field::WorkflowType)?;
@@ -32,7 +22,7 @@ pub(crate) fn start(alloc: Global, has_conflict: bool, line: &Value) -> Result<S
     let input = or_default(alloc, line, Field::Input, Text::empty(alloc))?;
     let request_id = optional(alloc, line, Field::RequestId)?;
     let reuse = or_default(alloc, line, Field::Reuse, ReusePolicy::AllowDuplicate)?;
-    let conflict = conflict_in(alloc, has_conflict, line)?;
+    let conflict = or_default(alloc, line, Field::Conflict, ConflictPolicy::Fail)?;
     let run_timeout = or_default(alloc, line, Field::RunTimeout, Span::none())?;
     let task_timeout = or_default(alloc, line, Field::TaskTimeout, Span::none())?;
     Ok(Start {
@@ -48,16 +38,30 @@ pub(crate) fn start(alloc: Global, has_conflict: bool, line: &Value) -> Result<S
     })
 }
 
-/// A start without a conflict policy, and the signal.
+/// The fields of a start but for the conflict policy, and those of the signal.
 #[tactic(auto, unfolding(crate::specs::Starts::signal_with_start_of))]
-pub(crate) fn signal_with_start(alloc: Global, line: &Value) -> Result<SignalWithStart, Refusal>
+pub fn signal_with_start(alloc: Global, line: &Value) -> Result<SignalWithStart, Refusal>
     ensures { Gives result (signal_with_start_of (view line.now)) }
 {
-    let start = start(alloc, false, line)?;
+    let workflow_id = required(alloc, line, Field::WorkflowId)?;
+    let workflow_type = required(alloc, line, Field::WorkflowType)?;
+    let task_queue = required(alloc, line, Field::TaskQueue)?;
+    let input = or_default(alloc, line, Field::Input, Text::empty(alloc))?;
+    let request_id = optional(alloc, line, Field::RequestId)?;
+    let reuse = or_default(alloc, line, Field::Reuse, ReusePolicy::AllowDuplicate)?;
+    let run_timeout = or_default(alloc, line, Field::RunTimeout, Span::none())?;
+    let task_timeout = or_default(alloc, line, Field::TaskTimeout, Span::none())?;
     let name = required(alloc, line, Field::Name)?;
     let signal_input = or_default(alloc, line, Field::SignalInput, Text::empty(alloc))?;
     Ok(SignalWithStart {
-        start,
+        workflow_id,
+        workflow_type,
+        task_queue,
+        input,
+        request_id,
+        reuse,
+        run_timeout,
+        task_timeout,
         name,
         signal_input,
     })

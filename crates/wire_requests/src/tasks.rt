@@ -1,14 +1,15 @@
 //! The tasks that tokens name.
 
 ghost use Rattle.std.specs.Prelude.{◌≡◌};
-ghost use Rattle.wire_requests.specs.Tasks.{is_workflow, task_in, workflow_task_in, activity_task_in};
+ghost use Rattle.wire_requests.specs.Tasks.{is_workflow, shard_is_there, task_in, task_of_kind, workflow_task_in, activity_task_in};
 
 use service_model_types::request::TakenTask;
 use service_model_types::settings::Settings;
 use task_token::TaskToken;
 use wf_event_values::{Refusal, TaskKind};
 
-fn is_workflow(kind: TaskKind) -> bool
+/// Whether a task is a workflow's.
+pub fn is_workflow(kind: TaskKind) -> bool
     ensures { result ≡ is_workflow kind }
 {
     match kind {
@@ -17,20 +18,38 @@ fn is_workflow(kind: TaskKind) -> bool
     }
 }
 
+/// The task that a token names, where it is of the right kind.
+pub fn task_of_kind(is_right: bool, token: TaskToken) -> Result<TakenTask, Refusal>
+    ensures { result ≡ task_of_kind is_right token }
+{
+    if !is_right {
+        return Err(Refusal::InvalidToken);
+    }
+    Ok(TakenTask {
+        shard: token.shard,
+        run: token.run,
+        event: token.event,
+        attempt: token.attempt,
+    })
+}
+
+/// A task whose shard is there.
+fn shard_is_there(settings: &Settings, task: TakenTask) -> Result<TakenTask, Refusal>
+    ensures { result ≡ shard_is_there settings.now task }
+{
+    if u64::from(task.shard) < settings.shards {
+        Ok(task)
+    } else {
+        Err(Refusal::InvalidToken)
+    }
+}
+
 /// The task that a token names, where it is of the right kind and its shard is there.
 fn task_in(settings: &Settings, is_right: bool, token: TaskToken) -> Result<TakenTask, Refusal>
     ensures { result ≡ task_in settings.now is_right token }
 {
-    if is_right && u64::from(token.shard) < settings.shards {
-        Ok(TakenTask {
-            shard: token.shard,
-            run: token.run,
-            event: token.event,
-            attempt: token.attempt,
-        })
-    } else {
-        Err(Refusal::InvalidToken)
-    }
+    let task = task_of_kind(is_right, token)?;
+    shard_is_there(settings, task)
 }
 
 /// The workflow task that a token names. A token of the other kind, or of a shard that is not there, is `InvalidToken`.

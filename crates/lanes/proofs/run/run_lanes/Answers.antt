@@ -1,10 +1,11 @@
-use Rattle.std.proofs.Common.{[], arith, inl, inr}
+use Rattle.std.proofs.Common.{[], ap, arith, inl, inr, sym, ◌∙◌}
+use Rattle.std.specs.Prelude.{slice_get}
 use Rattle.std.proofs.lemmas.Result.{err_from_is_err_and}
 use Rattle.wire_counted.proofs.Known.{Consumes-none}
 use Rattle.lanes.proofs.FaultLemmas.{device-fault, device-later}
-use Rattle.lanes.proofs.LaneLemmas.{all-there, own-of}
+use Rattle.lanes.proofs.LaneLemmas.{all-there, own-of, passes-own}
 use Rattle.script.proofs.Steps.{on_any_err}
-use Rattle.lanes.proofs.BegunLemmas.{nothing-read}
+use Rattle.lanes.proofs.BegunLemmas.{ended-begun, ended-same, nothing-read}
 use Rattle.lanes.proofs.ToldLemmas.{told-nothing}
 use Rattle.lanes.proofs.run.run_lanes.Goals as goal
 
@@ -34,8 +35,21 @@ returns-then-branch-clause-ran g c =
       text = p.text;
       read = p.read;
       at_end = c.in_ok-turn.ensures.end c.if-branch.true;
-      told = c.in_ok-finish.ensures.ended _ p.text _ p.told;
+      told = ended-same c.in_ok-passes.ensures (c.in_ok-finish.ensures.ended _ p.text _ p.told);
     }
+
+pub returns-then-branch-clause-own : goal.returns-then-branch-clause-own
+returns-then-branch-clause-own g c = λ k p there. passes-own (g.D.Door.admits c.args.door.now) c.finish.new.self.lanes.items c.finish.ensures.own k p (ap (λ t. slice_get t k) (sym c.in_ok-passes.ensures) ∙ there)
+
+pub returns-in_err-passes-clause-halted : goal.returns-in_err-passes-clause-halted
+returns-in_err-passes-clause-halted g c =
+    let p = c.in_ok-turn.ensures.progress _ _ _ c.loop.invariant.progress in
+    on_any_err c.from_residual-in_err-passes.result _ (inr (record {
+      text = p.text;
+      read = p.read;
+      at_end = c.in_ok-turn.ensures.end c.if-branch.true;
+      begun = ended-begun p.text _ _ _ _ (c.in_ok-finish.ensures.ended _ p.text _ p.told);
+    }))
 
 pub loop-preserved : goal.loop-preserved
 loop-preserved g c = record {

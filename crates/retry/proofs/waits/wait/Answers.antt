@@ -1,21 +1,17 @@
-use Rattle.std.proofs.Common.{◌≡◌, ◌≤◌, ◌*◌, ◌-◌, ◌∙◌, min, refl, arith}
-use Rattle.retry.proofs.WaitLemmas.{in_range, product_small, next, settled}
+use Rattle.std.proofs.Common.{◌∙◌, sym, arith}
+use Rattle.retry.proofs.WaitLemmas.{begun, next, still, done}
 use Rattle.retry.proofs.waits.wait.Goals as goal
 
-pub overflow_mul-wait : goal.overflow_mul-wait
-overflow_mul-wait c =
-    let range = in_range c.args.fields.now c.requires.good in
-    let short : c.loop-turn.wait ≤ c.args.maximum = omega (arith, c.loop-turn.invariant) in
-    let small : c.loop-turn.wait * c.args.fields.now.factor ≤ 1000000000000000 = product_small _ _ c.args.maximum short (omega (arith, range.longest, c.requires.maximum)) range.factor_most in
-    omega arith
+pub loop-turn-init : goal.loop-turn-init
+loop-turn-init c = (omega (arith, c.min-wait.ensures), begun _ _ _ _ c.requires.maximum c.min-wait.ensures)
 
 pub loop-turn-preserved : goal.loop-turn-preserved
-loop-turn-preserved c = c.min-wait.ensures ∙ next _ _ _ _ _ (in_range c.args.fields.now c.requires.good).factor_least c.loop-turn.invariant
+loop-turn-preserved c =
+    (omega (arith, c.next_wait-next.ensures, c.requires.maximum), next _ _ _ _ _ c.loop-turn-test.true c.next_wait-next.ensures c.loop-turn.invariant.1)
+
+pub returns-then-next-wait-clause-value : goal.returns-then-next-wait-clause-value
+returns-then-next-wait-clause-value c =
+    still _ _ _ _ (sym c.next_wait-next.ensures ∙ c.if-next-wait.true) c.loop-turn.invariant.1
 
 pub returns-clause-value : goal.returns-clause-value
-returns-clause-value c = settled _ _ _ _ _ _ refl c.requires.good c.requires.maximum c.loop-turn.invariant (let done : c.loop-turn._turn ≡ min (c.args.attempt - 1) 40 = omega arith in done)
-
-pub returns-clause-limit : goal.returns-clause-limit
-returns-clause-limit c =
-    let range = in_range c.args.fields.now c.requires.good in
-    omega (arith, range.longest, c.requires.maximum, c.loop-turn.invariant)
+returns-clause-value c = done _ _ _ _ (omega (arith, c.loop-turn-test.false)) c.loop-turn.invariant.1

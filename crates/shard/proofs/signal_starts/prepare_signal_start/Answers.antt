@@ -10,7 +10,7 @@ use Rattle.shard.proofs.signal_starts.prepare_signal_start.Goals as goal
 pub returns-in-None-clause-plan : goal.returns-in-None-clause-plan
 returns-in-None-clause-plan g c =
     let P : Outcome → Type 0 = λ o. IfOk c.prepare_signaled.result (λ plan. FitsStep c.prepare_signaled.new.store plan c.args.moment o) in
-    subst P (signaled-none (runs_in c.args.store.now) c.args.request.now (latest_run (states c.args.store.now.runs) c.args.request.now.start.workflow_id) c.in-None.ensures.found) c.prepare_signaled.ensures.plan
+    subst P (signaled-none (runs_in c.args.store.now) c.args.request.now (latest_run (states c.args.store.now.runs) c.args.request.now.workflow_id) c.in-None.ensures.found) c.prepare_signaled.ensures.plan
 
 pub returns-in-Some-clause-plan : goal.returns-in-Some-clause-plan
 returns-in-Some-clause-plan g c =

@@ -17,13 +17,13 @@ pub prepare_more-requires-clause-fits : goal.prepare_more-requires-clause-fits
 prepare_more-requires-clause-fits g c =
     let R = runs_in c.args.store.now in
     let s = run_in c.args.store.now c.args.index in
-    let scheduled = ap (λ k. (run_at R k).task) c.requires.run ∙ waiting-scheduled R c.args.hint c.requires.waits in
-    subst (λ (l : List Fact). FitStep c.args.moment s l) (sym c.in_ok-facts.ensures) (take-fits c.args.moment c.args.hint.event s c.requires.open scheduled)
+    let scheduled = ap (λ k. (run_at R k).task) c.requires.run ∙ waiting-scheduled R c.args.wanted c.requires.waits in
+    subst (λ (l : List Fact). FitStep c.args.moment s l) (sym c.in_ok-facts.ensures) (take-fits c.args.moment c.args.wanted.event s c.requires.open scheduled)
 
 pub returns-clause-plan : goal.returns-clause-plan
 returns-clause-plan g c =
     let R = runs_in c.args.store.now in
-    let h = c.args.hint in
+    let h = c.args.wanted in
     let n = ordinal_of c.args.index in
     let T : Run → ℕ → List ℕ → Answer = λ r k i. WorkflowTask (record { attempt = h.attempt; run = r; scheduled = h.event; started = k; workflow_id = i }) in
     let A : ℕ → Answer = λ k. T (run_id R.setup k) (length (run_at R k).shown + 1) (id_of (run_at R k)) in

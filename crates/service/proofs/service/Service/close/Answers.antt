@@ -1,6 +1,7 @@
 use Rattle.std.proofs.Common.{ℕ, List, ap, sym, ◌∙◌, subst, arith}
 use Rattle.std.proofs.lemmas.List.{length-map}
 use Rattle.std.specs.Prelude.{slice_get, length, vec_capacity}
+use Rattle.service_model.specs.Service.{Entry}
 use Rattle.service_model_types.specs.declared.request.Request.{Request}
 use Rattle.gate.specs.Gates as of_gate
 use Rattle.gate.specs.Ends.{IsEnd, HasDone}
@@ -40,21 +41,21 @@ records_of-requires c =
 pub returns-clause-count : goal.returns-clause-count
 returns-clause-count c =
     let opened = opened-by c.args.passes.items c.args.self c.args.self.some_pass c.requires.own c.requires.all in
-    ap length c.records_of.ensures ∙ length-map c.close.result.items (λ x. x.1) ∙ c.close.ensures.count ∙ ap of_gate.slots c.into_parts-gate.ensures.gate ∙ opened.slots
+    ap length c.records_of.ensures ∙ length-map c.close.result.items (λ x. x.entries) ∙ c.close.ensures.count ∙ ap of_gate.slots c.into_parts-gate.ensures.gate ∙ opened.slots
 
 pub returns-clause-records : goal.returns-clause-records
 returns-clause-records c = λ k log there.
     let opened = opened-by c.args.passes.items c.args.self c.args.self.some_pass c.requires.own c.requires.all in
-    let (x, place, is) = get-map (λ x. x.1) c.close.result.items k log (ap (λ t. slice_get t k) (sym c.records_of.ensures) ∙ there) in
-    let P : List (ℕ × Request) → Type 0 = λ l. IsEnd (base_of c.args.self k) c.args.self.settings.passes l in
-    let N : ℕ → Type 0 = λ n. IsEnd (base_of c.args.self k) n x.1 in
+    let (x, place, is) = get-map (λ x. x.entries) c.close.result.items k log (ap (λ t. slice_get t k) (sym c.records_of.ensures) ∙ there) in
+    let P : List Entry → Type 0 = λ l. IsEnd (base_of c.args.self k) c.args.self.settings.passes l in
+    let N : ℕ → Type 0 = λ n. IsEnd (base_of c.args.self k) n x.entries in
     let records = rw c.into_parts-gate.ensures.gate at c.close.ensures.records in
     subst P (sym is) (subst N opened.passes (records k x place))
 
 pub returns-clause-passes : goal.returns-clause-passes
 returns-clause-passes c = λ k log j p there mine.
-    let (x, place, is) = get-map (λ x. x.1) c.close.result.items k log (ap (λ t. slice_get t k) (sym c.records_of.ensures) ∙ there) in
-    let P : List (ℕ × Request) → Type 0 = λ l. HasDone (base_of c.args.self k) (known_by p) k l in
+    let (x, place, is) = get-map (λ x. x.entries) c.close.result.items k log (ap (λ t. slice_get t k) (sym c.records_of.ensures) ∙ there) in
+    let P : List Entry → Type 0 = λ l. HasDone (base_of c.args.self k) (known_by p) k l in
     let handed = ap (λ t. slice_get t j) c.handed_down-passes.ensures ∙ map-get (λ p. p.inner) c.args.passes.items j p mine in
     let passes = rw c.into_parts-gate.ensures.gate at c.close.ensures.passes in
     subst P (sym is) (passes k x j p.inner place handed)

@@ -1,0 +1,7 @@
+use Rattle.std.proofs.Common.{◌<◌, ◌∙◌, sym, subst}
+use Rattle.service.proofs.ServedLemmas.{named-below}
+use Rattle.service.proofs.service.Service.try_start_task.Goals as goal
+
+pub try_serve_on-requires-clause-there : goal.try_serve_on-requires-clause-there
+try_serve_on-requires-clause-there c = λ none.
+    subst (λ k. k < c.args.self.now.settings.shards) (sym c.from.ensures) (named-below c.args.self.now.settings c.args.hint.shard (sym c.shard_refusal-refusal.ensures ∙ none))

@@ -1,0 +1,59 @@
+//! Rows that may have no value.
+#![tactic(auto, unfolding(crate::specs::Rows::add_row))]
+
+ghost use Rattle.std.specs.Prelude.{◌≡◌, OnOk};
+ghost use Rattle.wire_events.specs.Pages.{sheet_of};
+ghost use Rattle.wire_rows.specs.Rows.{add_row, if_text, if_count, if_run};
+
+use std::alloc::AllocError;
+use wf_event_values::{Id, RunId, Span, Text};
+use wire_events::Page;
+
+pub fn put_if_text(page: &mut Page, key: &str, text: &Option<Text>) -> Result<(), AllocError>
+    ensures { OnOk result (sheet_of page.new
+        ≡ add_row (if_text key.now text.now) (sheet_of page.old)) }
+{
+    match text {
+        Some(text) => page.text(key, text.as_str()),
+        None => Ok(()),
+    }
+}
+
+pub fn put_if_id(page: &mut Page, key: &str, id: &Option<Id>) -> Result<(), AllocError>
+    ensures { OnOk result (sheet_of page.new
+        ≡ add_row (if_text key.now id.now) (sheet_of page.old)) }
+{
+    match id {
+        Some(id) => page.text(key, id.as_str()),
+        None => Ok(()),
+    }
+}
+
+pub fn put_if_count(page: &mut Page, key: &str, span: Option<Span>) -> Result<(), AllocError>
+    ensures { OnOk result (sheet_of page.new
+        ≡ add_row (if_count key.now span) (sheet_of page.old)) }
+{
+    match span {
+        Some(span) => page.number(key, span.millis()),
+        None => Ok(()),
+    }
+}
+
+pub fn put_if_run(page: &mut Page, key: &str, run: Option<RunId>) -> Result<(), AllocError>
+    ensures { OnOk result (sheet_of page.new ≡ add_row (if_run key.now run) (sheet_of page.old)) }
+{
+    match run {
+        Some(run) => page.run(key, run),
+        None => Ok(()),
+    }
+}
+
+pub fn put_if_number(page: &mut Page, key: &str, number: Option<u64>) -> Result<(), AllocError>
+    ensures { OnOk result (sheet_of page.new
+        ≡ add_row (if_count key.now number) (sheet_of page.old)) }
+{
+    match number {
+        Some(number) => page.number(key, number),
+        None => Ok(()),
+    }
+}

@@ -1,0 +1,3 @@
+pub mod KeysBack
+pub mod TransfersBack
+pub mod TextsUtf8

@@ -1,0 +1,15 @@
+//! Transfers as a record has them, and back.
+#![tactic(auto)]
+
+mod contents;
+mod keys;
+mod kinds;
+mod known;
+mod put_contents;
+mod reading;
+mod writing;
+
+pub use keys::{inner, keyed, shard_in};
+pub use known::known_transfer;
+pub use reading::transfer;
+pub use writing::put_transfer;
