@@ -33,7 +33,7 @@ Holds s t source = (1 ≤ t.number) × (slice_get (outgoing_to source.outgoing s
 abbrev pub Accepted : ℕ → Acknowledge → Content → Type 0
 Accepted s q destination = (1 ≤ q.number) × (q.number ≤ accepted_from destination.accepted s)
 
--- the contents of all shards ground a request on shard s
+-- what the contents of all shards have to show before a request on shard s
 abbrev pub Grounded : (ℕ → Content) → ℕ → Operation → Type 0
 Grounded S s (operation.Deliver t) = Holds s t (S t.from)
 Grounded S s (operation.Acknowledge q) = Accepted s q (S q.to)
