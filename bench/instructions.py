@@ -4,8 +4,9 @@
 Usage: bench/instructions.py [--parts N]
 
 Each case runs at two sizes, and a line's instructions are those by which the sum grows from one size
-to the next: they don't depend on the machine's load, and what is done once falls away. A read is
-counted by the events that it writes. `--parts N` prints the N functions that take most of a line,
+to the next: they don't depend on the machine's load, and what is done once falls away. Polls and
+completions come behind the starts and dispatch turns of 1,024 workflows, and completions behind their
+polls as well. A read is counted by the events that it writes. `--parts N` prints the N functions that take most of a line,
 with what they call. Valgrind has to be there; `rt run` in crates/wfserve and crates/line_floor builds
 both programs.
 """
@@ -16,10 +17,41 @@ import sys
 import tempfile
 
 import first_path
+import queues
+
+WORKFLOWS = 1_024
+
+
+def polls(count):
+    """So many polls that find a task."""
+    lines = first_path.starts(WORKFLOWS)
+    lines += [{"op": "dispatch_turn", "shard": 0}] * WORKFLOWS
+    return lines + [{"op": "poll_workflow_task", "task_queue": "main"}] * count
+
+
+def completions(count, command):
+    """So many completions of tasks that were polled, each with this command."""
+    return polls(WORKFLOWS) + [{"op": "complete_workflow_task", "commands": [command],
+                                "token": queues.token(queues.WORKFLOW, run, 2, 1, 0)}
+                               for run in range(1, count + 1)]
+
+
+def timers(count):
+    return completions(count, {"type": "StartTimer", "timer_id": "shipping", "duration": 3_600_000})
+
+
+def activities(count):
+    """Completions whose command has a retry policy, so that their lines are nested once more."""
+    return completions(count, {"type": "ScheduleActivityTask", "activity_id": "payment", "task_queue": "main",
+                               "start_to_close": 30_000, "retry": {"initial": 1_000, "attempts": 5}})
+
 
 CASES = [("a start", first_path.starts, 5_000, 10_000),
          ("a start that replaces a run", first_path.replacements, 5_000, 10_000),
-         ("a signal", first_path.signals, 5_000, 10_000)]
+         ("a signal", first_path.signals, 5_000, 10_000),
+         ("a poll that finds a task", polls, 24, WORKFLOWS),
+         ("a completion that starts a timer", timers, 24, WORKFLOWS),
+         ("a completion that schedules an activity", activities, 24, WORKFLOWS)]
 READS = 10
 COUNT = re.compile(r"^ *([\d,]+) \([ \d.]+%\) +(?:\S*:)?(.*?)(?: \[.*\])?$")
 

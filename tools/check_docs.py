@@ -6,7 +6,12 @@
 A name in back quotes is looked for word by word in all files that are no documents. Names of the
 toolchain and of its libraries are listed in tools/known_names.txt. Each file of definitions says in its
 first line whether it is meaning or proof, and docs/ARCHITECTURE.md how much there is of the former.
+
+Beside a rule of docs/PROFILE.md stand its definition, an example, a case and a wrong body, in the last four
+columns of its table or in a line below it. Each of these has to be there, under its name in its file.
 """
+from __future__ import annotations
+
 import re
 import subprocess
 import sys
@@ -18,6 +23,15 @@ NAME = re.compile(r"[A-Za-z_][\w.:/-]*")
 WORD = re.compile(r"[A-Za-z_][\w-]*")
 QUOTED = re.compile(r"`([^`\n]+)`")
 LINK = re.compile(r"\]\(([^)#\s]+)[^)]*\)")
+KINDS = ("Definition", "Example", "Case", "Wrong body")
+PLACES = {
+    "Definition": "crates/{}/specs/{}.antt",
+    "Example": "crates/service_model/proofs/{}.antt",
+    "Case": "crates/cases/data/{}.cases",
+    "Wrong body": "crates/{}/must-fail/{}.edit",
+}
+BESIDE = re.compile("\\. ".join(f"{kind}: (.+?)" for kind in KINDS) + "\\.")
+REFERENCES = re.compile(r"`[^`]+`(, `[^`]+`)*")
 
 
 def tracked() -> list[Path]:
@@ -62,6 +76,69 @@ def missing_in(document: Path, words: set[str]) -> list[str]:
     return missing
 
 
+def has_line(file: Path, pattern: str) -> bool:
+    return re.search(pattern, file.read_text(), re.MULTILINE) is not None
+
+
+def fault_of_reference(kind: str, reference: str, top: Path) -> str | None:
+    """What is wrong with `place: name`, the reference of this kind that a rule has."""
+    place, colon, name = reference.partition(": ")
+    parts = place.split("/")
+    if not colon or len(parts) != (2 if kind == "Definition" else 1):
+        return f"no reference to a {kind.lower()}: {reference}"
+    file = PLACES[kind].format(*parts, name)
+    if not (top / file).is_file():
+        return f"no such {kind.lower()}: {reference} ({file})"
+    word = re.escape(name)
+    pattern = {
+        "Definition": rf"^ *((abbrev|unfoldable) pub|pub (data|record)) {word}(?![\w'])",
+        "Example": rf"^pub {word}(?![\w'])",
+        "Case": rf"^## {word}$",
+        "Wrong body": r"^new: ",
+    }[kind]
+    return None if has_line(top / file, pattern) else f"no such {kind.lower()}: {reference} (in {file})"
+
+
+def faults_of_cells(cells: list[str], top: Path) -> list[str]:
+    """What is wrong with the four cells of a rule: of each, references with commas between them, or `-`."""
+    faults = []
+    for kind, cell in zip(KINDS, cells):
+        if cell == "-":
+            continue
+        if not REFERENCES.fullmatch(cell):
+            faults.append(f"neither references nor -, as a {kind.lower()}: {cell}")
+            continue
+        found = [fault_of_reference(kind, reference, top) for reference in QUOTED.findall(cell)]
+        faults += [fault for fault in found if fault]
+    return faults
+
+
+def cells_of(line: str) -> list[str]:
+    return [cell.strip() for cell in line.strip().strip("|").split("|")]
+
+
+def missing_beside_rules(text: str, top: Path = TOP) -> list[str]:
+    """What the rules of a text have beside them that isn't there."""
+    faults = []
+    width = 0
+    for line in text.splitlines():
+        if line.startswith("|"):
+            cells = cells_of(line)
+            if tuple(cells[-4:]) == KINDS:
+                width = len(cells)
+            elif width and not set(line) <= set("|-: "):
+                if len(cells) != width:
+                    faults.append(f"{len(cells)} cells where there are {width}: {line[:60]}")
+                else:
+                    faults += faults_of_cells(cells[-4:], top)
+            continue
+        width = 0
+        if line.lstrip().startswith("Definition:"):
+            below = BESIDE.fullmatch(line.strip())
+            faults += faults_of_cells(list(below.groups()), top) if below else [f"no line below a rule: {line[:60]}"]
+    return faults
+
+
 def is_specification(file: Path) -> bool:
     """A file of definitions that clauses cite, of a crate that is no test's."""
     crate, folder = file.parts[-3:-1] if len(file.parts) > 3 else ("", "")
@@ -93,6 +170,8 @@ def main() -> int:
     known = (TOP / "tools/known_names.txt").read_text().split()
     words = words_of([file for file in files if file.suffix != ".md"]).union(known)
     faults = wrong_markers(files)
+    profile = (TOP / "docs/PROFILE.md").read_text()
+    faults += [f"docs/PROFILE.md: {fault}" for fault in missing_beside_rules(profile)]
     for fault in faults:
         print(fault)
     count = len(faults)

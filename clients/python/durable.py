@@ -12,6 +12,9 @@ log's own settings and gives it the lines again; then it goes on.
 A call returns once its line was synced and the program has answered. Threads may call at once: one
 sync serves all lines that wait for it. A call that was not answered may have taken effect or not;
 one with a request id can be made again, and takes effect once.
+
+A log grows by every line. `compact()` puts the records of the shards in the place of its lines, which
+then are opened in the place of serving each line again.
 """
 
 from __future__ import annotations
@@ -22,8 +25,9 @@ import threading
 from collections import deque
 from concurrent.futures import Future
 from dataclasses import asdict, dataclass, field, fields
-from typing import Callable, Deque, List, Optional, Sequence
+from typing import Callable, Deque, List, Optional, Sequence, Tuple
 
+from compaction import folder_of, generation_of, load_options, remove_leftovers, save_records
 from line_log import LineLog, LogDamaged, LogFault
 from wfserve import Calls, Clock, Ended, answered, request_of, text_of
 
@@ -50,16 +54,19 @@ class Settings:
             "--queues", ",".join(self.queues), "--capacity", str(self.capacity),
         ]
 
-    def header(self) -> bytes:
-        return json.dumps({"format": FORMAT, **asdict(self)}, separators=(",", ":")).encode()
+    def header(self, generation: int = 0) -> bytes:
+        """The first line of a log that was compacted so often."""
+        compacted = {"compacted": generation} if generation else {}
+        return json.dumps({"format": FORMAT, **compacted, **asdict(self)}, separators=(",", ":")).encode()
 
 
-def settings_of(header: bytes, path: str) -> Settings:
-    """The settings that a log's first line names."""
+def read_header(header: bytes, path: str) -> Tuple[Settings, int]:
+    """The settings that a log's first line names, and how often the log was compacted."""
     values = json.loads(header)
     if values.pop("format", None) != FORMAT:
         raise LogDamaged(f"{path}: this is no log of format {FORMAT}")
-    return Settings(**{**values, "queues": tuple(values["queues"])})
+    generation = generation_of(values)
+    return Settings(**{**values, "queues": tuple(values["queues"])}), generation
 
 
 def check_settings(found: Settings, wanted: Settings, path: str) -> None:
@@ -88,10 +95,8 @@ def fail(calls: Sequence[Waiting], fault: Exception) -> None:
 class Program:
     """The program, over its two pipes."""
 
-    def __init__(self, command: Sequence[str], settings: Settings):
-        self._process = subprocess.Popen(
-            [*command, *settings.options()], stdin=subprocess.PIPE, stdout=subprocess.PIPE
-        )
+    def __init__(self, command: Sequence[str]):
+        self._process = subprocess.Popen(command, stdin=subprocess.PIPE, stdout=subprocess.PIPE)
 
     def write(self, lines: Sequence[bytes]) -> None:
         """Gives it lines. That it has ended shows where its replies are read."""
@@ -132,7 +137,8 @@ class DurableService(Calls):
 
     `settings` are those of a new log; a log that is there has to have the same. None takes the
     log's own, or the defaults. `most_a_sync` is how many lines one sync serves at most. `replayed`
-    is called with each request of the log and its reply, before the first call.
+    is called with each request of the log and its reply, before the first call; what was done before
+    the log was compacted last is no line of it.
     """
 
     def __init__(
@@ -154,15 +160,16 @@ class DurableService(Calls):
         self._closed: Optional[Exception] = None
         self._over: Optional[Exception] = None
         self._status: Optional[int] = None
-        self._line = 0
+        # Whether lines are on their way to the program, and whether they have to wait.
+        self._writing = False
+        self._paused = False
+        self._command = list(command)
         self._log = LineLog(log)
-        self._start(command, settings)
-        self._replay(replayed or (lambda request, reply: None))
-        self._threads = [
-            threading.Thread(target=work, daemon=True) for work in (self._write_calls, self._read_replies)
-        ]
-        for thread in self._threads:
-            thread.start()
+        self._start(settings)
+        line = self._replay(replayed or (lambda request, reply: None))
+        self._writer = threading.Thread(target=self._write_calls, daemon=True)
+        self._writer.start()
+        self._read_on(line)
 
     def __enter__(self) -> "DurableService":
         return self
@@ -182,43 +189,47 @@ class DurableService(Calls):
 
     # Opening.
 
-    def _start(self, command: Sequence[str], settings: Optional[Settings]) -> None:
-        """Starts the program with the log's settings."""
+    def _start(self, settings: Optional[Settings]) -> None:
+        """Starts the program with the log's settings, and from its records where it has some."""
         try:
-            self.settings = self._settled(settings)
-            self._program = Program(command, self.settings)
+            self.settings, self._generation = self._settled(settings)
+            remove_leftovers(self._log.path, self._generation)
+            self._program = Program(self._program_words())
         except BaseException:
             self._log.close()
             raise
 
-    def _settled(self, wanted: Optional[Settings]) -> Settings:
-        """The log's settings; a new log gets those that are wanted."""
+    def _program_words(self) -> List[str]:
+        return [*self._command, *self.settings.options(), *load_options(self._log.path, self._generation)]
+
+    def _settled(self, wanted: Optional[Settings]) -> Tuple[Settings, int]:
+        """The log's settings, and how often it was compacted; a new log gets the settings that are wanted."""
         if len(self._log) == 0:
             settings = wanted or Settings()
             self._log.append([settings.header()])
-            return settings
-        found = settings_of(next(self._log.lines()), self._log.path)
+            return settings, 0
+        found, generation = read_header(next(self._log.lines()), self._log.path)
         if wanted is not None:
             check_settings(found, wanted, self._log.path)
-        return found
+        return found, generation
 
-    def _replay(self, replayed: Callable[[dict, dict], None]) -> None:
-        """Gives the program the lines of the log, and takes its replies."""
+    def _replay(self, replayed: Callable[[dict, dict], None]) -> int:
+        """Gives the program the lines of the log, and takes its replies. How many there are."""
         lines = list(self._log.lines())[1:]
         feeder = threading.Thread(target=self._feed, args=(lines,), daemon=True)
         feeder.start()
         try:
-            for line in lines:
-                self._line += 1
+            for number, line in enumerate(lines, 1):
                 request = json.loads(line)
                 self.last_moment = max(self.last_moment, request.get("at", 0))
-                replayed(request, self._program.reply(self._line))
+                replayed(request, self._program.reply(number))
         except BaseException:
             self._program.kill()
             feeder.join()
             self._log.close()
             raise
         feeder.join()
+        return len(lines)
 
     def _feed(self, lines: List[bytes]) -> None:
         for begin in range(0, len(lines), 1_000):
@@ -241,7 +252,7 @@ class DurableService(Calls):
             if self._closed is not None:
                 raise self._closed
             self._asked.append(waiting)
-            self._changed.notify()
+            self._changed.notify_all()
         return waiting.reply
 
     def _write_calls(self) -> None:
@@ -257,6 +268,9 @@ class DurableService(Calls):
                 fail(calls, fault)
             else:
                 self._hand_over(calls)
+            with self._changed:
+                self._writing = False
+                self._changed.notify_all()
 
     def _hand_over(self, calls: List[Waiting]) -> None:
         with self._changed:
@@ -271,22 +285,32 @@ class DurableService(Calls):
     def _next_calls(self) -> List[Waiting]:
         """The calls that wait for the next sync, or none where nothing more is asked."""
         with self._changed:
-            while not self._asked and self._closed is None:
+            while self._paused or (not self._asked and self._closed is None):
                 self._changed.wait()
             count = min(len(self._asked), self._most)
+            self._writing = count > 0
             return [self._asked.popleft() for _ in range(count)]
 
-    def _read_replies(self) -> None:
-        """Gives each call its reply. One thread does this."""
+    def _read_on(self, line: int) -> None:
+        """Begins to read the program's replies, behind the one to this line."""
+        self._reader = threading.Thread(target=self._read_replies, args=(self._program, line), daemon=True)
+        self._reader.start()
+
+    def _read_replies(self, program: Program, line: int) -> None:
+        """Gives each call its reply. One thread does this for each program."""
         try:
             while True:
-                self._line += 1
-                reply = self._program.reply(self._line)
+                line += 1
+                reply = program.reply(line)
                 with self._changed:
                     call = self._sent.popleft()
+                    self._changed.notify_all()
                 call.reply.set_result(reply)
         except Exception as fault:
-            self._end(fault)
+            with self._changed:
+                replaced = self._program is not program
+            if not replaced:
+                self._end(fault)
 
     def _end(self, fault: Exception) -> None:
         """The program has ended: nobody waits for it any longer."""
@@ -305,8 +329,52 @@ class DurableService(Calls):
             with self._changed:
                 self._closed = self._closed or Ended("the service was closed")
                 self._changed.notify_all()
-            for thread in self._threads:
-                thread.join()
+            self._writer.join()
+            self._reader.join()
             self._status = self._program.wait()
             self._log.close()
         return self._status
+
+    # Compaction.
+
+    def compact(self) -> None:
+        """Puts the records of the shards in the place of the log's lines.
+
+        Calls wait meanwhile. Each task that waits to be taken has its hint in its queue again then, so
+        a worker may be handed `stale` once for a task that it was handed before. A crash at any moment
+        leaves the old log or the new one. NotCompacted where the records could not be saved.
+        """
+        self._pause()
+        try:
+            self._save_and_go_on()
+        finally:
+            with self._changed:
+                self._paused = False
+                self._changed.notify_all()
+
+    def _pause(self) -> None:
+        """Waits until every call that was logged is answered; none is logged from then on."""
+        with self._changed:
+            while self._paused:
+                self._changed.wait()
+            self._paused = True
+            while self._closed is None and (self._writing or self._sent):
+                self._changed.wait()
+            if self._closed is not None:
+                self._paused = False
+                self._changed.notify_all()
+                raise self._closed
+
+    def _save_and_go_on(self) -> None:
+        """Saves the records, has the log begin with them, and goes on with a program that is opened from them."""
+        log, generation = self._log.path, self._generation + 1
+        save_records(self._program_words(), list(self._log.lines())[1:], folder_of(log, generation))
+        self._log = self._log.replaced([self.settings.header(generation)])
+        with self._changed:
+            old, self._generation = self._program, generation
+            self._program = Program(self._program_words())
+        old.end_input()
+        self._reader.join()
+        old.wait()
+        remove_leftovers(log, generation)
+        self._read_on(0)

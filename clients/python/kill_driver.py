@@ -1,9 +1,10 @@
 """Makes calls on a service with a log until it is killed, or all are answered: what test_kill.py kills.
 
-    kill_driver.py PROGRAM LOG SEED THREADS CALLS ANSWERED..
+    kill_driver.py PROGRAM LOG SEED COMPACTED THREADS CALLS ANSWERED..
 
 Each thread makes its own calls in order, each with a request id, and goes on behind those that were
 ANSWERED before. Each answer is told by one line: the thread, the call's number, and the line of the log.
+Where COMPACTED is 1 the log is compacted again and again meanwhile.
 """
 
 import os
@@ -12,6 +13,7 @@ import sys
 import threading
 
 from durable import DurableService, Settings
+from wfserve import Ended
 
 SETTINGS = Settings(shards=1, queues=("main",))
 
@@ -40,11 +42,24 @@ def run_thread(service, thread, requests, answered):
         os.write(1, f"{thread} {number} {reply['line']}\n".encode())
 
 
+def compact_again(service, done):
+    """Compacts the log until the calls are done."""
+    while not done.wait(0.01):
+        try:
+            service.compact()
+        except Ended:
+            return
+
+
 def main():
-    program, log, seed, threads, calls = sys.argv[1:6]
-    answered = [int(count) for count in sys.argv[6:]]
+    program, log, seed, compacted, threads, calls = sys.argv[1:7]
+    answered = [int(count) for count in sys.argv[7:]]
+    done = threading.Event()
     with DurableService([program], log, SETTINGS) as service:
         os.write(1, b"open\n")
+        compacting = threading.Thread(target=compact_again, args=(service, done))
+        if compacted == "1":
+            compacting.start()
         running = [
             threading.Thread(target=run_thread, args=(service, i, script(seed, i, int(calls)), answered[i]))
             for i in range(int(threads))
@@ -53,6 +68,9 @@ def main():
             thread.start()
         for thread in running:
             thread.join()
+        done.set()
+        if compacted == "1":
+            compacting.join()
     os.write(1, b"done\n")
 
 

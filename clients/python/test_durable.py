@@ -203,6 +203,85 @@ class Served(Durable):
         second = subprocess.run(call, stdout=subprocess.PIPE, text=True, check=True)
         self.assertEqual(second.stdout, "shipped with receipt 4711\n")
 
+    def compacted(self):
+        """A service whose log was compacted behind a start, a dispatch, a taken task and a signal."""
+        service = self.open(clock=Clock(7))
+        service.start("a", "w", input="x", request_id="q")
+        service.dispatch_turn()
+        token = service.poll_workflow_task().token
+        service.signal("a", "go", request_id="s")
+        before = service.history("a")
+        service.compact()
+        return service, token, before
+
+    def test_a_compacted_log_goes_on_where_it_was(self):
+        service, token, before = self.compacted()
+        self.assertEqual((service.lines, service.history("a")), (0, before))
+        self.assertFalse(service.signal("a", "go", request_id="s"))
+        service.call("complete_workflow_task", token=token, commands=[])
+        after = service.history("a")
+        service.close()
+        with self.open() as service:
+            self.assertEqual(service.history("a"), after)
+            service.compact()
+            service.compact()
+            self.assertEqual(service.history("a"), after)
+        self.assertEqual(
+            sorted(path.name for path in self.log.parent.iterdir()), ["a.log", "a.log.records-3"]
+        )
+
+    def test_a_task_that_waited_is_found_again_in_a_compacted_log(self):
+        with self.open() as service:
+            service.start("a", "w")
+            service.compact()
+            self.assertEqual(service.poll_workflow_task().attempt, 1)
+
+    def test_what_an_interrupted_compaction_left_is_removed(self):
+        service, _, before = self.compacted()
+        service.close()
+        (self.log.parent / "a.log.new").write_bytes(b"begun")
+        (self.log.parent / "a.log.records-2").mkdir()
+        (self.log.parent / "a.log.records-x").mkdir()
+        with self.open() as service:
+            self.assertEqual(service.history("a"), before)
+        self.assertEqual(
+            sorted(path.name for path in self.log.parent.iterdir()),
+            ["a.log", "a.log.records-1", "a.log.records-x"],
+        )
+
+    def test_records_that_are_not_saved_leave_the_log(self):
+        with self.open() as service:
+            service.start("a", "w", request_id="q")
+            before = service.history("a")
+            data = self.log.read_bytes()
+            # The program is not there when it is to save.
+            service._command = [str(self.log.parent / "nobody")]
+            with self.assertRaises(OSError):
+                service.compact()
+            self.assertEqual(self.log.read_bytes(), data)
+            self.assertEqual(service.history("a"), before)
+
+    def test_threads_go_on_while_the_log_is_compacted(self):
+        with self.open() as service:
+            def calls(thread):
+                for number in range(50):
+                    service.call("signal_with_start", workflow_id=f"w{thread}", workflow_type="w",
+                                 task_queue="main", name=f"{number}", request_id=f"{thread}:{number}")
+
+            threads = [threading.Thread(target=calls, args=(thread,)) for thread in range(4)]
+            for thread in threads:
+                thread.start()
+            for _ in range(5):
+                service.compact()
+            for thread in threads:
+                thread.join()
+            histories = [service.history(f"w{thread}") for thread in range(4)]
+        for events in histories:
+            names = [e["attrs"]["name"] for e in events if e["type"] == "WorkflowExecutionSignaled"]
+            self.assertEqual(names, [str(number) for number in range(50)])
+        with self.open() as service:
+            self.assertEqual([service.history(f"w{thread}") for thread in range(4)], histories)
+
     def test_a_full_disk_loses_nothing_that_was_answered(self):
         call = [sys.executable, "-c", FULL, str(self.log), *self.program]
         subprocess.run(call, cwd=HERE, stdout=subprocess.DEVNULL, check=True)

@@ -17,6 +17,7 @@ from concurrent.futures import ThreadPoolExecutor
 from dataclasses import dataclass, field
 
 import kill_driver
+from compaction import folder_of
 from durable import DurableService
 from line_log import LineLog
 from programs import BUILT, needs_program
@@ -37,6 +38,7 @@ class Disturbed:
     log: str
     seed: str
     kills: int
+    compacted: bool = False
     answers: dict = field(default_factory=dict)
     killed: int = 0
     opened: int = 0
@@ -57,7 +59,7 @@ class Disturbed:
         more = draw.choice([0, draw.random() / 1000, draw.random() / 20])
         command = [sys.executable, "-S", str(HERE / "kill_driver.py"), str(BUILT), self.log, self.seed]
         driver = subprocess.Popen(
-            [*command, str(THREADS), str(CALLS), *map(str, counts)],
+            [*command, str(int(self.compacted)), str(THREADS), str(CALLS), *map(str, counts)],
             stdout=subprocess.PIPE, start_new_session=True, text=True,
         )
         done = self.listen(driver, point)
@@ -88,12 +90,22 @@ class Disturbed:
 
 
 def logged_requests(log):
-    """The requests of a log, in their order."""
+    """The requests that the records of a log have, and then those of its lines, in their order."""
     lines = LineLog(log)
     try:
-        return [json.loads(line) for line in list(lines.lines())[1:]]
+        header, *texts = [json.loads(line) for line in lines.lines()]
     finally:
         lines.close()
+    return recorded_requests(log, header.get("compacted", 0)) + texts
+
+
+def recorded_requests(log, generation):
+    """The requests of the only shard's record, but for those of turns' parts and of reads."""
+    if not generation:
+        return []
+    with open(os.path.join(folder_of(log, generation), "shard-00.rec")) as record:
+        entries = [json.loads(line) for line in record]
+    return [entry["request"] for entry in entries if "request_id" in entry["request"]]
 
 
 def histories(service, workflow_ids):
@@ -127,7 +139,8 @@ class Killed(unittest.TestCase):
         begun = time.monotonic()
         with tempfile.TemporaryDirectory() as folder, ThreadPoolExecutor(4) as pool:
             runs = [
-                Disturbed(os.path.join(folder, f"{i}.log"), f"{SEED}-{i}", KILLS // LOGS) for i in range(LOGS)
+                Disturbed(os.path.join(folder, f"{i}.log"), f"{SEED}-{i}", KILLS // LOGS, i % 2 == 1)
+                for i in range(LOGS)
             ]
             list(pool.map(Disturbed.run, runs))
             for run in runs:
@@ -148,11 +161,15 @@ class Killed(unittest.TestCase):
         }
         requests = logged_requests(run.log)
         firsts = {}
-        for line, request in enumerate(requests, 1):
-            self.assertEqual(request, wanted[request["request_id"]])
-            firsts.setdefault(request["request_id"], request)
+        for request in requests:
+            asked = wanted[request["request_id"]]
+            # A record has every default written out.
+            self.assertEqual({name: request[name] for name in asked}, asked)
+            firsts.setdefault(request["request_id"], asked)
         for (thread, number), line in run.answers.items():
-            self.assertEqual(requests[line - 1]["request_id"], f"{thread}:{number}", "an answered call is missing")
+            self.assertIn(f"{thread}:{number}", firsts, "an answered call is missing")
+            if not run.compacted:
+                self.assertEqual(requests[line - 1]["request_id"], f"{thread}:{number}", "another line's answer")
         self.assertEqual(set(firsts), set(wanted), "a call was never answered")
         # Refusals of a call that was made again are the same as at first; what took effect did so once.
         workflow_ids = {request["workflow_id"] for request in requests}

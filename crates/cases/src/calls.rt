@@ -2,8 +2,7 @@
 
 ghost use Rattle.service.specs.Services.{IsPassOf};
 
-use crate::case::{Case, Step};
-use crate::transcript::transcript;
+use case_files::{Case, Step, transcript};
 use script::LINE_LIMIT;
 use script_settings::settings_of;
 use service::{Pass, Service};
@@ -37,7 +36,7 @@ struct Opened {
 impl Opened {
     /// A service with its last pass.
     fn open(alloc: Global, settings: &Settings) -> Result<Opened, Refusal> {
-        let (service, mut passes) = Service::open(alloc, settings)?;
+        let (service, mut passes) = Service::open(alloc, settings, Vec::new(alloc))?;
         let Some(pass) = passes.pop() else {
             return Err(Refusal::Busy);
         };
@@ -101,16 +100,20 @@ fn asked(alloc: Global, settings: &Settings, line: &[u8]) -> Result<Option<Call>
 }
 
 /// The service that a case's command line opens, or nothing where the case can't be run by calls:
-/// its lines stand in a file or go to several lanes, its standard output gets full, or no service is
-/// opened.
+/// its lines stand in a file or go to several lanes, it loads or saves records, its standard output
+/// gets full, or no service is opened.
 fn opened_for(alloc: Global, case: &Case) -> Option<Opened> {
     if case.room().is_some() {
         return None;
     }
-    match settings_of(alloc, case.words()) {
-        Ok((settings, None)) if settings.passes == 1 => Opened::open(alloc, &settings).ok(),
-        _ => None,
+    let Ok(line) = settings_of(alloc, case.words()) else {
+        return None;
+    };
+    let reads_no_file = line.file.is_none() && line.load.is_none() && line.save.is_none();
+    if !reads_no_file || line.settings.passes != 1 {
+        return None;
     }
+    Opened::open(alloc, &line.settings).ok()
 }
 
 /// What the calls answer, or nothing where the case can't be run by calls.

@@ -1,11 +1,11 @@
 //! The forms in which a case is run.
 
 use crate::calls::{CallForm, by_calls};
-use crate::case::{Case, Step};
 use crate::process::Process;
+use case_files::{Case, Step};
 use std::alloc::{AllocError, Global};
 use std::io;
-use std::rt::Files;
+use std::rt::{Clock, Files};
 use std::sync::Wait;
 use std::thread::Threads;
 
@@ -40,7 +40,7 @@ impl Form {
     }
 
     /// What is answered, or nothing where the case can't be run in this form.
-    pub(crate) fn run<R: Files + AllocGlobal + Threads + Wait + Sync>(
+    pub(crate) fn run<R: Clock + Files + AllocGlobal + Threads + Wait + Sync>(
         &self,
         rt: &R,
         case: &Case,
@@ -69,7 +69,7 @@ fn script_of(alloc: Global, case: &Case) -> Result<Option<Vec<u8>>, AllocError> 
 
 /// What the program answers. Without its line feed the last line counts all the same, unless it is
 /// empty: then it is no line, so such a case can't be run without it.
-fn by_program<R: Files + AllocGlobal + Threads + Wait + Sync>(
+fn by_program<R: Clock + Files + AllocGlobal + Threads + Wait + Sync>(
     rt: &R,
     case: &Case,
     ends: bool,

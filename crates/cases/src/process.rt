@@ -1,6 +1,6 @@
 //! A process that gives the program its arguments and its input, and keeps what it writes.
 
-use crate::transcript::transcript;
+use case_files::transcript;
 use std::alloc::{AllocError, Allocator, Global};
 use std::cell::Cell;
 use std::env::FillError;
@@ -45,10 +45,16 @@ impl<'a> Process<'a> {
         }
     }
 
-    /// What was written, and the exit status.
-    pub(crate) fn transcript(&self, status: u8) -> Result<String, AllocError> {
+    /// What was written to standard output and to standard error.
+    pub(crate) fn written(&self) -> (Vec<u8>, Vec<u8>) {
         let output = self.output.replace(Vec::new(self.alloc));
         let errors = self.errors.replace(Vec::new(self.alloc));
+        (output, errors)
+    }
+
+    /// What was written, and the exit status.
+    pub(crate) fn transcript(&self, status: u8) -> Result<String, AllocError> {
+        let (output, errors) = self.written();
         transcript(self.alloc, &output, &errors, status)
     }
 }

@@ -18,9 +18,12 @@ pub enum Refused {
 /// Contracts see an object by the contents that it stands for. What a request answers and what it
 /// makes of a content are functions of the two alone.
 pub trait Object: Drop {
+    ghost use Rattle.std.specs.Prelude.{List, ℕ};
+    ghost use Rattle.gate.specs.Records.{Later};
+
     type Request: Drop;
 
-    type Reply;
+    type Reply: Drop;
     /// What `prepare` hands to `commit`.
     type Plan;
     /// What an object stands for. No value of it is ever made, so it may be what no machine holds.
@@ -40,6 +43,9 @@ pub trait Object: Drop {
 
     // What every content keeps of each one before it: a relation from the earlier to the later.
     ghost keeps: { Self.Content → Self.Content → Type 0 };
+
+    // What has to stand in the contents of all slots before a request is made on one of them.
+    ghost grounds: { List Self.Content → ℕ → Self.Request → Type 0 };
 
     // The object is ready to do, by this plan, what the request asks at the content.
     ghost ready: { Self → Self.Content → Self.Request → Self.Plan → Type 0 };
@@ -69,4 +75,8 @@ pub trait Object: Drop {
 
     // What is kept of one that is kept is kept.
     ghost keeps_on: { (a b c : Self.Content) → keeps a b → keeps b c → keeps a c };
+
+    // What grounds a request still does when records grow.
+    ghost grounds_on: { (before later : List Self.Content) (k : ℕ) (q : Self.Request)
+        → Later after before later → grounds before k q → grounds later k q };
 }

@@ -4,7 +4,7 @@ ghost use Rattle.gate.specs.Passes.{view, number};
 ghost use Rattle.std.specs.Thread.{IsSync};
 
 use crate::Counter;
-use gate::{ClosedSlot, Gate, Pass, Refused};
+use gate::{ClosedSlot, Gate, Pass, Refused, replayed};
 use std::alloc::{AllocError, Global};
 use std::rt::Clock;
 use std::sync::{Barrier, Wait};
@@ -104,6 +104,39 @@ fn an_opened_record_goes_on(rt: HostRuntime) -> Result<(), Fail> {
     assert!(rt; slot.object.value() == 10);
     assert!(rt; !slot.entries.is_empty());
     assert!(rt; has_steps(&slot.entries, &[(0, 5), (1, 2), (0, 3)]));
+    assert!(rt; slot.tickets.as_slice() == [1].as_slice());
+    Ok(())
+}
+
+#[test]
+fn a_replayed_counter_has_made_all_steps_of_its_record(rt: HostRuntime) -> Result<(), Fail> {
+    let mut entries = Vec::new(rt.alloc());
+    entries.push(Entry {
+        pass: 3,
+        request: 5,
+    })?;
+    entries.push(Entry {
+        pass: 1,
+        request: 2,
+    })?;
+    let (counter, record) = replayed(rt.alloc(), Counter::at(0), Record::from_vec(entries))?;
+    assert!(rt; counter.value() == 7);
+    assert!(rt; has_steps(&record, &[(3, 5), (1, 2)]));
+    let mut objects = Vec::new(rt.alloc());
+    objects.push((counter, record))?;
+    let (gate, mut passes) = Gate::open(rt.alloc(), objects, 1)?;
+    assert!(rt; gate.try_step(&mut passes[0], 0, 3) == Ok(10));
+    Ok(())
+}
+
+#[test]
+fn a_record_whose_step_is_refused_is_not_replayed(rt: HostRuntime) -> Result<(), Fail> {
+    let mut entries = Vec::new(rt.alloc());
+    entries.push(Entry {
+        pass: 0,
+        request: 0,
+    })?;
+    assert!(rt; replayed(rt.alloc(), Counter::at(0), Record::from_vec(entries)).is_err());
     Ok(())
 }
 
@@ -133,6 +166,8 @@ fn a_pass_inside_keeps_others_out(rt: HostRuntime) -> Result<(), Fail> {
     assert!(rt; all[0].object.value() == 9);
     assert!(rt; has_steps(&all[0].entries, &[(0, 5), (1, 4)]));
     assert!(rt; has_steps(&all[1].entries, &[(1, 3)]));
+    assert!(rt; all[0].tickets.as_slice() == [1, 3].as_slice());
+    assert!(rt; all[1].tickets.as_slice() == [2].as_slice());
     Ok(())
 }
 
@@ -300,6 +335,7 @@ fn four_threads_step_on_three_slots(rt: HostRuntime) -> Result<(), Fail> {
     for slot in 0..SLOTS {
         let here = &closed[slot as usize];
         assert!(rt; here.entries.len() == 400);
+        assert!(rt; here.tickets.len() == 400);
         // 100 requests of each of four passes: slot + 1, slot + 4, ...
         assert!(rt; here.object.value() == 4 * (100 * (slot + 1) + 3 * 4950));
         for pass in 0..4 {

@@ -1,8 +1,6 @@
 -- loops over events
-use Rattle.std.proofs.Common.{◌≡◌, ℕ, zero, suc, ◌+◌, ◌<◌, ◌≤◌, Bool, true, false, cond, ◌||◌, ◌&&◌, ◌==◌, List, [], ◌∷◌, ◌++◌, length, take, refl, sym, ap, ◌∙◌, Option, Some, None, append-nil, arith}
-use Rattle.std.proofs.Math.ListN.{get_or}
-use Rattle.std.proofs.lemmas.List.{take_more, map-append}
-use Rattle.std.proofs.lemmas.List.Elements.{filter_map-append}
+use Rattle.std.proofs.Common.{◌≡◌, ℕ, Bool, true, false, cond, ◌||◌, ◌&&◌, ◌==◌, List, [], ◌∷◌, ◌++◌, refl, sym, ap, subst, ◌∙◌, Option, Some, None, append-nil, append_assoc, arith}
+use Rattle.std.proofs.lemmas.List.{map-append}
 use Rattle.std.proofs.lemmas.Bool.Decides.{nat_tests}
 use Rattle.std.specs.Prelude.{filter, filter_map, map}
 use Rattle.std.specs.List.{list_any, cons_option}
@@ -19,19 +17,23 @@ use Rattle.service_model.specs.Pending.{is_settling, is_settled}
 use Rattle.service_model.specs.Issued.{is_left, close_transfer, closed_transfer}
 use Rattle.issuing.specs.Settled.{if_child, settled_child, IsSettledBy, left_transfer}
 
--- one more of those that a loop looks at
-pub found-one : {A B : Type 0} (f : A → Option B) (os : List A) (i : ℕ) (d : A) (u : B) → i < length os → f (get_or os i d) ≡ Some u → filter_map f (take (i + 1) os) ≡ filter_map f (take i os) ++ u ∷ []
-found-one f os i d u there is = ap (filter_map f) (take_more os i d there) ∙ filter_map-append f (take i os) (get_or os i d ∷ []) ∙ ap (λ o. filter_map f (take i os) ++ cons_option o []) is
+-- one more of those that a loop looks at: what is found so far, with what will be found in those that are left
+pub found-one : {A B : Type 0} (f : A → Option B) (all left more : List A) (found : List B) (x : A) (u : B) → filter_map f all ≡ found ++ filter_map f left → left ≡ x ∷ more → f x ≡ Some u
+    → filter_map f all ≡ (found ++ u ∷ []) ++ filter_map f more
+found-one f all left more found x u so next is =
+    so ∙ ap (λ l. found ++ filter_map f l) next ∙ ap (λ o. found ++ cons_option o (filter_map f more)) is ∙ sym (append_assoc found (u ∷ []) (filter_map f more))
 
-pub found-none : {A B : Type 0} (f : A → Option B) (os : List A) (i : ℕ) (d : A) → i < length os → f (get_or os i d) ≡ None → filter_map f (take (i + 1) os) ≡ filter_map f (take i os)
-found-none f os i d there is = ap (filter_map f) (take_more os i d there) ∙ filter_map-append f (take i os) (get_or os i d ∷ []) ∙ ap (λ o. filter_map f (take i os) ++ cons_option o []) is ∙ append-nil (filter_map f (take i os))
+pub found-none : {A B : Type 0} (f : A → Option B) (all left more : List A) (found : List B) (x : A) → filter_map f all ≡ found ++ filter_map f left → left ≡ x ∷ more → f x ≡ None
+    → filter_map f all ≡ found ++ filter_map f more
+found-none f all left more found x so next is = so ∙ ap (λ l. found ++ filter_map f l) next ∙ ap (λ o. found ++ cons_option o (filter_map f more)) is
 
--- the end of a loop
-pub take-all : {A : Type 0} (xs : List A) (i : ℕ) → length xs ≤ i → take i xs ≡ xs
-take-all [] zero h = refl
-take-all [] (suc i) h = refl
-take-all (x ∷ xs) zero h = absurd (omega (arith, h))
-take-all (x ∷ xs) (suc i) h = ap (λ l. x ∷ l) (take-all xs i (omega (arith, h)))
+-- none is left
+pub found-all : {A B : Type 0} (f : A → Option B) (all left : List A) (found : List B) → filter_map f all ≡ found ++ filter_map f left → left ≡ [] → found ≡ filter_map f all
+found-all f all left found so none = sym (so ∙ ap (λ l. found ++ filter_map f l) none ∙ append-nil found)
+
+-- one more is behind those that were looked at
+pub one-behind : {A : Type 0} (all done left more : List A) (x : A) → all ≡ done ++ left → left ≡ x ∷ more → all ≡ (done ++ x ∷ []) ++ more
+one-behind all done left more x so next = so ∙ ap (λ l. done ++ l) next ∙ sym (append_assoc done (x ∷ []) more)
 
 -- those that are left, and what is asked of them
 pub left-each : (setup : Setup) (run : Run) (events es : List Event) → filter_map (left_transfer setup run events) es ≡ filter_map (close_transfer setup run) (filter (is_left events) es)
@@ -82,27 +84,28 @@ settling-child id (Some s) = by_class s.class
     by_class Signal = refl
     by_class Cancel = refl
 
-settled-next : (id i : ℕ) (events : List Event) (d : Event) → i < length events →
-    is_settled Child id (map (λ (e : Event). e.attributes) (take (i + 1) events)) ≡ (is_settled Child id (map (λ (e : Event). e.attributes) (take i events)) || option_map_or (λ n. id == n) (settled_child (settles (get_or events i d).attributes)) false)
-settled-next id i events d there =
-    let e = get_or events i d in
-    ap (λ l. is_settled Child id (map (λ (e : Event). e.attributes) l)) (take_more events i d there)
-    ∙ ap (is_settled Child id) (map-append (λ (e : Event). e.attributes) (take i events) (e ∷ []))
-    ∙ any-append (λ a. is_settling Child id (settles a)) (map (λ (e : Event). e.attributes) (take i events)) (e.attributes ∷ [])
-    ∙ ap (λ b. is_settled Child id (map (λ (e : Event). e.attributes) (take i events)) || b) (or-false (is_settling Child id (settles e.attributes)) ∙ settling-child id (settles e.attributes))
+settled-next : (id : ℕ) (done : List Event) (e : Event) →
+    is_settled Child id (map (λ (e : Event). e.attributes) (done ++ e ∷ [])) ≡ (is_settled Child id (map (λ (e : Event). e.attributes) done) || option_map_or (λ n. id == n) (settled_child (settles e.attributes)) false)
+settled-next id done e =
+    ap (is_settled Child id) (map-append (λ (e : Event). e.attributes) done (e ∷ []))
+    ∙ any-append (λ a. is_settling Child id (settles a)) (map (λ (e : Event). e.attributes) done) (e.attributes ∷ [])
+    ∙ ap (λ b. is_settled Child id (map (λ (e : Event). e.attributes) done) || b) (or-false (is_settling Child id (settles e.attributes)) ∙ settling-child id (settles e.attributes))
 
-pub settled-one : (i n : ℕ) (events : List Event) (d : Event) (ids : List ℕ) → i < length events → IsSettledBy (take i events) ids → settled_child (settles (get_or events i d).attributes) ≡ Some n → IsSettledBy (take (i + 1) events) (insert_key (λ m k. m == k) ids n)
-settled-one i n events d ids there h is id =
+pub settled-one : (n : ℕ) (done : List Event) (e : Event) (ids : List ℕ) → IsSettledBy done ids → settled_child (settles e.attributes) ≡ Some n → IsSettledBy (done ++ e ∷ []) (insert_key (λ m k. m == k) ids n)
+settled-one n done e ids h is id =
     inserted-any id n ids
     ∙ ap (λ b. b || (id == n)) (h id)
-    ∙ sym (settled-next id i events d there ∙ ap (λ o. is_settled Child id (map (λ (e : Event). e.attributes) (take i events)) || option_map_or (λ m. id == m) o false) is)
+    ∙ sym (settled-next id done e ∙ ap (λ o. is_settled Child id (map (λ (e : Event). e.attributes) done) || option_map_or (λ m. id == m) o false) is)
 
-pub settled-same : (i : ℕ) (events : List Event) (d : Event) (ids : List ℕ) → i < length events → IsSettledBy (take i events) ids → settled_child (settles (get_or events i d).attributes) ≡ None → IsSettledBy (take (i + 1) events) ids
-settled-same i events d ids there h is id =
+pub settled-same : (done : List Event) (e : Event) (ids : List ℕ) → IsSettledBy done ids → settled_child (settles e.attributes) ≡ None → IsSettledBy (done ++ e ∷ []) ids
+settled-same done e ids h is id =
     h id
-    ∙ sym (settled-next id i events d there
-    ∙ ap (λ o. is_settled Child id (map (λ (e : Event). e.attributes) (take i events)) || option_map_or (λ m. id == m) o false) is
-    ∙ or-false (is_settled Child id (map (λ (e : Event). e.attributes) (take i events))))
+    ∙ sym (settled-next id done e
+    ∙ ap (λ o. is_settled Child id (map (λ (e : Event). e.attributes) done) || option_map_or (λ m. id == m) o false) is
+    ∙ or-false (is_settled Child id (map (λ (e : Event). e.attributes) done)))
+
+pub settled-all : (all done left : List Event) (ids : List ℕ) → all ≡ done ++ left → left ≡ [] → IsSettledBy done ids → IsSettledBy all ids
+settled-all all done left ids so none h = subst (λ es. IsSettledBy es ids) (sym (so ∙ ap (λ l. done ++ l) none ∙ append-nil done)) h
 
 -- a run without a parent tells none
 pub none-told : (run : Run) (es : List Event) → filter_map (closed_transfer run None) es ≡ []

@@ -1,5 +1,5 @@
 -- MEANING: the transfers that a run issues, by the events that it shows
-use Rattle.std.specs.Prelude.{ℕ, Bool, cond, List, [], ◌++◌, drop, filter_map, Option}
+use Rattle.std.specs.Prelude.{Bool, cond, List, [], ◌++◌, filter_map, Option}
 use Rattle.wf_event.specs.declared.event.Event.{Event}
 use Rattle.wf_event.specs.declared.payloads.Parent.{Parent}
 use Rattle.wf_event_values.specs.Run.{Run}
@@ -12,6 +12,6 @@ abbrev pub closings_behind : Setup → Run → Option Parent → List Event → 
 closings_behind setup run parent events later = filter_map (close_transfer setup run) (children_left events) ++ filter_map (closed_transfer run parent) later
 
 -- as the definitions have it of the run's state
-abbrev pub transfers_behind : Setup → Run → Bool → Option Parent → List Event → ℕ → List Sent
-transfers_behind setup run is_open parent events first =
-    requests_of setup run (drop first events) ++ cond is_open [] (closings_behind setup run parent events (drop first events))
+abbrev pub transfers_behind : Setup → Run → Bool → Option Parent → List Event → List Event → List Sent
+transfers_behind setup run is_open parent events later =
+    requests_of setup run later ++ cond is_open [] (closings_behind setup run parent events later)

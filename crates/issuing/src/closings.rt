@@ -7,6 +7,7 @@ ghost use Rattle.issuing.specs.Settled.{IsSettledBy, left_transfer};
 ghost use Rattle.service_model.specs.Issued.{is_abandon, close_by, close_transfer, child_end, closed_transfer, children_left};
 
 use crate::left::{is_left, settled_children};
+use event_pieces::Events;
 use indexmap::IndexSet;
 use service_model_types::content::Setup;
 use service_model_types::transfer::{ChildClosed, ChildStatus, CloseChild, Sent, TransferContent};
@@ -80,7 +81,7 @@ pub(crate) fn left_transfers(
     alloc: Global,
     setup: &Setup,
     run: RunId,
-    events: &[Event],
+    events: &Events<'_>,
 ) -> Result<Vec<Sent>, AllocError>
     requires { 0 < setup.now.shards }
     ensures { IfOk result (λ found. found.items
@@ -88,7 +89,7 @@ pub(crate) fn left_transfers(
 {
     let settled = settled_children(alloc, events)?;
     let mut found = Vec::new(alloc);
-    for event in events {
+    for event in events.again() {
         if let Some(sent) = left_transfer(setup, run, &settled, event)? {
             found.push(sent)?;
         }
@@ -150,13 +151,13 @@ pub(crate) fn closed_transfers(
     alloc: Global,
     run: RunId,
     parent: &Parent,
-    events: &[Event],
+    events: &Events<'_>,
 ) -> Result<Vec<Sent>, AllocError>
     ensures { IfOk result (λ found. found.items
         ≡ filter_map (closed_transfer run (Some parent.now)) events.now) }
 {
     let mut found = Vec::new(alloc);
-    for event in events {
+    for event in events.again() {
         if let Some(sent) = closed_transfer(alloc, run, parent, event)? {
             found.push(sent)?;
         }

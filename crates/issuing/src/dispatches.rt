@@ -1,8 +1,9 @@
 //! The tasks that a run hands to their queues, by the events that schedule them.
 
-ghost use Rattle.std.specs.Prelude.{◌≡◌, drop, filter_map, IfOk};
+ghost use Rattle.std.specs.Prelude.{◌≡◌, filter_map, IfOk};
 ghost use Rattle.service_model.specs.Issued.{task_dispatch};
 
+use event_pieces::Events;
 use service_model_types::content::{Dispatch, Setup};
 use service_model_types::request::Hint;
 use std::alloc::{AllocError, Global};
@@ -33,34 +34,18 @@ fn task_dispatch(setup: &Setup, run: u64, event: &Event) -> Result<Option<Dispat
     Ok(Some(Dispatch { queue, hint }))
 }
 
-/// The dispatches of the tasks that these events schedule, but for so many first ones, in the run
-/// with this ordinal.
-pub fn dispatches_behind(
+/// The dispatches of the tasks that these events schedule in the run with this ordinal.
+pub fn dispatches_of(
     alloc: Global,
     setup: &Setup,
     run: u64,
-    events: &[Event],
-    first: usize,
-) -> Result<Vec<Dispatch>, AllocError>
-    ensures { IfOk result (λ found. found.items
-        ≡ filter_map (task_dispatch setup.now run) (drop first events.now)) }
-{
-    let later = &events[first.min(events.len())..];
-    dispatches_of(alloc, setup, run, later)
-}
-
-/// The dispatches of the tasks that these events schedule.
-fn dispatches_of(
-    alloc: Global,
-    setup: &Setup,
-    run: u64,
-    events: &[Event],
+    events: &Events<'_>,
 ) -> Result<Vec<Dispatch>, AllocError>
     ensures { IfOk result (λ found. found.items
         ≡ filter_map (task_dispatch setup.now run) events.now) }
 {
     let mut found = Vec::new(alloc);
-    for event in events {
+    for event in events.again() {
         if let Some(dispatch) = task_dispatch(setup, run, event)? {
             found.push(dispatch)?;
         }

@@ -6,6 +6,7 @@ ghost use Rattle.wf_event.specs.Role.{settles};
 ghost use Rattle.service_model.specs.Issued.{is_left};
 ghost use Rattle.issuing.specs.Settled.{settled_child, IsSettledBy};
 
+use event_pieces::Events;
 use indexmap::IndexSet;
 use std::alloc::{AllocError, Global};
 use wf_event::{Attributes, Class, Event, Opener};
@@ -26,11 +27,14 @@ fn settled_child(attributes: &Attributes) -> Option<u64>
 }
 
 /// The events that asked for the children that these events settle.
-pub(crate) fn settled_children(alloc: Global, events: &[Event]) -> Result<IndexSet<u64>, AllocError>
+pub(crate) fn settled_children(
+    alloc: Global,
+    events: &Events<'_>,
+) -> Result<IndexSet<u64>, AllocError>
     ensures { IfOk result (λ settled. IsSettledBy events.now settled.keys) }
 {
     let mut settled = IndexSet::new(alloc);
-    for event in events {
+    for event in events.again() {
         if let Some(initiated) = settled_child(&event.attributes) {
             settled.insert(initiated)?;
         }

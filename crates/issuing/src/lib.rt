@@ -9,5 +9,5 @@ mod left;
 mod requests;
 mod transfers;
 
-pub use dispatches::dispatches_behind;
+pub use dispatches::dispatches_of;
 pub use transfers::transfers_behind;

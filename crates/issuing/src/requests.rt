@@ -4,6 +4,7 @@ ghost use Rattle.std.specs.Prelude.{◌≡◌, ◌<◌, IfOk, Some};
 ghost use Rattle.wf_event.specs.declared.attributes.Attributes.TheVariants.{StartChildWorkflowExecutionInitiated as a_child, SignalExternalWorkflowExecutionInitiated as a_signal, RequestCancelExternalWorkflowExecutionInitiated as a_cancel};
 ghost use Rattle.service_model.specs.Issued.{request_by, request_transfer, requests_of};
 
+use event_pieces::Events;
 use service_model_types::content::Setup;
 use service_model_types::transfer::{
     CancelExternalTransfer, Sent, SignalExternalTransfer, StartChildTransfer, TransferContent,
@@ -110,13 +111,13 @@ pub(crate) fn requests_of(
     alloc: Global,
     setup: &Setup,
     run: RunId,
-    events: &[Event],
+    events: &Events<'_>,
 ) -> Result<Vec<Sent>, AllocError>
     requires { 0 < setup.now.shards }
     ensures { IfOk result (λ found. found.items ≡ requests_of setup.now run events.now) }
 {
     let mut found = Vec::new(alloc);
-    for event in events {
+    for event in events.again() {
         if let Some(sent) = request_transfer(setup, run, event)? {
             found.push(sent)?;
         }

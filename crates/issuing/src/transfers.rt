@@ -1,14 +1,14 @@
 //! The transfers of a run.
 
-ghost use Rattle.std.specs.Prelude.{◌≡◌, ◌<◌, IfOk, drop};
+ghost use Rattle.std.specs.Prelude.{◌≡◌, ◌<◌, IfOk};
 ghost use Rattle.issuing.specs.Behind.{closings_behind, transfers_behind};
 
 use crate::closings::{closed_transfers, left_transfers};
 use crate::requests::requests_of;
+use event_pieces::Events;
 use service_model_types::content::Setup;
 use service_model_types::transfer::Sent;
 use std::alloc::{AllocError, Global};
-use wf_event::Event;
 use wf_event::payloads::Parent;
 use wf_event_values::RunId;
 
@@ -18,8 +18,8 @@ fn closings_of(
     setup: &Setup,
     run: RunId,
     parent: &Option<Parent>,
-    events: &[Event],
-    later: &[Event],
+    events: &Events<'_>,
+    later: &Events<'_>,
 ) -> Result<Vec<Sent>, AllocError>
     requires { 0 < setup.now.shards }
     ensures { IfOk result (λ found. found.items
@@ -34,22 +34,21 @@ fn closings_of(
     Ok(found)
 }
 
-/// The transfers that a run issues by the events of its history but for so many first ones, where it is
-/// open or has closed by them. A child has a parent.
+/// The transfers that a run issues by the later ones of its events, where it is open or has closed by
+/// them. A child has a parent.
 pub fn transfers_behind(
     alloc: Global,
     setup: &Setup,
     run: RunId,
     is_open: bool,
     parent: &Option<Parent>,
-    events: &[Event],
-    first: usize,
+    events: &Events<'_>,
+    later: &Events<'_>,
 ) -> Result<Vec<Sent>, AllocError>
     requires { 0 < setup.now.shards }
     ensures { IfOk result (λ found. found.items
-        ≡ transfers_behind setup.now run is_open parent.now events.now first) }
+        ≡ transfers_behind setup.now run is_open parent.now events.now later.now) }
 {
-    let later = &events[first.min(events.len())..];
     let mut found = requests_of(alloc, setup, run, later)?;
     if is_open {
         return Ok(found);

@@ -1,7 +1,7 @@
 -- whose fault it was
 use Rattle.std.proofs.Common.{ℕ, ◌≤◌, arith}
 use Rattle.script.specs.declared.fault.ScriptFault.{ScriptFault}
-use Rattle.script.specs.declared.fault.ScriptFault.TheVariants.{Memory, Read, Write, Setting}
+use Rattle.script.specs.declared.fault.ScriptFault.TheVariants.{Memory, Read, Write, Setting, Records, QueueFull}
 use Rattle.script.specs.Endings.{IsDeviceFault, IsWriteFault}
 
 -- a fault of the writer in a part of a call is one in the call
@@ -10,6 +10,8 @@ device-fault Memory r r' w0 w1 w2 grows h = tt
 device-fault (Read e) r r' w0 w1 w2 grows h = absurd h
 device-fault (Write e) r r' w0 w1 w2 grows h = omega (arith, h)
 device-fault (Setting name) r r' w0 w1 w2 grows h = absurd h
+device-fault Records r r' w0 w1 w2 grows h = absurd h
+device-fault QueueFull r r' w0 w1 w2 grows h = absurd h
 
 -- a device's fault in a part of a call is one in the call
 pub device-later : (e : ScriptFault) (r1 r0 r2 w1 w0 w2 : ℕ) → r0 ≤ r1 → w0 ≤ w1 → IsDeviceFault e r1 r2 w1 w2 → IsDeviceFault e r0 r2 w0 w2
@@ -17,3 +19,5 @@ device-later Memory r1 r0 r2 w1 w0 w2 r w h = tt
 device-later (Read e) r1 r0 r2 w1 w0 w2 r w h = omega (arith, h)
 device-later (Write e) r1 r0 r2 w1 w0 w2 r w h = omega (arith, h)
 device-later (Setting name) r1 r0 r2 w1 w0 w2 r w h = absurd h
+device-later Records r1 r0 r2 w1 w0 w2 r w h = absurd h
+device-later QueueFull r1 r0 r2 w1 w0 w2 r w h = absurd h

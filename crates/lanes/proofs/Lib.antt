@@ -3,9 +3,11 @@ pub mod CourseLemmas
 pub mod FaultLemmas
 pub mod LaneLemmas
 pub mod MeetLemmas
+pub mod NumberLemmas
 pub mod PhaseLemmas
 pub mod PlaceLemmas
 pub mod PrintLemmas
+pub mod ReopenLemmas
 pub mod ToldLemmas
 pub mod TurnLemmas
 pub mod WorkLemmas

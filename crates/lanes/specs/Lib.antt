@@ -3,4 +3,5 @@ pub mod Endings
 pub mod Lanes
 pub mod Meetings
 pub mod Printed
+pub mod Reopened
 pub mod Told

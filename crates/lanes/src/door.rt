@@ -2,8 +2,7 @@
 
 ghost use Rattle.std.specs.Prelude.{◌≡◌, IfOk};
 ghost use Rattle.service.specs.Services.{IsPassOf};
-ghost use Rattle.service.specs.Calls.{CallServed};
-ghost use Rattle.lanes.specs.Meetings.{PassesMet};
+ghost use Rattle.lanes.specs.Meetings.{PassServed, PassesMet};
 
 use service::{Pass, Service};
 use service_model_types::answer::Reply;
@@ -43,12 +42,11 @@ pub trait Door {
 
 impl Door for Service {
     ghost use Rattle.service.specs.Services.{IsPassOf};
-    ghost use Rattle.service.specs.Calls.{CallServed};
-    ghost use Rattle.lanes.specs.Meetings.{PassesMet};
+    ghost use Rattle.lanes.specs.Meetings.{PassServed, PassesMet};
 
     ghost admits = { λ x p. IsPassOf p x };
 
-    ghost serves = { λ x p p' c r. CallServed x p p' c r };
+    ghost serves = { λ x p p' c r. PassServed x p p' c r };
 
     ghost meets = { λ x p q p' q'. PassesMet x p q p' q' };
 

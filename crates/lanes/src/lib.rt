@@ -2,13 +2,16 @@
 //!
 //! `run_lanes` reads lines up to a barrier or the end, lets every lane serve its own in their order, each
 //! in a thread of its own with its own pass, and then writes the replies in the order of the lines.
+//! `run_lanes_from` does so over a service that it opens from records, and gives the records of its end.
 #![tactic(auto)]
 
 mod door;
 mod lane;
 mod phase;
 mod print;
+mod reopened;
 mod run;
 
 pub use door::Door;
+pub use reopened::run_lanes_from;
 pub use run::{LanesOutcome, run_lanes};

@@ -1,5 +1,5 @@
 //! Lanes over threads: what no contract says of them, that they run at the same time, that they
-//! succeed, and what is printed where a device fails.
+//! succeed, what is printed where a device fails, and what is served from records.
 #![tactic(auto)]
 
 #[cfg(test)]
@@ -8,5 +8,7 @@ mod devices;
 mod holding;
 #[cfg(test)]
 mod limits;
+#[cfg(test)]
+mod reopen;
 #[cfg(test)]
 mod serving;

@@ -39,7 +39,7 @@ pub(crate) fn open<R: Abort + AllocGlobal>(
     ensures { (k : ℕ) (p : Pass) → slice_get result.2.items k ≡ Some p → IsPassOf p result.1 }
 {
     let settings = settings(rt, shards, passes);
-    let Ok((service, passes)) = Service::open(rt.alloc(), &settings) else {
+    let Ok((service, passes)) = Service::open(rt.alloc(), &settings, Vec::new(rt.alloc())) else {
         panic!(rt; "the service was not opened")
     };
     (settings, service, passes)

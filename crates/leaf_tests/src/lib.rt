@@ -9,6 +9,8 @@ mod decisions;
 #[cfg(test)]
 mod devices;
 #[cfg(test)]
+mod lines;
+#[cfg(test)]
 mod retries;
 #[cfg(test)]
 mod texts;

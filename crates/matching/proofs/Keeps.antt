@@ -1,339 +1,314 @@
--- Each step keeps the rule.
-use Rattle.std.proofs.Common.{◌≡◌, ◌≢◌, ◌⊎◌, inl, inr, ⊎_elim, ℕ, zero, suc, ◌+◌, ◌<◌, ◌≤◌, eqb, Bool, true, false, cond, List, [], ◌∷◌, ◌++◌, length, set, refl, sym, ap, ◌∙◌, subst, arith, append_assoc, append-nil, eq-eqb, ne_eqb}
+-- Each step of a pass keeps the rule.
+use Rattle.std.proofs.Common.{◌≡◌, ◌≢◌, ⊎_elim, ℕ, zero, suc, ◌+◌, ◌<◌, List, [], ◌∷◌, ◌++◌, length, set, refl, sym, ap, ◌∙◌, subst, arith, append_assoc, append-nil}
 use mathlib.Core.Option.{some, some-injective, some-ne-none}
-use native.Mathlib.Decide.{ℕ_discrete}
 use lib.ListN.{get_elem?}
-use Rattle.crossbeam_queue.specs.Fifo.{Pushes, Pops, Forks, Learns}
-use Rattle.crossbeam_queue.proofs.Lists.{at_set}
+use Rattle.atomic_table.proofs.Lists.{at_longer, set_else}
+use Rattle.crossbeam_queue.specs.Fifo.{Pushes, Pops, Forks}
 use Rattle.service_model_types.specs.declared.request.Hint.{Hint}
+use Rattle.matching.specs.declared.view.Part.{Part}
 use Rattle.matching.specs.declared.view.View.{View}
 use Rattle.matching.specs.declared.view.Holder.TheVariants.{Pass, Maker}
-use Rattle.matching.specs.Entries.{Entry, Begins, by, FromGiven, FromShards, hints}
-use Rattle.matching.specs.Moments.{IsMoment, Stood}
-use Rattle.matching.specs.Plays.{maker, nobody, planned, made_one, newcomer, with_put, with_taken, Puts, Takes}
-use Rattle.matching.specs.Rule.{IsPass, IsSeat, Kept}
+use Rattle.matching.specs.Entries.{Entry, Begins, by, FromGiven, FromShards, by_first, hints}
+use Rattle.matching.specs.Ends.{part_of, HasDone}
+use Rattle.matching.specs.Moments.{IsMoment}
+use Rattle.matching.specs.Plays.{maker, made_one, newcomer, with_put, with_taken, with_seen, Puts, Takes, Sees}
+use Rattle.matching.specs.Rings.{Tells}
+use Rattle.matching.specs.Rule.{IsHanded, IsPass, IsSeat, Kept, IsLast}
+use Rattle.matching.specs.Told.{compared, Compares}
+use Rattle.matching.proofs.Entries.{begins_nil, begins_refl, begins_longer, begins_either, longer_begins, by-append, by_own, by_other, by_none, by-first, given_first, given_more, given-append, shards-append, hints-append, hints-first}
+use Rattle.matching.proofs.Stays.{snoc_at, seats_stay, same_at, sat, sat_here, sat_else, handed_over, pass_over, seat_over, handed_step, each_step}
 
--- entries
+module _ (waiting : List Hint) (all width : ℕ) where
+  abbrev Rule : List Hint → List View → Type 0
+  Rule = Kept waiting all width
 
-begins_nil : (w : List Entry) → Begins [] w
-begins_nil w = (w, refl)
+  pub begins : (capacity : ℕ) → FromShards width waiting → Rule waiting (maker all width capacity waiting ∷ [])
+  begins capacity inside = record {
+    put = by_first waiting;
+    taken = [];
+    more = [];
+    made = 0;
+    few = omega arith;
+    holder = λ n. 0;
+    opened = sym (append-nil (by_first waiting));
+    split = hints-first waiting;
+    shards = inside;
+    known_more = tt;
+    known_taken = tt;
+    each = first;
+  }
+    where
+      one : List View
+      one = maker all width capacity waiting ∷ []
 
-begins_refl : (w : List Entry) → Begins w w
-begins_refl w = ([], sym (append-nil w))
+      first : (id : ℕ) (v : View) → get_elem? one id ≡ some v → IsSeat waiting all width 0 (λ n. 0) one (by_first waiting) [] id v
+      first zero v e = subst (IsSeat waiting all width 0 (λ n. 0) one (by_first waiting) [] 0) (some-injective (maker all width capacity waiting) v e) record {
+        seen_put = begins_refl (by_first waiting);
+        seen_taken = begins_nil [];
+        told_put = begins_nil (by_first waiting);
+        told_taken = begins_nil [];
+        pass = λ h. absurd (cc h);
+        maker = λ h. record { first = refl; counts = refl; told = (refl, refl, refl); put = refl };
+      }
+      first (suc id) v e = absurd (some-ne-none v (sym e))
 
-begins_longer : (f w more : List Entry) → Begins f w → Begins f (w ++ more)
-begins_longer f w more h = (h.0 ++ more, ap (λ (l : List Entry). l ++ more) h.1 ∙ append_assoc f h.0 more)
+  -- all that was put is of passes that were given, once there is one
+  pub all_given : (items : List Hint) (views : List View) (b : Rule items views) (id : ℕ) (v : View) → IsPass waiting all width b.made b.holder views b.put b.taken id v → FromGiven v.given b.put
+  all_given items views b id v p =
+      let few = b.few in let known = p.known in let told = p.told.0 in
+      subst (FromGiven v.given) (sym b.opened)
+      (given-append v.given (by_first waiting) b.more (given_first v.given waiting (omega arith)) (given_more b.made v.given b.more (omega arith) b.known_more))
 
-by-append : (p : ℕ) (xs ys : List Entry) → by p (xs ++ ys) ≡ by p xs ++ by p ys
-by-append p [] ys = refl
-by-append p (x ∷ xs) ys = go (by-append p xs ys) (eqb p x.0)
-  where
-    go : by p (xs ++ ys) ≡ by p xs ++ by p ys → (t : Bool) → cond t (x ∷ by p (xs ++ ys)) (by p (xs ++ ys)) ≡ cond t (x ∷ by p xs) (by p xs) ++ by p ys
-    go e true = ap (λ (l : List Entry). x ∷ l) e
-    go e false = e
-
-by_own : (p : ℕ) (x : Hint) → by p ((p, x) ∷ []) ≡ (p, x) ∷ []
-by_own p x = ap (λ (t : Bool). cond t ((p, x) ∷ []) []) (eq-eqb p p refl)
-
-by_other : (p n : ℕ) (x : Hint) → p ≢ n → by p ((n, x) ∷ []) ≡ []
-by_other p n x ne = ap (λ (t : Bool). cond t ((n, x) ∷ []) []) (ne_eqb p n ne)
-
-by_none : (p : ℕ) (xs : List Entry) → FromGiven p xs → by p xs ≡ []
-by_none p [] h = refl
-by_none p (x ∷ xs) h = ap (λ (t : Bool). cond t (x ∷ by p xs) (by p xs)) (ne_eqb p x.0 (λ e. let l : x.0 < p = h.0 in omega arith)) ∙ by_none p xs h.1
-
-given_more : (n m : ℕ) (xs : List Entry) → n ≤ m → FromGiven n xs → FromGiven m xs
-given_more n m [] le h = tt
-given_more n m (x ∷ xs) le h = ((let l : x.0 < n = h.0 in omega arith), given_more n m xs le h.1)
-
-given-append : (n : ℕ) (xs ys : List Entry) → FromGiven n xs → FromGiven n ys → FromGiven n (xs ++ ys)
-given-append n [] ys h k = k
-given-append n (x ∷ xs) ys h k = (h.0, given-append n xs ys h.1 k)
-
-shards-append : (n : ℕ) (xs ys : List Hint) → FromShards n xs → FromShards n ys → FromShards n (xs ++ ys)
-shards-append n [] ys h k = k
-shards-append n (x ∷ xs) ys h k = (h.0, shards-append n xs ys h.1 k)
-
-shards_more : (n m : ℕ) (xs : List Hint) → n ≤ m → FromShards n xs → FromShards m xs
-shards_more n m [] le h = tt
-shards_more n m (x ∷ xs) le h = ((let l : x.shard < n = h.0 in omega arith), shards_more n m xs le h.1)
-
-pub hints-append : (xs ys : List Entry) → hints (xs ++ ys) ≡ hints xs ++ hints ys
-hints-append [] ys = refl
-hints-append (x ∷ xs) ys = ap (λ (l : List Hint). x.1 ∷ l) (hints-append xs ys)
-
--- seats
-
-seats_stay : (K : ℕ → View → Type 0) (vs : List View) (me : ℕ) (w : View) → K me w → ((j : ℕ) (d : View) → j ≢ me → get_elem? vs j ≡ some d → K j d)
-    → (j : ℕ) (d : View) → get_elem? (set vs me w) j ≡ some d → K j d
-seats_stay K vs me w mine others j d e = ⊎_elim (λ (t : (j ≡ me) × (w ≡ d)). subst (λ (x : ℕ × View). K x.0 x.1) (λ i. (sym t.0 i, t.1 i)) mine)
-    (λ (t : (j ≢ me) × (get_elem? vs j ≡ some d)). others j d t.0 t.1) (at_set vs me j w d e)
-
-snoc_at : (l : List View) (a b : View) (j : ℕ) → get_elem? (l ++ a ∷ []) j ≡ some b → (get_elem? l j ≡ some b) ⊎ ((j ≡ length l) × (a ≡ b))
-snoc_at [] a b zero e = inr (refl, some-injective a b e)
-snoc_at [] a b (suc j) e = absurd (some-ne-none b (sym e))
-snoc_at (x ∷ xs) a b zero e = inl e
-snoc_at (x ∷ xs) a b (suc j) e = ⊎_elim (λ t. inl t) (λ t. inr (ap suc t.0, t.1)) (snoc_at xs a b j e)
-
-abbrev pick : {P : Type 0} → Dec P → ℕ → ℕ → ℕ
-pick (yes _) a b = a
-pick (no _) a b = b
-
--- the function f, but a at i
-sat : (ℕ → ℕ) → ℕ → ℕ → ℕ → ℕ
-sat f i a j = pick (ℕ_discrete j i) a (f j)
-
-sat_here : (f : ℕ → ℕ) (i a : ℕ) → sat f i a i ≡ a
-unfolding sat
-sat_here f i a = go (ℕ_discrete i i)
-  where
-    go : (d : Dec (i ≡ i)) → pick d a (f i) ≡ a
-    go (yes _) = refl
-    go (no n) = absurd (n refl)
-
-sat_else : (f : ℕ → ℕ) (i a j : ℕ) → j ≢ i → sat f i a j ≡ f j
-unfolding sat
-sat_else f i a j other = go (ℕ_discrete j i)
-  where
-    go : (d : Dec (j ≡ i)) → pick d a (f j) ≡ f j
-    go (yes e) = absurd (other e)
-    go (no _) = refl
-
--- steps
-
-pub begins : Kept [] (maker ∷ [])
-begins = record {
-  put = [];
-  taken = [];
-  all = 0;
-  made = 0;
-  width = 0;
-  few = omega arith;
-  holder = λ n. 0;
-  split = refl;
-  shards = tt;
-  known_put = tt;
-  known_taken = tt;
-  each = first;
-}
-  where
-    first : (id : ℕ) (v : View) → get_elem? (maker ∷ []) id ≡ some v → IsSeat 0 0 0 (λ n. 0) [] [] id v
-    first zero v e =
-        let is : maker ≡ v = some-injective maker v e in
-        subst (IsSeat 0 0 0 (λ n. 0) [] [] 0) is record {
-          pass = λ h. absurd (cc h);
-          maker = λ h. record { first = refl; counts = refl; told = (refl, refl) };
-        }
-    first (suc id) v e = absurd (some-ne-none v (sym e))
-
--- what a pass knows of the moment
-pub moment_of : (items : List Hint) (views : List View) (b : Kept items views) (port : ℕ) (v : View) → IsPass b.all b.width b.made b.holder b.put b.taken port v → IsMoment v b.put b.taken items
-moment_of items views b port v p =
-    let enough : b.made ≤ v.given = subst (λ (n : ℕ). b.made ≤ n) (sym p.told.0) b.few in
-    record {
-      split = b.split;
-      seen_put = p.seen_put;
-      seen_taken = p.seen_taken;
-      own_put = p.own_put;
-      own_taken = p.own_taken;
-      given_put = given_more b.made v.given b.put enough b.known_put;
-      given_taken = given_more b.made v.given b.taken enough b.known_taken;
-      shards = subst (λ (n : ℕ). FromShards n items) (sym p.told.1) b.shards;
-    }
-
--- another pass, over a step of the pass p
-other_over : (all width made : ℕ) (holder : ℕ → ℕ) (put taken : List Entry) (port : ℕ) (v : View) (more less : List Entry) (j : ℕ) (u : View)
-    → IsPass all width made holder put taken port v → j ≢ port
-    → ((n : ℕ) → n ≢ v.number → by n more ≡ []) → ((n : ℕ) → n ≢ v.number → by n less ≡ [])
-    → IsSeat all width made holder put taken j u → IsSeat all width made holder (put ++ more) (taken ++ less) j u
-other_over all width made holder put taken port v more less j u p apart none_more none_less h = record {
-  pass = λ is. let q = h.pass is in
-      let ne : u.number ≢ v.number = λ e. apart (sym q.sits ∙ (ap holder e ∙ p.sits)) in
+  -- what a pass knows of the moment
+  pub moment_of : (items : List Hint) (views : List View) (b : Rule items views) (id : ℕ) (v : View) → IsPass waiting all width b.made b.holder views b.put b.taken id v → IsMoment v b.put b.taken items
+  moment_of items views b id v p =
+      let few = b.few in let told = p.told.0 in
       record {
-        sits = q.sits;
-        known = q.known;
-        told = q.told;
-        seen_put = begins_longer u.put put more q.seen_put;
-        seen_taken = begins_longer u.taken taken less q.seen_taken;
-        own_put = by-append u.number put more ∙ (ap (λ (l : List Entry). by u.number put ++ l) (none_more u.number ne) ∙ (append-nil (by u.number put) ∙ q.own_put));
-        own_taken = by-append u.number taken less ∙ (ap (λ (l : List Entry). by u.number taken ++ l) (none_less u.number ne) ∙ (append-nil (by u.number taken) ∙ q.own_taken));
-      };
-  maker = h.maker;
-}
+        split = b.split;
+        seen_put = p.done.seen_put;
+        seen_taken = p.done.seen_taken;
+        own_put = p.done.own_put;
+        own_taken = p.done.own_taken;
+        given_put = all_given items views b id v p;
+        given_taken = given_more b.made v.given b.taken (omega arith) b.known_taken;
+        shards = subst (λ (n : ℕ). FromShards n items) (sym p.told.1) b.shards;
+      }
 
-nothing : (m n : ℕ) → n ≢ m → by n [] ≡ []
-nothing m n ne = refl
+  nothing : (m n : ℕ) → n ≢ m → by n [] ≡ []
+  nothing m n ne = refl
 
-pub puts : (n port : ℕ) (v : View) (x : Hint) → v.kind ≡ Pass → n ≡ v.capacity → x.shard < v.shards → Pushes Kept n port v x (Puts v x)
-puts n port v x is cap inside items views room b at =
-    let p = (b.each port v at).pass is in
-    let more : List Entry = (v.number, x) ∷ [] in
-    let w : View = with_put v b.put b.taken x in
-    let put' : List Entry = b.put ++ more in
-    let mine : IsSeat b.all b.width b.made b.holder put' b.taken port w = record {
-      pass = λ h. record {
-        sits = p.sits;
-        known = p.known;
-        told = p.told;
+  pub puts : (n id : ℕ) (v : View) (x : Hint) → v.kind ≡ Pass → n ≡ v.capacity → x.shard < v.shards → Pushes Rule n id v x (Puts v x)
+  puts n id v x is cap inside items views room b at =
+      let old = b.each id v at in let p = old.pass is in
+      let more : List Entry = (v.number, x) ∷ [] in
+      let w : View = with_put v b.put b.taken x in
+      let put' : List Entry = b.put ++ more in
+      let same : b.taken ≡ b.taken ++ [] = sym (append-nil b.taken) in
+      let other : (m : ℕ) → m ≢ v.number → by m more ≡ [] = λ m ne. by_other m v.number x ne in
+      let mine : IsSeat waiting all width b.made b.holder (set views id w) put' b.taken id w = record {
         seen_put = begins_refl put';
         seen_taken = begins_refl b.taken;
-        own_put = by-append v.number b.put more ∙ (ap (λ (l : List Entry). l ++ by v.number more) p.own_put ∙ ap (λ (l : List Entry). v.pushed ++ l) (by_own v.number x));
-        own_taken = p.own_taken;
-      };
-      maker = λ h. absurd (cc (is, h));
-    } in
-    let others : (j : ℕ) (u : View) → j ≢ port → get_elem? views j ≡ some u → IsSeat b.all b.width b.made b.holder put' b.taken j u = λ j u apart at_u.
-    subst (λ (l : List Entry). IsSeat b.all b.width b.made b.holder put' l j u) (append-nil b.taken)
-    (other_over b.all b.width b.made b.holder b.put b.taken port v more [] j u p apart (λ m ne. by_other m v.number x ne) (nothing v.number) (b.each j u at_u)) in
-    let kept : Kept (items ++ x ∷ []) (set views port w) = record {
-      put = put';
-      taken = b.taken;
-      all = b.all;
-      made = b.made;
-      width = b.width;
-      few = b.few;
-      holder = b.holder;
-      split = hints-append b.put more ∙ (ap (λ (l : List Hint). l ++ x ∷ []) b.split ∙ append_assoc (hints b.taken) items (x ∷ []));
-      shards = shards-append b.width items (x ∷ []) b.shards (subst (λ (m : ℕ). x.shard < m) p.told.1 inside, tt);
-      known_put = given-append b.made b.put more b.known_put (p.known, tt);
-      known_taken = b.known_taken;
-      each = seats_stay (IsSeat b.all b.width b.made b.holder put' b.taken) views port w mine others;
-    } in
-    let told : Puts v x w = record { put = b.put; taken = b.taken; waiting = items; moment = moment_of items views b port v p; room = subst (λ (m : ℕ). length items < m) cap room; knows = refl } in
-    (w, kept, told)
+        told_put = begins_longer v.told_put b.put more old.told_put;
+        told_taken = old.told_taken;
+        pass = λ h. record {
+          sits = p.sits;
+          known = p.known;
+          told = p.told;
+          done = record {
+            seen_put = begins_refl put';
+            seen_taken = begins_refl b.taken;
+            own_put = by-append v.number b.put more ∙ (ap (λ (l : List Entry). l ++ by v.number more) p.done.own_put ∙ ap (λ (l : List Entry). v.pushed ++ l) (by_own v.number x));
+            own_taken = p.done.own_taken;
+          };
+          handed = λ i t e. handed_step waiting all width items views b id v w at is more [] put' b.taken refl same other (nothing v.number) t (p.handed i t e);
+        };
+        maker = λ h. absurd (cc (is, h));
+      } in
+      let kept : Rule (items ++ x ∷ []) (set views id w) = record {
+        put = put';
+        taken = b.taken;
+        more = b.more ++ more;
+        made = b.made;
+        few = b.few;
+        holder = b.holder;
+        opened = ap (λ (l : List Entry). l ++ more) b.opened ∙ append_assoc (by_first waiting) b.more more;
+        split = hints-append b.put more ∙ (ap (λ (l : List Hint). l ++ x ∷ []) b.split ∙ append_assoc (hints b.taken) items (x ∷ []));
+        shards = shards-append width items (x ∷ []) b.shards (subst (λ (m : ℕ). x.shard < m) p.told.1 inside, tt);
+        known_more = given-append b.made b.more more b.known_more (p.known, tt);
+        known_taken = b.known_taken;
+        each = each_step waiting all width items views b id v w at is more [] put' b.taken refl same other (nothing v.number) mine;
+      } in
+      let told : Puts v x w = record { put = b.put; taken = b.taken; waiting = items; moment = moment_of items views b id v p; room = subst (λ (m : ℕ). length items < m) cap room; knows = refl } in
+      (w, kept, told)
 
-pub takes : (port : ℕ) (v : View) → v.kind ≡ Pass → Pops Kept port v (Takes v)
-takes port v is x items views b at =
-    let p = (b.each port v at).pass is in
-    let less : List Entry = (v.number, x) ∷ [] in
-    let w : View = with_taken v b.put b.taken x in
-    let taken' : List Entry = b.taken ++ less in
-    let mine : IsSeat b.all b.width b.made b.holder b.put taken' port w = record {
-      pass = λ h. record {
-        sits = p.sits;
-        known = p.known;
-        told = p.told;
+  pub takes : (id : ℕ) (v : View) → v.kind ≡ Pass → Pops Rule id v (Takes v)
+  takes id v is x items views b at =
+      let old = b.each id v at in let p = old.pass is in
+      let less : List Entry = (v.number, x) ∷ [] in
+      let w : View = with_taken v b.put b.taken x in
+      let taken' : List Entry = b.taken ++ less in
+      let same : b.put ≡ b.put ++ [] = sym (append-nil b.put) in
+      let other : (m : ℕ) → m ≢ v.number → by m less ≡ [] = λ m ne. by_other m v.number x ne in
+      let mine : IsSeat waiting all width b.made b.holder (set views id w) b.put taken' id w = record {
         seen_put = begins_refl b.put;
         seen_taken = begins_refl taken';
-        own_put = p.own_put;
-        own_taken = by-append v.number b.taken less ∙ (ap (λ (l : List Entry). l ++ by v.number less) p.own_taken ∙ ap (λ (l : List Entry). v.popped ++ l) (by_own v.number x));
-      };
-      maker = λ h. absurd (cc (is, h));
-    } in
-    let others : (j : ℕ) (u : View) → j ≢ port → get_elem? views j ≡ some u → IsSeat b.all b.width b.made b.holder b.put taken' j u = λ j u apart at_u.
-    subst (λ (l : List Entry). IsSeat b.all b.width b.made b.holder l taken' j u) (append-nil b.put)
-    (other_over b.all b.width b.made b.holder b.put b.taken port v [] less j u p apart (nothing v.number) (λ m ne. by_other m v.number x ne) (b.each j u at_u)) in
-    let kept : Kept items (set views port w) = record {
-      put = b.put;
-      taken = taken';
-      all = b.all;
-      made = b.made;
-      width = b.width;
-      few = b.few;
-      holder = b.holder;
-      split = b.split ∙ (sym (append_assoc (hints b.taken) (x ∷ []) items) ∙ ap (λ (l : List Hint). l ++ items) (sym (hints-append b.taken less)));
-      shards = b.shards.1;
-      known_put = b.known_put;
-      known_taken = given-append b.made b.taken less b.known_taken (p.known, tt);
-      each = seats_stay (IsSeat b.all b.width b.made b.holder b.put taken') views port w mine others;
-    } in
-    let told : Takes v x w = record { put = b.put; taken = b.taken; rest = items; moment = moment_of (x ∷ items) views b port v p; knows = refl } in
-    (w, kept, told)
+        told_put = old.told_put;
+        told_taken = begins_longer v.told_taken b.taken less old.told_taken;
+        pass = λ h. record {
+          sits = p.sits;
+          known = p.known;
+          told = p.told;
+          done = record {
+            seen_put = begins_refl b.put;
+            seen_taken = begins_refl taken';
+            own_put = p.done.own_put;
+            own_taken = by-append v.number b.taken less ∙ (ap (λ (l : List Entry). l ++ by v.number less) p.done.own_taken ∙ ap (λ (l : List Entry). v.popped ++ l) (by_own v.number x));
+          };
+          handed = λ i t e. handed_step waiting all width (x ∷ items) views b id v w at is [] less b.put taken' same refl (nothing v.number) other t (p.handed i t e);
+        };
+        maker = λ h. absurd (cc (is, h));
+      } in
+      let kept : Rule items (set views id w) = record {
+        put = b.put;
+        taken = taken';
+        more = b.more;
+        made = b.made;
+        few = b.few;
+        holder = b.holder;
+        opened = b.opened;
+        split = b.split ∙ (sym (append_assoc (hints b.taken) (x ∷ []) items) ∙ ap (λ (l : List Hint). l ++ items) (sym (hints-append b.taken less)));
+        shards = b.shards.1;
+        known_more = b.known_more;
+        known_taken = given-append b.made b.taken less b.known_taken (p.known, tt);
+        each = each_step waiting all width (x ∷ items) views b id v w at is [] less b.put taken' same refl (nothing v.number) other mine;
+      } in
+      let told : Takes v x w = record { put = b.put; taken = b.taken; rest = items; moment = moment_of (x ∷ items) views b id v p; knows = refl } in
+      (w, kept, told)
 
-pub learns : (port : ℕ) (v : View) → v.kind ≡ Pass → Learns Kept port v (Stood v)
-learns port v is items views b at = record { put = b.put; taken = b.taken; moment = moment_of items views b port v ((b.each port v at).pass is) }
+  -- a pass has a new view, and the lists stay
+  looked : (items : List Hint) (views : List View) (b : Rule items views) (id : ℕ) (v w : View) → get_elem? views id ≡ some v → v.kind ≡ Pass
+      → w.kind ≡ Pass → w.number ≡ v.number → (w.given ≡ v.given) × (w.shards ≡ v.shards) × (w.opened ≡ v.opened) × (w.handed ≡ v.handed)
+      → Begins w.told_put b.put → Begins w.told_taken b.taken → HasDone (part_of w) b.put b.taken → Rule items (set views id w)
+  looked items views b id v w at is kind number same told_put told_taken done =
+      let p = (b.each id v at).pass is in
+      let same_put : b.put ≡ b.put ++ [] = sym (append-nil b.put) in
+      let same_taken : b.taken ≡ b.taken ++ [] = sym (append-nil b.taken) in
+      let mine : IsSeat waiting all width b.made b.holder (set views id w) b.put b.taken id w = record {
+        seen_put = done.seen_put;
+        seen_taken = done.seen_taken;
+        told_put = told_put;
+        told_taken = told_taken;
+        pass = λ h. record {
+          sits = ap b.holder number ∙ p.sits;
+          known = subst (λ (n : ℕ). n < b.made) (sym number) p.known;
+          told = (same.0 ∙ p.told.0, same.1 ∙ p.told.1, same.2 ∙ p.told.2);
+          done = done;
+          handed = λ i t e. handed_step waiting all width items views b id v w at is [] [] b.put b.taken same_put same_taken (nothing v.number) (nothing v.number) t
+              (p.handed i t (ap (λ (l : List Part). get_elem? l i) (sym same.3) ∙ e));
+        };
+        maker = λ h. absurd (cc (kind, h));
+      } in
+      record {
+        put = b.put;
+        taken = b.taken;
+        more = b.more;
+        made = b.made;
+        few = b.few;
+        holder = b.holder;
+        opened = b.opened;
+        split = b.split;
+        shards = b.shards;
+        known_more = b.known_more;
+        known_taken = b.known_taken;
+        each = each_step waiting all width items views b id v w at is [] [] b.put b.taken same_put same_taken (nothing v.number) (nothing v.number) mine;
+      }
 
--- how passes are made
+  pub sees : (id : ℕ) (v : View) → v.kind ≡ Pass → Tells Rule id v (Sees v)
+  sees id v is items views b at =
+      let old = b.each id v at in let p = old.pass is in let w : View = with_seen v b.put b.taken in (
+        w,
+        looked items views b id v w at is is refl (refl, refl, refl, refl) old.told_put old.told_taken
+            record { seen_put = begins_refl b.put; seen_taken = begins_refl b.taken; own_put = p.done.own_put; own_taken = p.done.own_taken },
+        record { put = b.put; taken = b.taken; moment = moment_of items views b id v p; knows = refl },
+      )
 
--- no pass is there where none was made
-unmade : (all width made : ℕ) (holder : ℕ → ℕ) (put taken : List Entry) (j : ℕ) (u : View) → made ≡ 0 → u.kind ≡ Pass → IsSeat all width made holder put taken j u → ⊥
-unmade all width made holder put taken j u none is h = let l = (h.pass is).known in omega arith
+  pub compares : (id : ℕ) (v : View) → v.kind ≡ Pass → Tells Rule id v (λ _. Compares v)
+  compares id v is items views b at =
+      let old = b.each id v at in let p = old.pass is in let w : View = compared v in (
+        w,
+        looked items views b id v w at is is refl (refl, refl, refl, refl) (begins_nil b.put) (begins_nil b.taken) record {
+          seen_put = longer_begins v.put v.told_put b.put old.seen_put old.told_put;
+          seen_taken = longer_begins v.taken v.told_taken b.taken old.seen_taken old.told_taken;
+          own_put = p.done.own_put;
+          own_taken = p.done.own_taken;
+        },
+        record {
+          put = begins_either v.put v.told_put b.put old.seen_put old.told_put;
+          taken = begins_either v.taken v.told_taken b.taken old.seen_taken old.told_taken;
+          knows = refl;
+        },
+      )
 
-pub plans : (given shards capacity port : ℕ) (v : View) → v.kind ≡ Maker → v.made ≡ 0 → v.shards ≡ 0 → Forks Kept port v (planned given shards capacity v) nobody
-plans given shards capacity port v is none no_shard items views b at =
-    let m = (b.each port v at).maker is in
-    let w : View = planned given shards capacity v in
-    let vs : List View = set views port w in
-    let no_pass : b.made ≡ 0 = sym m.counts ∙ none in
-    let told : v.shards ≡ b.width = m.told.1 in
-    let mine : IsSeat given shards b.made b.holder b.put b.taken port w = record {
-      pass = λ h. absurd (cc (is, h));
-      maker = λ h. record { first = m.first; counts = m.counts; told = (refl, refl) };
-    } in
-    let others : (j : ℕ) (u : View) → j ≢ port → get_elem? views j ≡ some u → IsSeat given shards b.made b.holder b.put b.taken j u = λ j u apart at_u.
-    record {
-      pass = λ h. absurd (unmade b.all b.width b.made b.holder b.put b.taken j u no_pass h (b.each j u at_u));
-      maker = λ h. absurd (apart (((b.each j u at_u).maker h).first ∙ sym m.first));
-    } in
-    let last : (j : ℕ) → IsSeat given shards b.made b.holder b.put b.taken j nobody = λ j. record { pass = λ h. absurd (cc h); maker = λ h. absurd (cc h) } in
-    record {
-      put = b.put;
-      taken = b.taken;
-      all = given;
-      made = b.made;
-      width = shards;
-      few = omega (arith, no_pass);
-      holder = b.holder;
-      split = b.split;
-      shards = shards_more b.width shards items (omega (arith, no_shard, told)) b.shards;
-      known_put = b.known_put;
-      known_taken = b.known_taken;
-      each = λ j u e. ⊎_elim (λ (t : get_elem? vs j ≡ some u). seats_stay (IsSeat given shards b.made b.holder b.put b.taken) views port w mine others j u t)
-          (λ (t : (j ≡ length vs) × (nobody ≡ u)). subst (IsSeat given shards b.made b.holder b.put b.taken j) t.1 (last j))
-          (snoc_at vs nobody u j e);
-    }
+  pub ends : (id : ℕ) (v : View) → v.kind ≡ Pass → Tells Rule id v (λ items w. (w ≡ v) × IsLast v items)
+  ends id v is items views b at =
+      let old = b.each id v at in let p = old.pass is in let few = b.few in let told = p.told.0 in (
+        v,
+        looked items views b id v v at is is refl (refl, refl, refl, refl) old.told_put old.told_taken p.done,
+        (
+          refl,
+          record {
+            put = b.put;
+            taken = b.taken;
+            more = b.more;
+            opened = b.opened ∙ ap (λ (l : List Hint). by_first l ++ b.more) (sym p.told.2);
+            split = b.split;
+            given_more = given_more b.made v.given b.more (omega arith) b.known_more;
+            given_taken = given_more b.made v.given b.taken (omega arith) b.known_taken;
+            done = p.done;
+            handed = λ i t e. (p.handed i t e).done;
+          },
+        ),
+      )
 
-pub deals : (port : ℕ) (v : View) → v.kind ≡ Maker → v.made < v.given → Forks Kept port v (made_one v) (newcomer v)
-deals port v is left items views b at =
-    let m = (b.each port v at).maker is in
-    let w : View = made_one v in
-    let n : View = newcomer v in
-    let vs : List View = set views port w in
-    let made : v.made ≡ b.made = m.counts in
-    let told : v.given ≡ b.all = m.told.0 in
-    let holder : ℕ → ℕ = sat b.holder v.made (length vs) in
-    let mine : IsSeat b.all b.width (b.made + 1) holder b.put b.taken port w = record {
-      pass = λ h. absurd (cc (is, h));
-      maker = λ h. record { first = m.first; counts = ap (λ (k : ℕ). k + 1) made; told = m.told };
-    } in
-    let others : (j : ℕ) (u : View) → j ≢ port → get_elem? views j ≡ some u → IsSeat b.all b.width (b.made + 1) holder b.put b.taken j u = λ j u apart at_u.
-    record {
-      pass = λ h. let q = (b.each j u at_u).pass h in let l = q.known in record {
-        sits = sat_else b.holder v.made (length vs) u.number (λ e. absurd (omega (arith, e, l, made))) ∙ q.sits;
-        known = omega (arith, l);
-        told = q.told;
-        seen_put = q.seen_put;
-        seen_taken = q.seen_taken;
-        own_put = q.own_put;
-        own_taken = q.own_taken;
-      };
-      maker = λ h. absurd (apart (((b.each j u at_u).maker h).first ∙ sym m.first));
-    } in
-    let last : (j : ℕ) → j ≡ length vs → IsSeat b.all b.width (b.made + 1) holder b.put b.taken j n = λ j here. record {
-      pass = λ h. record {
-        sits = sat_here b.holder v.made (length vs) ∙ sym here;
-        known = omega (arith, made);
-        told = m.told;
-        seen_put = begins_nil b.put;
-        seen_taken = begins_nil b.taken;
-        own_put = by_none v.made b.put (subst (λ (k : ℕ). FromGiven k b.put) (sym made) b.known_put);
-        own_taken = by_none v.made b.taken (subst (λ (k : ℕ). FromGiven k b.taken) (sym made) b.known_taken);
-      };
-      maker = λ h. absurd (cc h);
-    } in
-    record {
-      put = b.put;
-      taken = b.taken;
-      all = b.all;
-      made = b.made + 1;
-      width = b.width;
-      few = omega (arith, made, told, left);
-      holder = holder;
-      split = b.split;
-      shards = b.shards;
-      known_put = given_more b.made (b.made + 1) b.put (omega arith) b.known_put;
-      known_taken = given_more b.made (b.made + 1) b.taken (omega arith) b.known_taken;
-      each = λ j u e. ⊎_elim (λ (t : get_elem? vs j ≡ some u). seats_stay (IsSeat b.all b.width (b.made + 1) holder b.put b.taken) views port w mine others j u t)
-          (λ (t : (j ≡ length vs) × (n ≡ u)). subst (IsSeat b.all b.width (b.made + 1) holder b.put b.taken j) t.1 (last j t.0))
-          (snoc_at vs n u j e);
-    }
+  -- how passes are made
+  pub deals : (id : ℕ) (v : View) → v.kind ≡ Maker → v.made < v.given → Forks Rule id v (made_one v) (newcomer v)
+  deals id v is left items views b at =
+      let old = b.each id v at in let m = old.maker is in
+      let w : View = made_one v in
+      let n : View = newcomer v in
+      let vs : List View = set views id w in
+      let made : v.made ≡ b.made = m.counts in
+      let told : v.given ≡ all = m.told.0 in
+      let holder : ℕ → ℕ = sat b.holder v.made (length vs) in
+      let handed : (t : Part) → IsHanded b.made b.holder views b.put b.taken t → IsHanded (b.made + 1) holder (vs ++ n ∷ []) b.put b.taken t = λ t h.
+      let l = h.known in
+      let apart : b.holder t.number ≢ id = λ e. let k = ap (λ (z : View). z.kind) (same_at views (b.holder t.number) id h.spent.0 v h.spent.1 at e) in let none = h.spent.2 in absurd (cc (k, none, is)) in
+      handed_over b.made (b.made + 1) b.holder holder views (vs ++ n ∷ []) b.put b.taken b.put b.taken t (omega arith) (λ d. d)
+      (λ u e _. ap (get_elem? (vs ++ n ∷ [])) (sat_else b.holder v.made (length vs) t.number (λ same. absurd (omega arith))) ∙ at_longer vs (n ∷ []) (b.holder t.number) u (set_else views id (b.holder t.number) w apart ∙ e)) h in
+      let mine : IsSeat waiting all width (b.made + 1) holder (vs ++ n ∷ []) b.put b.taken id w = record {
+        seen_put = old.seen_put;
+        seen_taken = old.seen_taken;
+        told_put = old.told_put;
+        told_taken = old.told_taken;
+        pass = λ h. absurd (cc (is, h));
+        maker = λ h. record { first = m.first; counts = ap (λ (k : ℕ). k + 1) made; told = m.told; put = m.put };
+      } in
+      let others : (j : ℕ) (u : View) → j ≢ id → get_elem? views j ≡ some u → IsSeat waiting all width (b.made + 1) holder (vs ++ n ∷ []) b.put b.taken j u = λ j u apart at_u.
+      seat_over waiting all width b.made (b.made + 1) b.holder holder views (vs ++ n ∷ []) b.put b.taken b.put b.taken j u (λ f h. h) (λ f h. h)
+      (λ e p. let l = p.known in pass_over waiting all width b.made (b.made + 1) b.holder holder views (vs ++ n ∷ []) b.put b.taken b.put b.taken j u (omega arith)
+      (sat_else b.holder v.made (length vs) u.number (λ same. absurd (omega arith))) (λ d. d) handed p)
+      (λ e. absurd (apart (((b.each j u at_u).maker e).first ∙ sym m.first))) (b.each j u at_u) in
+      let own : by v.made b.put ≡ n.pushed = ap (by v.made) b.opened ∙ (by-append v.made (by_first waiting) b.more
+      ∙ (ap (λ (l : List Entry). by v.made (by_first waiting) ++ l) (by_none v.made b.more (subst (λ (k : ℕ). FromGiven k b.more) (sym made) b.known_more))
+      ∙ (append-nil (by v.made (by_first waiting)) ∙ (by-first v.made waiting ∙ ap (Rattle.matching.specs.Entries.own_of v.made) (sym m.put))))) in
+      let none : by v.made b.taken ≡ [] = by_none v.made b.taken (subst (λ (k : ℕ). FromGiven k b.taken) (sym made) b.known_taken) in
+      let last : (j : ℕ) → j ≡ length vs → IsSeat waiting all width (b.made + 1) holder (vs ++ n ∷ []) b.put b.taken j n = λ j here. record {
+        seen_put = old.seen_put;
+        seen_taken = old.seen_taken;
+        told_put = begins_nil b.put;
+        told_taken = begins_nil b.taken;
+        pass = λ h. record {
+          sits = sat_here b.holder v.made (length vs) ∙ sym here;
+          known = omega arith;
+          told = m.told;
+          done = record { seen_put = old.seen_put; seen_taken = old.seen_taken; own_put = own; own_taken = none };
+          handed = λ i t e. absurd (some-ne-none t (sym e));
+        };
+        maker = λ h. absurd (cc h);
+      } in
+      record {
+        put = b.put;
+        taken = b.taken;
+        more = b.more;
+        made = b.made + 1;
+        few = omega arith;
+        holder = holder;
+        opened = b.opened;
+        split = b.split;
+        shards = b.shards;
+        known_more = given_more b.made (b.made + 1) b.more (omega arith) b.known_more;
+        known_taken = given_more b.made (b.made + 1) b.taken (omega arith) b.known_taken;
+        each = λ j u e. ⊎_elim (λ (t : get_elem? vs j ≡ some u). seats_stay (IsSeat waiting all width (b.made + 1) holder (vs ++ n ∷ []) b.put b.taken) views id w mine others j u t)
+            (λ t. subst (IsSeat waiting all width (b.made + 1) holder (vs ++ n ∷ []) b.put b.taken j) t.1 (last j t.0))
+            (snoc_at vs n u j e);
+      }

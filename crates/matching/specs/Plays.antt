@@ -3,20 +3,31 @@ use Rattle.std.specs.Prelude.{◌≡◌, ℕ, ◌+◌, ◌<◌, List, [], ◌∷
 use Rattle.service_model_types.specs.declared.request.Hint.{Hint}
 use Rattle.matching.specs.declared.view.View.{View}
 use Rattle.matching.specs.declared.view.Holder.TheVariants.{Nobody, Pass, Maker}
-use Rattle.matching.specs.Entries.{Entry}
+use Rattle.matching.specs.Entries.{Entry, by_first, own_of}
 use Rattle.matching.specs.Moments.{IsMoment}
 
--- the maker of passes, before it is told of their number
-abbrev pub maker : View
-maker = record { kind = Maker; number = 0; made = 0; given = 0; shards = 0; capacity = 0; put = []; taken = []; pushed = []; popped = [] }
+-- what the maker of passes knows of a queue that is opened with these hints: how many passes and shards there will be, and for how many hints there is room
+abbrev pub maker : ℕ → ℕ → ℕ → List Hint → View
+maker given shards capacity waiting = record {
+  kind = Maker;
+  number = 0;
+  made = 0;
+  given = given;
+  shards = shards;
+  capacity = capacity;
+  opened = waiting;
+  put = by_first waiting;
+  taken = [];
+  pushed = [];
+  popped = [];
+  told_put = [];
+  told_taken = [];
+  handed = [];
+}
 
 -- what nobody knows
 abbrev pub nobody : View
-nobody = record { kind = Nobody; number = 0; made = 0; given = 0; shards = 0; capacity = 0; put = []; taken = []; pushed = []; popped = [] }
-
--- the maker once it is told how many passes and shards there will be, and the queue's capacity
-abbrev pub planned : ℕ → ℕ → ℕ → View → View
-planned given shards capacity v = record v { given = given; shards = shards; capacity = capacity }
+nobody = record { kind = Nobody; number = 0; made = 0; given = 0; shards = 0; capacity = 0; opened = []; put = []; taken = []; pushed = []; popped = []; told_put = []; told_taken = []; handed = [] }
 
 -- the maker after a pass was made
 abbrev pub made_one : View → View
@@ -24,11 +35,26 @@ made_one v = record v { made = v.made + 1 }
 
 -- what the new pass knows
 abbrev pub newcomer : View → View
-newcomer v = record v { kind = Pass; number = v.made; made = 0; put = []; taken = []; pushed = []; popped = [] }
+newcomer v = record v { kind = Pass; number = v.made; made = 0; pushed = own_of v.made v.put; popped = []; told_put = []; told_taken = []; handed = [] }
 
--- a new pass
-abbrev pub fresh : ℕ → ℕ → ℕ → ℕ → View
-fresh given shards capacity number = record { kind = Pass; number = number; made = 0; given = given; shards = shards; capacity = capacity; put = []; taken = []; pushed = []; popped = [] }
+-- a new pass: it has seen what the queue was opened with, which pass 0 has pushed
+abbrev pub fresh : ℕ → ℕ → ℕ → List Hint → ℕ → View
+fresh given shards capacity waiting number = record {
+  kind = Pass;
+  number = number;
+  made = 0;
+  given = given;
+  shards = shards;
+  capacity = capacity;
+  opened = waiting;
+  put = by_first waiting;
+  taken = [];
+  pushed = own_of number (by_first waiting);
+  popped = [];
+  told_put = [];
+  told_taken = [];
+  handed = [];
+}
 
 -- the pass after it pushed a hint behind all that was put
 abbrev pub with_put : View → List Entry → List Entry → Hint → View
@@ -37,6 +63,10 @@ with_put v put taken x = record v { put = put ++ (v.number, x) ∷ []; taken = t
 -- the pass after it popped a hint, the first that was not taken
 abbrev pub with_taken : View → List Entry → List Entry → Hint → View
 with_taken v put taken x = record v { put = put; taken = taken ++ (v.number, x) ∷ []; popped = v.popped ++ (v.number, x) ∷ [] }
+
+-- the pass after it has seen that all this was put and taken
+abbrev pub with_seen : View → List Entry → List Entry → View
+with_seen v put taken = record v { put = put; taken = taken }
 
 -- a push: at a moment when fewer than the queue's capacity waited, the hint came behind all that was put
 pub record Puts (v : View) (x : Hint) (w : View) : Type 0 where
@@ -54,3 +84,10 @@ pub record Takes (v : View) (x : Hint) (w : View) : Type 0 where
   pub rest : List Hint
   pub moment : IsMoment v put taken (x ∷ rest)
   pub knows : w ≡ with_taken v put taken x
+
+-- a look: at some moment these hints waited, and the pass has seen what was put and taken until then
+pub record Sees (v : View) (waiting : List Hint) (w : View) : Type 0 where
+  pub put : List Entry
+  pub taken : List Entry
+  pub moment : IsMoment v put taken waiting
+  pub knows : w ≡ with_seen v put taken

@@ -2,10 +2,17 @@
 #![tactic(auto)]
 
 mod alone;
+mod close;
+mod held;
+mod line;
+mod looks;
+mod meet;
 mod open;
 mod queue;
 mod queues;
 mod rule;
+mod seats;
+mod steps;
 mod view;
 
 pub use alone::one_pass;

@@ -1,16 +1,18 @@
 //! One queue of hints, and its passes.
 
-ghost use Rattle.std.specs.Prelude.{◌≡◌, ◌+◌, ◌<◌, [], IfOk, MatchOption, MatchResult};
+ghost use Rattle.std.specs.Prelude.{◌≡◌, ◌+◌, ◌<◌, ◌≤◌, [], List, length, IfOk, MatchOption, MatchResult};
 ghost use Rattle.matching.specs.declared.view.Holder.TheVariants.{Maker, Pass};
-ghost use Rattle.matching.specs.Plays.{planned, fresh, maker as making, Puts, Takes};
-ghost use Rattle.matching.specs.Moments.{Stood};
-ghost use Rattle.crossbeam_queue.specs.Passes.{view as seen_by, IsPassOf as IsSeatOf, ruled_capacity};
+ghost use Rattle.matching.specs.Entries.{FromShards};
+ghost use Rattle.matching.specs.Meets.{Agree};
+ghost use Rattle.matching.specs.Plays.{fresh, Puts, Takes, Sees};
+ghost use Rattle.matching.specs.Told.{IsQuiet, taken_in};
+ghost use Rattle.matching.specs.Rule.{IsLast};
 ghost use Rattle.crossbeam_queue.specs.Fifo.{Held};
 
-use crate::rule::{Deals, Line, Plans, Popped, Pushed, Seat, Sizes};
+use crate::line::Line;
+use crate::rule::Seat;
 use service_model_types::request::Hint;
 use std::alloc::{AllocError, Global};
-use std::marker::Brand;
 use std::sync::Wait;
 
 /// A queue of hints, with room for so many.
@@ -31,11 +33,21 @@ pub(crate) struct HintPass {
     number: u8,
     ghost sits: { (seat.me.0.client.kind ≡ Pass) × (seat.me.0.client.number ≡ number) },
     ghost idle: { seat.me.1 ≡ [] },
+    ghost quiet: { IsQuiet seat.me.0.client },
 }
 
 impl Drop for HintPass {
     fn drop(self) {
         let HintPass { seat: _, number: _ } = self;
+    }
+}
+
+impl HintPass {
+    fn into_seat(self) -> Seat
+        ensures { result ≡ self.seat }
+    {
+        let HintPass { seat, number: _ } = self;
+        seat
     }
 }
 
@@ -53,44 +65,25 @@ impl Drop for HintMaker {
     }
 }
 
-// Tells the maker of passes the sizes that the call picks.
-fn plan<S: Sizes>(line: &Line, maker: &mut Seat, passes: usize, shards: u16)
-    requires own { IsSeatOf line.now maker.old }
-    requires maker { seen_by maker.old ≡ making }
-    requires sizes { (S.passes ≡ passes) × (S.shards ≡ shards)
-        × (S.capacity ≡ ruled_capacity line.now) }
-    ensures own { IsSeatOf line.now maker.new }
-    ensures planned { seen_by maker.new ≡ planned passes shards (ruled_capacity line.now) making }
-{
-    line.another::<Plans<S>>(maker);
-}
-
-// Tells the maker of passes how many there will be, and the queue's capacity.
-fn told(line: &Line, maker: &mut Seat, passes: usize, shards: u16)
-    requires own { IsSeatOf line.now maker.old }
-    requires maker { seen_by maker.old ≡ making }
-    ensures own { IsSeatOf line.now maker.new }
-    ensures planned { seen_by maker.new ≡ planned passes shards (ruled_capacity line.now) making }
-{
-    plan::<Brand>(line, maker, passes, shards);
-}
-
 impl HintQueue {
-    ghost use Rattle.matching.specs.Queues.{capacity_of, shards_of, known_by, IsPassOf};
+    ghost use Rattle.matching.specs.Queues.{capacity_of, shards_of, held_of, known_by, IsPassOf};
     ghost use Rattle.matching.specs.Opening.{IsMakerOf};
 
-    /// Opens a queue, and gives what makes its passes.
+    /// Opens a queue that holds these hints, and gives what makes its passes.
     pub(crate) fn with_maker(
         alloc: Global,
+        waiting: Vec<Hint>,
         capacity: usize,
         passes: usize,
         shards: u16,
     ) -> Result<(HintQueue, HintMaker), AllocError>
-        requires { 0 < capacity }
-        ensures { IfOk result (λ r. IsMakerOf passes shards capacity 0 r.1 r.0) }
+        requires some { 0 < capacity }
+        requires fits { length waiting.items ≤ capacity }
+        requires shards { FromShards shards waiting.items }
+        ensures maker { IfOk result (λ r. IsMakerOf passes shards capacity 0 r.1 r.0) }
+        ensures held { IfOk result (λ r. held_of r.0 ≡ waiting.items) }
     {
-        let (line, mut seat) = Line::ruled(alloc, capacity)?;
-        told(&line, &mut seat, passes, shards);
+        let (line, seat) = Line::open(alloc, waiting, capacity, passes, shards)?;
         let maker = HintMaker { seat, made: 0 };
         Ok((HintQueue { line, shards }, maker))
     }
@@ -108,9 +101,10 @@ impl HintQueue {
         ensures maker { IsMakerOf passes shards (capacity_of self.now) (number + 1)
             maker.new self.now }
         ensures own { IsPassOf result self.now }
-        ensures fresh { known_by result ≡ fresh passes shards (capacity_of self.now) number }
+        ensures fresh { known_by result
+            ≡ fresh passes shards (capacity_of self.now) (held_of self.now) number }
     {
-        let seat = self.line.another::<Deals>(&mut maker.seat);
+        let seat = self.line.deal(&mut maker.seat);
         maker.made += 1;
         HintPass { seat, number }
     }
@@ -124,10 +118,10 @@ impl HintQueue {
         requires shard { hint.shard < shards_of self.now }
         ensures own { IsPassOf pass.new self.now }
         ensures pushed { MatchResult result (λ _. Puts (known_by pass.old) hint (known_by pass.new))
-            (λ x. (x ≡ hint) × (known_by pass.new ≡ known_by pass.old)
-            × Held (capacity_of self.now) (Stood (known_by pass.old))) }
+            (λ x. (x ≡ hint) × Held (capacity_of self.now)
+            (λ waiting. Sees (known_by pass.old) waiting (known_by pass.new))) }
     {
-        self.line.push_as::<Pushed, R>(rt, &mut pass.seat, hint)
+        self.line.push(rt, &mut pass.seat, hint)
     }
 
     /// Takes the first hint that was not taken, if there is one. It may wait for ever.
@@ -135,9 +129,41 @@ impl HintQueue {
         requires { IsPassOf pass.old self.now }
         ensures own { IsPassOf pass.new self.now }
         ensures popped { MatchOption result
-            ((known_by pass.new ≡ known_by pass.old) × Held 0 (Stood (known_by pass.old)))
+            (Held 0 (λ waiting. Sees (known_by pass.old) waiting (known_by pass.new)))
             (λ x. Takes (known_by pass.old) x (known_by pass.new)) }
     {
-        self.line.pop_as::<Popped, R>(rt, &mut pass.seat)
+        self.line.pop(rt, &mut pass.seat)
+    }
+
+    /// Two passes tell each other what they have seen.
+    pub(crate) fn meet(&self, first: &mut HintPass, second: &mut HintPass)
+        requires first { IsPassOf first.old self.now }
+        requires second { IsPassOf second.old self.now }
+        ensures first { IsPassOf first.new self.now }
+        ensures second { IsPassOf second.new self.now }
+        ensures agree { Agree (known_by first.old) (known_by second.old)
+            (known_by first.new) (known_by second.new) }
+    {
+        self.line.meet(&mut first.seat, &mut second.seat);
+    }
+
+    /// A pass is handed in to another.
+    pub(crate) fn take_in(&self, pass: &mut HintPass, other: HintPass)
+        requires own { IsPassOf pass.old self.now }
+        requires other { IsPassOf other self.now }
+        ensures own { IsPassOf pass.new self.now }
+        ensures taken { known_by pass.new ≡ taken_in (known_by pass.old) (known_by other) }
+    {
+        self.line.take_in(&mut pass.seat, other.into_seat());
+    }
+
+    /// Looks once more at what was put and taken, for the contract alone.
+    pub(crate) fn look_at_all(&self, pass: &mut HintPass)
+        requires { IsPassOf pass.old self.now }
+        ensures own { IsPassOf pass.new self.now }
+        ensures same { known_by pass.new ≡ known_by pass.old }
+        ensures all { (waiting : List Hint) × IsLast (known_by pass.old) waiting }
+    {
+        self.line.look_at_all(&mut pass.seat);
     }
 }

@@ -13,6 +13,7 @@ use wf_event_values::{Id, Refusal, TaskKind};
 pub struct Queues {
     pub(crate) names: Vec<Id>,
     pub(crate) capacity: usize,
+    pub(crate) passes: usize,
     pub(crate) shards: u16,
     // Those of the name at place k lie at 2 k and 2 k + 1.
     pub(crate) queues: Vec<HintQueue>,
@@ -23,6 +24,7 @@ impl Drop for Queues {
         let Queues {
             names: _,
             capacity: _,
+            passes: _,
             shards: _,
             queues: _,
         } = self;
@@ -40,18 +42,17 @@ impl Drop for QueuesPass {
     }
 }
 
+impl QueuesPass {
+    pub(crate) fn into_passes(self) -> Vec<HintPass>
+        ensures { result ≡ self.passes }
+    {
+        let QueuesPass { passes } = self;
+        passes
+    }
+}
+
 impl Queues {
     ghost use Rattle.matching.specs.Named.{names_of, capacity_of, shards_of, known_by, IsPassOf};
-
-    /// The place of a name.
-    fn place(&self, queue: &Id) -> Option<usize>
-        ensures { result ≡ place_in (names_of self.now) queue.now }
-    {
-        self.names
-            .as_slice()
-            .iter()
-            .position(|known| known == queue)
-    }
 
     /// Puts a hint behind all that was put into the queue of that name, of the hint's kind. It may
     /// wait for ever.
@@ -71,7 +72,7 @@ impl Queues {
         ensures pushed { Pushes (place_in (names_of self.now) queue.now) (capacity_of self.now)
             (known_by pass.old) (known_by pass.new) hint result }
     {
-        let Some(place) = self.place(queue) else {
+        let Some(place) = place_of(&self.names, queue) else {
             return Err(Refusal::UnknownTaskQueue);
         };
         let slot = slot_of(place, hint.kind);
@@ -117,7 +118,7 @@ impl Queues {
             (known_by pass.old) (known_by pass.new) result }
         ensures shard { IfOk result (λ found. IfSome found (λ h. h.shard < shards_of self.now)) }
     {
-        let Some(place) = self.place(queue) else {
+        let Some(place) = place_of(&self.names, queue) else {
             return Err(Refusal::UnknownTaskQueue);
         };
         let slot = slot_of(place, kind);
@@ -137,8 +138,15 @@ impl Queues {
     }
 }
 
+/// The place of a name.
+pub(crate) fn place_of(names: &Vec<Id>, queue: &Id) -> Option<usize>
+    ensures { result ≡ place_in names.now.items queue.now }
+{
+    names.as_slice().iter().position(|known| known == queue)
+}
+
 /// The two queues of each name lie side by side.
-fn slot_of(place: usize, kind: TaskKind) -> usize
+pub(crate) fn slot_of(place: usize, kind: TaskKind) -> usize
     requires { place < 2 ^ 62 }
     ensures { result ≡ slot_of place kind }
 {

@@ -1,10 +1,11 @@
 //! Two threads at one queue, and one pass alone.
 
-ghost use Rattle.std.specs.Prelude.{◌≡◌, ℕ, ◌+◌, ◌<◌, Some, length, slice_get};
+ghost use Rattle.std.specs.Prelude.{◌≡◌, ℕ, ◌+◌, ◌<◌, ◌≤◌, Some, All, length, slice_get};
 ghost use Rattle.std.specs.Thread.{IsSync};
 ghost use Rattle.matching.specs.Named.{IsPassOf, shards_of};
 
 use matching::{Queues, QueuesPass};
+use service_model_types::content::Dispatch;
 use service_model_types::request::Hint;
 use std::alloc::AllocGlobal;
 use std::process::Abort;
@@ -115,12 +116,45 @@ fn name_of<R: Abort + AllocGlobal>(rt: &R, name: &str) -> Id {
     }
 }
 
+/// Queues of the name `main` for hints of one shard, which hold these to begin with.
+fn open<R: Abort + AllocGlobal>(
+    rt: &R,
+    capacity: usize,
+    passes: usize,
+    waiting: Vec<Dispatch>,
+) -> (Queues, Vec<QueuesPass>)
+    requires capacity { 0 < capacity }
+    requires passes { passes ≤ 256 }
+    requires waiting { All (λ d. d.hint.shard < 1) waiting.items }
+    ensures shards { shards_of result.0 ≡ 1 }
+    ensures count { length result.1.items ≡ passes }
+    ensures own { (k : ℕ) (p : QueuesPass) → slice_get result.1.items k ≡ Some p
+        → IsPassOf p result.0 }
+{
+    let mut names = Vec::new(rt.alloc());
+    if names.push(name_of(rt, "main")).is_err() {
+        panic!(rt; "no memory");
+    }
+    match Queues::open(rt.alloc(), names, capacity, passes, 1, waiting) {
+        Ok(opened) => opened,
+        Err(_) => panic!(rt; "the queues were not opened"),
+    }
+}
+
+/// The queue of that name is to hold a hint.
+fn dispatch<R: Abort + AllocGlobal>(rt: &R, queue: &str, event: u64) -> Dispatch
+    ensures { result.hint.shard ≡ 0 }
+{
+    Dispatch {
+        queue: name_of(rt, queue),
+        hint: hint(event),
+    }
+}
+
 #[test]
 fn hints_come_in_order(rt: HostRuntime) -> Result<(), Fail> {
-    let mut names = Vec::new(rt.alloc());
-    names.push(name_of(&rt, "main"))?;
     let name = name_of(&rt, "main");
-    let (queues, mut passes) = Queues::open(rt.alloc(), names, 4, 2, 1)?;
+    let (queues, mut passes) = open(&rt, 4, 2, Vec::new(rt.alloc()));
     let two = take_pass(&queues, &mut passes);
     let one = take_pass(&queues, &mut passes);
     assert!(rt; exchange(&rt, &queues, one, two, &name));
@@ -130,9 +164,7 @@ fn hints_come_in_order(rt: HostRuntime) -> Result<(), Fail> {
 #[test]
 fn a_full_queue_and_an_empty_one(rt: HostRuntime) -> Result<(), Fail> {
     let name = name_of(&rt, "main");
-    let mut names = Vec::new(rt.alloc());
-    names.push(name_of(&rt, "main"))?;
-    let (queues, mut passes) = Queues::open(rt.alloc(), names, 2, 1, 1)?;
+    let (queues, mut passes) = open(&rt, 2, 1, Vec::new(rt.alloc()));
     let mut pass = take_pass(&queues, &mut passes);
     let kind = TaskKind::Workflow;
     assert!(rt; queues.push_hint(&rt, &mut pass, &name, hint(1)).is_ok());
@@ -146,5 +178,64 @@ fn a_full_queue_and_an_empty_one(rt: HostRuntime) -> Result<(), Fail> {
     let second = queues.pop_hint(&rt, &mut pass, &name, kind);
     assert!(rt; matches!(second, Ok(Some(found)) if found.event == 2));
     assert!(rt; matches!(queues.pop_hint(&rt, &mut pass, &name, kind), Ok(None)));
+    Ok(())
+}
+
+/// What two passes find one after another, of hints that waited from the opening on.
+#[test]
+fn what_waits_at_the_opening_is_found(rt: HostRuntime) -> Result<(), Fail> {
+    let name = name_of(&rt, "main");
+    let mut waiting = Vec::new(rt.alloc());
+    waiting.push(dispatch(&rt, "main", 7))?;
+    waiting.push(dispatch(&rt, "main", 8))?;
+    let (queues, mut passes) = open(&rt, 2, 2, waiting);
+    let mut two = take_pass(&queues, &mut passes);
+    let mut one = take_pass(&queues, &mut passes);
+    let kind = TaskKind::Workflow;
+    let full = queues.push_hint(&rt, &mut one, &name, hint(9));
+    assert!(rt; matches!(full, Err(Refusal::QueueFull)));
+    let first = queues.pop_hint(&rt, &mut two, &name, kind);
+    assert!(rt; matches!(first, Ok(Some(found)) if found.event == 7));
+    assert!(rt; queues.push_hint(&rt, &mut two, &name, hint(9)).is_ok());
+    let second = queues.pop_hint(&rt, &mut one, &name, kind);
+    assert!(rt; matches!(second, Ok(Some(found)) if found.event == 8));
+    queues.meet(&mut one, &mut two);
+    let third = queues.pop_hint(&rt, &mut one, &name, kind);
+    assert!(rt; matches!(third, Ok(Some(found)) if found.event == 9));
+    Ok(())
+}
+
+/// Whether queues of the name `main`, each with room for one hint, can't be opened with these.
+fn is_refused<R: Abort + AllocGlobal>(rt: &R, waiting: Vec<Dispatch>) -> Option<Refusal>
+    requires { All (λ d. d.hint.shard < 1) waiting.items }
+{
+    let mut names = Vec::new(rt.alloc());
+    if names.push(name_of(rt, "main")).is_err() {
+        panic!(rt; "no memory");
+    }
+    Queues::open(rt.alloc(), names, 1, 1, 1, waiting).err()
+}
+
+#[test]
+fn what_does_not_fit_is_refused(rt: HostRuntime) -> Result<(), Fail> {
+    let mut waiting = Vec::new(rt.alloc());
+    waiting.push(dispatch(&rt, "main", 7))?;
+    waiting.push(dispatch(&rt, "main", 8))?;
+    assert!(rt; matches!(is_refused(&rt, waiting), Some(Refusal::QueueFull)));
+    let mut waiting = Vec::new(rt.alloc());
+    waiting.push(dispatch(&rt, "other", 7))?;
+    assert!(rt; matches!(is_refused(&rt, waiting), Some(Refusal::UnknownTaskQueue)));
+    Ok(())
+}
+
+/// Ample memory suffices for as many queues as there may be, each as long as it may be.
+#[test]
+fn the_largest_queues_are_opened(rt: HostRuntime) -> Result<(), Fail> {
+    let mut names = Vec::new(rt.alloc());
+    for _ in 0..64usize {
+        names.push(name_of(&rt, "main"))?;
+    }
+    let opened = Queues::open(rt.alloc(), names, 65_536, 1, 1, Vec::new(rt.alloc()));
+    assert!(rt; opened.is_ok());
     Ok(())
 }

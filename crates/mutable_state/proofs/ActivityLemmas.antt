@@ -8,6 +8,9 @@ use Rattle.wf_event.specs.declared.role.Class.TheVariants.{Activity}
 use Rattle.wf_event.specs.Role.{Role, Closes, role, is_closing_role, is_outside_role, opens, settles, closing_status, class_number}
 use Rattle.wf_event_values.specs.declared.policies.Status.{Status}
 use Rattle.service_model_types.specs.declared.journal.CancelRequest.{CancelRequest}
+use Rattle.service_model_types.specs.declared.journal.Note.{Note}
+use Rattle.service_model_types.specs.declared.journal.Note.TheVariants.{Taken, Ended, Ready, Beat}
+use Rattle.service_model_types.specs.declared.journal.NoteFact.{NoteFact}
 use Rattle.service_model.specs.Pending.{Task, is_settled}
 use Rattle.service_model.specs.RunState.{ActivityRow, is_open_status}
 use Rattle.service_model.specs.Tasks.{pending_row, is_started_task}
@@ -16,8 +19,8 @@ use Rattle.mutable_state.specs.declared.open.Open.{Open}
 use Rattle.mutable_state.specs.declared.task.WorkflowTask.{WorkflowTask}
 use Rattle.mutable_state.specs.Activities.{is_activity, pending_at, kept_activity, noted_activity, noted_activities, activity_at}
 use Rattle.mutable_state.specs.Noted.{kept_row}
-use Rattle.mutable_state.specs.Opens.{is_of, activity_of, opened_at, row_at, rows_in, open_with, marked, unmarked, added, without, AgreesWith}
-use Rattle.mutable_state.specs.Steps.{carried, comes_last}
+use Rattle.mutable_state.specs.Opens.{MayAddTo, MayNote, is_of, activity_of, opened_at, row_at, rows_in, open_with, marked, unmarked, added, without, AgreesWith}
+use Rattle.mutable_state.specs.Steps.{IsNotLast, MayEnd, carried, comes_last}
 use Rattle.mutable_state.specs.View.{state_in}
 use Rattle.mutable_state.proofs.AddLemmas.{closes_by, closing-is}
 use Rattle.mutable_state.proofs.OpenLemmas.{same-as}
@@ -77,6 +80,35 @@ pending-activity b request cancel status t keys os id h =
         ap (λ t. cond t None (option_map (kept_row o.notes) (event_at id b.events))) mark
         ∙ ap (λ q. cond (is_settled Activity id (carried b.held)) None (option_map (kept_row o.notes) q))
         (ap (λ n. event_at n b.events) (sym s.id_is) ∙ sym (ap (λ t. cond t (event_at o.opener.event b.events) None) of_class))
+
+-- a note that may come may be made on what is kept
+row-kept : (es : List Event) (id : ℕ) (o : Open) → is_activity id o ≡ true → IsSome (event_at o.opener.event es) → IsNotLast (row_at es o) → (o.notes.attempt == 4294967295) ≡ false
+row-kept es id o one there may = by_event (event_at o.opener.event es) refl there
+  where
+    of_class : is_of Activity o ≡ true
+    of_class = ap (λ c. class_number Activity == class_number c) (same-as o.opener.class o.opener.event (activity_of id) one).class_is
+
+    by_event : (q : Option Event) → event_at o.opener.event es ≡ q → IsSome q → (o.notes.attempt == 4294967295) ≡ false
+    by_event None at some = absurd (cc)
+    by_event (Some e) at some =
+        let here : row_at es o ≡ Some (kept_row o.notes e) = ap (option_map (kept_row o.notes)) (ap (λ t. cond t (event_at o.opener.event es) None) of_class ∙ at) in
+        subst IsNotLast here may
+
+pub may-note : (b : Buffer) (request : Option (List ℕ)) (cancel : Option CancelRequest) (status : Status) (t : WorkflowTask) (keys : List (List ℕ)) (os : List Open) (n : NoteFact) → AgreesWith b os →
+    MayEnd n.note n.activity (state_in b request cancel status t keys os) → MayNote n os
+may-note b request cancel status t keys os n h = by_find (find (is_activity n.activity) os) refl n.note
+  where
+    There : Open → Type 0
+    There o = IsSome (event_at o.opener.event b.events)
+
+    by_find : (f : Option Open) → find (is_activity n.activity) os ≡ f → (note : Note) → MayEnd note n.activity (state_in b request cancel status t keys os) → MayAddTo (record { activity = n.activity; note = note }) f
+    by_find None is note may = tt
+    by_find (Some o) is Ended may =
+        let f = find-passes There (is_activity n.activity) os o h.there is in
+        row-kept b.events n.activity o f.1 f.0 (subst IsNotLast (find-row n.activity b.events os h.there ∙ ap (option_and_then (row_at b.events)) is) may)
+    by_find (Some o) is Taken may = tt
+    by_find (Some o) is Ready may = tt
+    by_find (Some o) is (Beat details) may = tt
 
 -- nothing is in use in a run that an event closes
 rows-closing : (t : Task) (a : Attributes) (n : ℕ) (os : List Open) → is_closing_role (role a) ≡ true → open_with t a n os ≡ []

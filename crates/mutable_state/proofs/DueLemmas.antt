@@ -1,8 +1,8 @@
 -- a run's deadlines, and the first of them
-use Rattle.std.proofs.Common.{◌≡◌, ℕ, ◌+◌, ◌<◌, Bool, true, false, cond, ◌&&◌, List, [], ◌∷◌, ◌++◌, refl, sym, ap, ◌∙◌, append-nil, append_assoc, take, get_or, IsSome, arith, length, nat_lt}
+use Rattle.std.proofs.Common.{◌≡◌, ℕ, ◌+◌, ◌<◌, Bool, true, false, cond, ◌&&◌, List, [], ◌∷◌, ◌++◌, refl, sym, ap, ◌∙◌, append-nil, append_assoc, take, get_or, IsSome, Bor, arith, length}
 use Rattle.std.proofs.lemmas.List.{take_more}
 use Rattle.std.specs.List.{cons_option}
-use Rattle.std.proofs.lemmas.Bool.{lt-ltb}
+use Rattle.std.specs.Option.{option_copied}
 use Rattle.std.specs.Prelude.{Option, Some, None, option_map, filter, flat_map, slice_get, unwrap_or}
 use Rattle.wf_event.specs.declared.event.Event.{Event}
 use Rattle.wf_event.specs.declared.attributes.Attributes.{Attributes}
@@ -39,9 +39,10 @@ pub begun-first : (request : Option (List ℕ)) (events : List Event) (e : Event
 begun-first request [] e there h = absurd (cc)
 begun-first request (x ∷ events) e there h = begun-by x.at request x.attributes h ∙ ap (λ o. Some (unwrap_or (option_map (λ (y : Event). y.at) o) 0)) there
 
-pub some-event : (request : Option (List ℕ)) (events : List Event) → IsSome (beginning_in request events) → nat_lt 0 (length events) ≡ true
-some-event request [] h = absurd (cc)
-some-event request (x ∷ events) h = lt-ltb 0 (length (x ∷ events)) (omega arith)
+pub some-first : (request : Option (List ℕ)) (events : List Event) (o : Option (Bor Event)) → IsSome (beginning_in request events) → option_copied o ≡ slice_get events 0 → IsSome o
+some-first request [] o h is = absurd (cc)
+some-first request (x ∷ events) None h is = absurd (cc)
+some-first request (x ∷ events) (Some e) h is = refl
 
 -- the timeout of the task, by its numbers
 task-part : (s : RunState) (a : StartedAttributes) (t : WorkflowTask) (p : TaskPhase) → t.phase ≡ p → phase_in p ≡ s.task → numbers_in t ≡ last_task s → task_timeout s ≡ a.task_timeout → workflow_task_dues s s.task ≡ task_dues a (record t { phase = p })

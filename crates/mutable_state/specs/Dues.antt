@@ -7,6 +7,8 @@ use Rattle.wf_event.specs.declared.role.Class.TheVariants.{Activity, Timer}
 use Rattle.service_model.specs.Deadlines.{Due, due_after, timer_dues, activity_dues, pending_rows}
 use Rattle.service_model.specs.RunState.{RunState, pending}
 use Rattle.service_model.specs.Tasks.{is_started_task}
+use Rattle.service_model.specs.TimerTurns.{RunDue}
+use Rattle.timeouts.specs.Firsts.{first_of}
 use Rattle.mutable_state.specs.declared.task.WorkflowTask.{WorkflowTask}
 use Rattle.mutable_state.specs.declared.open.Open.{Open}
 use Rattle.mutable_state.specs.declared.notes.Notes.{Notes}
@@ -45,3 +47,11 @@ activity_dues_of n (Some e) = activity_dues (kept_row n e)
 -- those of a thing that is kept, where it is a pending activity
 abbrev pub kept_activity_dues : List Event → Open → List Due
 kept_activity_dues es o = cond (is_pending_of Activity o) (activity_dues_of o.notes (event_at o.opener.event es)) []
+
+-- all of a thing that is kept
+abbrev pub row_dues : List Event → Open → List Due
+row_dues es o = kept_activity_dues es o ++ kept_dues es o
+
+-- and the first of them, where the run's ordinal doesn't matter
+abbrev pub first_in : List Event → Open → Option RunDue
+first_in es o = first_of 0 (row_dues es o)

@@ -1,5 +1,5 @@
 -- PROOF: what is kept of the notes on an activity, and of its requests to cancel
-use Rattle.std.specs.Prelude.{ℕ, ◌+◌, Bool, false, ◌||◌, None, Some}
+use Rattle.std.specs.Prelude.{◌≡◌, ℕ, ◌+◌, Bool, false, ◌||◌, ◌==◌, None, Some}
 use Rattle.wf_event.specs.declared.event.Event.{Event}
 use Rattle.service_model_types.specs.declared.journal.Note.{Note}
 use Rattle.service_model_types.specs.declared.journal.Note.TheVariants.{Taken, Ended, Ready, Beat}
@@ -25,6 +25,11 @@ noted at Taken n = record n { phase = kept.Running; taken = Some at; sign_of_lif
 noted at Ended n = record n { phase = kept.Waiting; attempt = n.attempt + 1; ended = Some at }
 noted at Ready n = record n { phase = kept.Queued; ready = Some at }
 noted at (Beat details) n = record n { sign_of_life = Some at; details = Some details }
+
+-- it may be made: an attempt that ends has a number after it
+abbrev pub MayAdd : Note → Notes → Type 0
+MayAdd Ended n = (n.attempt == 4294967295) ≡ false
+MayAdd _ n = Unit {0}
 
 -- and a request to cancel, where there is one
 abbrev pub asked : Bool → Notes → Notes

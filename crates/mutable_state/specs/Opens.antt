@@ -1,5 +1,5 @@
 -- PROOF: what is kept of what is in use in a run: each thing by its class and the id of the event that opened it
-use Rattle.std.specs.Prelude.{◌≡◌, ◌<◌, ◌≤◌, ℕ, Bool, true, false, cond, not, ◌&&◌, ◌||◌, ◌==◌, List, [], ◌∷◌, ◌++◌, filter, filter_map, map, length, Option, None, Some, option_map, IsSome}
+use Rattle.std.specs.Prelude.{◌≡◌, ◌<◌, ℕ, Bool, true, false, cond, not, ◌&&◌, ◌||◌, ◌==◌, List, [], ◌∷◌, ◌++◌, filter, filter_map, find, map, length, Option, None, Some, option_map, IsSome}
 use Rattle.std.specs.List.{AllByRecursion}
 use Rattle.wf_event.specs.declared.event.Event.{Event}
 use Rattle.wf_event.specs.declared.attributes.Attributes.{Attributes}
@@ -10,20 +10,24 @@ use Rattle.wf_event.specs.Role.{Role, TimerCancels, role, is_closing_role, opens
 use Rattle.service_model_types.specs.declared.journal.NoteFact.{NoteFact}
 use Rattle.service_model.specs.Pending.{Task, is_settling, is_settled}
 use Rattle.service_model.specs.RunState.{ActivityRow, is_open_status}
+use Rattle.service_model.specs.TimerTurns.{RunDue}
 use Rattle.wf_event_values.specs.declared.policies.Status.{Status}
 use Rattle.buffered.specs.Buffers.{Buffer, unheld, flushed}
 pub use Rattle.buffered.specs.Buffers.{event_at}
 use Rattle.wf_event.specs.declared.role.Opener.{Opener}
 use Rattle.mutable_state.specs.declared.open.Open.{Open}
-use Rattle.mutable_state.specs.Noted.{no_notes, asked, noted, kept_row}
+use Rattle.mutable_state.specs.Noted.{MayAdd, no_notes, asked, noted, kept_row}
 use Rattle.mutable_state.specs.Formed.{IdsTo, SettlesTo}
 use Rattle.mutable_state.specs.Steps.{carried, is_held_back, comes_last}
 
--- what is in use, for how much more there is room, and how many more attempts may end
+-- what is in use, and for how much more there is room
 pub record OpenRows : Type 0 where
   pub rows : List Open
   pub room : ℕ
-  pub attempts : ℕ
+  -- the first deadline that is kept of each
+  pub firsts : List (Option RunDue)
+  -- the last event that opened something
+  pub last : ℕ
 
 -- what is opened, with no note on it
 abbrev pub new_open : Class → ℕ → Open
@@ -61,10 +65,6 @@ added (Some c) id os = os ++ new_open c id ∷ []
 abbrev pub activity_of : ℕ → Opener
 activity_of id = record { class = Activity; event = id }
 
--- no activity is at a later attempt
-abbrev pub AreWithin : ℕ → List Open → Type 0
-AreWithin n os = AllByRecursion (λ (o : Open). o.notes.attempt ≤ n) os
-
 -- this activity is asked to cancel
 abbrev pub ask : ℕ → Open → Open
 ask id o = record o { notes = asked (is_one (activity_of id) o) o.notes }
@@ -82,6 +82,14 @@ asks_of _ = None
 abbrev pub noted_in : ℕ → NoteFact → List Open → List Open
 noted_in at n [] = []
 noted_in at n (o ∷ os) = cond (is_one (activity_of n.activity) o) (record o { notes = noted at n.note o.notes } ∷ os) (o ∷ noted_in at n os)
+
+-- the note may be made on the first that is the activity
+abbrev pub MayAddTo : NoteFact → Option Open → Type 0
+MayAddTo n None = Unit {0}
+MayAddTo n (Some o) = MayAdd n.note o.notes
+
+abbrev pub MayNote : NoteFact → List Open → Type 0
+MayNote n os = MayAddTo n (find (λ o. is_one (activity_of n.activity) o) os)
 
 -- which timer's firing is taken away
 abbrev pub cancels_of : Role → Option ℕ

@@ -1,16 +1,18 @@
 //! The activities of a run, as they are asked for.
 
-ghost use Rattle.std.specs.Prelude.{◌≡◌, find, option_copied, option_map, IfOk, OnOk};
+ghost use Rattle.std.specs.Prelude.{◌≡◌, filter_map, option_map, IfOk, OnOk};
 ghost use Rattle.service_model.specs.Tasks.{pending_row};
-ghost use Rattle.mutable_state.specs.Activities.{row_said, kept_activity, is_activity, noted_activity, noted_activities, noted_among, activity_at, HasNoActivityClosed};
+ghost use Rattle.mutable_state.specs.Activities.{row_said, kept_activity, noted_activity, noted_activities, noted_among, activity_at, HasNoActivityClosed};
 ghost use Rattle.mutable_state.specs.Noted.{kept_row};
+ghost use Rattle.mutable_state.specs.Rows.{activity_in};
 
 use crate::notes::Notes;
-use crate::open::Open;
+use crate::open::{InUse, Open, activity_of};
+use crate::rows::Row;
 use crate::run::Run;
 use buffered::History;
 use std::alloc::{AllocError, Global};
-use wf_event::{Class, Event, Opener};
+use wf_event::{Class, Event};
 
 /// An activity: the event that scheduled it, and what the notes on it say.
 pub struct Activity {
@@ -57,7 +59,7 @@ impl Run {
             ≡ pending_row self.now.state id) }
         ensures closed { OnOk result (HasNoActivityClosed self.now.state) }
     {
-        let found = kept_activity(self.in_use.rows(), &self.history, id)?;
+        let found = kept_activity(&self.in_use, &self.history, id)?;
         Ok(found)
     }
 
@@ -65,26 +67,48 @@ impl Run {
     pub fn noted_activities(&self, alloc: Global) -> Result<Vec<NotedActivity>, AllocError>
         ensures { IfOk result (λ noted. noted.items ≡ noted_activities self.now.state) }
     {
-        noted_among(alloc, self.in_use.rows(), &self.history)
+        self.in_use.noted(alloc, &self.history)
+    }
+}
+
+impl InUse {
+    /// What is noted of those things in use that are activities, in the order in which they were
+    /// scheduled.
+    pub(crate) fn noted(
+        &self,
+        alloc: Global,
+        history: &History,
+    ) -> Result<Vec<NotedActivity>, AllocError>
+        ensures { IfOk result (λ noted.
+            noted.items ≡ noted_among history.now.lists.events self.now.rows) }
+    {
+        noted_among(alloc, self.rows.as_slice(), history)
     }
 }
 
 /// What is noted of those things in use that are activities.
 fn noted_among(
     alloc: Global,
-    rows: &[Open],
+    rows: &[Row],
     history: &History,
 ) -> Result<Vec<NotedActivity>, AllocError>
-    ensures { IfOk result (λ noted.
-        noted.items ≡ noted_among history.now.lists.events rows.now) }
+    ensures { IfOk result (λ noted. noted.items
+        ≡ filter_map (activity_in history.now.lists.events) rows.now) }
 {
     let mut noted = Vec::new(alloc);
     for row in rows {
-        if let Some(one) = activity_at(row, history) {
+        if let Some(one) = activity_in(row, history) {
             noted.push(one)?;
         }
     }
     Ok(noted)
+}
+
+/// What is noted of the thing in a row, where one is there and it is an activity.
+fn activity_in(row: &Row, history: &History) -> Option<NotedActivity>
+    ensures { result ≡ activity_in history.now.lists.events row.now }
+{
+    activity_at(row.kept.as_ref()?, history)
 }
 
 /// What is noted of a thing in use, where it is an activity.
@@ -100,11 +124,11 @@ fn activity_at(row: &Open, history: &History) -> Option<NotedActivity>
 
 /// The activity that this event scheduled, where it is kept and no event that settles it is held
 /// back.
-fn kept_activity(rows: &[Open], history: &History, id: u64) -> Result<Option<Activity>, AllocError>
+fn kept_activity(in_use: &InUse, history: &History, id: u64) -> Result<Option<Activity>, AllocError>
     ensures { IfOk result (λ found. option_map row_said found
-        ≡ kept_activity history.now.lists.events rows.now id) }
+        ≡ kept_activity history.now.lists.events in_use.now.rows id) }
 {
-    let Some(row) = find_activity(rows, id) else {
+    let Some(row) = in_use.find(activity_of(id)) else {
         return Ok(None);
     };
     if row.is_settled {
@@ -117,15 +141,4 @@ fn kept_activity(rows: &[Open], history: &History, id: u64) -> Result<Option<Act
         scheduled: event.clone()?,
         notes: row.notes.copy()?,
     }))
-}
-
-/// What is kept of the activity that this event scheduled.
-fn find_activity(rows: &[Open], id: u64) -> Option<&Open>
-    ensures { option_copied result ≡ find (is_activity id) rows.now }
-{
-    let opener = Opener {
-        class: Class::Activity,
-        event: id,
-    };
-    rows.iter().find(|row| row.is(opener))
 }

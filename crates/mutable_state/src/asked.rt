@@ -1,12 +1,11 @@
 //! The workflows that a run's pending requests ask something of.
 
-ghost use Rattle.std.specs.Prelude.{◌≡◌, true, find, option_copied, IfOk, IfSome};
+ghost use Rattle.std.specs.Prelude.{◌≡◌, true, option_copied, IfOk, IfSome};
 ghost use Rattle.service_model.specs.Deliveries.{asked_id, pending_asked};
 ghost use Rattle.service_model.specs.RunState.{is_open};
 ghost use Rattle.mutable_state.specs.Asked.{kept_asked};
-ghost use Rattle.mutable_state.specs.Opens.{is_one};
 
-use crate::open::Open;
+use crate::open::InUse;
 use crate::run::Run;
 use buffered::History;
 use std::alloc::AllocError;
@@ -23,7 +22,7 @@ impl Run {
             IfSome asked (λ name. is_open self.now.state ≡ true)) }
     {
         let opener = Opener { class, event: id };
-        let Some(name) = kept_asked(self.in_use.rows(), &self.history, opener) else {
+        let Some(name) = kept_asked(&self.in_use, &self.history, opener) else {
             return Ok(None);
         };
         Ok(Some(name.clone()?))
@@ -32,22 +31,15 @@ impl Run {
 
 /// The workflow ID that this one asks something of, where it is kept and no event that settles it is
 /// held back.
-fn kept_asked<'a>(rows: &[Open], history: &'a History, opener: Opener) -> Option<&'a Id>
-    ensures { option_copied result ≡ kept_asked history.now.lists.events rows.now opener }
+fn kept_asked<'a>(in_use: &InUse, history: &'a History, opener: Opener) -> Option<&'a Id>
+    ensures { option_copied result ≡ kept_asked history.now.lists.events in_use.now.rows opener }
 {
-    let row = find_open(rows, opener)?;
+    let row = in_use.find(opener)?;
     if row.is_settled {
         return None;
     }
     let event = history.event(opener.event)?;
     asked_id(&event.attributes)
-}
-
-/// What is kept of this one.
-fn find_open(rows: &[Open], opener: Opener) -> Option<&Open>
-    ensures { option_copied result ≡ find (is_one opener) rows.now }
-{
-    rows.iter().find(|row| row.is(opener))
 }
 
 /// The workflow ID that an event asks something of.

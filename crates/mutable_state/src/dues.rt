@@ -1,6 +1,6 @@
 //! When a run's time is over.
 
-ghost use Rattle.std.specs.Prelude.{◌≡◌, option_copied, option_map, flat_map};
+ghost use Rattle.std.specs.Prelude.{◌≡◌, option_and_then, option_copied, option_map};
 ghost use Rattle.timeouts.specs.Firsts.{first_of, first_due, HasTimer};
 ghost use Rattle.timeouts.specs.Slots.{run_due};
 ghost use Rattle.service_model.specs.Deadlines.{timer_dues, activity_dues, by_phase};
@@ -8,10 +8,13 @@ ghost use Rattle.service_model.specs.Pending.{IsQueued, IsRunning, IsWaiting};
 ghost use Rattle.mutable_state.specs.Noted.{kept_row, phase_said};
 ghost use Rattle.service_model.specs.TimerTurns.{timer_name};
 ghost use Rattle.mutable_state.specs.Readers.{started_timer};
-ghost use Rattle.mutable_state.specs.Dues.{own_dues, task_dues, kept_dues, kept_activity_dues, pending_timer_dues, pending_activity_dues};
+ghost use Rattle.mutable_state.specs.Rows.{NamedBy};
+ghost use Rattle.mutable_state.specs.Filed.{IsOfEvent, with_run};
+ghost use Rattle.mutable_state.specs.Dues.{own_dues, task_dues, kept_dues, kept_activity_dues, first_in};
 
 use crate::notes::{ActivityPhase, Notes};
 use crate::open::Open;
+use crate::rows::Row;
 use crate::run::Run;
 use crate::task::WorkflowTask;
 use buffered::History;
@@ -26,44 +29,51 @@ impl Run {
     pub fn first_due(&self, ordinal: u64) -> Option<Due>
         ensures { option_map run_due result ≡ first_due ordinal self.now.state }
     {
-        let begun = self.history.events().first().unwrap().at;
+        let begun = self.history.first().unwrap().at;
         if !self.is_open() {
             return None;
         }
         let own = first_own_due(begun, self.started(), self.task, ordinal);
-        let activities = self.first_activity_due(ordinal);
-        let others = first_of_two(activities, self.first_timer_due(ordinal));
-        first_of_two(own, others)
-    }
-
-    /// The first deadline of its pending activities.
-    fn first_activity_due(&self, ordinal: u64) -> Option<Due>
-        ensures { option_map run_due result ≡ first_of ordinal
-            (pending_activity_dues self.now.state) }
-    {
-        first_kept_activity_due(self.in_use.rows(), &self.history, ordinal)
-    }
-
-    /// The first deadline of its pending timers.
-    fn first_timer_due(&self, ordinal: u64) -> Option<Due>
-        ensures { option_map run_due result
-            ≡ first_of ordinal (pending_timer_dues self.now.state) }
-    {
-        first_kept_due(self.in_use.rows(), &self.history, ordinal)
+        first_of_two(own, of_run(self.in_use.first_due(), ordinal))
     }
 }
 
-/// The first deadline of the activities that are kept and pending.
-#[tactic(auto, unfolding(service_model::specs::TimerTurns::least))]
-fn first_kept_activity_due(rows: &[Open], history: &History, ordinal: u64) -> Option<Due>
-    ensures { option_map run_due result ≡ first_of ordinal
-        (flat_map (kept_activity_dues history.now.lists.events) rows.now) }
+/// The same deadline of the run with this ordinal.
+fn of_run(due: Option<Due>, ordinal: u64) -> Option<Due>
+    ensures { option_map run_due result ≡ option_map (with_run ordinal) (option_map run_due due) }
 {
-    let mut first = None;
-    for row in rows {
-        first = first_of_two(first, kept_activity_due(row, history, ordinal));
+    match due {
+        Some(due) => Some(Due {
+            due: due.due,
+            run: ordinal,
+            class: due.class,
+            event: due.event,
+        }),
+        None => None,
     }
-    first
+}
+
+/// The first deadline of what is kept, as that of the run 0.
+pub(crate) fn first_row_due(row: &Open, history: &History) -> Option<Due>
+    ensures value { option_map run_due result ≡ first_in history.now.lists.events row.now }
+    ensures named { IsOfEvent row.now.opener.event result }
+{
+    first_of_two(
+        kept_activity_due(row, history, 0),
+        kept_due(row, history, 0),
+    )
+}
+
+/// The first deadline of what is in a row, where something is there.
+pub(crate) fn first_due_at(row: &Row, history: &History) -> Option<Due>
+    ensures value { option_map run_due result
+        ≡ option_and_then (first_in history.now.lists.events) row.now.kept }
+    ensures named { NamedBy row.now.event row.now.kept → IsOfEvent row.now.event result }
+{
+    match &row.kept {
+        Some(open) => first_row_due(open, history),
+        None => None,
+    }
 }
 
 /// The first deadline of what is kept, where it is a pending activity.
@@ -207,19 +217,6 @@ pub fn started_timer(event: Option<&Event>) -> Option<&Id>
         Attributes::TimerStarted(timer) => Some(&timer.timer_id),
         _ => None,
     }
-}
-
-/// The first deadline of the timers that are kept and pending.
-#[tactic(auto, unfolding(service_model::specs::TimerTurns::least))]
-fn first_kept_due(rows: &[Open], history: &History, ordinal: u64) -> Option<Due>
-    ensures { option_map run_due result ≡ first_of ordinal
-        (flat_map (kept_dues history.now.lists.events) rows.now) }
-{
-    let mut first = None;
-    for row in rows {
-        first = first_of_two(first, kept_due(row, history, ordinal));
-    }
-    first
 }
 
 /// The deadline of what is kept, where it is a pending timer.

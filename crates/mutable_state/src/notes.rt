@@ -1,9 +1,8 @@
 //! What notes say of an activity.
 
-ghost use Rattle.std.specs.Prelude.{◌≡◌, ◌<◌, IfOk};
+ghost use Rattle.std.specs.Prelude.{◌≡◌, IfOk};
 ghost use Rattle.service_model.specs.Completion.{is_running_phase};
-ghost use Rattle.service_model.specs.Pending.{is_ended};
-ghost use Rattle.mutable_state.specs.Noted.{no_notes, noted, phase_said};
+ghost use Rattle.mutable_state.specs.Noted.{MayAdd, no_notes, noted, phase_said};
 
 use service_model_types::journal::Note;
 use std::alloc::AllocError;
@@ -51,13 +50,6 @@ impl Drop for Notes {
             cancel_requested: _,
         } = self;
     }
-}
-
-/// Whether an attempt ended with the note.
-pub fn is_end(note: &Note) -> bool
-    ensures { result ≡ is_ended note.now }
-{
-    matches!(note, Note::Ended)
 }
 
 impl Notes {
@@ -112,7 +104,7 @@ impl Notes {
 
     /// One more note, made at this moment.
     pub fn add(&mut self, at: Moment, note: Note)
-        requires { self.old.attempt < 4294967295 }
+        requires { MayAdd note self.old }
         ensures { self.new ≡ noted at note self.old }
     {
         match &note {

@@ -7,5 +7,9 @@ pub mod OnePassLemmas
 pub mod QueueLemmas
 mod TransferLemmas
 pub mod CallLemmas
-mod OpenLemmas
+pub mod OpenLemmas
+mod CloseLemmas
+mod OpeningLaws
+mod KeptLemmas
+mod RecordLaws
 mod RangeLemmas

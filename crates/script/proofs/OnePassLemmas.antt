@@ -1,5 +1,5 @@
 -- a service with one pass: each step goes on from all that was done
-use Rattle.std.proofs.Common.{◌≡◌, ◌≢◌, ℕ, ◌+◌, ◌<◌, ◌≤◌, true, List, [], ◌∷◌, ◌++◌, length, refl, sym, ap, ◌∙◌, arith, zero, suc, Option, None, Some, slice_index_or, slice_set, subst, length-append, append-nil, ◌⊎◌, inl, inr}
+use Rattle.std.proofs.Common.{◌≡◌, ◌≢◌, ℕ, ◌+◌, ◌<◌, ◌≤◌, true, List, [], ◌∷◌, ◌++◌, length, refl, sym, ap, ◌∙◌, arith, zero, suc, Option, None, Some, slice_index_or, slice_set, subst, length-append, append-nil, append_assoc, ◌⊎◌, inl, inr}
 use Rattle.std.proofs.lemmas.Bool.Decides.{nat_tests}
 use Rattle.std.proofs.lemmas.List.FromFn.{get_or-map-range_with_len}
 use Rattle.std.specs.Prelude.{map, ◌==◌, if◌then◌else◌, Err}
@@ -17,9 +17,10 @@ use Rattle.matching.specs.declared.view.View.{View as HintView}
 use Rattle.matching.specs.Alone.{waiting_of}
 use Rattle.service.specs.declared.service.Service.{Service}
 use Rattle.service.specs.Contents.{setup_of}
+use Rattle.service.specs.Reopening.{record_at}
 use Rattle.service.specs.Services.{Answered, IsServedAtLast, IsServedOn}
-use Rattle.script.specs.OnePass.{KnowsAll, content_seen, contents_seen, world_seen}
-use Rattle.script.specs.World.{Came, World, content_at, stepped, unless}
+use Rattle.script.specs.OnePass.{KnowsAll, content_seen, contents_seen, records_seen, world_seen}
+use Rattle.script.specs.World.{Came, World, content_at, recorded, stepped, unless}
 
 -- all entries are of the one pass
 by-only : (es : List Entry) → FromGiven 1 es → by 0 es ≡ es
@@ -48,31 +49,43 @@ same-or-apart zero (suc n) = inr (λ h. omega (arith, h))
 same-or-apart (suc m) zero = inr (λ h. omega (arith, h))
 same-or-apart (suc m) (suc n) = elim (same-or-apart m n) [ inl h ↦ inl (ap suc h) | inr h ↦ inr (λ e. h (omega (arith, e))) ]
 
--- the shard of the step: all entries are the pass's own
-own-alone : (x : Service) (v w : View Request Content) (s : ℕ) (q : Request) (r : Reply) → KnowsAll v → IsServedOn x v w s q r → gate.seen w s ≡ gate.mine w s
-own-alone x v w s q r h done =
+past-front : (xs rest : List Entry) → past xs (xs ++ rest) ≡ rest
+past-front [] rest = refl
+past-front (x ∷ xs) rest = past-front xs rest
+
+-- a record that goes on from another is that one and what is past it
+pub split-past : (xs ys : List Entry) → Begins xs ys → ys ≡ xs ++ past xs ys
+split-past xs ys (rest, is) = is ∙ ap (λ t. xs ++ t) (sym (ap (past xs) is ∙ past-front xs rest))
+
+base-same : (v w : View Request Content) (s : ℕ) → gate.IsSame v w → gate.base w s ≡ gate.base v s
+base-same v w s same = ap (λ o. slice_index_or o.bases s []) same.1
+
+-- past the record at the opening all entries are of the only pass
+pub all-own : (v : View Request Content) (s : ℕ) (log : List Entry) → KnowsAll v → FromGiven 1 (past (gate.base v s) log) → by (gate.number v) (past (gate.base v s) log) ≡ gate.mine v s → past (gate.base v s) log ≡ gate.mine v s
+all-own v s log h given own = sym (by-only (past (gate.base v s) log) given) ∙ ap (λ n. by n (past (gate.base v s) log)) (sym h.first) ∙ own
+
+-- the shard of the step: what the pass did there was put behind the record at the opening
+based-own : (x : Service) (v w : View Request Content) (s : ℕ) (q : Request) (r : Reply) → KnowsAll v → IsServedOn x v w s q r → gate.seen w s ≡ gate.base v s ++ gate.mine w s
+based-own x v w s q r h done =
     let es = gate.seen w s in
-    let none = h.bases s in
-    let G : List Entry → Type 0 = λ b. FromGiven (gate.passes v) (past b es) in
-    let N : ℕ → Type 0 = λ n. FromGiven n es in
-    let given : FromGiven 1 es = subst N h.one (subst G none done.step.given) in
-    sym (by-only es given)
-    ∙ ap (λ n. by n es) (sym h.first)
-    ∙ ap (λ b. by (gate.number v) (past b es)) (sym none)
-    ∙ done.step.own
+    let more = past (gate.base v s) es in
+    let N : ℕ → Type 0 = λ n. FromGiven n more in
+    let given : FromGiven 1 more = subst N h.one done.step.given in
+    split-past (gate.base v s) es done.step.based
+    ∙ ap (λ t. gate.base v s ++ t) (sym (by-only more given) ∙ ap (λ n. by n more) (sym h.first) ∙ done.step.own)
 
 -- after a step the pass has still seen its own steps alone
-alone-after : (x : Service) (v w : View Request Content) (s : ℕ) (q : Request) (r : Reply) → KnowsAll v → IsServedOn x v w s q r → (k : ℕ) → gate.seen w k ≡ gate.mine w k
+alone-after : (x : Service) (v w : View Request Content) (s : ℕ) (q : Request) (r : Reply) → KnowsAll v → IsServedOn x v w s q r → (k : ℕ) → gate.seen w k ≡ gate.base w k ++ gate.mine w k
 alone-after x v w s q r h done k = elim (same-or-apart k s) [
-  | inl same ↦ let P : ℕ → Type 0 = λ n. gate.seen w n ≡ gate.mine w n in subst P (sym same) (own-alone x v w s q r h done)
-  | inr apart ↦ (done.step.others k apart).0 ∙ h.alone k ∙ sym (done.step.others k apart).1
+  | inl same ↦ let P : ℕ → Type 0 = λ n. gate.seen w n ≡ gate.base w n ++ gate.mine w n in
+      subst P (sym same) (based-own x v w s q r h done ∙ ap (λ b. b ++ gate.mine w s) (sym (base-same v w s done.step.same)))
+  | inr apart ↦ (done.step.others k apart).0 ∙ h.alone k ∙ ap (λ b. b ++ gate.mine v k) (sym (base-same v w k done.step.same)) ∙ ap (λ m. gate.base w k ++ m) (sym (done.step.others k apart).1)
 ]
 
 knows-served : (x : Service) (v w : View Request Content) (s : ℕ) (q : Request) (r : Reply) → KnowsAll v → IsServedOn x v w s q r → KnowsAll w
 knows-served x v w s q r h done = record {
   first = done.step.same.0 ∙ h.first;
   one = ap (λ o. o.passes) done.step.same.1 ∙ h.one;
-  bases = λ k. ap (λ o. slice_index_or o.bases k []) done.step.same.1 ∙ h.bases k;
   alone = alone-after x v w s q r h done;
 }
 
@@ -81,21 +94,28 @@ pub knows-same : (v w : View Request Content) → KnowsAll v → gate.SeenNothin
 knows-same v w h nothing = record {
   first = nothing.same.0 ∙ h.first;
   one = ap (λ o. o.passes) nothing.same.1 ∙ h.one;
-  bases = λ k. ap (λ o. slice_index_or o.bases k []) nothing.same.1 ∙ h.bases k;
-  alone = λ s. nothing.sees s ∙ h.alone s ∙ sym (nothing.has s);
+  alone = λ s. nothing.sees s ∙ h.alone s ∙ ap (λ b. b ++ gate.mine v s) (sym (base-same v w s nothing.same)) ∙ ap (λ m. gate.base w s ++ m) (sym (nothing.has s));
 }
 
--- the step found all that the pass had seen
-front-is : (x : Service) (v w : View Request Content) (s : ℕ) (q : Request) (r : Reply) (h : KnowsAll v) (done : IsServedOn x v w s q r) → done.step.front ≡ gate.seen v s
-front-is x v w s q r h done =
-    same-front (gate.seen v s) done.step.front (record { pass = gate.number v; request = q }) done.step.extends
-    (sym done.step.last ∙ own-alone x v w s q r h done ∙ done.step.adds ∙ ap (λ t. t ++ (record { pass = gate.number v; request = q }) ∷ []) (sym (h.alone s)))
+-- the step of a pass
+abbrev entry_of : View Request Content → Request → Entry
+entry_of v q = record { pass = gate.number v; request = q }
 
-same-map : {X : Type 0} (f g : ℕ → X) (b m : ℕ) → ((k : ℕ) → b ≤ k → g k ≡ f k) → map g (range_with_len b m) ≡ map f (range_with_len b m)
+-- the step was put behind all that the pass had seen
+seen-after : (x : Service) (v w : View Request Content) (s : ℕ) (q : Request) (r : Reply) → KnowsAll v → IsServedOn x v w s q r → gate.seen w s ≡ gate.seen v s ++ entry_of v q ∷ []
+seen-after x v w s q r h done =
+    based-own x v w s q r h done ∙ ap (λ t. gate.base v s ++ t) done.step.adds
+    ∙ sym (append_assoc (gate.base v s) (gate.mine v s) (entry_of v q ∷ [])) ∙ ap (λ t. t ++ entry_of v q ∷ []) (sym (h.alone s))
+
+-- so it found just that
+front-is : (x : Service) (v w : View Request Content) (s : ℕ) (q : Request) (r : Reply) (h : KnowsAll v) (done : IsServedOn x v w s q r) → done.step.front ≡ gate.seen v s
+front-is x v w s q r h done = same-front (gate.seen v s) done.step.front (entry_of v q) done.step.extends (sym done.step.last ∙ seen-after x v w s q r h done)
+
+pub same-map : {X : Type 0} (f g : ℕ → X) (b m : ℕ) → ((k : ℕ) → b ≤ k → g k ≡ f k) → map g (range_with_len b m) ≡ map f (range_with_len b m)
 same-map f g b zero same = refl
 same-map f g b (suc m) same = ap (λ t. t ∷ map g (range_with_len (b + 1) m)) (same b (omega arith)) ∙ ap (λ t. f b ∷ t) (same-map f g (b + 1) m (λ k later. same k (omega (arith, later))))
 
-map-set : {X : Type 0} (f g : ℕ → X) (a n s : ℕ) (y : X) → s < n → g (a + s) ≡ y → ((k : ℕ) → k ≢ a + s → g k ≡ f k) → map g (range_with_len a n) ≡ slice_set (map f (range_with_len a n)) s y
+pub map-set : {X : Type 0} (f g : ℕ → X) (a n s : ℕ) (y : X) → s < n → g (a + s) ≡ y → ((k : ℕ) → k ≢ a + s → g k ≡ f k) → map g (range_with_len a n) ≡ slice_set (map f (range_with_len a n)) s y
 map-set f g a zero s y there here others = absurd (omega arith)
 map-set f g a (suc n) zero y there here others =
     ap (λ t. t ∷ map g (range_with_len (a + 1) n)) (ap g (omega arith) ∙ here)
@@ -107,9 +127,15 @@ map-set f g a (suc n) (suc s) y there here others =
 content-here : (K : Settings) (v : View Request Content) (s : ℕ) → s < K.shards → content_at K (contents_seen K v) s ≡ content_seen K v s
 content-here K v s below = get_or-map-range_with_len (content_seen K v) 0 K.shards s s (opening (setup_of K s)) below (omega arith)
 
--- the contents are as they were where nothing was seen
+record-here : (K : Settings) (v : View Request Content) (s : ℕ) → s < K.shards → record_at (records_seen K v) s ≡ gate.seen v s
+record-here K v s below = get_or-map-range_with_len (gate.seen v) 0 K.shards s s [] below (omega arith)
+
+-- the contents and the records are as they were where nothing was seen
 contents-same : (K : Settings) (v w : View Request Content) → gate.SeenNothing v w → contents_seen K w ≡ contents_seen K v
 contents-same K v w nothing = same-map (content_seen K v) (content_seen K w) 0 K.shards (λ k there. ap (replay after (opening (setup_of K k))) (nothing.sees k))
+
+records-same : (K : Settings) (v w : View Request Content) → gate.SeenNothing v w → records_seen K w ≡ records_seen K v
+records-same K v w nothing = same-map (gate.seen v) (gate.seen w) 0 K.shards (λ k there. nothing.sees k)
 
 -- the content of each shard after a step: that of the step is one request on
 contents-served : (x : Service) (v w : View Request Content) (s : ℕ) (q : Request) (r : Reply) → KnowsAll v → s < x.settings.shards → IsServedOn x v w s q r →
@@ -124,6 +150,18 @@ contents-served x v w s q r h below done =
     (ap (content_seen K w) (omega arith) ∙ here)
     (λ k apart. ap (replay after (opening (setup_of K k))) (done.step.others k (λ e. apart (e ∙ omega arith))).0)
 
+-- the record of each shard after a step: that of the step is one entry longer
+records-served : (x : Service) (v w : View Request Content) (s : ℕ) (q : Request) (r : Reply) → KnowsAll v → s < x.settings.shards → IsServedOn x v w s q r →
+    records_seen x.settings w ≡ slice_set (records_seen x.settings v) s (recorded (record_at (records_seen x.settings v) s) q)
+records-served x v w s q r h below done =
+    let K = x.settings in
+    let with_pass : ℕ → List Entry = λ n. gate.seen v s ++ record { pass = n; request = q } ∷ [] in
+    let here : gate.seen w s ≡ recorded (record_at (records_seen K v) s) q =
+    seen-after x v w s q r h done ∙ ap with_pass h.first ∙ ap (λ log. recorded log q) (sym (record-here K v s below)) in
+    map-set (gate.seen v) (gate.seen w) 0 K.shards s _ below
+    (ap (gate.seen w) (omega arith) ∙ here)
+    (λ k apart. (done.step.others k (λ e. apart (e ∙ omega arith))).0)
+
 -- the reply is the shard's at its content
 reply-served : (x : Service) (v w : View Request Content) (s : ℕ) (q : Request) (r : Reply) → KnowsAll v → s < x.settings.shards → IsServedOn x v w s q r →
     r ≡ answer (content_at x.settings (contents_seen x.settings v) s) q
@@ -137,16 +175,17 @@ reply-served x v w s q r h below done =
 abbrev pub came : Reply → World → Came
 came r W = record { reply = r; world = W }
 
--- the world of other contents
-abbrev world_of : List Content → List HintView → World
-world_of cs hs = record { contents = cs; waiting = map waiting_of hs }
+-- the world of other contents and records
+abbrev world_of : List Content → List (List Entry) → List HintView → World
+world_of cs logs hs = record { contents = cs; waiting = map waiting_of hs; records = logs }
 
 served-is : (x : Service) (v w : View Request Content) (hs : List HintView) (s : ℕ) (q : Request) (r : Reply) → KnowsAll v → s < x.settings.shards → IsServedOn x v w s q r →
     came r (world_seen x.settings w hs) ≡ stepped x.settings (world_seen x.settings v hs) s q
 served-is x v w hs s q r h below done =
     let K = x.settings in
     ap (λ t. came t (world_seen K w hs)) (reply-served x v w s q r h below done)
-    ∙ ap (λ cs. came (answer (content_at K (contents_seen K v) s) q) (world_of cs hs)) (contents-served x v w s q r h below done)
+    ∙ ap (λ cs. came (answer (content_at K (contents_seen K v) s) q) (world_of cs (records_seen K w) hs)) (contents-served x v w s q r h below done)
+    ∙ ap (λ logs. came (answer (content_at K (contents_seen K v) s) q) (world_of (slice_set (contents_seen K v) s (after (content_at K (contents_seen K v) s) q)) logs hs)) (records-served x v w s q r h below done)
 
 -- a step that was served comes to what the world's does
 pub step-is : (x : Service) (v w : View Request Content) (hs : List HintView) (s : ℕ) (q : Request) (r : Reply) → KnowsAll v → s < x.settings.shards → IsServedAtLast x v w s q r →
@@ -154,7 +193,8 @@ pub step-is : (x : Service) (v w : View Request Content) (hs : List HintView) (s
 step-is x v w hs s q r h below done =
     let nothing = done.waited.nothing in
     served-is x done.met w hs s q r (knows-same v done.met h nothing) below done.served
-    ∙ ap (λ cs. stepped x.settings (world_of cs hs) s q) (contents-same x.settings v done.met nothing)
+    ∙ ap (λ cs. stepped x.settings (world_of cs (records_seen x.settings done.met) hs) s q) (contents-same x.settings v done.met nothing)
+    ∙ ap (λ logs. stepped x.settings (world_of (contents_seen x.settings v) logs hs) s q) (records-same x.settings v done.met nothing)
 
 pub knows-step : (x : Service) (v w : View Request Content) (s : ℕ) (q : Request) (r : Reply) → KnowsAll v → IsServedAtLast x v w s q r → KnowsAll w
 knows-step x v w s q r h done = knows-served x done.met w s q r (knows-same v done.met h done.waited.nothing) done.served

@@ -1,95 +1,185 @@
--- the one pass of a service that was just opened
-use Rattle.std.proofs.Common.{◌≡◌, ℕ, ◌+◌, ◌*◌, ◌<◌, List, [], ◌∷◌, ◌++◌, length, refl, sym, ap, ◌∙◌, arith, zero, suc, Some, slice_index_or, length-append, replicate}
-use Rattle.std.specs.Prelude.{map, slice_get}
+-- the one pass of a service that was just opened from records
+use Rattle.std.proofs.Common.{◌≡◌, ◌≢◌, ℕ, ◌*◌, ◌<◌, Bool, true, false, List, [], ◌∷◌, ◌++◌, length, refl, sym, ap, ◌∙◌, arith, Option, None, Some, slice_index_or, slice_set, length-append, append-nil, replicate}
+use Rattle.std.specs.Prelude.{map, nat_lt, slice_get, if◌then◌else◌, Result, Ok, Err}
 use Rattle.std.specs.List.{range_with_len}
-use Rattle.std.proofs.lemmas.List.{length-map}
+use Rattle.std.proofs.lemmas.List.{ext_get_or, length-map, length-replicate, length-set}
 use Rattle.std.proofs.lemmas.Option.{slice_get-get_or}
+use Rattle.std.proofs.Math.ListN.{get_or-map}
+use Rattle.wf_event_values.specs.declared.field.Field.{Field}
+use Rattle.wf_event_values.specs.declared.field.Field.TheVariants as field
+use Rattle.wf_event_values.specs.declared.refusal.Refusal.{Refusal}
+use Rattle.wf_event_values.specs.declared.refusal.Refusal.TheVariants.{InvalidArgument, QueueFull}
 use Rattle.service_model_types.specs.declared.content.Content.{Content}
+use Rattle.service_model_types.specs.declared.content.Dispatch.{Dispatch}
 use Rattle.service_model_types.specs.declared.request.Hint.{Hint}
 use Rattle.service_model_types.specs.declared.settings.Settings.{Settings}
-use Rattle.service_model.specs.Service.{after, opening}
+use Rattle.service_model.specs.Service.{Entry, after, opening}
 use Rattle.service_model.proofs.ListLemmas.{get-map}
 use Rattle.gate.specs.Passes as gate
 use Rattle.gate.specs.Records.{replay}
 use Rattle.matching.specs.Alone.{waiting_of}
-use Rattle.matching.specs.Named.{at}
+use Rattle.matching.specs.Holding.{all_pushed, held_by, pushed, then_push}
+use Rattle.matching.specs.Named.{at, held_at, place_in, slot_of}
 use Rattle.matching.specs.Plays.{fresh, nobody}
 use Rattle.matching.specs.Queues as one
+use Rattle.matching.proofs.Exact.{opens_exactly}
 use Rattle.service.specs.declared.service.Service.{Service}
 use Rattle.service.specs.declared.service.Pass.{Pass}
-use Rattle.service.specs.Contents.{opening_contents, setup_of}
-use Rattle.service.specs.Laid.{AreFresh}
+use Rattle.service.specs.Contents.{setup_of}
+use Rattle.service.specs.Ends.{base_of}
+use Rattle.service.specs.Held.{HoldsAtOpening}
+use Rattle.service.specs.Ranges.{range_fault}
+use Rattle.service.specs.Reopening.{are_records, content_from, contents_from, opens, record_at, records_fault, unless_fault, waiting_from}
 use Rattle.service.specs.Services.{IsPassOf, hints_by, known_by}
-use Rattle.script.specs.OnePass.{IsOnePass, KnowsAll, KnowsQueues, content_seen, contents_seen, world_seen}
-use Rattle.script.specs.World.{World, opening_world}
+use Rattle.service.proofs.ReopenLemmas.{replay-same}
+use Rattle.script.specs.OnePass.{IsOnePass, KnowsAll, KnowsQueues, content_seen, contents_seen, records_seen, world_seen}
+use Rattle.script.specs.World.{World, held_at_opening, opening_world}
+use Rattle.script.proofs.OnePassLemmas.{same-map}
+
+abbrev Lists : Type 0
+Lists = List (List Hint)
 
 -- ---- what it knows of the shards
 
-fresh-base : (x : Service) (p : Pass) (s : ℕ) → IsPassOf p x → gate.base (known_by p) s ≡ []
-fresh-base x p s own = ap (λ o. slice_index_or o.bases s []) own.own.1 ∙ own.opened.bases s
+-- a new pass has seen the record with which a shard was opened
+fresh-seen : (x : Service) (p : Pass) (R : List (List Entry)) (s : ℕ) → IsPassOf p x → base_of x s ≡ record_at R s → gate.IsFresh 0 (known_by p) → gate.seen (known_by p) s ≡ record_at R s
+fresh-seen x p R s own is new = new.sees s ∙ ap (λ o. slice_index_or o.bases s []) own.own.1 ∙ is
 
 fresh-all : (x : Service) (p : Pass) → IsPassOf p x → x.settings.passes ≡ 1 → gate.IsFresh 0 (known_by p) → KnowsAll (known_by p)
 fresh-all x p own alone new = record {
   first = new.named;
   one = ap (λ o. o.passes) own.own.1 ∙ own.opened.passes ∙ alone;
-  bases = λ s. fresh-base x p s own;
-  alone = λ s. new.sees s ∙ fresh-base x p s own ∙ sym (new.has s);
+  alone = λ s. new.sees s ∙ sym (append-nil (gate.base (known_by p) s)) ∙ ap (λ m. gate.base (known_by p) s ++ m) (sym (new.has s));
 }
 
-contents-fresh : (x : Service) (p : Pass) → IsPassOf p x → gate.IsFresh 0 (known_by p) → contents_seen x.settings (known_by p) ≡ opening_contents x.settings
-contents-fresh x p own new = all-fresh 0 x.settings.shards
-  where
-    K : Settings
-    K = x.settings
+contents-fresh : (x : Service) (p : Pass) (R : List (List Entry)) → IsPassOf p x → ((s : ℕ) → base_of x s ≡ record_at R s) → gate.IsFresh 0 (known_by p) → contents_seen x.settings (known_by p) ≡ contents_from x.settings R
+contents-fresh x p R own is new =
+    let K = x.settings in
+    same-map (content_from K R) (content_seen K (known_by p)) 0 K.shards (λ k there.
+    ap (replay after (opening (setup_of K k))) (fresh-seen x p R k own (is k) new) ∙ replay-same (opening (setup_of K k)) (record_at R k))
 
-    all-fresh : (a n : ℕ) → map (content_seen K (known_by p)) (range_with_len a n) ≡ map (λ k. opening (setup_of K k)) (range_with_len a n)
-    all-fresh a zero = refl
-    all-fresh a (suc n) =
-        ap (λ log. replay after (opening (setup_of K a)) log ∷ map (content_seen K (known_by p)) (range_with_len (a + 1) n)) (new.sees a ∙ fresh-base x p a own)
-        ∙ ap (λ t. opening (setup_of K a) ∷ t) (all-fresh (a + 1) n)
+records-fresh : (x : Service) (p : Pass) (R : List (List Entry)) → IsPassOf p x → ((s : ℕ) → base_of x s ≡ record_at R s) → gate.IsFresh 0 (known_by p) → records_seen x.settings (known_by p) ≡ map (record_at R) (range_with_len 0 x.settings.shards)
+records-fresh x p R own is new = same-map (record_at R) (gate.seen (known_by p)) 0 x.settings.shards (λ k there. fresh-seen x p R k own (is k) new)
+
+-- ---- how many lists of hints the queues hold
+
+room-count : (b : Bool) (all more : Lists) (slot : ℕ) (new : List Hint) → ◌≡◌ {A = Result Lists Refusal} (if b then Ok (slice_set all slot new) else Err QueueFull) (Ok more) → length more ≡ length all
+room-count true all more slot new is = let same : slice_set all slot new ≡ more = cc is in ap length (sym same) ∙ length-set all slot new
+room-count false all more slot new is = absurd (cc is)
+
+push-count : (capacity : ℕ) (all more : Lists) (place : Option ℕ) (hint : Hint) → pushed capacity all place hint ≡ Ok more → length more ≡ length all
+push-count capacity all more None hint is = absurd (cc is)
+push-count capacity all more (Some place) hint is =
+    let waiting = slice_index_or all (slot_of place hint.kind) [] in
+    room-count (nat_lt (length waiting) capacity) all more (slot_of place hint.kind) (waiting ++ hint ∷ []) is
+
+then-count : (r : Result Lists Refusal) (rest : Lists → Result Lists Refusal) (n : ℕ) (held : Lists) → ((more : Lists) → r ≡ Ok more → rest more ≡ Ok held → length held ≡ n) → then_push r rest ≡ Ok held → length held ≡ n
+then-count (Ok more) rest n held next is = next more refl is
+then-count (Err e) rest n held next is = absurd (cc is)
+
+all-count : (names : List (List ℕ)) (capacity : ℕ) (ds : List Dispatch) (all held : Lists) → all_pushed names capacity all ds ≡ Ok held → length held ≡ length all
+all-count names capacity [] all held is = let same : all ≡ held = cc is in ap length (sym same)
+all-count names capacity (d ∷ ds) all held is =
+    then-count (pushed capacity all (place_in names d.queue) d.hint) (λ more. all_pushed names capacity more ds) (length all) held
+    (λ more was rest. all-count names capacity ds more held rest ∙ push-count capacity all more (place_in names d.queue) d.hint was) is
+
+-- ---- what opening comes to
+
+opened-held : (K : Settings) (R : List (List Entry)) (held : Lists) → opens K R ≡ Ok held → held_by K.queues K.capacity (waiting_from K R) ≡ Ok held
+opened-held K R held is = by_range (range_fault K) is
+  where
+    by_records : (b : Bool) → unless_fault (if b then Ok tt else Err (InvalidArgument field.Records)) (held_by K.queues K.capacity (waiting_from K R)) ≡ Ok held → held_by K.queues K.capacity (waiting_from K R) ≡ Ok held
+    by_records true is = is
+    by_records false is = absurd (cc is)
+
+    by_range : (r : Result (Unit {0}) Refusal) → unless_fault r (unless_fault (records_fault K R) (held_by K.queues K.capacity (waiting_from K R))) ≡ Ok held → held_by K.queues K.capacity (waiting_from K R) ≡ Ok held
+    by_range (Ok done) is = by_records (are_records K R) is
+    by_range (Err e) is = absurd (cc is)
+
+-- there is a list for each queue
+held-count : (K : Settings) (R : List (List Entry)) (held : Lists) → opens K R ≡ Ok held → length held ≡ 2 * length K.queues
+held-count K R held is =
+    let none : Lists = replicate (2 * length K.queues) [] in
+    all-count K.queues K.capacity (waiting_from K R) none held (opened-held K R held is) ∙ length-replicate (2 * length K.queues) []
+
+room-valid : (b : Bool) (all : Lists) (rest : Lists → Result Lists Refusal) (f : Field) → ((more : Lists) → rest more ≢ Err (InvalidArgument f)) → then_push (if b then Ok all else Err QueueFull) rest ≢ Err (InvalidArgument f)
+room-valid true all rest f next = next all
+room-valid false all rest f next = λ e. absurd (cc (e))
+
+push-valid : (capacity : ℕ) (all : Lists) (place : Option ℕ) (hint : Hint) (rest : Lists → Result Lists Refusal) (f : Field) → ((more : Lists) → rest more ≢ Err (InvalidArgument f)) → then_push (pushed capacity all place hint) rest ≢ Err (InvalidArgument f)
+push-valid capacity all None hint rest f next = λ e. absurd (cc (e))
+push-valid capacity all (Some place) hint rest f next =
+    let waiting = slice_index_or all (slot_of place hint.kind) [] in
+    room-valid (nat_lt (length waiting) capacity) (slice_set all (slot_of place hint.kind) (waiting ++ hint ∷ [])) rest f next
+
+-- no push refuses an argument
+all-valid : (names : List (List ℕ)) (capacity : ℕ) (ds : List Dispatch) (all : Lists) (f : Field) → all_pushed names capacity all ds ≢ Err (InvalidArgument f)
+all-valid names capacity [] all f = λ e. absurd (cc (e))
+all-valid names capacity (d ∷ ds) all f = push-valid capacity all (place_in names d.queue) d.hint (λ more. all_pushed names capacity more ds) f (λ more. all-valid names capacity ds more f)
+
+-- an argument other than the records is a setting that is out of its range
+pub refused-setting : (K : Settings) (R : List (List Entry)) (f : Field) → f ≢ field.Records → opens K R ≡ Err (InvalidArgument f) → range_fault K ≡ Err (InvalidArgument f)
+refused-setting K R f other is = by_range (range_fault K) refl is
+  where
+    by_records : (b : Bool) → unless_fault (if b then Ok tt else Err (InvalidArgument field.Records)) (held_by K.queues K.capacity (waiting_from K R)) ≢ Err (InvalidArgument f)
+    by_records true = all-valid K.queues K.capacity (waiting_from K R) (replicate (2 * length K.queues) []) f
+    by_records false = λ e. other (cc (e))
+
+    by_range : (r : Result (Unit {0}) Refusal) → range_fault K ≡ r → unless_fault r (unless_fault (records_fault K R) (held_by K.queues K.capacity (waiting_from K R))) ≡ Err (InvalidArgument f) → range_fault K ≡ Err (InvalidArgument f)
+    by_range (Ok done) was is = absurd (by_records (are_records K R) is)
+    by_range (Err e) was is = let same : e ≡ InvalidArgument f = cc is in was ∙ ap Err same
 
 -- ---- what it knows of the queues
 
-fresh-at : (K : Settings) (p : Pass) (s : ℕ) → AreFresh K 0 p → s < length (hints_by p) → at (hints_by p) s ≡ fresh K.passes K.shards K.capacity 0
-fresh-at K p s new below =
+-- what the pass knows of the queue in a slot, where these hints are held
+abbrev KnowsHeld : Settings → Lists → Pass → Type 0
+KnowsHeld K held p = (s : ℕ) → s < length (hints_by p) → at (hints_by p) s ≡ fresh 1 K.shards K.capacity (held_at held s) 0
+
+fresh-at : (K : Settings) (R : List (List Entry)) (passes : List Pass) (p : Pass) (h : HoldsAtOpening K R passes) → K.passes ≡ 1 → slice_get passes 0 ≡ Some p → KnowsHeld K h.held p
+fresh-at K R passes p h alone first = λ s below.
     let (r, there, is) = get-map one.known_by p.hints.passes.items s (at (hints_by p) s) (slice_get-get_or (hints_by p) s nobody below) in
-    is ∙ new s r there
+    is ∙ h.fresh 0 p first s r there ∙ ap (λ n. fresh n K.shards K.capacity (held_at h.held s) 0) alone
 
-fresh-queues : (x : Service) (p : Pass) → IsPassOf p x → x.settings.passes ≡ 1 → AreFresh x.settings 0 p → KnowsQueues x.settings (hints_by p)
-fresh-queues x p own alone new = record {
-  count = length-map p.hints.passes.items one.known_by ∙ own.hints.width ∙ own.hints.even ∙ ap (λ names. 2 * length names) own.opened.names;
-  alone = λ s below. let is = fresh-at x.settings p s new below in (ap (λ v. v.given) is ∙ alone, ap (λ v. v.number) is);
-  capacity = λ s below. ap (λ v. v.capacity) (fresh-at x.settings p s new below);
-  shards = λ s below. ap (λ v. v.shards) (fresh-at x.settings p s new below);
-}
-
--- a list whose members are all alike
-all-alike : {A : Type 0} (xs : List A) (a d : A) → ((s : ℕ) → s < length xs → slice_index_or xs s d ≡ a) → xs ≡ replicate (length xs) a
-all-alike [] a d each = refl
-all-alike (x ∷ xs) a d each = ap (λ y. y ∷ xs) (each 0 (omega arith)) ∙ ap (λ t. a ∷ t) (all-alike xs a d (λ s below. each (suc s) (omega (arith, below))))
-
-map-alike : {A B : Type 0} (f : A → B) (n : ℕ) (a : A) → map f (replicate n a) ≡ replicate n (f a)
-map-alike f zero a = refl
-map-alike f (suc n) a = ap (λ t. f a ∷ t) (map-alike f n a)
-
-waiting-fresh : (x : Service) (p : Pass) → KnowsQueues x.settings (hints_by p) → AreFresh x.settings 0 p → map waiting_of (hints_by p) ≡ replicate (2 * length x.settings.queues) []
-waiting-fresh x p h new =
+fresh-queues : (x : Service) (p : Pass) (held : Lists) → IsPassOf p x → KnowsHeld x.settings held p → KnowsQueues x.settings (hints_by p)
+fresh-queues x p held own new =
     let K = x.settings in
-    let a = fresh K.passes K.shards K.capacity 0 in
+    record {
+      count = length-map p.hints.passes.items one.known_by ∙ own.hints.width ∙ own.hints.even ∙ ap (λ names. 2 * length names) own.opened.names;
+      alone = λ s below. (ap (λ v. v.given) (new s below), ap (λ v. v.number) (new s below));
+      capacity = λ s below. ap (λ v. v.capacity) (new s below);
+      shards = λ s below. ap (λ v. v.shards) (new s below);
+    }
+
+-- in each queue waits what it was opened with
+waiting-fresh : (K : Settings) (p : Pass) (held : Lists) → length held ≡ length (hints_by p) → KnowsHeld K held p → map waiting_of (hints_by p) ≡ held
+waiting-fresh K p held count new =
     let hs = hints_by p in
-    ap (map waiting_of) (all-alike hs a nobody (λ s below. fresh-at K p s new below)) ∙ map-alike waiting_of (length hs) a ∙ ap (λ n. replicate n []) h.count
+    let wide : length (map waiting_of hs) ≡ length hs = length-map hs waiting_of in
+    ext_get_or [] (map waiting_of hs) held (wide ∙ sym count)
+    (λ s below. get_or-map waiting_of hs s nobody ∙ ap waiting_of (new s (omega (arith, wide, below))) ∙ (opens_exactly K.shards K.capacity (held_at held s)).1)
 
 -- ---- both
 
-pub fresh-one : (x : Service) (p : Pass) → IsPassOf p x → x.settings.passes ≡ 1 → gate.IsFresh 0 (known_by p) → AreFresh x.settings 0 p → IsOnePass x p
-fresh-one x p own alone new hints = record { own = own; all = fresh-all x p own alone new; queues = fresh-queues x p own alone hints }
+pub fresh-one : (x : Service) (p : Pass) (R : List (List Entry)) (passes : List Pass) → IsPassOf p x → x.settings.passes ≡ 1 → gate.IsFresh 0 (known_by p) → slice_get passes 0 ≡ Some p → HoldsAtOpening x.settings R passes → IsOnePass x p
+fresh-one x p R passes own alone new first h = record { own = own; all = fresh-all x p own alone new; queues = fresh-queues x p h.held own (fresh-at x.settings R passes p h alone first) }
 
-pub world-fresh : (x : Service) (p : Pass) → IsPassOf p x → x.settings.passes ≡ 1 → gate.IsFresh 0 (known_by p) → AreFresh x.settings 0 p → world_seen x.settings (known_by p) (hints_by p) ≡ opening_world x.settings
-world-fresh x p own alone new hints =
+pub world-fresh : (x : Service) (p : Pass) (R : List (List Entry)) (passes : List Pass) → IsPassOf p x → x.settings.passes ≡ 1 → ((s : ℕ) → base_of x s ≡ record_at R s) → gate.IsFresh 0 (known_by p) → slice_get passes 0 ≡ Some p → HoldsAtOpening x.settings R passes →
+    world_seen x.settings (known_by p) (hints_by p) ≡ opening_world x.settings R
+unfolding opening_world
+world-fresh x p R passes own alone is new first h =
     let K = x.settings in
-    let with_contents : List Content → World = λ cs. record { contents = cs; waiting = map waiting_of (hints_by p) } in
-    let with_waiting : List (List Hint) → World = λ t. record { contents = opening_contents K; waiting = t } in
-    ap with_contents (contents-fresh x p own new) ∙ ap with_waiting (waiting-fresh x p (fresh-queues x p own alone hints) hints)
+    let knows = fresh-at K R passes p h alone first in
+    let queues = fresh-queues x p h.held own knows in
+    let held : map waiting_of (hints_by p) ≡ held_at_opening (opens K R) = waiting-fresh K p h.held (held-count K R h.held h.opened ∙ sym queues.count) knows ∙ sym (ap held_at_opening h.opened) in
+    let with_contents : List Content → World = λ cs. record { contents = cs; waiting = map waiting_of (hints_by p); records = records_seen K (known_by p) } in
+    let with_waiting : Lists → World = λ t. record { contents = contents_from K R; waiting = t; records = records_seen K (known_by p) } in
+    let with_records : List (List Entry) → World = λ logs. record { contents = contents_from K R; waiting = held_at_opening (opens K R); records = logs } in
+    ap with_contents (contents-fresh x p R own is new) ∙ ap with_waiting held ∙ ap with_records (records-fresh x p R own is new)
+
+-- the queues hold what the opening world says
+pub opened-is : (K : Settings) (R : List (List Entry)) (passes : List Pass) → HoldsAtOpening K R passes → opens K R ≡ Ok (opening_world K R).waiting
+unfolding opening_world
+opened-is K R passes h = h.opened ∙ ap Ok (sym (ap held_at_opening h.opened))
 
 -- the only member of a list
 pub only-one : {A : Type 0} (xs front : List A) (x : A) → xs ≡ front ++ x ∷ [] → length xs ≡ 1 → slice_get xs 0 ≡ Some x

@@ -1,9 +1,9 @@
--- What is written line by line is the output.
+-- What is written line by line is the output, and what is left is the world after all lines.
 use Rattle.std.proofs.Common.{◌≡◌, ◌||◌, List, [], ◌∷◌, ◌++◌, Bool, true, false, refl, ap, ◌∙◌}
 use Rattle.std.specs.List.{list_any}
 use Rattle.script.specs.Lines.{Line}
 use Rattle.script.specs.Serving.{is_refusal, reply_to, world_after}
-use Rattle.script.specs.Output.{replies_from, numbered_from}
+use Rattle.script.specs.Output.{replies_from, numbered_from, world_after_lines}
 use Rattle.script.specs.Cursor.{Cursor, after_line, after_lines, line_text, lines_text}
 
 pub lines_text-is : (c : Cursor) (ls : List Line) → lines_text c ls ≡ numbered_from c.number (replies_from c.settings c.world ls)
@@ -23,3 +23,8 @@ pub refused-is : (c : Cursor) (ls : List Line) → (after_lines c ls).refused �
 unfolding after_line
 refused-is c [] = or_false c.refused
 refused-is c (l ∷ ls) = refused-is (after_line c l) ls ∙ or_assoc c.refused (is_refusal (reply_to c.settings c.world l)) (list_any is_refusal (replies_from c.settings (world_after c.settings c.world l) ls))
+
+pub world-is : (c : Cursor) (ls : List Line) → (after_lines c ls).world ≡ world_after_lines c.settings c.world ls
+unfolding after_line
+world-is c [] = refl
+world-is c (l ∷ ls) = world-is (after_line c l) ls

@@ -3,6 +3,7 @@ use Rattle.std.specs.Prelude.{ℕ, ◌+◌, ◌||◌, List, [], ◌∷◌, ◌++
 use Rattle.script.specs.Lines.{Line}
 use Rattle.script.specs.Serving.{is_refusal, reply_to, text_of, world_after}
 use Rattle.script.specs.World.{World, opening_world}
+use Rattle.service_model.specs.Service.{Entry}
 use Rattle.service_model_types.specs.declared.settings.Settings.{Settings}
 
 -- the world, the next line's number, and whether a reply was a refusal
@@ -12,8 +13,8 @@ pub record Cursor : Type 0 where
   pub number : ℕ
   pub refused : Bool
 
-abbrev pub at_opening : Settings → Cursor
-at_opening K = record { settings = K; world = opening_world K; number = 1; refused = false }
+abbrev pub at_opening : Settings → List (List Entry) → Cursor
+at_opening K R = record { settings = K; world = opening_world K R; number = 1; refused = false }
 
 -- behind one line more
 unfoldable pub after_line : Cursor → Line → Cursor

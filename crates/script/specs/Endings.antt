@@ -1,26 +1,31 @@
 -- MEANING: How a script ends.
-use Rattle.std.specs.Prelude.{◌≡◌, ℕ, ◌⊎◌, List, Bool, Option}
+use Rattle.std.specs.Prelude.{◌≡◌, ℕ, ◌⊎◌, List, Bool, Option, Err}
 use Rattle.std.specs.Io.KnownBytes.{Appends, Consumes, IsAtEnd}
 use Rattle.wire_counted.specs.Failures.{Rose}
 use Rattle.wire_counted.specs.Written.{AppendsBeginning}
 use Rattle.script.specs.Lines.{all_lines, whole_lines}
-use Rattle.script.specs.Output.{output, refuses}
+use Rattle.script.specs.Output.{output, records_after, refuses}
 use Rattle.script.specs.Serving.{IsOutOfRange}
 use Rattle.script.specs.World.{World}
 use Rattle.script.specs.declared.fault.ScriptFault.{ScriptFault}
-use Rattle.script.specs.declared.fault.ScriptFault.TheVariants.{Memory, Read, Write, Setting}
+use Rattle.script.specs.declared.fault.ScriptFault.TheVariants.{Memory, Read, Write, Setting, Records, QueueFull}
 use Rattle.wf_event_values.specs.declared.refusal.Refusal.{Refusal}
-use Rattle.wf_event_values.specs.declared.refusal.Refusal.TheVariants.{InvalidArgument}
+use Rattle.wf_event_values.specs.declared.refusal.Refusal.TheVariants as refusal
+use Rattle.wf_event_values.specs.declared.field.Field.{Field}
+use Rattle.wf_event_values.specs.declared.field.Field.TheVariants as field
 use Rattle.wf_event_values.specs.Names.{field_name}
+use Rattle.service_model.specs.Service.{Entry}
 use Rattle.service_model_types.specs.declared.settings.Settings.{Settings}
+use Rattle.service.specs.Reopening.{opens}
 
--- the input was read to its end, just its output was written, and `refused` says whether a reply in it is a refusal
-pub record Ran (K : Settings) (W : World) (unread held unread' held' : Option (List ℕ)) (refused : Bool) : Type 0 where
+-- the input was read to its end, just its output was written, `refused` says whether a reply in it is a refusal, and the shards' records are those after its lines
+pub record Ran (K : Settings) (W : World) (unread held unread' held' : Option (List ℕ)) (refused : Bool) (records : List (List Entry)) : Type 0 where
   pub text : List ℕ
   pub read : Consumes unread unread' text
   pub at_end : IsAtEnd unread'
   pub written : Appends held held' (output K W (all_lines text))
   pub refused_is : refused ≡ refuses K W (all_lines text)
+  pub records_are : records ≡ records_after K W (all_lines text)
 
 -- some input was read, and a beginning of the output of its whole lines was written
 pub record Broke (K : Settings) (W : World) (unread held unread' held' : Option (List ℕ)) : Type 0 where
@@ -44,6 +49,8 @@ IsWriteFault Memory write write' = Unit {0}
 IsWriteFault (Read e) write write' = ⊥
 IsWriteFault (Write e) write write' = Rose write write'
 IsWriteFault (Setting name) write write' = ⊥
+IsWriteFault Records write write' = ⊥
+IsWriteFault QueueFull write write' = ⊥
 
 -- a fault of the reader, of the writer or of memory, the first two only where that one's count of failed calls rose
 abbrev pub IsDeviceFault : ScriptFault → ℕ → ℕ → ℕ → ℕ → Type 0
@@ -51,35 +58,48 @@ IsDeviceFault Memory read read' write write' = Unit {0}
 IsDeviceFault (Read e) read read' write write' = Rose read read'
 IsDeviceFault (Write e) read read' write write' = Rose write write'
 IsDeviceFault (Setting name) read read' write write' = ⊥
+IsDeviceFault Records read read' write write' = ⊥
+IsDeviceFault QueueFull read read' write write' = ⊥
 
--- a fault before anything is read: a setting is out of its range, or memory ran out
-abbrev pub IsOpeningFault : Settings → ScriptFault → Type 0
-IsOpeningFault K Memory = Unit {0}
-IsOpeningFault K (Read e) = ⊥
-IsOpeningFault K (Write e) = ⊥
-IsOpeningFault K (Setting name) = IsOutOfRange K name.now
+-- a fault before anything is read: a setting is out of its range, the records are neither none nor one of each shard, the hints of the tasks that wait don't fit, or memory ran out
+abbrev pub IsOpeningFault : Settings → List (List Entry) → ScriptFault → Type 0
+IsOpeningFault K R Memory = Unit {0}
+IsOpeningFault K R (Read e) = ⊥
+IsOpeningFault K R (Write e) = ⊥
+IsOpeningFault K R (Setting name) = IsOutOfRange K name.now
+IsOpeningFault K R Records = opens K R ≡ Err (refusal.InvalidArgument field.Records)
+IsOpeningFault K R QueueFull = opens K R ≡ Err refusal.QueueFull
 
--- a fault of the settings, of the reader, of the writer or of memory
-abbrev pub IsScriptFault : Settings → ScriptFault → ℕ → ℕ → ℕ → ℕ → Type 0
-IsScriptFault K Memory read read' write write' = Unit {0}
-IsScriptFault K (Read e) read read' write write' = Rose read read'
-IsScriptFault K (Write e) read read' write write' = Rose write write'
-IsScriptFault K (Setting name) read read' write write' = IsOutOfRange K name.now
+-- a fault of the opening, of the reader, of the writer or of memory
+abbrev pub IsScriptFault : Settings → List (List Entry) → ScriptFault → ℕ → ℕ → ℕ → ℕ → Type 0
+IsScriptFault K R Memory read read' write write' = Unit {0}
+IsScriptFault K R (Read e) read read' write write' = Rose read read'
+IsScriptFault K R (Write e) read read' write write' = Rose write write'
+IsScriptFault K R (Setting name) read read' write write' = IsOpeningFault K R (Setting name)
+IsScriptFault K R Records read read' write write' = IsOpeningFault K R Records
+IsScriptFault K R QueueFull read read' write write' = IsOpeningFault K R QueueFull
 
--- P, where the fault is a setting's
-abbrev pub IfSetting : ScriptFault → Type 0 → Type 0
-IfSetting (Setting name) P = P
-IfSetting Memory P = Unit {0}
-IfSetting (Read e) P = Unit {0}
-IfSetting (Write e) P = Unit {0}
+-- P, where the fault is a refused opening's
+abbrev pub IfRefused : ScriptFault → Type 0 → Type 0
+IfRefused (Setting name) P = P
+IfRefused Records P = P
+IfRefused QueueFull P = P
+IfRefused Memory P = Unit {0}
+IfRefused (Read e) P = Unit {0}
+IfRefused (Write e) P = Unit {0}
+
+-- the fault of a setting that is out of its range, and that of the records' number
+abbrev pub IsFaultOf : Field → ScriptFault → Type 0
+IsFaultOf field.Records fault = fault ≡ Records
+IsFaultOf f (Setting name) = name.now ≡ field_name f
+IsFaultOf f Memory = ⊥
+IsFaultOf f (Read e) = ⊥
+IsFaultOf f (Write e) = ⊥
+IsFaultOf f Records = ⊥
+IsFaultOf f QueueFull = ⊥
 
 -- the fault of an opening that was refused
 abbrev pub IsRefusedOpening : Refusal → ScriptFault → Type 0
-IsRefusedOpening (InvalidArgument f) (Setting name) = name.now ≡ field_name f
-IsRefusedOpening (InvalidArgument f) Memory = ⊥
-IsRefusedOpening (InvalidArgument f) (Read e) = ⊥
-IsRefusedOpening (InvalidArgument f) (Write e) = ⊥
-IsRefusedOpening _ Memory = Unit {0}
-IsRefusedOpening _ (Setting name) = ⊥
-IsRefusedOpening _ (Read e) = ⊥
-IsRefusedOpening _ (Write e) = ⊥
+IsRefusedOpening (refusal.InvalidArgument f) fault = IsFaultOf f fault
+IsRefusedOpening refusal.QueueFull fault = fault ≡ QueueFull
+IsRefusedOpening _ fault = fault ≡ Memory

@@ -5,6 +5,8 @@ pub mod World
 pub mod Serving
 pub mod OnePass
 pub mod Output
+pub mod OpeningLaws
+pub mod RecordLaws
 pub mod Cursor
 pub mod Progress
 pub mod Endings

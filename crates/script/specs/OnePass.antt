@@ -1,10 +1,10 @@
--- PROOF: a service with one pass: what the pass has seen is all that was done
-use Rattle.std.specs.Prelude.{◌≡◌, ℕ, ◌*◌, ◌<◌, List, [], length, map}
+-- PROOF: a service with one pass: what the pass has seen is all that was there and all that was done
+use Rattle.std.specs.Prelude.{◌≡◌, ℕ, ◌*◌, ◌<◌, ◌++◌, List, length, map}
 use Rattle.std.specs.List.{range_with_len}
 use Rattle.service_model_types.specs.declared.content.Content.{Content}
 use Rattle.service_model_types.specs.declared.request.Request.{Request}
 use Rattle.service_model_types.specs.declared.settings.Settings.{Settings}
-use Rattle.service_model.specs.Service.{after, opening}
+use Rattle.service_model.specs.Service.{Entry, after, opening}
 use Rattle.gate.specs.declared.view.View.{View}
 use Rattle.gate.specs.Passes.{base, mine, number, passes, seen}
 use Rattle.gate.specs.Records.{replay}
@@ -25,16 +25,19 @@ content_seen K v shard = replay after (opening (setup_of K shard)) (seen v shard
 abbrev pub contents_seen : Settings → View Request Content → List Content
 contents_seen K v = map (content_seen K v) (range_with_len 0 K.shards)
 
+-- the records that were seen
+abbrev pub records_seen : Settings → View Request Content → List (List Entry)
+records_seen K v = map (seen v) (range_with_len 0 K.shards)
+
 -- the world as the only pass knows it: in each queue wait the hints that it pushed and did not pop
 abbrev pub world_seen : Settings → View Request Content → List HintView → World
-world_seen K v hs = record { contents = contents_seen K v; waiting = map waiting_of hs }
+world_seen K v hs = record { contents = contents_seen K v; waiting = map waiting_of hs; records = records_seen K v }
 
--- what the only pass knows of the shards: it has seen its own steps alone
+-- what the only pass knows of the shards: it has seen the records that they were opened with, and its own steps alone
 pub record KnowsAll (v : View Request Content) : Type 0 where
   pub first : number v ≡ 0
   pub one : passes v ≡ 1
-  pub bases : (s : ℕ) → base v s ≡ []
-  pub alone : (s : ℕ) → seen v s ≡ mine v s
+  pub alone : (s : ℕ) → seen v s ≡ base v s ++ mine v s
 
 -- what it knows of the queues: it is alone at each
 pub record KnowsQueues (K : Settings) (hs : List HintView) : Type 0 where

@@ -1,6 +1,7 @@
--- MEANING: What a script prints: the replies of the sequential service to its lines, one after another.
+-- MEANING: What a script prints and what it leaves: the replies of the sequential service to its lines, one after another, and the shards' records.
 use Rattle.std.specs.Prelude.{ℕ, ◌+◌, List, [], ◌∷◌, ◌++◌, Bool, Option}
 use Rattle.std.specs.List.{list_any}
+use Rattle.service_model.specs.Service.{Entry}
 use Rattle.service_model_types.specs.Replies.{Reply}
 use Rattle.script.specs.Lines.{Line}
 use Rattle.script.specs.Serving.{is_refusal, reply_to, text_of, world_after}
@@ -20,6 +21,15 @@ numbered_from number (reply ∷ replies) = text_of number reply ++ numbered_from
 -- what a script of these lines prints, from a world on
 abbrev pub output : Settings → World → List Line → List ℕ
 output K W lines = numbered_from 1 (replies_from K W lines)
+
+-- the world that they leave
+abbrev pub world_after_lines : Settings → World → List Line → World
+world_after_lines K W [] = W
+world_after_lines K W (line ∷ lines) = world_after_lines K (world_after K W line) lines
+
+-- the shards' records after them
+abbrev pub records_after : Settings → World → List Line → List (List Entry)
+records_after K W lines = (world_after_lines K W lines).records
 
 -- whether a reply to one of these lines is a refusal
 abbrev pub refuses : Settings → World → List Line → Bool

@@ -1,5 +1,6 @@
 -- MEANING: The sequential service as a whole: its shards, and the hints that wait in its task queues. A step is its shard's; a poll and a dispatch turn are made of steps and of what they take from a queue or put into it, a transfer turn of steps.
-use Rattle.std.specs.Prelude.{ℕ, ◌*◌, Bool, true, false, List, [], ◌∷◌, ◌++◌, length, nat_lt, if◌then◌else◌, replicate, slice_index_or, slice_set, Option, None, Some, Result, Ok, Err}
+use Rattle.std.specs.Prelude.{ℕ, Bool, true, false, List, [], ◌∷◌, ◌++◌, length, nat_lt, if◌then◌else◌, map, slice_index_or, slice_set, Option, None, Some, Result, Ok, Err}
+use Rattle.std.specs.List.{range_with_len}
 use Rattle.wf_event_values.specs.declared.policies.TaskKind.{TaskKind}
 use Rattle.wf_event_values.specs.declared.refusal.Refusal.{Refusal}
 use Rattle.wf_event_values.specs.declared.refusal.Refusal.TheVariants.{QueueFull, UnknownTaskQueue}
@@ -20,10 +21,11 @@ use Rattle.service_model_types.specs.declared.settings.Settings.{Settings}
 use Rattle.service_model_types.specs.declared.transfer.Transfer.{Transfer}
 use Rattle.service_model_types.specs.Calls.{request_of}
 use Rattle.service_model_types.specs.Replies.{dispatch_of, Reply, transfer_of}
-use Rattle.service_model.specs.Service.{after, answer, opening}
+use Rattle.service_model.specs.Service.{Entry, after, answer, opening}
 use Rattle.matching.specs.Named.{place_in, slot_of}
 use Rattle.service.specs.Asks.{to_acknowledge, to_deliver, to_dispatched, to_next_dispatch, to_next_transfer, to_start_task}
-use Rattle.service.specs.Contents.{ends_refusal, opening_contents, refusal_of_step, setup_of, shard_refusal, slot_of_step}
+use Rattle.service.specs.Contents.{ends_refusal, refusal_of_step, setup_of, shard_refusal, slot_of_step}
+use Rattle.service.specs.Reopening.{contents_from, opens, record_at}
 use Rattle.service.specs.TransferTurns.{goes_on}
 
 pub record World : Type 0 where
@@ -31,25 +33,46 @@ pub record World : Type 0 where
   pub contents : List Content
   -- the hints that wait in each queue: of the name at place k those of workflow tasks stand at 2 k, those of activities at 2 k + 1
   pub waiting : List (List Hint)
+  -- the shards' records: what each was opened with, and the steps since, all of pass 0
+  pub records : List (List Entry)
 
 -- what a call comes to: its reply, and the world that it leaves
 pub record Came : Type 0 where
   pub reply : Reply
   pub world : World
 
--- no hint waits at opening
-abbrev pub opening_world : Settings → World
-opening_world K = record { contents = opening_contents K; waiting = replicate (2 * length K.queues) [] }
+-- what the queues hold at opening; nothing where that is refused
+abbrev pub held_at_opening : Result (List (List Hint)) Refusal → List (List Hint)
+held_at_opening (Ok held) = held
+held_at_opening (Err refusal) = []
+
+-- the service as it is opened from a record of each shard: as these left it, with the hints of the tasks that wait in the queues
+unfoldable pub opening_world : Settings → List (List Entry) → World
+opening_world K R = record {
+  contents = contents_from K R;
+  waiting = held_at_opening (opens K R);
+  records = map (record_at R) (range_with_len 0 K.shards);
+}
 
 -- a shard's content
 abbrev pub content_at : Settings → List Content → ℕ → Content
 content_at K contents shard = slice_index_or contents shard (opening (setup_of K shard))
 
+-- a record with one step more
+abbrev pub recorded : List Entry → Request → List Entry
+recorded log q = log ++ record { pass = 0; request = q } ∷ []
+
 -- a step on a shard
 abbrev pub stepped : Settings → World → ℕ → Request → Came
 stepped K W shard q =
     let S = content_at K W.contents shard in
-    record { reply = answer S q; world = record W { contents = slice_set W.contents shard (after S q) } }
+    record {
+      reply = answer S q;
+      world = record W {
+        contents = slice_set W.contents shard (after S q);
+        records = slice_set W.records shard (recorded (record_at W.records shard) q);
+      };
+    }
 
 -- what is refused before any shard is entered leaves the world as it was
 abbrev pub unless : Option Refusal → World → Came → Came

@@ -19,6 +19,12 @@ pub enum ScriptFault {
     /// The setting of this name is out of its range.
     #[error("--{0} is out of range")]
     Setting(&'static str),
+    /// There is neither no record nor one of each shard.
+    #[error("the records are neither none nor one of each shard")]
+    Records,
+    /// The tasks that wait in the records are more than their queues hold.
+    #[error("more tasks wait in the records than their queues hold")]
+    QueueFull,
 }
 
 impl From<AllocError> for ScriptFault {

@@ -2,10 +2,12 @@
 //!
 //! `run_one` serves the lines of a reader one after another, and writes one reply line for each.
 //! What it prints is the definition `output`: the replies of the sequential service to the lines
-//! of the text, one after another, under the lines' numbers.
+//! of the text, one after another, under the lines' numbers. `run_from` does the same from where
+//! records end, and both give the record of each shard.
 #![tactic(auto)]
 
 mod fault;
+pub mod laws;
 mod line;
 mod reading;
 mod run;
@@ -15,5 +17,5 @@ mod serving;
 pub use fault::ScriptFault;
 pub use line::{LINE_LIMIT, Line, cut};
 pub use reading::asked;
-pub use run::{CHUNK, Outcome, run_one};
+pub use run::{CHUNK, Outcome, run_from, run_one};
 pub use serving::opening_fault;

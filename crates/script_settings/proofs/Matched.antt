@@ -13,15 +13,17 @@ is_simple_and_free-wfserve : is_simple_and_free wfserve ≡ true
 unfolding wfserve option_rule clap_on_literals
 is_simple_and_free-wfserve = refl
 
-pub built : (a0 a1 a2 a3 a4 a5 a6 : App) → a0 ≡ new_app (codes "wfserve") → a1 ≡ with_rule a0 (option_rule (codes "shards"))
+pub built : (a0 a1 a2 a3 a4 a5 a6 a7 a8 : App) → a0 ≡ new_app (codes "wfserve") → a1 ≡ with_rule a0 (option_rule (codes "shards"))
     → a2 ≡ with_rule a1 (option_rule (codes "passes")) → a3 ≡ with_rule a2 (option_rule (codes "service"))
     → a4 ≡ with_rule a3 (option_rule (codes "queues")) → a5 ≡ with_rule a4 (option_rule (codes "capacity"))
-    → a6 ≡ with_rule a5 (new_rule (codes "FILE")) → a6 ≡ wfserve
+    → a6 ≡ with_rule a5 (option_rule (codes "load")) → a7 ≡ with_rule a6 (option_rule (codes "save"))
+    → a8 ≡ with_rule a7 (new_rule (codes "FILE")) → a8 ≡ wfserve
 unfolding wfserve
-built a0 a1 a2 a3 a4 a5 a6 e0 e1 e2 e3 e4 e5 e6 =
+built a0 a1 a2 a3 a4 a5 a6 a7 a8 e0 e1 e2 e3 e4 e5 e6 e7 e8 =
     let with_option = λ (n : Text) (a : App). with_rule a (option_rule n) in
     let five = e5 ∙ ap (with_option (codes "capacity")) (e4 ∙ ap (with_option (codes "queues")) (e3 ∙ ap (with_option (codes "service")) (e2 ∙ ap (with_option (codes "passes")) (e1 ∙ ap (with_option (codes "shards")) e0)))) in
-    e6 ∙ ap (λ (a : App). with_rule a (new_rule (codes "FILE"))) five
+    let seven = e7 ∙ ap (with_option (codes "save")) (e6 ∙ ap (with_option (codes "load")) five) in
+    e8 ∙ ap (λ (a : App). with_rule a (new_rule (codes "FILE"))) seven
 
 pub is_matched : {X : Type 0} (a : App) (words : List Text) (rows : List Row) → a ≡ wfserve → (is_simple a ≡ true → (rows ≡ matches_of a words) × X) → rows ≡ matches_in words
 unfolding matches_in

@@ -8,7 +8,7 @@ use Rattle.clap.specs.Words.{App, Kinds, Row, Rule, Text, fault_of, first_of, ma
 unfoldable pub option_rule : Text → Rule
 option_rule name = record (new_rule name) { long = Some name }
 
--- wfserve [--shards N] [--passes P] [--service K] [--queues NAMES] [--capacity C] [FILE]
+-- wfserve [--shards N] [--passes P] [--service K] [--queues NAMES] [--capacity C] [--load DIR] [--save DIR] [FILE]
 unfoldable pub wfserve : App
 wfserve =
     let command = new_app (codes "wfserve") in
@@ -17,6 +17,8 @@ wfserve =
     let command = with_rule command (option_rule (codes "service")) in
     let command = with_rule command (option_rule (codes "queues")) in
     let command = with_rule command (option_rule (codes "capacity")) in
+    let command = with_rule command (option_rule (codes "load")) in
+    let command = with_rule command (option_rule (codes "save")) in
     with_rule command (new_rule (codes "FILE"))
 
 -- clap's matches of the words

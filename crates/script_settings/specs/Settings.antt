@@ -1,21 +1,28 @@
 -- MEANING: What the words of a command line set.
-use Rattle.std.specs.Prelude.{◌≡◌, List, [], codes, Option}
+use Rattle.std.specs.Prelude.{◌≡◌, List, [], codes, Option, option_map}
+use Rattle.std.specs.Borrow.{Bor}
 use Rattle.clap.specs.Words.{HasKind, Row, Text, first_of}
 use Rattle.script_settings.specs.CommandLine.{HasNoNumber, IsSetTo, faults_in, matches_in}
 use Rattle.script_settings.specs.Queues.{AreSetTo, HasNoNames}
+use Rattle.script_settings.specs.declared.command_line.CommandLine.{CommandLine}
 use Rattle.script_settings.specs.declared.fault.Fault.{Fault}
 use Rattle.script_settings.specs.declared.fault.Fault.TheVariants.{Words, Number, Queues}
-use Rattle.service_model_types.specs.declared.settings.Settings.{Settings}
 
--- clap takes the words, and each setting and the file is the value of its option among the matches, or its default
-pub record Sets (words : List Text) (s : Settings) (file : Option Text) : Type 0 where
+-- the text that was borrowed, if one was
+abbrev pub text_of : Option (Bor Text) → Option Text
+text_of o = option_map (λ text. text.now) o
+
+-- clap takes the words; each setting is the value of its option among the matches, or its default; the file and the folders are the texts that were given
+pub record Sets (words : List Text) (c : CommandLine) : Type 0 where
   pub taken : faults_in words ≡ []
-  pub shards : IsSetTo 1 (codes "shards") (matches_in words) s.shards
-  pub passes : IsSetTo 1 (codes "passes") (matches_in words) s.passes
-  pub service : IsSetTo 1 (codes "service") (matches_in words) s.service
-  pub queues : AreSetTo (matches_in words) s.queues
-  pub capacity : IsSetTo 1024 (codes "capacity") (matches_in words) s.capacity
-  pub file_is : file ≡ first_of (codes "FILE") (matches_in words)
+  pub shards : IsSetTo 1 (codes "shards") (matches_in words) c.settings.shards
+  pub passes : IsSetTo 1 (codes "passes") (matches_in words) c.settings.passes
+  pub service : IsSetTo 1 (codes "service") (matches_in words) c.settings.service
+  pub queues : AreSetTo (matches_in words) c.settings.queues
+  pub capacity : IsSetTo 1024 (codes "capacity") (matches_in words) c.settings.capacity
+  pub file : text_of c.file ≡ first_of (codes "FILE") (matches_in words)
+  pub load : text_of c.load ≡ first_of (codes "load") (matches_in words)
+  pub save : text_of c.save ≡ first_of (codes "save") (matches_in words)
 
 -- the option's text writes no number
 abbrev pub IsFaultOf : Text → List Row → Fault → Type 0

@@ -1,10 +1,13 @@
 //! What the words of the command line set:
-//! `wfserve [--shards N] [--passes P] [--service K] [--queues NAMES] [--capacity C] [FILE]`.
+//! `wfserve [--shards N] [--passes P] [--service K] [--queues NAMES] [--capacity C] [--load DIR]
+//! [--save DIR] [FILE]`.
 #![tactic(auto)]
 
+mod command_line;
 mod fault;
 mod queues;
 mod words;
 
+pub use command_line::CommandLine;
 pub use fault::Fault;
 pub use words::settings_of;

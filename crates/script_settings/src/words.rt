@@ -1,10 +1,11 @@
 //! The command line, by clap.
 
-ghost use Rattle.std.specs.Prelude.{◌≡◌, IfOk, IfErr, map, option_map};
+ghost use Rattle.std.specs.Prelude.{◌≡◌, IfOk, IfErr, map};
 ghost use Rattle.clap.specs.Words.{found_of, rows_of, app_of, with_rule, FailsBy};
 ghost use Rattle.script_settings.specs.CommandLine.{option_rule, matches_in, faults_in, IsSetTo};
 ghost use Rattle.script_settings.specs.Settings.{Sets, IsFaultIn, IsFaultOf};
 
+use crate::command_line::CommandLine;
 use crate::fault::Fault;
 use crate::queues::queues;
 use clap::{Arg, ArgMatches, Command, Error};
@@ -24,6 +25,10 @@ const QUEUES: &str =
     "The names of the task queues, with commas between them: 1 to 64, main by default";
 
 const CAPACITY: &str = "How many hints wait in a task queue at most: 1 to 65536, 1024 by default";
+
+const LOAD: &str = "The folder whose records are opened from: shard-00.rec, shard-01.rec and so on";
+
+const SAVE: &str = "The folder that the records are saved in at the end; it may be the one loaded";
 
 const FILE: &str = "The file whose lines are served; standard input by default";
 
@@ -53,6 +58,8 @@ fn matched<'a>(alloc: Global, words: &'a [&'a str]) -> Result<ArgMatches<'a>, Er
     let command = with_option(alloc, command, "service", SERVICE)?;
     let command = with_option(alloc, command, "queues", QUEUES)?;
     let command = with_option(alloc, command, "capacity", CAPACITY)?;
+    let command = with_option(alloc, command, "load", LOAD)?;
+    let command = with_option(alloc, command, "save", SAVE)?;
     let command = command.arg(Arg::new(alloc, "FILE").help(FILE))?;
     command.try_get_matches_from(words)
 }
@@ -71,15 +78,11 @@ fn number(matches: &ArgMatches<'_>, name: &'static str, default: u64) -> Result<
     }
 }
 
-/// The settings and the file that the words give; the first word is the program's name.
+/// What the words give; the first of them is the program's name.
 ///
-/// Ranges are looked at when the service is opened, and not here.
-pub fn settings_of<'a>(
-    alloc: Global,
-    words: &'a [&'a str],
-) -> Result<(Settings, Option<&'a str>), Fault>
-    ensures sets { IfOk result (λ r.
-        Sets (map (λ w. w.now) words.entry.now) r.0 (option_map (λ f. f.now) r.1)) }
+/// Ranges are looked at when the service is opened, and not here; nor is any file or folder.
+pub fn settings_of<'a>(alloc: Global, words: &'a [&'a str]) -> Result<CommandLine<'a>, Fault>
+    ensures sets { IfOk result (Sets (map (λ w. w.now) words.entry.now)) }
     ensures fault { IfErr result (IsFaultIn (map (λ w. w.now) words.entry.now)) }
 {
     let matches = match matched(alloc, words) {
@@ -98,5 +101,10 @@ pub fn settings_of<'a>(
         queues,
         capacity,
     };
-    Ok((settings, matches.get_str("FILE")))
+    Ok(CommandLine {
+        settings,
+        file: matches.get_str("FILE"),
+        load: matches.get_str("load"),
+        save: matches.get_str("save"),
+    })
 }

@@ -1,5 +1,5 @@
-//! Scripts over readers and writers that fail or wait, and the texts of faults. What scripts print is
-//! shown by `cases`.
+//! Scripts over readers and writers that fail, scripts that go on from records, a user who waits,
+//! scripts of many thousand lines, and the texts of faults. What scripts print is shown by `cases`.
 #![tactic(auto)]
 
 #[cfg(test)]
@@ -7,4 +7,10 @@ mod devices;
 #[cfg(test)]
 mod faults;
 #[cfg(test)]
-mod terminal;
+mod limits;
+#[cfg(test)]
+mod reopen;
+#[cfg(test)]
+mod runs;
+#[cfg(test)]
+mod typist;

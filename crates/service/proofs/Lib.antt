@@ -1,5 +1,8 @@
 pub mod CloseLemmas
 pub mod OpenLemmas
+pub mod ReopenLemmas
 pub mod ServedLemmas
 mod TurnLemmas
 mod TransferLemmas
+mod GroundLemmas
+mod HistoryLemmas

@@ -1,66 +1,12 @@
 -- how a service is opened
-use Rattle.std.proofs.Common.{◌≡◌, ℕ, ◌+◌, ◌<◌, ◌≤◌, ◌^◌, drop, slice_index_or, Bool, true, false, List, [], ◌∷◌, ◌++◌, refl, sym, ap, ◌∙◌, arith, zero, suc, Some, length-append, subst}
+use Rattle.std.proofs.Common.{◌≡◌, ℕ, ◌+◌, ◌<◌, ◌≤◌, ◌^◌, drop, slice_index_or, Bool, true, false, List, refl, ap, ◌∙◌, arith}
 use Rattle.std.proofs.lemmas.List.{drop_all, drop_more}
-use Rattle.std.proofs.lemmas.List.FromFn.{map-range_with_len_more}
 use Rattle.std.proofs.lemmas.Bool.Decides.{nat_tests}
-use Rattle.std.specs.Prelude.{length, map, not, slice_get, unwrap_or, if◌then◌else◌, Result, Ok, Err, ◌&&◌, nat_le, nat_lt}
+use Rattle.std.specs.Prelude.{length, not, if◌then◌else◌, Result, Ok, Err, ◌&&◌, nat_le, nat_lt}
 use Rattle.wf_event_values.specs.declared.refusal.Refusal.{Refusal}
-use Rattle.std.specs.List.{range_with_len, AllByRecursion}
-use Rattle.service_model_types.specs.declared.request.Request.{Request}
 use Rattle.service_model_types.specs.declared.settings.Settings.{Settings}
-use Rattle.service_model.specs.Growth.{KeepsHistories, keeps-same}
-use Rattle.service_model.specs.Service.{Entry, opening, after}
-use Rattle.service_model.proofs.ListLemmas.{all-push, map-push}
-use Rattle.gate.specs.Gated.{at}
-use Rattle.gate.specs.Records.{KeepsAll, replay}
-use Rattle.shard.specs.View.{ShardView}
-use Rattle.shard.specs.Standing.{StandsFor, opened}
-use Rattle.service.specs.Contents.{setup_of}
-use Rattle.service.specs.Laid.{IsLaid}
 use Rattle.service.specs.Ranges.{are_different, range_fault, stands_in}
 use Rattle.service.specs.Services.{IsInRange}
-
-Laid : Type 0
-Laid = ShardView × List Entry
-
--- one more shard
-pub laid-more : (K : Settings) (xs ys : List (ShardView × List Entry)) (s : ShardView) (log : List Entry) (n : ℕ) → ys ≡ xs ++ (s, log) ∷ [] → log ≡ [] → opened s ≡ opening (setup_of K n) → StandsFor s (opened s) → IsLaid K xs n → IsLaid K ys (n + 1)
-laid-more K xs ys s log n is fresh content stands h =
-    let P : List (ShardView × List Entry) → Type 0 = λ t. IsLaid K t (n + 1) in
-    subst P (sym is) (record {
-      starts = map-push (λ (x : ShardView × List Entry). opened x.0) xs (s, log) ∙ ap (λ t. t ++ opened s ∷ []) h.starts ∙ ap (λ c. map (λ k. opening (setup_of K k)) (range_with_len 0 n) ++ c ∷ []) content
-          ∙ sym (map-range_with_len_more (λ k. opening (setup_of K k)) 0 n n (omega arith));
-      count = length-append xs ((s, log) ∷ []) ∙ ap (λ m. m + 1) h.count;
-      bases = all-push (λ (x : ShardView × List Entry). x.1 ≡ []) xs (s, log) h.bases fresh;
-      stands = all-push (λ (x : ShardView × List Entry). StandsFor x.0 (opened x.0)) xs (s, log) h.stands stands;
-    })
-
--- each record is empty
-pub bases-at : (xs : List (ShardView × List Entry)) (s : ℕ) → AllByRecursion (λ (x : ShardView × List Entry). x.1 ≡ []) xs → at (map (λ (x : ShardView × List Entry). x.1) xs) s ≡ []
-bases-at [] s h = refl
-bases-at (x ∷ xs) zero h = h.0
-bases-at (x ∷ xs) (suc s) h = bases-at xs s h.1
-
--- an empty record keeps what was there
-pub keeping-at : (xs : List (ShardView × List Entry)) (k : ℕ) (x : ShardView × List Entry) → AllByRecursion (λ (x : ShardView × List Entry). x.1 ≡ []) xs →
-    slice_get xs k ≡ Some x → KeepsAll after KeepsHistories (opened x.0) x.1
-keeping-at [] k x empty is = absurd (cc)
-keeping-at (y ∷ xs) zero x empty is =
-    let same : y ≡ x = ap (λ o. unwrap_or o y) is in
-    let P : List Entry → Type 0 = λ log. KeepsAll after KeepsHistories (opened x.0) log in
-    subst P (sym (ap (λ (z : ShardView × List Entry). z.1) (sym same) ∙ empty.0)) (keeps-same (opened x.0))
-keeping-at (y ∷ xs) (suc k) x empty is = keeping-at xs k x empty.1 is
-
--- each shard stands for the replay of its empty record
-pub standing-at : (xs : List (ShardView × List Entry)) (k : ℕ) (x : ShardView × List Entry) → AllByRecursion (λ (x : ShardView × List Entry). x.1 ≡ []) xs → AllByRecursion (λ (x : ShardView × List Entry). StandsFor x.0 (opened x.0)) xs →
-    slice_get xs k ≡ Some x → StandsFor x.0 (replay after (opened x.0) x.1)
-standing-at [] k x empty stands is = absurd (cc)
-standing-at (y ∷ xs) zero x empty stands is =
-    let P : ShardView × List Entry → Type 0 = λ z. StandsFor z.0 (replay after (opened z.0) z.1) in
-    let Q : List Entry → Type 0 = λ log. StandsFor y.0 (replay after (opened y.0) log) in
-    let same : y ≡ x = ap (λ o. unwrap_or o y) is in
-    subst P same (subst Q (sym empty.0) stands.0)
-standing-at (y ∷ xs) (suc k) x empty stands is = standing-at xs k x empty.1 stands.1 is
 
 five-tests : (a b c d n : Bool) (e f g h i : Refusal) → ◌≡◌ {A = Result (Unit {0}) Refusal} (if a then (if b then (if c then (if d then (if n then Ok tt else Err e) else Err f) else Err g) else Err h) else Err i) (Ok tt) → (a ≡ true) × (b ≡ true) × (c ≡ true) × (d ≡ true) × (n ≡ true)
 five-tests true true true true true e f g h i is = (refl, refl, refl, refl, refl)

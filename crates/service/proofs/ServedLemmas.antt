@@ -2,7 +2,7 @@
 use Rattle.std.proofs.Common.{◌≡◌, ℕ, ◌+◌, ◌<◌, ◌≤◌, Bool, true, false, List, refl, sym, ap, subst, ◌∙◌, arith, zero, suc, Option, Some, None, IfOk, Ok, Err}
 use Rattle.std.proofs.lemmas.Bool.Decides.{nat_tests}
 use Rattle.std.proofs.lemmas.Nat.{mod_below}
-use Rattle.std.specs.Prelude.{map, slice_get, unwrap_or, if◌then◌else◌, nat_lt, ◌&&◌, Result}
+use Rattle.std.specs.Prelude.{length, map, slice_get, unwrap_or, if◌then◌else◌, nat_lt, ◌&&◌, Result}
 use Rattle.std.specs.List.{range_with_len}
 use Rattle.wf_event_values.specs.declared.field.Field.TheVariants as field
 use Rattle.wf_event_values.specs.declared.refusal.Refusal.{Refusal}
@@ -15,12 +15,16 @@ use Rattle.service_model_types.specs.declared.request.Operation.TheVariants as o
 use Rattle.service_model_types.specs.declared.request.Request.{Request}
 use Rattle.service_model_types.specs.declared.request.TakenTask.{TakenTask}
 use Rattle.service_model_types.specs.declared.settings.Settings.{Settings}
+use Rattle.service_model.specs.Grounds.{Grounds}
 use Rattle.service_model.specs.Growth.{KeepsHistories}
+use Rattle.service_model_types.specs.Clients.{is_clients}
 use Rattle.service_model_types.specs.Replies.{Reply}
 use Rattle.service_model_types.specs.Routing.{hash_of}
 use Rattle.service_model.specs.Service.{answer, after, opening}
 use Rattle.gate.specs.declared.view.View.{View}
 use Rattle.gate.specs.Passes as gate
+use Rattle.gate.specs.Gated as rule
+use Rattle.gate.specs.Records.{Begins, past}
 use Rattle.service.specs.declared.service.Service.{Service}
 use Rattle.service.specs.declared.service.Pass.{Pass}
 use Rattle.service.specs.Contents.{setup_of, opening_contents, ends_refusal, is_token, refusal_of, refusal_of_step, shard_of, shard_refusal, slot_of_step}
@@ -98,13 +102,48 @@ start-is p x shard start own below is =
     let starts : gate.starts (known_by p) ≡ opening_contents x.settings = ap (λ o. o.starts) own.own.1 ∙ own.opened.starts in
     opening-at x.settings (gate.starts (known_by p)) shard start starts below is
 
-pub served : (p : Pass) (w : View Request Content) (x : Service) (shard : ℕ) (q : Request) (r : Reply) → IsPassOf p x → shard < x.settings.shards → gate.Stepped after answer KeepsHistories (known_by p) w shard q r → IsServedOn x (known_by p) w shard q r
-served p w x shard q r own below step = record { step = step; start = start-is p x shard step.start own below step.opened }
+pub served : (p : Pass) (w : View Request Content) (x : Service) (shard : ℕ) (q : Request) (r : Reply) → IsPassOf p x → shard < x.settings.shards → gate.Stepped after answer KeepsHistories (known_by p) w shard q r → gate.Stamped (known_by p) w shard → IsServedOn x (known_by p) w shard q r
+served p w x shard q r own below step stamp = record { step = step; start = start-is p x shard step.start own below step.opened; ticket = stamp }
 
-pub served-at-last : (p : Pass) (w : View Request Content) (x : Service) (shard : ℕ) (q : Request) (r : Reply) → IsPassOf p x → shard < x.settings.shards → gate.SteppedAt after answer KeepsHistories (known_by p) w shard q r → IsServedAtLast x (known_by p) w shard q r
-served-at-last p w x shard q r own below (met, waited, step) =
+-- a ticket is above all that the pass had seen before it was turned away
+stamped-behind : (v u w : View Request Content) (s : ℕ) → gate.SeenNothing v u → gate.Stamped v w s → gate.Stamped u w s
+stamped-behind v u w s nothing t = record {
+  ticket = t.ticket;
+  above = λ k i n below is. t.above k i n (subst (λ o. k < length o.bases) nothing.same.1 below) (ap (λ l. slice_get l i) (sym (nothing.tickets k)) ∙ is);
+  front = t.front;
+  extends = subst (λ l. Begins l t.front) (sym (nothing.tickets s)) t.extends;
+  last = t.last;
+  pairs = t.pairs ∙ ap (λ o. length (past (rule.base o s) (gate.seen w s))) (sym nothing.same.1);
+  others = λ k apart. t.others k apart ∙ sym (nothing.tickets k);
+}
+
+pub served-at-last : (p : Pass) (w : View Request Content) (x : Service) (shard : ℕ) (q : Request) (r : Reply) → IsPassOf p x → shard < x.settings.shards → gate.SteppedAt after answer KeepsHistories (known_by p) w shard q r → gate.Stamped (known_by p) w shard → IsServedAtLast x (known_by p) w shard q r
+served-at-last p w x shard q r own below (met, waited, step) stamp =
     let same : slice_get (gate.starts (known_by p)) shard ≡ Some step.start = ap (λ o. slice_get o.starts shard) (sym waited.nothing.same.1) ∙ step.opened in
-    record { met = met; waited = waited; served = record { step = step; start = start-is p x shard step.start own below same } }
+    record { met = met; waited = waited; served = record { step = step; start = start-is p x shard step.start own below same; ticket = stamped-behind (known_by p) met w shard waited.nothing stamp } }
+
+-- what a client may ask needs nothing in other shards
+pub needs-nothing : (contents : List Content) (shard : ℕ) (o : Operation) → is_clients o ≡ true → Grounds contents shard o
+needs-nothing contents s (operation.Deliver t) h = absurd (cc)
+needs-nothing contents s (operation.Acknowledge a) h = absurd (cc)
+needs-nothing contents s (operation.Start q) h = tt
+needs-nothing contents s (operation.Signal q) h = tt
+needs-nothing contents s (operation.SignalWithStart q) h = tt
+needs-nothing contents s (operation.RequestCancel q) h = tt
+needs-nothing contents s (operation.Terminate q) h = tt
+needs-nothing contents s (operation.StartTask q) h = tt
+needs-nothing contents s (operation.CompleteWorkflowTask q) h = tt
+needs-nothing contents s (operation.FailWorkflowTask q) h = tt
+needs-nothing contents s (operation.CompleteActivity q) h = tt
+needs-nothing contents s (operation.FailActivity q) h = tt
+needs-nothing contents s (operation.CancelActivity q) h = tt
+needs-nothing contents s (operation.Heartbeat q) h = tt
+needs-nothing contents s (operation.History q) h = tt
+needs-nothing contents s (operation.Describe q) h = tt
+needs-nothing contents s operation.TimerTurn h = tt
+needs-nothing contents s (operation.NextTransfer q) h = tt
+needs-nothing contents s operation.NextDispatch h = tt
+needs-nothing contents s (operation.Dispatched q) h = tt
 
 -- what was served is answered, where nothing refuses it
 pub by-step : (o : Option Refusal) (served : Type 0) (v w : View Request Content) (r : Reply) → o ≡ None → served → Answered o served v w r
@@ -113,6 +152,11 @@ by-step o served v w r none h = let P : Option Refusal → Type 0 = λ o. Answer
 -- a refusal answers, where the pass is as it was
 pub by-refusal : (o : Option Refusal) (served : Type 0) (v : View Request Content) (e : Refusal) → o ≡ Some e → Answered o served v v (Err e)
 by-refusal o served v e some = let P : Option Refusal → Type 0 = λ o. Answered o served v v (Err e) in subst P (sym some) (refl, refl)
+
+-- what two clauses say of the value of an Ok
+pub both : {T E : Type 0} (r : Result T E) (P Q R : T → Type 0) → ((x : T) → P x → Q x → R x) → IfOk r P → IfOk r Q → IfOk r R
+both (Ok x) P Q R f h k = f x h k
+both (Err e) P Q R f h k = tt
 
 -- what holds of the value of an Ok
 pub weaker : {T E : Type 0} (r : Result T E) (P Q : T → Type 0) → ((x : T) → P x → Q x) → IfOk r P → IfOk r Q

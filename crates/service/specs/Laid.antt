@@ -1,22 +1,20 @@
--- MEANING: the first shards of a service, as they are laid into its gate
-use Rattle.std.specs.Prelude.{◌≡◌, ℕ, List, [], length, map}
+-- PROOF: the first shards of a service, as they are laid into its gate
+use Rattle.std.specs.Prelude.{◌≡◌, List, length, map}
 use Rattle.std.specs.List.{range_with_len, AllByRecursion}
-use Rattle.service_model_types.specs.declared.request.Request.{Request}
 use Rattle.service_model_types.specs.declared.settings.Settings.{Settings}
-use Rattle.service_model.specs.Service.{Entry, opening}
-use Rattle.matching.specs.Named as matching
+use Rattle.service_model.specs.Growth.{KeepsHistories}
+use Rattle.service_model.specs.Service.{Entry, after, opening}
+use Rattle.gate.specs.Records.{KeepsAll, replay}
 use Rattle.shard.specs.View.{ShardView}
 use Rattle.shard.specs.Standing.{StandsFor, opened}
-use Rattle.service.specs.declared.service.Pass.{Pass}
 use Rattle.service.specs.Contents.{setup_of}
 
--- so many shards, each fresh, with an empty record
-pub record IsLaid (K : Settings) (shards : List (ShardView × List Entry)) (n : ℕ) : Type 0 where
-  pub starts : map (λ (x : ShardView × List Entry). opened x.0) shards ≡ map (λ k. opening (setup_of K k)) (range_with_len 0 n)
-  pub count : length shards ≡ n
-  pub bases : AllByRecursion (λ (x : ShardView × List Entry). x.1 ≡ []) shards
-  pub stands : AllByRecursion (λ (x : ShardView × List Entry). StandsFor x.0 (opened x.0)) shards
+-- a shard with its record, whose replay it stands for
+abbrev pub IsReplayed : ShardView × List Entry → Type 0
+IsReplayed x = StandsFor x.0 (replay after (opened x.0) x.1) × KeepsAll after KeepsHistories (opened x.0) x.1
 
--- a new pass with this number knows of no hint
-abbrev pub AreFresh : Settings → ℕ → Pass → Type 0
-AreFresh K number p = matching.IsFresh K.passes K.shards K.capacity number p.hints
+-- the first shards, each with its record of these
+pub record IsLaid (K : Settings) (given : List (List Entry)) (shards : List (ShardView × List Entry)) : Type 0 where
+  pub starts : map (λ (x : ShardView × List Entry). opened x.0) shards ≡ map (λ k. opening (setup_of K k)) (range_with_len 0 (length shards))
+  pub records : map (λ (x : ShardView × List Entry). x.1) shards ≡ given
+  pub replayed : AllByRecursion IsReplayed shards

@@ -2,9 +2,13 @@ pub mod Asks
 pub mod Calls
 pub mod Contents
 pub mod Ends
+pub mod Grounding
+pub mod Held
 pub mod Helds
+pub mod HistoryLaws
 pub mod Laid
 pub mod Ranges
+pub mod Reopening
 pub mod Services
 pub mod TransferTurns
 pub mod Turns

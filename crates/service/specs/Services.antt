@@ -1,5 +1,5 @@
 -- MEANING: what a clause reads of a service and of its passes
-use Rattle.std.specs.Prelude.{◌≡◌, ℕ, ◌<◌, ◌≤◌, true, List, [], length, map, Option, None, Some, Err, Result, IfOk, IfErr}
+use Rattle.std.specs.Prelude.{◌≡◌, ℕ, ◌<◌, ◌≤◌, true, List, length, map, Option, None, Some, Err, Result, IfOk, IfErr}
 use Rattle.wf_event_values.specs.declared.refusal.Refusal.{Refusal}
 use Rattle.service_model_types.specs.declared.call.StepCall.{StepCall}
 use Rattle.service_model_types.specs.declared.content.Content.{Content}
@@ -50,16 +50,16 @@ pub record IsInRange (K : Settings) : Type 0 where
   pub some_capacity : 1 ≤ K.capacity
   pub few_capacity : K.capacity ≤ most_capacity
 
--- the service was opened by its settings, without records
+-- the service was opened by its settings
 pub record IsOpened (x : Service) : Type 0 where
   pub range : IsInRange x.settings
   pub slots : of_gate.slots x.gate ≡ x.settings.shards
   pub starts : map (λ y. shard.opened y.0) (of_gate.opened x.gate) ≡ opening_contents x.settings
-  pub bases : (s : ℕ) → of_gate.base_of x.gate s ≡ []
   pub passes : of_gate.given x.gate ≡ x.settings.passes
   pub names : matching.names_of x.queues ≡ x.settings.queues
   pub capacity : matching.capacity_of x.queues ≡ x.settings.capacity
   pub named_shards : matching.shards_of x.queues ≡ x.settings.shards
+  pub hint_passes : matching.given_of x.queues ≡ x.settings.passes
 
 -- the pass is one that this service gave
 pub record IsPassOf (p : Pass) (x : Service) : Type 0 where
@@ -69,10 +69,11 @@ pub record IsPassOf (p : Pass) (x : Service) : Type 0 where
 
 -- A request was served on a shard to a pass that knew v and then knows w: the record that it then has seen of that shard
 -- is all that it had seen there, perhaps other entries, and this one, the reply is the sequential service's after the entries before,
--- and each history that was there begins with what it was
+-- and each history that was there begins with what it was; the step has a ticket of its own, above all that the pass had seen
 pub record IsServedOn (x : Service) (v w : View Request Content) (shard : ℕ) (q : Request) (r : Reply) : Type 0 where
   pub step : gate.Stepped after answer KeepsHistories v w shard q r
   pub start : step.start ≡ opening (setup_of x.settings shard)
+  pub ticket : gate.Stamped v w shard
 
 -- the same on the request's own shard
 abbrev pub IsServed : Service → View Request Content → View Request Content → Request → Reply → Type 0

@@ -3,7 +3,7 @@
 
 ghost use Rattle.service.specs.Asks.{to_complete_activity, to_fail_activity, to_cancel_activity, to_heartbeat};
 
-use crate::calls::request;
+use crate::calls::asked_by_client;
 use crate::service::{Pass, Service};
 use gate::Refused;
 use service_model_types::answer::Reply;
@@ -28,7 +28,10 @@ impl Service {
         requires { IsPassOf pass.old self.now }
         ensures { IsTried self.now pass.old pass.new (to_complete_activity at asked) result }
     {
-        self.try_serve_request(pass, request(at, Operation::CompleteActivity(asked)))
+        self.try_serve(
+            pass,
+            asked_by_client(at, Operation::CompleteActivity(asked)),
+        )
     }
 
     /// Completes a running activity (Temporal, RespondActivityTaskCompleted), with a result text. A
@@ -47,7 +50,11 @@ impl Service {
         requires { IsPassOf pass.old self.now }
         ensures { IsServedBy self.now pass.old pass.new (to_complete_activity at asked) result }
     {
-        self.serve_request(rt, pass, request(at, Operation::CompleteActivity(asked)))
+        self.serve(
+            rt,
+            pass,
+            asked_by_client(at, Operation::CompleteActivity(asked)),
+        )
     }
 
     /// [`Service::fail_activity`] that never waits.
@@ -63,7 +70,7 @@ impl Service {
         requires { IsPassOf pass.old self.now }
         ensures { IsTried self.now pass.old pass.new (to_fail_activity at asked) result }
     {
-        self.try_serve_request(pass, request(at, Operation::FailActivity(asked)))
+        self.try_serve(pass, asked_by_client(at, Operation::FailActivity(asked)))
     }
 
     /// Fails a running attempt of an activity (Temporal, RespondActivityTaskFailed): the activity
@@ -83,7 +90,11 @@ impl Service {
         requires { IsPassOf pass.old self.now }
         ensures { IsServedBy self.now pass.old pass.new (to_fail_activity at asked) result }
     {
-        self.serve_request(rt, pass, request(at, Operation::FailActivity(asked)))
+        self.serve(
+            rt,
+            pass,
+            asked_by_client(at, Operation::FailActivity(asked)),
+        )
     }
 
     /// [`Service::cancel_activity`] that never waits.
@@ -99,7 +110,7 @@ impl Service {
         requires { IsPassOf pass.old self.now }
         ensures { IsTried self.now pass.old pass.new (to_cancel_activity at asked) result }
     {
-        self.try_serve_request(pass, request(at, Operation::CancelActivity(asked)))
+        self.try_serve(pass, asked_by_client(at, Operation::CancelActivity(asked)))
     }
 
     /// Cancels a running activity that was asked to cancel (Temporal, RespondActivityTaskCanceled),
@@ -119,7 +130,11 @@ impl Service {
         requires { IsPassOf pass.old self.now }
         ensures { IsServedBy self.now pass.old pass.new (to_cancel_activity at asked) result }
     {
-        self.serve_request(rt, pass, request(at, Operation::CancelActivity(asked)))
+        self.serve(
+            rt,
+            pass,
+            asked_by_client(at, Operation::CancelActivity(asked)),
+        )
     }
 
     /// [`Service::heartbeat`] that never waits.
@@ -135,7 +150,7 @@ impl Service {
         requires { IsPassOf pass.old self.now }
         ensures { IsTried self.now pass.old pass.new (to_heartbeat at asked) result }
     {
-        self.try_serve_request(pass, request(at, Operation::Heartbeat(asked)))
+        self.try_serve(pass, asked_by_client(at, Operation::Heartbeat(asked)))
     }
 
     /// Reports that a running attempt goes on (Temporal, RecordActivityTaskHeartbeat), with details
@@ -155,6 +170,6 @@ impl Service {
         requires { IsPassOf pass.old self.now }
         ensures { IsServedBy self.now pass.old pass.new (to_heartbeat at asked) result }
     {
-        self.serve_request(rt, pass, request(at, Operation::Heartbeat(asked)))
+        self.serve(rt, pass, asked_by_client(at, Operation::Heartbeat(asked)))
     }
 }

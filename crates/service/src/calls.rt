@@ -1,11 +1,13 @@
 //! The calls by name: each makes the request of its arguments and serves it.
 
-ghost use Rattle.std.specs.Prelude.{◌≡◌};
+ghost use Rattle.std.specs.Prelude.{◌≡◌, true};
+ghost use Rattle.service_model_types.specs.Clients.{is_clients};
 ghost use Rattle.service.specs.Asks.{to_start, to_signal, to_show_history, to_describe};
 
 use crate::service::{Pass, Service};
 use gate::Refused;
 use service_model_types::answer::Reply;
+use service_model_types::client::ClientRequest;
 use service_model_types::request::{Operation, Read, Request, Signal, Start};
 use std::alloc::AllocError;
 use std::sync::Wait;
@@ -27,7 +29,7 @@ impl Service {
         requires { IsPassOf pass.old self.now }
         ensures { IsTried self.now pass.old pass.new (to_start at asked) result }
     {
-        self.try_serve_request(pass, request(at, Operation::Start(asked)))
+        self.try_serve(pass, asked_by_client(at, Operation::Start(asked)))
     }
 
     /// Starts a run of a workflow ID, where the policies allow it. It may wait for ever.
@@ -44,7 +46,7 @@ impl Service {
         requires { IsPassOf pass.old self.now }
         ensures { IsServedBy self.now pass.old pass.new (to_start at asked) result }
     {
-        self.serve_request(rt, pass, request(at, Operation::Start(asked)))
+        self.serve(rt, pass, asked_by_client(at, Operation::Start(asked)))
     }
 
     /// [`Service::signal`] that never waits.
@@ -60,7 +62,7 @@ impl Service {
         requires { IsPassOf pass.old self.now }
         ensures { IsTried self.now pass.old pass.new (to_signal at asked) result }
     {
-        self.try_serve_request(pass, request(at, Operation::Signal(asked)))
+        self.try_serve(pass, asked_by_client(at, Operation::Signal(asked)))
     }
 
     /// Signals the workflow ID's open run, the named one or the latest. It may wait for ever.
@@ -77,7 +79,7 @@ impl Service {
         requires { IsPassOf pass.old self.now }
         ensures { IsServedBy self.now pass.old pass.new (to_signal at asked) result }
     {
-        self.serve_request(rt, pass, request(at, Operation::Signal(asked)))
+        self.serve(rt, pass, asked_by_client(at, Operation::Signal(asked)))
     }
 
     /// [`Service::history`] that never waits.
@@ -93,7 +95,7 @@ impl Service {
         requires { IsPassOf pass.old self.now }
         ensures { IsTried self.now pass.old pass.new (to_show_history at asked) result }
     {
-        self.try_serve_request(pass, request(at, Operation::History(asked)))
+        self.try_serve(pass, asked_by_client(at, Operation::History(asked)))
     }
 
     /// Shows the history of the workflow ID's run, the named one or the latest. It may wait for ever.
@@ -110,7 +112,7 @@ impl Service {
         requires { IsPassOf pass.old self.now }
         ensures { IsServedBy self.now pass.old pass.new (to_show_history at asked) result }
     {
-        self.serve_request(rt, pass, request(at, Operation::History(asked)))
+        self.serve(rt, pass, asked_by_client(at, Operation::History(asked)))
     }
 
     /// [`Service::describe`] that never waits.
@@ -126,7 +128,7 @@ impl Service {
         requires { IsPassOf pass.old self.now }
         ensures { IsTried self.now pass.old pass.new (to_describe at asked) result }
     {
-        self.try_serve_request(pass, request(at, Operation::Describe(asked)))
+        self.try_serve(pass, asked_by_client(at, Operation::Describe(asked)))
     }
 
     /// Describes the workflow ID's run, the named one or the latest (Temporal,
@@ -145,7 +147,7 @@ impl Service {
         requires { IsPassOf pass.old self.now }
         ensures { IsServedBy self.now pass.old pass.new (to_describe at asked) result }
     {
-        self.serve_request(rt, pass, request(at, Operation::Describe(asked)))
+        self.serve(rt, pass, asked_by_client(at, Operation::Describe(asked)))
     }
 }
 
@@ -154,4 +156,12 @@ pub(crate) fn request(at: Moment, operation: Operation) -> Request
     ensures { result ≡ record { at = at; operation = operation } }
 {
     Request { at, operation }
+}
+
+/// The request of what a client may ask.
+pub(crate) fn asked_by_client(at: Moment, operation: Operation) -> ClientRequest
+    requires { is_clients operation ≡ true }
+    ensures { result ≡ record { at = at; operation = operation } }
+{
+    ClientRequest::new(Request { at, operation })
 }

@@ -7,7 +7,7 @@ ghost use Rattle.service_model_types.specs.Replies.{dispatch_of};
 ghost use Rattle.service.specs.Asks.{to_next_dispatch};
 ghost use Rattle.service.specs.Turns.{AnsweredOn, Counts, TurnKept, Turns};
 
-use crate::calls::request;
+use crate::calls::asked_by_client;
 use crate::route::shard_refusal;
 use crate::service::{Pass, Service};
 use service_model_types::answer::{NumberedDispatch, Reply};
@@ -107,7 +107,7 @@ impl Service {
         ensures err { OnErr result (Waited (known_by pass.old) (known_by pass.new) shard) }
     {
         let refusal = shard_refusal(&self.settings, shard);
-        let asked = request(at, Operation::NextDispatch);
+        let asked = asked_by_client(at, Operation::NextDispatch);
         match self.serve_on(rt, pass, refusal, usize::from(shard), asked) {
             Ok(reply) => Ok(reply),
             Err(_) => Err(AllocError),
@@ -132,7 +132,7 @@ impl Service {
         ensures err { OnErr result (Waited (known_by pass.old) (known_by pass.new) shard) }
     {
         let refusal = shard_refusal(&self.settings, shard);
-        let asked = request(at, Operation::Dispatched(number));
+        let asked = asked_by_client(at, Operation::Dispatched(number));
         match self.serve_on(rt, pass, refusal, usize::from(shard), asked) {
             Ok(_) => Ok(()),
             Err(_) => Err(AllocError),

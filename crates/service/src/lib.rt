@@ -6,7 +6,8 @@
 //! record and leaves. So each reply is the sequential service's at that place of the record.
 //!
 //! Two passes that [meet](Service::meet) agree on what was done so far, and [`Service::close`]
-//! gives the records, which settle any dispute.
+//! gives the records, which settle any dispute, and their tickets, by which all steps of all shards
+//! stand in one list ([`histories_are_in_order`]).
 #![tactic(auto)]
 
 mod activities;
@@ -15,9 +16,11 @@ mod calls;
 mod close;
 mod dispatch_turns;
 mod held;
+mod laws;
 mod meet;
 mod open;
 mod polls;
+mod reopen;
 mod route;
 mod service;
 mod tasks;
@@ -29,4 +32,5 @@ pub use close::Closed;
 pub use dispatch_turns::Turned;
 pub use gate::Refused;
 pub use held::Held;
+pub use laws::histories_are_in_order;
 pub use service::{Pass, Service};

@@ -2,21 +2,23 @@
 
 ghost use Rattle.std.specs.Prelude.{◌≡◌, ℕ, ◌<◌};
 ghost use Rattle.gate.specs.Passes.{Agree, KeepsOwn};
+ghost use Rattle.matching.specs.Named.{Met};
 
 use crate::service::{Pass, Service};
 
 impl Service {
     ghost use Rattle.service.specs.Services.{IsPassOf, hints_by, known_by, settings_of};
 
-    /// Of each shard, the record that one pass had seen began the one that the other had. Afterwards
-    /// both have seen the longer. It takes no memory, and changes no shard.
+    /// Of each shard, the record that one pass had seen began the one that the other had, and so it
+    /// was with what each had seen of a task queue. Afterwards both have seen the longer. It takes no
+    /// memory, and changes no shard and no queue.
     pub fn meet(&self, first: &mut Pass, second: &mut Pass)
         requires first { IsPassOf first.old self.now }
         requires second { IsPassOf second.old self.now }
         ensures first_own { IsPassOf first.new self.now }
         ensures second_own { IsPassOf second.new self.now }
-        ensures hints { (hints_by first.new ≡ hints_by first.old)
-            × (hints_by second.new ≡ hints_by second.old) }
+        ensures hints { Met (hints_by first.old) (hints_by second.old)
+            (hints_by first.new) (hints_by second.new) }
         ensures agree { (shard : ℕ) → shard < (settings_of self.now).shards
             → Agree (known_by first.old) (known_by second.old)
             (known_by first.new) (known_by second.new) shard }
@@ -24,5 +26,6 @@ impl Service {
         ensures second { KeepsOwn (known_by second.old) (known_by second.new) }
     {
         self.gate.meet(&mut first.inner, &mut second.inner);
+        self.queues.meet(&mut first.hints, &mut second.hints);
     }
 }

@@ -1,26 +1,28 @@
 //! How a service is opened.
 //!
-//! The settings are looked at first. Then each shard is made, without runs, and laid with an empty
-//! record into a slot of the gate, in the order of the shards. The gate gives as many passes as the
+//! The settings are looked at first, then how many records there are. Each shard is brought to where
+//! its record left it, and laid with that into a slot of the gate, in the order of the shards. The
+//! hints of all tasks that wait are put into their queues. The gate gives as many passes as the
 //! settings say, so do the task queues, and one of each becomes a pass of the service. The room that
 //! `close` needs is made here.
 
-ghost use Rattle.std.specs.Prelude.{◌≡◌, ◌≢◌, ℕ, ◌<◌, Some, Ok, length, map, slice_get, IfOk, IfErr};
-ghost use Rattle.service_model.specs.Service.{opening};
+ghost use Rattle.std.specs.Prelude.{◌≡◌, ◌≢◌, ℕ, ◌<◌, All, Some, Ok, Err, length, map, slice_get, IfOk, IfErr};
 ghost use Rattle.gate.specs.Passes.{IsFresh};
-ghost use Rattle.shard.specs.Standing.{StandsFor, opened};
-ghost use Rattle.service.specs.Contents.{setup_of};
-ghost use Rattle.matching.specs.Named.{IsFresh as IsFreshAt, IsPassOf as IsPassOfQueues, capacity_of, names_of, shards_of};
-ghost use Rattle.service.specs.Laid.{AreFresh, IsLaid};
+ghost use Rattle.matching.specs.Holding.{held_by};
+ghost use Rattle.matching.specs.Named.{IsPassOf as IsPassOfQueues, capacity_of, given_of, names_of, shards_of};
+ghost use Rattle.service.specs.Ends.{base_of};
+ghost use Rattle.service.specs.Held.{HoldsAtOpening, HoldAtOpening};
+ghost use Rattle.service.specs.Reopening.{opens, record_at, records_fault};
 ghost use Rattle.service.specs.Ranges.{are_different, are_queues, range_fault, stands_in};
 ghost use Rattle.service.specs.declared.service.Pass.{Pass};
 ghost use Rattle.service.specs.Services.{IsPassOf, IsInRange, known_by, settings_of};
 
-use crate::close::PassRoom;
+use crate::close::{Closed, PassRoom};
+use crate::reopen::{all_waiting, one_each, replay_shards};
 use crate::service::{Pass, Service, Shard};
 use gate::Gate;
 use matching::{Queues, QueuesPass};
-use service_model_types::content::Setup;
+use service_model_types::content::Dispatch;
 use service_model_types::limits::{
     MOST_CAPACITY, MOST_PASSES, MOST_QUEUES, MOST_SHARDS, SERVICE_NUMBERS,
 };
@@ -34,41 +36,65 @@ use wf_event_values::{Field, Id, Refusal};
 impl Service {
     /// Opens a service and gives its passes, numbered from 0.
     ///
+    /// Without records nothing was done in it. With one record of each shard it goes on where these
+    /// end: each shard stands for the replay of its record under these settings, every pass has seen
+    /// that record, and each task that waits to be taken has its hint in its queue again, by shard,
+    /// run and event, as pushed by the first pass.
+    ///
     /// # Errors
     /// `InvalidArgument` with the first setting out of its range, in the order shards, passes,
-    /// service, queues, capacity; `NoMemory`.
-    pub fn open(alloc: Global, settings: &Settings) -> Result<(Service, Vec<Pass>), Refusal>
+    /// service, queues, capacity, and then with `records` where there is neither none nor one of each
+    /// shard; `QueueFull` where the hints don't fit; `NoMemory`.
+    pub fn open(
+        alloc: Global,
+        settings: &Settings,
+        records: Vec<Record<Request>>,
+    ) -> Result<(Service, Vec<Pass>), Refusal>
         ensures own { IfOk result (λ r.
             (k : ℕ) (p : Pass) → slice_get r.1.items k ≡ Some p
             → IsPassOf p r.0) }
         ensures fresh { IfOk result (λ r.
             (k : ℕ) (p : Pass) → slice_get r.1.items k ≡ Some p
             → IsFresh k (known_by p)) }
-        ensures hints { IfOk result (λ r.
-            (k : ℕ) (p : Pass) → slice_get r.1.items k ≡ Some p
-            → AreFresh settings.now k p) }
+        ensures records { IfOk result (λ r.
+            (s : ℕ) → base_of r.0 s ≡ record_at records.items s) }
+        ensures held { IfOk result (λ r. HoldsAtOpening settings.now records.items r.1.items) }
         ensures settings { IfOk result (λ r. settings_of r.0 ≡ settings.now) }
         ensures count { IfOk result (λ r. length r.1.items ≡ settings.now.passes) }
         ensures range { IfOk result (λ r. range_fault settings.now ≡ Ok tt) }
         ensures err { IfErr result (λ e.
-            e ≢ Refusal.NoMemory → range_fault settings.now ≡ Err e) }
+            e ≢ Refusal.NoMemory → opens settings.now records.items ≡ Err e) }
     {
         check_ranges(settings)?;
-        let objects = open_shards(alloc, settings)?;
+        check_records(settings, &records)?;
+        let records = one_each(alloc, settings, records)?;
+        let objects = replay_shards(alloc, settings, records)?;
+        let waiting = all_waiting(alloc, &objects)?;
+        let (queues, hints) = open_queues(alloc, settings, waiting)?;
         let (gate, inner) = Gate::open(alloc, objects, settings.passes as usize)?;
-        let (queues, hints) = open_queues(alloc, settings)?;
         let passes = paired(alloc, inner, hints)?;
         let room = PassRoom::new(alloc)?;
-        let records = Vec::with_capacity(alloc, settings.shards as usize)?;
+        let closed = Closed::new(alloc, settings.shards as usize)?;
         let service = Service {
             settings: settings.copy(alloc)?,
             gate,
             queues,
             handed_down: Mutex::new(room),
-            records,
+            closed,
         };
         Ok((service, passes))
     }
+}
+
+/// There may be no record, or one of each shard.
+fn check_records(settings: &Settings, records: &[Record<Request>]) -> Result<(), Refusal>
+    ensures { result ≡ records_fault settings.now records.now }
+{
+    let count = records.len() as u64;
+    if count == 0 || count == settings.shards {
+        return Ok(());
+    }
+    Err(Refusal::InvalidArgument(Field::Records))
 }
 
 /// The first setting out of its range is an invalid argument.
@@ -120,59 +146,32 @@ fn stands_in(names: &[Id], name: &Id) -> bool
     names.iter().any(|other| other == name)
 }
 
-/// The task queues, and what each pass calls them with.
-fn open_queues(alloc: Global, settings: &Settings) -> Result<(Queues, Vec<QueuesPass>), AllocError>
-    requires { IsInRange settings.now }
+/// The task queues, which hold the hints of the tasks that wait, and what each pass calls them with.
+fn open_queues(
+    alloc: Global,
+    settings: &Settings,
+    waiting: Vec<Dispatch>,
+) -> Result<(Queues, Vec<QueuesPass>), Refusal>
+    requires range { IsInRange settings.now }
+    requires shards { All (λ d. d.hint.shard < settings.now.shards) waiting.items }
     ensures names { IfOk result (λ r. names_of r.0 ≡ settings.now.queues) }
     ensures capacity { IfOk result (λ r. capacity_of r.0 ≡ settings.now.capacity) }
     ensures shards { IfOk result (λ r. shards_of r.0 ≡ settings.now.shards) }
+    ensures given { IfOk result (λ r. given_of r.0 ≡ settings.now.passes) }
     ensures count { IfOk result (λ r. length r.1.items ≡ settings.now.passes) }
     ensures own { IfOk result (λ r.
         (k : ℕ) (p : QueuesPass) → slice_get r.1.items k ≡ Some p
         → IsPassOfQueues p r.0) }
-    ensures fresh { IfOk result (λ r.
-        (k : ℕ) (p : QueuesPass) → slice_get r.1.items k ≡ Some p
-        → IsFreshAt settings.now.passes settings.now.shards settings.now.capacity k p) }
+    ensures held { IfOk result (λ r.
+        HoldAtOpening settings.now waiting.items r.1.items) }
+    ensures err { IfErr result (λ e. e ≢ Refusal.NoMemory
+        → held_by settings.now.queues settings.now.capacity waiting.items ≡ Err e) }
 {
     let names = settings.copy_queues(alloc)?.into_vec();
     let capacity = settings.capacity as usize;
     let passes = settings.passes as usize;
-    Queues::open(alloc, names, capacity, passes, settings.shards as u16)
-}
-
-/// All shards, each with an empty record.
-fn open_shards(alloc: Global, settings: &Settings) -> Result<Vec<(Shard, Record<Request>)>, Refusal>
-    requires { IsInRange settings.now }
-    ensures laid { IfOk result (λ v. IsLaid settings.now v.items settings.now.shards) }
-    ensures err { IfErr result (λ e. e ≢ Refusal.NoMemory → ⊥) }
-{
-    let mut objects = Vec::new(alloc);
-    for shard in 0..settings.shards {
-        let fresh = open_shard(alloc, settings, shard)?;
-        objects.push((fresh, Record::new(alloc)))?;
-    }
-    Ok(objects)
-}
-
-/// One shard, without runs.
-fn open_shard(alloc: Global, settings: &Settings, shard: u64) -> Result<Shard, Refusal>
-    requires range { IsInRange settings.now }
-    requires shard { shard < 64 }
-    ensures opened { IfOk result (λ s. opened s ≡ opening (setup_of settings.now shard)) }
-    ensures stands { IfOk result (λ s. StandsFor s (opened s)) }
-    ensures err { IfErr result (λ e. e ≢ Refusal.NoMemory → ⊥) }
-{
-    let queues = settings.copy_queues(alloc)?;
-    let fresh = Shard::new(
-        alloc,
-        Setup {
-            service: settings.service,
-            shard: shard as u16,
-            shards: settings.shards as u16,
-            queues,
-        },
-    )?;
-    Ok(fresh)
+    let shards = settings.shards as u16;
+    Queues::open(alloc, names, capacity, passes, shards, waiting)
 }
 
 /// The passes of the gate with those of the queues.

@@ -2,7 +2,7 @@
 
 ghost use Rattle.std.specs.Prelude.{◌≡◌, ◌<◌, ◌≤◌, None, length, vec_capacity};
 
-use crate::close::PassRoom;
+use crate::close::{Closed, PassRoom};
 use gate::{Gate, Refused};
 use matching::{Queues, QueuesPass};
 use service_model_types::answer::Reply;
@@ -11,7 +11,6 @@ use service_model_types::request::Request;
 use service_model_types::settings::Settings;
 use std::alloc::AllocError;
 use std::sync::{Mutex, Wait};
-use step_record::Record;
 use wf_event_values::Refusal;
 
 /// A shard, whose runs are kept by tables.
@@ -26,9 +25,11 @@ pub struct Service {
     // can't fail. Threads can't share a list of passes, so that one lies behind a lock, which
     // nobody takes.
     pub(crate) handed_down: Mutex<PassRoom>,
-    pub(crate) records: Vec<Record<Request>>,
+    pub(crate) closed: Closed,
     ghost some_pass: { 0 < settings.passes },
-    ghost roomy: { (length records.items ≡ 0) × (settings.shards ≤ vec_capacity records) },
+    ghost roomy: { (length closed.records.items ≡ 0) × (length closed.tickets.items ≡ 0)
+        × (settings.shards ≤ vec_capacity closed.records)
+        × (settings.shards ≤ vec_capacity closed.tickets) },
 }
 
 impl Drop for Service {
@@ -38,7 +39,7 @@ impl Drop for Service {
             gate: _,
             queues: _,
             handed_down: _,
-            records: _,
+            closed: _,
         } = self;
     }
 }
@@ -68,19 +69,20 @@ impl Pass {
 impl Service {
     ghost use Rattle.service.specs.Services.{IsPassOf, IsServedBy, IsServedOnBy, IsTried, IsTriedOn, settings_of};
 
-    /// The gate, and the room that closing needs.
-    pub(crate) fn into_parts(self) -> (Gate<Shard>, Mutex<PassRoom>, Vec<Record<Request>>)
+    /// The gate and the queues, and the room that closing needs.
+    pub(crate) fn into_parts(self) -> (Gate<Shard>, Queues, Mutex<PassRoom>, Closed)
         ensures gate { result.0 ≡ self.gate }
-        ensures records { result.2 ≡ self.records }
+        ensures queues { result.1 ≡ self.queues }
+        ensures closed { result.3 ≡ self.closed }
     {
         let Service {
             settings: _,
             gate,
-            queues: _,
+            queues,
             handed_down,
-            records,
+            closed,
         } = self;
-        (gate, handed_down, records)
+        (gate, queues, handed_down, closed)
     }
 
     /// The settings with which the service was opened.
@@ -106,20 +108,8 @@ impl Service {
         requires { IsPassOf pass.old self.now }
         ensures { IsTried self.now pass.old pass.new request result }
     {
-        self.try_serve_request(pass, request.into_request())
-    }
-
-    /// [`Service::try_serve`] of any request.
-    pub(crate) fn try_serve_request(
-        &self,
-        pass: &mut Pass,
-        request: Request,
-    ) -> Result<Reply, (Refused, Request)>
-        requires { IsPassOf pass.old self.now }
-        ensures { IsTried self.now pass.old pass.new request result }
-    {
-        let refusal = self.refusal_of(&request.operation);
-        let slot = self.slot_of(&request);
+        let refusal = self.refusal_of(&request.request().operation);
+        let slot = self.slot_of(request.request());
         self.try_serve_on(pass, refusal, slot, request)
     }
 
@@ -137,21 +127,8 @@ impl Service {
         requires { IsPassOf pass.old self.now }
         ensures { IsServedBy self.now pass.old pass.new request result }
     {
-        self.serve_request(rt, pass, request.into_request())
-    }
-
-    /// [`Service::serve`] of any request.
-    pub(crate) fn serve_request<R: Wait>(
-        &self,
-        rt: &R,
-        pass: &mut Pass,
-        request: Request,
-    ) -> Result<Reply, (AllocError, Request)>
-        requires { IsPassOf pass.old self.now }
-        ensures { IsServedBy self.now pass.old pass.new request result }
-    {
-        let refusal = self.refusal_of(&request.operation);
-        let slot = self.slot_of(&request);
+        let refusal = self.refusal_of(&request.request().operation);
+        let slot = self.slot_of(request.request());
         self.serve_on(rt, pass, refusal, slot, request)
     }
 
@@ -161,7 +138,7 @@ impl Service {
         pass: &mut Pass,
         refusal: Option<Refusal>,
         slot: usize,
-        request: Request,
+        request: ClientRequest,
     ) -> Result<Reply, (Refused, Request)>
         requires own { IsPassOf pass.old self.now }
         requires there { refusal ≡ None → slot < (settings_of self.now).shards }
@@ -169,7 +146,9 @@ impl Service {
     {
         match refusal {
             Some(refusal) => Ok(Err(refusal)),
-            None => self.gate.try_step(&mut pass.inner, slot, request),
+            None => self
+                .gate
+                .try_step(&mut pass.inner, slot, request.into_request()),
         }
     }
 
@@ -180,7 +159,7 @@ impl Service {
         pass: &mut Pass,
         refusal: Option<Refusal>,
         slot: usize,
-        request: Request,
+        request: ClientRequest,
     ) -> Result<Reply, (AllocError, Request)>
         requires own { IsPassOf pass.old self.now }
         requires there { refusal ≡ None → slot < (settings_of self.now).shards }
@@ -188,7 +167,9 @@ impl Service {
     {
         match refusal {
             Some(refusal) => Ok(Err(refusal)),
-            None => self.gate.step(rt, &mut pass.inner, slot, request),
+            None => self
+                .gate
+                .step(rt, &mut pass.inner, slot, request.into_request()),
         }
     }
 }

@@ -4,7 +4,7 @@
 ghost use Rattle.service.specs.Asks.{to_start_task, to_complete_workflow_task, to_fail_workflow_task};
 ghost use Rattle.service.specs.Contents.{shard_refusal};
 
-use crate::calls::request;
+use crate::calls::asked_by_client;
 use crate::route::shard_refusal;
 use crate::service::{Pass, Service};
 use gate::Refused;
@@ -35,7 +35,7 @@ impl Service {
             (to_start_task at hint) result }
     {
         let refusal = shard_refusal(&self.settings, hint.shard);
-        let start = request(at, Operation::StartTask(hint.task()));
+        let start = asked_by_client(at, Operation::StartTask(hint.task()));
         self.try_serve_on(pass, refusal, usize::from(hint.shard), start)
     }
 
@@ -57,7 +57,7 @@ impl Service {
             (to_start_task at hint) result }
     {
         let refusal = shard_refusal(&self.settings, hint.shard);
-        let start = request(at, Operation::StartTask(hint.task()));
+        let start = asked_by_client(at, Operation::StartTask(hint.task()));
         self.serve_on(rt, pass, refusal, usize::from(hint.shard), start)
     }
 
@@ -74,7 +74,10 @@ impl Service {
         requires { IsPassOf pass.old self.now }
         ensures { IsTried self.now pass.old pass.new (to_complete_workflow_task at asked) result }
     {
-        self.try_serve_request(pass, request(at, Operation::CompleteWorkflowTask(asked)))
+        self.try_serve(
+            pass,
+            asked_by_client(at, Operation::CompleteWorkflowTask(asked)),
+        )
     }
 
     /// Completes a taken workflow task by commands (Temporal, RespondWorkflowTaskCompleted): all of
@@ -96,10 +99,10 @@ impl Service {
         ensures { IsServedBy self.now pass.old pass.new
             (to_complete_workflow_task at asked) result }
     {
-        self.serve_request(
+        self.serve(
             rt,
             pass,
-            request(at, Operation::CompleteWorkflowTask(asked)),
+            asked_by_client(at, Operation::CompleteWorkflowTask(asked)),
         )
     }
 
@@ -116,7 +119,10 @@ impl Service {
         requires { IsPassOf pass.old self.now }
         ensures { IsTried self.now pass.old pass.new (to_fail_workflow_task at asked) result }
     {
-        self.try_serve_request(pass, request(at, Operation::FailWorkflowTask(asked)))
+        self.try_serve(
+            pass,
+            asked_by_client(at, Operation::FailWorkflowTask(asked)),
+        )
     }
 
     /// Fails a taken workflow task (Temporal, RespondWorkflowTaskFailed). A shard that is not there,
@@ -135,6 +141,10 @@ impl Service {
         requires { IsPassOf pass.old self.now }
         ensures { IsServedBy self.now pass.old pass.new (to_fail_workflow_task at asked) result }
     {
-        self.serve_request(rt, pass, request(at, Operation::FailWorkflowTask(asked)))
+        self.serve(
+            rt,
+            pass,
+            asked_by_client(at, Operation::FailWorkflowTask(asked)),
+        )
     }
 }

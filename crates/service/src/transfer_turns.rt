@@ -3,6 +3,8 @@
 ghost use Rattle.std.specs.Prelude.{◌≡◌, ◌<◌, Some, None, MatchResult, IfOk, OnOk, OnErr};
 ghost use Rattle.gate.specs.Passes.{Waited, number as number_of};
 ghost use Rattle.service_model_types.specs.Replies.{transfer_of};
+ghost use Rattle.service.specs.Asks.{to_acknowledge, to_deliver};
+ghost use Rattle.service.specs.Grounding.{SeenGrounds};
 ghost use Rattle.service.specs.TransferTurns.{Acknowledges, DeliveryKept, Delivers, TransferKept, TransferTurns, Transfers, goes_on};
 
 use crate::calls::request;
@@ -97,6 +99,9 @@ impl Service {
         requires own { IsPassOf pass.old self.now }
         requires from { turn.from < (settings_of self.now).shards }
         requires to { turn.to < (settings_of self.now).shards }
+        requires source { transfer.from ≡ turn.from }
+        requires grounds { SeenGrounds (known_by pass.old) turn.to
+            (to_deliver turn.at transfer) }
         ensures own { IsPassOf pass.new self.now }
         ensures named { number_of (known_by pass.new) ≡ number_of (known_by pass.old) }
         ensures hints { hints_by pass.new ≡ hints_by pass.old }
@@ -125,6 +130,8 @@ impl Service {
     ) -> Result<(), AllocError>
         requires own { IsPassOf pass.old self.now }
         requires from { turn.from < (settings_of self.now).shards }
+        requires grounds { SeenGrounds (known_by pass.old) turn.from
+            (to_acknowledge turn.at turn.to number) }
         ensures own { IsPassOf pass.new self.now }
         ensures named { number_of (known_by pass.new) ≡ number_of (known_by pass.old) }
         ensures hints { hints_by pass.new ≡ hints_by pass.old }
@@ -151,6 +158,7 @@ impl Service {
     ) -> Result<Reply, AllocError>
         requires own { IsPassOf pass.old self.now }
         requires there { shard < (settings_of self.now).shards }
+        requires grounds { SeenGrounds (known_by pass.old) shard asked }
         ensures own { IsPassOf pass.new self.now }
         ensures named { number_of (known_by pass.new) ≡ number_of (known_by pass.old) }
         ensures hints { hints_by pass.new ≡ hints_by pass.old }
@@ -158,7 +166,10 @@ impl Service {
             IsServedAtLast self.now (known_by pass.old) (known_by pass.new) shard asked r) }
         ensures err { OnErr result (Waited (known_by pass.old) (known_by pass.new) shard) }
     {
-        match self.serve_on(rt, pass, None, usize::from(shard), asked) {
+        match self
+            .gate
+            .step(rt, &mut pass.inner, usize::from(shard), asked)
+        {
             Ok(reply) => Ok(reply),
             Err(_) => Err(AllocError),
         }

@@ -3,7 +3,7 @@
 ghost use Rattle.service.specs.Asks.{to_turn_timers};
 ghost use Rattle.service.specs.Contents.{shard_refusal};
 
-use crate::calls::request;
+use crate::calls::asked_by_client;
 use crate::route::shard_refusal;
 use crate::service::{Pass, Service};
 use gate::Refused;
@@ -33,7 +33,7 @@ impl Service {
             (to_turn_timers at) result }
     {
         let refusal = shard_refusal(&self.settings, shard);
-        let turn = request(at, Operation::TimerTurn);
+        let turn = asked_by_client(at, Operation::TimerTurn);
         self.try_serve_on(pass, refusal, usize::from(shard), turn)
     }
 
@@ -56,7 +56,7 @@ impl Service {
             (to_turn_timers at) result }
     {
         let refusal = shard_refusal(&self.settings, shard);
-        let turn = request(at, Operation::TimerTurn);
+        let turn = asked_by_client(at, Operation::TimerTurn);
         self.serve_on(rt, pass, refusal, usize::from(shard), turn)
     }
 
@@ -74,7 +74,7 @@ impl Service {
     {
         let refusal = self.refusal_of_step(&call);
         let slot = self.slot_of_step(&call);
-        self.try_serve_on(pass, refusal, slot, call.into_request())
+        self.try_serve_on(pass, refusal, slot, call.into_client())
     }
 
     /// Serves a call of any kind. It may wait for ever.
@@ -92,6 +92,6 @@ impl Service {
     {
         let refusal = self.refusal_of_step(&call);
         let slot = self.slot_of_step(&call);
-        self.serve_on(rt, pass, refusal, slot, call.into_request())
+        self.serve_on(rt, pass, refusal, slot, call.into_client())
     }
 }

@@ -3,7 +3,7 @@
 
 ghost use Rattle.service.specs.Asks.{to_signal_with_start, to_request_cancel, to_terminate};
 
-use crate::calls::request;
+use crate::calls::asked_by_client;
 use crate::service::{Pass, Service};
 use gate::Refused;
 use service_model_types::answer::Reply;
@@ -28,7 +28,7 @@ impl Service {
         requires { IsPassOf pass.old self.now }
         ensures { IsTried self.now pass.old pass.new (to_signal_with_start at asked) result }
     {
-        self.try_serve_request(pass, request(at, Operation::SignalWithStart(asked)))
+        self.try_serve(pass, asked_by_client(at, Operation::SignalWithStart(asked)))
     }
 
     /// Signals the workflow ID's open run, or starts a run that is signaled, where the reuse policy
@@ -46,7 +46,11 @@ impl Service {
         requires { IsPassOf pass.old self.now }
         ensures { IsServedBy self.now pass.old pass.new (to_signal_with_start at asked) result }
     {
-        self.serve_request(rt, pass, request(at, Operation::SignalWithStart(asked)))
+        self.serve(
+            rt,
+            pass,
+            asked_by_client(at, Operation::SignalWithStart(asked)),
+        )
     }
 
     /// [`Service::request_cancel`] that never waits.
@@ -62,7 +66,7 @@ impl Service {
         requires { IsPassOf pass.old self.now }
         ensures { IsTried self.now pass.old pass.new (to_request_cancel at asked) result }
     {
-        self.try_serve_request(pass, request(at, Operation::RequestCancel(asked)))
+        self.try_serve(pass, asked_by_client(at, Operation::RequestCancel(asked)))
     }
 
     /// Asks the workflow ID's open run, the named one or the latest, to cancel (Temporal,
@@ -80,7 +84,11 @@ impl Service {
         requires { IsPassOf pass.old self.now }
         ensures { IsServedBy self.now pass.old pass.new (to_request_cancel at asked) result }
     {
-        self.serve_request(rt, pass, request(at, Operation::RequestCancel(asked)))
+        self.serve(
+            rt,
+            pass,
+            asked_by_client(at, Operation::RequestCancel(asked)),
+        )
     }
 
     /// [`Service::terminate`] that never waits.
@@ -96,7 +104,7 @@ impl Service {
         requires { IsPassOf pass.old self.now }
         ensures { IsTried self.now pass.old pass.new (to_terminate at asked) result }
     {
-        self.try_serve_request(pass, request(at, Operation::Terminate(asked)))
+        self.try_serve(pass, asked_by_client(at, Operation::Terminate(asked)))
     }
 
     /// Terminates the workflow ID's open run, the named one or the latest (Temporal,
@@ -114,6 +122,6 @@ impl Service {
         requires { IsPassOf pass.old self.now }
         ensures { IsServedBy self.now pass.old pass.new (to_terminate at asked) result }
     {
-        self.serve_request(rt, pass, request(at, Operation::Terminate(asked)))
+        self.serve(rt, pass, asked_by_client(at, Operation::Terminate(asked)))
     }
 }

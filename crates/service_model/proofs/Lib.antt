@@ -7,6 +7,8 @@ mod TransferLemmas
 pub mod WholeLemmas
 pub mod GroundLemmas
 pub mod TakenLemmas
+pub mod QueueLemmas
+pub mod NamedLemmas
 mod RowWords
 mod TaskRows
 mod TimerRows

@@ -100,7 +100,7 @@ impl Known {
     fn waiting_activity(&self, shard: u16, history: &History) -> Option<Hint> {
         let run = history.run.ordinal();
         let mut found = None;
-        for event in history.events.as_slice() {
+        for event in history.events.iter() {
             if let Attributes::ActivityTaskScheduled(_) = &event.attributes {
                 if !self.was_taken(run, event.id) {
                     found = Some(activity_hint(shard, run, event.id, 1));
@@ -272,7 +272,7 @@ fn recent(count: usize, draws: &mut Draws) -> Option<usize> {
 /// The last workflow task that a history shows, where it waits to be taken.
 fn waiting_task(shard: u16, history: &History) -> Option<Hint> {
     let mut found = None;
-    for event in history.events.as_slice() {
+    for event in history.events.iter() {
         match &event.attributes {
             Attributes::WorkflowTaskScheduled(task) => {
                 found = Some(hint(shard, history.run.ordinal(), event.id, task.attempt));

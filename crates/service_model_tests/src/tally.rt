@@ -156,9 +156,12 @@ impl Tally {
     }
 
     fn add_events(&mut self, history: &History) -> Result<(), AllocError> {
-        let length = history.events.as_slice().len() as u64;
+        let mut length: u64 = 0;
+        for _event in history.events.iter() {
+            length = length.saturating_add(1);
+        }
         let before = note_shown(&mut self.shown, history.run, length)?;
-        for event in history.events.as_slice() {
+        for event in history.events.iter() {
             if event.id > before {
                 count_one(&mut self.events, event.kind().name())?;
             }

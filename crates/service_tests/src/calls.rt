@@ -377,6 +377,24 @@ fn never_waits<R: Abort + AllocGlobal>(
     }
 }
 
+/// What a call comes to.
+fn came_of<R: Abort + AllocGlobal + Wait>(
+    rt: &R,
+    service: &Service,
+    pass: &mut Pass,
+    form: Form,
+    shard: u16,
+    call: Call,
+) -> &'static str
+    requires { IsPassOf pass.old service.now }
+    ensures { IsPassOf pass.new service.now }
+{
+    match form {
+        Form::MayWait => may_wait(rt, service, pass, shard, call),
+        Form::NeverWaits => never_waits(rt, service, pass, shard, call),
+    }
+}
+
 /// All calls on one shard's workflow.
 fn assert_calls<R: Abort + AllocGlobal + Wait>(
     rt: &R,
@@ -390,10 +408,7 @@ fn assert_calls<R: Abort + AllocGlobal + Wait>(
 {
     for (place, row) in CALLS.iter().enumerate() {
         let (call, wanted) = *row;
-        let came = match form {
-            Form::MayWait => may_wait(rt, service, pass, shard, call),
-            Form::NeverWaits => never_waits(rt, service, pass, shard, call),
-        };
+        let came = came_of(rt, service, pass, form, shard, call);
         assert_eq!(rt; came, wanted, "call {place} on shard {shard}");
     }
 }

@@ -7,6 +7,8 @@ mod asked;
 #[cfg(test)]
 mod calls;
 #[cfg(test)]
+mod histories;
+#[cfg(test)]
 mod limits;
 #[cfg(test)]
 mod passes;
@@ -16,6 +18,8 @@ mod queues;
 mod ranges;
 #[cfg(test)]
 mod refusals;
+#[cfg(test)]
+mod reopening;
 #[cfg(test)]
 mod shown;
 #[cfg(test)]

@@ -4,6 +4,7 @@ ghost use Rattle.service.specs.Services.{IsPassOf};
 ghost use Rattle.service_tests.specs.Passes.{ComesBack};
 
 use crate::asked::{id, settings, signal, start};
+use crate::histories::count;
 use crate::passes::{close, give_back, open, take_pass};
 use crate::shown::shown;
 use service::{Pass, Service};
@@ -101,15 +102,7 @@ fn length_of_history<R: Abort + AllocGlobal>(rt: &R, service: &Service, pass: &m
         run: None,
     };
     match &service.try_history(pass, asked, Moment::zero()) {
-        Ok(Ok(Answer::History(history))) => {
-            let events = history.events.as_slice();
-            let counts = events
-                .iter()
-                .enumerate()
-                .all(|(place, event)| event.id == place as u64 + 1);
-            assert!(rt; counts);
-            events.len()
-        }
+        Ok(Ok(Answer::History(history))) => count(&history.events),
         _ => panic!(rt; "no history"),
     }
 }

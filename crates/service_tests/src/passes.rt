@@ -18,7 +18,20 @@ pub(crate) fn open<R: Abort + AllocGlobal>(rt: &R, settings: &Settings) -> (Serv
     ensures count { length result.1.items ≡ settings.now.passes }
     ensures settings { settings_of result.0 ≡ settings.now }
 {
-    match Service::open(rt.alloc(), settings) {
+    open_from(rt, settings, Vec::new(rt.alloc()))
+}
+
+/// The same, where the shards were left by these records.
+pub(crate) fn open_from<R: Abort + AllocGlobal>(
+    rt: &R,
+    settings: &Settings,
+    records: Vec<Record<Request>>,
+) -> (Service, Vec<Pass>)
+    ensures own { InOrder result.0 result.1.items }
+    ensures count { length result.1.items ≡ settings.now.passes }
+    ensures settings { settings_of result.0 ≡ settings.now }
+{
+    match Service::open(rt.alloc(), settings, records) {
         Ok(opened) => opened,
         Err(_) => panic!(rt; "the service was not opened"),
     }

@@ -10,7 +10,7 @@ use wf_event_values::{Items, Refusal};
 
 /// The field that is out of its range.
 fn refused<R: Abort + AllocGlobal>(rt: &R, settings: &Settings) -> &'static str {
-    match Service::open(rt.alloc(), settings) {
+    match Service::open(rt.alloc(), settings, Vec::new(rt.alloc())) {
         Err(Refusal::InvalidArgument(field)) => field.name(),
         _ => panic!(rt; "no field is out of its range"),
     }

@@ -7,6 +7,7 @@ use crate::asked::{id, taken, text, two_shards, waiting};
 use crate::calls::start_one;
 use crate::passes::{open, take_pass};
 use crate::shown::shown;
+use event_pieces::SharedEvents;
 use service::{Pass, Service};
 use service_model_types::answer::Answer;
 use service_model_types::call::Stop;
@@ -136,13 +137,15 @@ fn is_signal(alloc: Global, event: &Event, place: usize) -> bool {
 }
 
 /// Whether a history has two events, and then so many signals in their order.
-fn are_signals(alloc: Global, events: &[Event], count: u64) -> bool {
-    events.len() as u64 == count.saturating_add(2)
-        && events
-            .iter()
-            .skip(2)
-            .enumerate()
-            .all(|(place, event)| is_signal(alloc, event, place))
+fn are_signals(alloc: Global, events: &SharedEvents, count: u64) -> bool {
+    let mut place: usize = 0;
+    for event in events.iter() {
+        if place >= 2 && !is_signal(alloc, event, place - 2) {
+            return false;
+        }
+        place = place.saturating_add(1);
+    }
+    place as u64 == count.saturating_add(2)
 }
 
 fn assert_signals<R: Abort + AllocGlobal + Wait>(rt: &R, service: &Service, pass: &mut Pass)
@@ -155,7 +158,7 @@ fn assert_signals<R: Abort + AllocGlobal + Wait>(rt: &R, service: &Service, pass
     };
     match &service.history(rt, pass, asked, Moment::zero()) {
         Ok(Ok(Answer::History(history))) => {
-            assert!(rt; are_signals(rt.alloc(), history.events.as_slice(), COUNT));
+            assert!(rt; are_signals(rt.alloc(), &history.events, COUNT));
         }
         _ => panic!(rt; "no history"),
     }

@@ -1,14 +1,17 @@
 -- the running attempt of an activity that a token names
-use Rattle.std.proofs.Common.{◌≡◌, ℕ, Bool, true, false, cond, ◌==◌, ◌<◌, refl, sym, ap, ◌∙◌, length, Option, Some, None}
+use Rattle.std.proofs.Common.{◌≡◌, ℕ, Bool, true, false, cond, ◌==◌, ◌<◌, refl, sym, ap, subst, ◌∙◌, length, arith, Option, Some, None}
+use Rattle.std.proofs.lemmas.Bool.Decides.{nat_tests}
 use Rattle.std.specs.Prelude.{unwrap_or}
+use Rattle.service_model_types.specs.declared.journal.Note.TheVariants.{Ended}
 use Rattle.service_model_types.specs.declared.request.TakenTask.{TakenTask}
 use Rattle.service_model.specs.Activities.{keep_running}
 use Rattle.service_model.specs.Completion.{is_running_phase}
 use Rattle.service_model.specs.Outcome.{if_some, run_at}
 use Rattle.service_model.specs.RunState.{ActivityRow, is_open}
 use Rattle.service_model.specs.Tasks.{pending_row}
+use Rattle.mutable_state.specs.Steps.{IsNotLast, MayEnd}
 use Rattle.shard_steps.specs.Attempts.{has_run_of, runs_at}
-use Rattle.shard_steps.proofs.EndingLemmas.{are-same, pending-named}
+use Rattle.shard_steps.proofs.EndingLemmas.{are-same, pending-named, pending-of}
 use Rattle.shard_steps.proofs.TaskLemmas.{and-right}
 use Rattle.shard.specs.Running.{HasAttempt}
 use Rattle.shard_store.specs.View.{ShardView, ordinal_of, run_in, runs_in}
@@ -35,4 +38,12 @@ has-attempt v t i r has place there found opened =
       there = there;
       open_run = opened;
       pending_one = (pending-named t.event (run_in v i) r row.0).1;
+      its_row = pending-of (run_in v i) t.event r row.0;
     }
+
+-- such an attempt may end, where another one has a number
+pub may-end : (v : ShardView) (t : TakenTask) (i : ℕ) (r : ActivityRow) → HasAttempt v t i r → t.attempt < 4294967295 → MayEnd Ended t.event (run_in v i)
+may-end v t i r has low =
+    let same = has.attempt in
+    let other : (r.attempt == 4294967295) ≡ false = grind (arith, nat_tests) in
+    subst IsNotLast (sym has.its_row) other

@@ -3,7 +3,7 @@ use Rattle.std.specs.Prelude.{◌≡◌, ℕ, ◌<◌, true, Some, length}
 use Rattle.wf_event.specs.declared.role.Class.TheVariants.{Activity}
 use Rattle.service_model_types.specs.declared.request.TakenTask.{TakenTask}
 use Rattle.service_model.specs.Activities.{running_attempt}
-use Rattle.service_model.specs.RunState.{ActivityRow, is_open, pending}
+use Rattle.service_model.specs.RunState.{ActivityRow, is_open, pending, row_of as row_in}
 use Rattle.mutable_state.specs.Activities.{row_said}
 use Rattle.mutable_state.specs.Steps.{has_id}
 use Rattle.shard_store.specs.View.{ShardView, ordinal_of, run_in, runs_in}
@@ -21,3 +21,4 @@ pub record HasAttempt (v : ShardView) (t : TakenTask) (index : ℕ) (r : Activit
   pub there : index < length v.runs
   pub open_run : is_open (run_in v index) ≡ true
   pub pending_one : has_id t.event (pending Activity (run_in v index)) ≡ true
+  pub its_row : row_in (run_in v index) t.event ≡ Some r

@@ -2,6 +2,8 @@
 
 ghost use Rattle.service_model.specs.Growth.{KeepsHistories, keeps-on, keeps-same};
 ghost use Rattle.service_model.specs.Service.{after, answer};
+ghost use Rattle.shard.specs.Grounding.{grounds};
+ghost use Rattle.shard.specs.GroundsOn.{grounds-on};
 ghost use Rattle.shard.specs.Standing.{StandsFor, IsReady, opened};
 
 use crate::prepare::prepare;
@@ -36,6 +38,10 @@ impl<T: KeepsRun> Object for Shard<T> {
     ghost keeps_same = { keeps-same };
 
     ghost keeps_on = { keeps-on };
+
+    ghost grounds = { grounds };
+
+    ghost grounds_on = { grounds-on };
 
     ghost ready = { IsReady };
 

@@ -5,8 +5,9 @@ ghost use Rattle.service_model.specs.Activities.{heartbeat};
 ghost use Rattle.service_model.specs.Outcome.{adds, noted};
 ghost use Rattle.service_model.specs.RunState.{ActivityRow};
 ghost use Rattle.shard_store.specs.Fitting.{FitsStep};
+ghost use Rattle.mutable_state.specs.Steps.{MayEnd};
 ghost use Rattle.shard.specs.Running.{HasAttempt};
-ghost use Rattle.shard_store.specs.View.{state, runs_in};
+ghost use Rattle.shard_store.specs.View.{run_in, state, runs_in};
 
 use crate::attempts::attempt_running;
 use crate::more::prepare_more;
@@ -49,7 +50,8 @@ pub(crate) fn note_attempt<T: KeepsRun>(
     note: Note,
     answer: Answer,
 ) -> Result<Plan<T>, AllocError>
-    requires { (r : ActivityRow) × HasAttempt store.old task index r }
+    requires attempt { (r : ActivityRow) × HasAttempt store.old task index r }
+    requires may { MayEnd note task.event (run_in store.old index) }
     ensures same { state store.new ≡ state store.old }
     ensures plan { IfOk result (λ plan.
         FitsStep store.new plan moment (adds task.run (noted task.event note ∷ []) answer)) }

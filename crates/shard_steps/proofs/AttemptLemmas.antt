@@ -71,7 +71,7 @@ pending-open id s r none h = by_test (is_open s) refl
 
 -- the note may come
 pub taken-fits : (at id : ℕ) (s : RunState) → is_open s ≡ true → has_id id (used Activity s) ≡ true → FitStep at s (noted id Taken ∷ [])
-taken-fits at id s opened there = (record { open_run = opened; in_use = there; may_queue = tt }, tt)
+taken-fits at id s opened there = (record { open_run = opened; in_use = there; may_queue = tt; may_end = tt }, tt)
 
 pub if-some : {A : Type 0} (o : Option A) (P : Type 0) → P → IfSome o (λ t. P)
 if-some None P h = tt

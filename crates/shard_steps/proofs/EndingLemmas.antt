@@ -24,9 +24,9 @@ use Rattle.service_model.specs.Journal.{plain}
 use Rattle.service_model.specs.Outcome.{Runs, is_no_task, noted, outside}
 use Rattle.service_model.specs.Pending.{Task, NoTask, IsScheduled, IsStarted, is_settled, is_settling}
 use Rattle.service_model.specs.Retry.{Ending, FailedAttempt, Verdict, GivesUp, RetriesAt, is_non_retryable, is_within, verdict, wait}
-use Rattle.service_model.specs.RunState.{RunState, ActivityRow, used, pending, is_open, held_attributes, queue_of}
+use Rattle.service_model.specs.RunState.{RunState, ActivityRow, row_of, used, pending, is_open, held_attributes, queue_of}
 use Rattle.service_model.specs.Tasks.{pending_row}
-use Rattle.mutable_state.specs.Steps.{IsFirst, IsLater, MayQueue, Place, FitsEvent, FitFrom, FitStep, has_id, with_event, with_new, buffer_of, used_with, row_id, new_row}
+use Rattle.mutable_state.specs.Steps.{IsFirst, IsLater, MayEnd, MayQueue, Place, FitsEvent, FitFrom, FitStep, has_id, with_event, with_new, buffer_of, used_with, row_id, new_row}
 use Rattle.shard_steps.specs.Attempts.{ended_activity, HasNext}
 
 below : (k : ℕ) → k ≤ 4294967295 → (k == 4294967295) ≡ false → k < 4294967295
@@ -186,32 +186,52 @@ may-queue Ended id s free = tt
 may-queue Ready id s free = (free, refl)
 may-queue (Beat text) id s free = tt
 
-pub note-fits : (at id : ℕ) (s : RunState) (n : Note) → is_open s ≡ true → has_id id (pending Activity s) ≡ true → FitStep at s (noted id n ∷ [])
-note-fits at id s n opened there =
+pub note-fits : (at id : ℕ) (s : RunState) (n : Note) → is_open s ≡ true → has_id id (pending Activity s) ≡ true → MayEnd n id s → FitStep at s (noted id n ∷ [])
+note-fits at id s n opened there may =
     let free = pending-free id (held_attributes s) (used Activity s) there in
-    (record { open_run = opened; in_use = has-used id (held_attributes s) (used Activity s) there; may_queue = may-queue n id s free }, tt)
+    (record { open_run = opened; in_use = has-used id (held_attributes s) (used Activity s) there; may_queue = may-queue n id s free; may_end = may }, tt)
 
--- the attempt after one that is tried again has a number
-pub has-next : (p : PolicyFields) (ending : Ending) (cancel : Bool) (k moment : ℕ) (deadline : Option ℕ) → k ≤ 4294967295 → HasNext k (verdict p ending cancel k moment deadline)
-unfolding verdict
-has-next p ending cancel k moment deadline few = by_cancel cancel
+-- a pending activity is the one of its event
+pub pending-of : (s : RunState) (id : ℕ) (r : ActivityRow) → pending_row s id ≡ Some r → row_of s id ≡ Some r
+pending-of s id r h = by_test (is_settled Activity id (held_attributes s)) h
   where
-    by_last : (some last : Bool) → (k == 4294967295) ≡ last → (b : Bool) → HasNext k (cond (some || last) (GivesUp MaximumAttemptsReached) (cond b (RetriesAt (moment + wait p k)) (GivesUp Timeout)))
+    by_test : (b : Bool) → cond b None (row_of s id) ≡ Some r → row_of s id ≡ Some r
+    by_test true g = absurd (cc)
+    by_test false g = g
+
+-- no attempt follows the one of the last number
+abbrev pub NotLast : ℕ → Verdict → Type 0
+NotLast k (GivesUp state) = Unit {0}
+NotLast k (RetriesAt ready) = (k == 4294967295) ≡ false
+
+pub not-last : (p : PolicyFields) (ending : Ending) (cancel : Bool) (k moment : ℕ) (deadline : Option ℕ) → NotLast k (verdict p ending cancel k moment deadline)
+unfolding verdict
+not-last p ending cancel k moment deadline = by_cancel cancel
+  where
+    by_last : (some last : Bool) → (k == 4294967295) ≡ last → (b : Bool) → NotLast k (cond (some || last) (GivesUp MaximumAttemptsReached) (cond b (RetriesAt (moment + wait p k)) (GivesUp Timeout)))
     by_last true last is b = tt
     by_last false true is b = tt
-    by_last false false is true = below k few is
+    by_last false false is true = is
     by_last false false is false = tt
 
     judged : Verdict
     judged = cond ((not (p.attempts == 0) && nat_le p.attempts k) || (k == 4294967295)) (GivesUp MaximumAttemptsReached) (cond (is_within (moment + wait p k) deadline) (RetriesAt (moment + wait p k)) (GivesUp Timeout))
 
-    by_end : (b : Bool) → HasNext k (cond b (GivesUp NonRetryableFailure) judged)
+    by_end : (b : Bool) → NotLast k (cond b (GivesUp NonRetryableFailure) judged)
     by_end true = tt
     by_end false = by_last (not (p.attempts == 0) && nat_le p.attempts k) (k == 4294967295) refl (is_within (moment + wait p k) deadline)
 
-    by_cancel : (b : Bool) → HasNext k (cond b (GivesUp CancelRequested) (cond (is_non_retryable p ending) (GivesUp NonRetryableFailure) judged))
+    by_cancel : (b : Bool) → NotLast k (cond b (GivesUp CancelRequested) (cond (is_non_retryable p ending) (GivesUp NonRetryableFailure) judged))
     by_cancel true = tt
     by_cancel false = by_end (is_non_retryable p ending)
+
+-- so the attempt after one that is tried again has a number
+pub has-next : (p : PolicyFields) (ending : Ending) (cancel : Bool) (k moment : ℕ) (deadline : Option ℕ) → k ≤ 4294967295 → HasNext k (verdict p ending cancel k moment deadline)
+has-next p ending cancel k moment deadline few = by_verdict_of (verdict p ending cancel k moment deadline) (not-last p ending cancel k moment deadline)
+  where
+    by_verdict_of : (v : Verdict) → NotLast k v → HasNext k v
+    by_verdict_of (GivesUp state) h = tt
+    by_verdict_of (RetriesAt ready) h = below k few h
 
 -- a failure goes on as its verdict says
 pub failed-by : (R : Runs) (moment : ℕ) (q : FailActivity) (r : ActivityRow) (v : Verdict) → running_attempt R q.task ≡ Some r → Some v ≡ option_map (λ (a : ScheduledAttributes). verdict_at r a (FailedAttempt q.error_type q.non_retryable) moment) (scheduled_fields r.opened.attributes) → fail_activity R moment q ≡ by_verdict R q r v

@@ -2,6 +2,7 @@ pub mod StartLemmas
 pub mod TaskLemmas
 pub mod ClosingLemmas
 pub mod AttemptLemmas
+pub mod AwaitingLemmas
 pub mod EndingLemmas
 mod ActivityTurnLemmas
 pub mod TurnLemmas

@@ -1,4 +1,5 @@
 pub mod Attempts
+pub mod Awaiting
 pub mod Issuing
 pub mod Kept
 pub mod Sending

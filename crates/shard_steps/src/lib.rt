@@ -7,6 +7,7 @@
 mod activities;
 mod activity_turns;
 mod attempts;
+mod awaiting;
 mod changed;
 mod dispatches;
 mod ends;
@@ -21,6 +22,7 @@ mod verdicts;
 
 pub use activities::attempt_task;
 pub use attempts::{ended_facts, is_running};
+pub use awaiting::waiting_tasks;
 pub use changed::Changed;
 pub use dispatches::{Dispatches, readied};
 pub use ends::{cancel_facts, is_repeated, replaced_reason, terminated_facts};

@@ -4,3 +4,4 @@ pub mod OpenLemmas
 pub mod KeptLemmas
 pub mod OutgoingLemmas
 pub mod PlanLemmas
+pub mod WaitingLemmas

@@ -7,11 +7,12 @@ ghost use Rattle.service_model.specs.Outcome.{run_id};
 ghost use Rattle.service_model.specs.Pending.{IsStarted};
 ghost use Rattle.task_completion.specs.Ends.{IsPlanned, IsCompletion};
 ghost use Rattle.shard_steps.specs.Kept.{IsNoted};
-ghost use Rattle.shard_store.specs.View.{state, states};
+ghost use Rattle.shard_store.specs.View.{run_in, state, states};
 ghost use Rattle.shard_store.specs.Fitting.{IsPrepared, room_at, state_at, view_at};
 
 use crate::plan::MoreOf;
 use crate::store::Store;
+use event_pieces::SharedEvents;
 use mutable_state::Change as MoreFacts;
 use mutable_state_keeper::KeepsRun;
 use service_model_types::journal::Fact;
@@ -38,6 +39,16 @@ impl<T: KeepsRun> Store<T> {
         self.note_change()?;
         let run = &mut self.runs[index];
         run.prepare(more)
+    }
+
+    /// The history of the run at a place, of which others may have a share.
+    pub fn share_events(&mut self, index: usize) -> Result<SharedEvents, AllocError>
+        requires { index < length self.old.runs }
+        ensures same { state self.new ≡ state self.old }
+        ensures events { IfOk result (λ events. events ≡ (run_in self.old index).shown) }
+    {
+        let run = &mut self.runs[index];
+        run.share_events(self.alloc)
     }
 
     /// What a step's facts add to the run at a place, with room for them.

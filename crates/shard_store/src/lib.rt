@@ -13,6 +13,7 @@ mod made;
 mod plan;
 mod store;
 mod transfers;
+mod waiting;
 
 pub use plan::{Change, Count, MoreOf, NewRun, Plan, adding, answered, refused};
 pub use store::Store;

@@ -18,7 +18,7 @@ use service_model_types::content::{Dispatch, Setup};
 use shard_steps::{Changed, Dispatches, Transfers};
 use std::alloc::{AllocError, Global};
 use std::marker::Model;
-use timeouts::Deadlines;
+use timeouts::ByPlace;
 use wf_event_values::{Id, Moment};
 
 /// What a shard keeps, where `T` keeps its runs.
@@ -29,7 +29,7 @@ pub struct Store<T: KeepsRun> {
     /// The place of each workflow ID's latest run.
     pub(crate) index: IndexMap<String, usize>,
     /// The first deadline of each run, at the run's place.
-    pub(crate) deadlines: Deadlines,
+    pub(crate) deadlines: ByPlace,
     /// The tasks that are to be handed to their queues.
     pub(crate) dispatches: Dispatches,
     /// What other shards are to be told, and how much of what they told was accepted.
@@ -108,7 +108,7 @@ impl<T: KeepsRun> Store<T> {
             setup,
             runs: Vec::new(alloc),
             index: IndexMap::new(alloc),
-            deadlines: Deadlines::new(alloc),
+            deadlines: ByPlace::new(alloc),
             dispatches: Dispatches::new(alloc),
             transfers,
             changed: Changed::none(),

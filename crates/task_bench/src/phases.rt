@@ -23,7 +23,7 @@ pub(crate) fn open(alloc: Global) -> io::Result<(Service, Pass)>
         queues: main_queue(alloc)?,
         capacity: DEFAULT_CAPACITY,
     };
-    let Ok((service, mut passes)) = Service::open(alloc, &settings) else {
+    let Ok((service, mut passes)) = Service::open(alloc, &settings, Vec::new(alloc)) else {
         return Err(unexpected());
     };
     match passes.pop() {

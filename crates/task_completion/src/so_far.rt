@@ -12,10 +12,9 @@ ghost use Rattle.task_completion.specs.Outward.{external_signal, external_cancel
 ghost use Rattle.task_completion.specs.Judging.{asked, event_named, HasGoodPolicy, is_asked, activity_scheduled, activity_asked, cancel_asked, timer_started, timer_canceled, recorded, closed, continued, by_kind, judged_now, Leaves};
 
 use crate::follows::{continued_as_new, queue_after};
+use crate::named::NamedRows;
 use crate::outward::{Outward, child_asked, external_cancel, external_signal};
-use crate::rows::{
-    count_pending, event_named, has_pending_row, has_row, is_firing_of, is_running, was_asked,
-};
+use crate::rows::{count_pending, has_pending_row, has_row, is_firing_of, is_running, was_asked};
 use crate::scheduled::scheduled;
 use mutable_state::{NotedActivity, Used};
 use service_model_types::content::Setup;
@@ -33,6 +32,10 @@ use wf_event::payloads::{
 };
 use wf_event_values::{Cause, Id, RunId, Text};
 
+/// How many commands that name a thing are judged by a walk over what is in use. For more of them its
+/// names are collected first.
+const FEW: usize = 16;
+
 /// The facts of the commands so far, and what is in use and held back behind them.
 pub struct SoFar<'a> {
     alloc: Global,
@@ -46,8 +49,8 @@ pub struct SoFar<'a> {
     is_closed: bool,
     /// The id of the first one's event.
     first: u64,
-    timers: Vec<Used<'a>>,
-    activities: Vec<Used<'a>>,
+    timers: NamedRows<'a>,
+    activities: NamedRows<'a>,
     /// What was noted of activities before the commands.
     notes: Vec<NotedActivity>,
     /// Of each event that is still held back the timer that it fires.
@@ -86,8 +89,8 @@ impl<'a> Model for SoFar<'a> {
       facts = k.facts.items;
       is_closed = k.is_closed;
       first = k.first;
-      timers = k.timers.items;
-      activities = k.activities.items;
+      timers = k.timers;
+      activities = k.activities;
       notes = k.notes.items;
       held = k.held.items;
       outward = k.outward;
@@ -128,12 +131,35 @@ impl<'a> SoFar<'a> {
             facts: Vec::new(alloc),
             is_closed: false,
             first,
-            timers,
-            activities,
+            timers: NamedRows::new(timers),
+            activities: NamedRows::new(activities),
             notes,
             held,
             outward,
         }
+    }
+
+    /// Collects the names in use, where it pays for so many commands that name something.
+    pub fn expect(&mut self, commands: &[Command]) -> Result<(), AllocError>
+        ensures { self.new ≡ self.old }
+    {
+        if FEW
+            < commands
+                .iter()
+                .filter(|command| is_about_timer(command))
+                .count()
+        {
+            self.timers.collect_names(self.alloc)?;
+        }
+        if FEW
+            < commands
+                .iter()
+                .filter(|command| is_new_activity(command))
+                .count()
+        {
+            self.activities.collect_names(self.alloc)?;
+        }
+        Ok(())
     }
 
     /// Judges one more command: its facts are added, or it is faulty.
@@ -200,10 +226,10 @@ impl<'a> SoFar<'a> {
         if !self.setup.knows_queue(&activity.task_queue) {
             return Ok(Err(Cause::BadScheduleActivityAttributes));
         }
-        if event_named(self.activities.as_slice(), &activity.activity_id).is_some() {
+        if self.activities.event_named(&activity.activity_id).is_some() {
             return Ok(Err(Cause::ScheduleActivityDuplicateId));
         }
-        if MOST_PENDING <= count_pending(self.activities.as_slice()) as u64 {
+        if MOST_PENDING <= count_pending(self.activities.rows()) as u64 {
             return Ok(Err(Cause::PendingActivitiesLimitExceeded));
         }
         let event = self.next_event()?;
@@ -217,10 +243,10 @@ impl<'a> SoFar<'a> {
     fn request_cancel_activity(&mut self, scheduled: u64) -> Result<Result<(), Cause>, AllocError>
         ensures { IfOk result (Leaves self.new (activity_asked scheduled self.old)) }
     {
-        if !has_row(self.activities.as_slice(), scheduled) || self.is_asked(scheduled) {
+        if !has_row(self.activities.rows(), scheduled) || self.is_asked(scheduled) {
             return Ok(Err(Cause::BadRequestCancelActivityAttributes));
         }
-        let is_pending = has_pending_row(self.activities.as_slice(), scheduled);
+        let is_pending = has_pending_row(self.activities.rows(), scheduled);
         let is_running = is_running(self.notes.as_slice(), scheduled);
         self.ask_to_cancel(scheduled, is_pending && !is_running)?;
         Ok(Ok(()))
@@ -248,7 +274,7 @@ impl<'a> SoFar<'a> {
             scheduled,
             details,
         }))?;
-        self.activities.retain(|row| row.event() != scheduled);
+        self.activities.remove(scheduled);
         Ok(())
     }
 
@@ -256,7 +282,7 @@ impl<'a> SoFar<'a> {
     fn start_timer(&mut self, timer: &'a StartTimer) -> Result<Result<(), Cause>, AllocError>
         ensures { IfOk result (Leaves self.new (timer_started timer.now self.old)) }
     {
-        if event_named(self.timers.as_slice(), &timer.timer_id).is_some() {
+        if self.timers.event_named(&timer.timer_id).is_some() {
             return Ok(Err(Cause::StartTimerDuplicateId));
         }
         let event = self.next_event()?;
@@ -275,13 +301,13 @@ impl<'a> SoFar<'a> {
         ensures { IfOk result (Leaves self.new (timer_canceled timer_id.now
             (event_named timer_id.now self.old.timers) self.old)) }
     {
-        let Some(started) = event_named(self.timers.as_slice(), timer_id) else {
+        let Some(started) = self.timers.event_named(timer_id) else {
             return Ok(Err(Cause::BadCancelTimerAttributes));
         };
         let timer_id = timer_id.clone()?;
         self.facts
             .push(Attributes::TimerCanceled(TimerEnd { timer_id, started }))?;
-        self.timers.retain(|timer| timer.event() != started);
+        self.timers.remove(started);
         self.held.retain(|fired| !is_firing_of(fired, started));
         Ok(Ok(()))
     }
@@ -396,6 +422,15 @@ impl<'a> SoFar<'a> {
         } = self;
         facts
     }
+}
+
+/// Whether a command starts a timer or cancels one.
+fn is_about_timer(command: &Command) -> bool {
+    matches!(command, Command::StartTimer(_) | Command::CancelTimer(_))
+}
+
+fn is_new_activity(command: &Command) -> bool {
+    matches!(command, Command::ScheduleActivityTask(_))
 }
 
 /// Whether one of the facts asks the activity to cancel.

@@ -1,6 +1,10 @@
 pub mod OrderLemmas
 pub mod SlotLemmas
-pub mod WinnerLemmas
 pub mod LeastLemmas
 pub mod FirstLemmas
 pub mod ClassLemmas
+pub mod HeapLemmas
+pub mod NameLemmas
+pub mod CostLemmas
+pub mod MemberLemmas
+pub mod PlaceLemmas

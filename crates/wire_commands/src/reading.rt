@@ -2,13 +2,13 @@
 
 ghost use Rattle.wire_commands.specs.Reading.{all_commands_of};
 
-use serde_json::Value;
 use std::alloc::Global;
 use std::marker::Model;
 use wf_command::Command;
 use wf_event_values::{Field, Items, Refusal};
 use wire_fields::{FieldValue, array};
 use wire_requests::each_command;
+use wire_trees::Tree;
 
 /// Commands, however many they are, as a key's value.
 #[derive(Drop)]
@@ -28,7 +28,7 @@ impl Model for AllCommands {
 impl FieldValue for AllCommands {
     ghost value_of = { all_commands_of };
 
-    fn from_value(alloc: Global, field: Field, value: &Value) -> Result<AllCommands, Refusal> {
+    fn from_value<V: Tree>(alloc: Global, field: Field, value: &V) -> Result<AllCommands, Refusal> {
         let all = each_command(alloc, array(field, value)?)?;
         Ok(AllCommands { all })
     }

@@ -5,8 +5,7 @@ use Rattle.std.proofs.lemmas.List.{length-map}
 use Rattle.std.specs.Prelude.{map, nat_le, Some, Result, Ok, Err}
 use Rattle.serde_json.specs.Data.{Data}
 use Rattle.serde_json.specs.Find.{as_array}
-use Rattle.serde_json.specs.View.{view, items_of, items_view}
-use Rattle.serde_json.specs.declared.value.Value.{Value}
+use Rattle.serde_json.specs.View.{items_of}
 use Rattle.wf_event_values.specs.declared.field.Field.{Field}
 use Rattle.wf_event_values.specs.declared.refusal.Refusal.{Refusal}
 use Rattle.wf_event_values.specs.declared.refusal.Refusal.TheVariants.{InvalidArgument}
@@ -17,24 +16,24 @@ pub elements-items_of : (ds : List Data) → elements (items_of ds) ≡ ds
 elements-items_of [] = refl
 elements-items_of (d ∷ ds) = ap (λ t. d ∷ t) (elements-items_of ds)
 
-pub array-there : (field : Field) (d : Data) (vs : List Value) → Some (items_view vs) ≡ as_array d → array_of field d ≡ Ok (map view vs)
-array-there field d vs is = rw (← is, elements-items_of (map view vs)) refl
+pub array-there : (field : Field) (d : Data) (ds : List Data) → Some (items_of ds) ≡ as_array d → array_of field d ≡ Ok ds
+array-there field d ds is = rw (← is, elements-items_of ds) refl
 
-pub elements-within : (most : ℕ) (field : Field) (d : Data) (vs : List Value) → array_of field d ≡ Ok (map view vs) → length vs ≤ most → elements_of most field d ≡ Ok (map view vs)
-elements-within most field d vs is within =
-    let chosen : Bool → Result (List Data) Refusal = λ b. cond b (Ok (map view vs)) (Err (InvalidArgument field)) in
+pub elements-within : {V : Type 0} (seen : V → Data) (most : ℕ) (field : Field) (d : Data) (vs : List V) → array_of field d ≡ Ok (map seen vs) → length vs ≤ most → elements_of most field d ≡ Ok (map seen vs)
+elements-within seen most field d vs is within =
+    let chosen : Bool → Result (List Data) Refusal = λ b. cond b (Ok (map seen vs)) (Err (InvalidArgument field)) in
     ap (λ r. r >>= list_in field most) is ∙ ap chosen (test within)
   where
-    test : length vs ≤ most → nat_le (length (map view vs)) most ≡ true
-    test h = rw (length-map vs view) (grind (arith, nat_tests))
+    test : length vs ≤ most → nat_le (length (map seen vs)) most ≡ true
+    test h = rw (length-map vs seen) (grind (arith, nat_tests))
 
-pub elements-past : (most : ℕ) (field : Field) (d : Data) (vs : List Value) → array_of field d ≡ Ok (map view vs) → most < length vs → elements_of most field d ≡ Err (InvalidArgument field)
-elements-past most field d vs is past =
-    let chosen : Bool → Result (List Data) Refusal = λ b. cond b (Ok (map view vs)) (Err (InvalidArgument field)) in
+pub elements-past : {V : Type 0} (seen : V → Data) (most : ℕ) (field : Field) (d : Data) (vs : List V) → array_of field d ≡ Ok (map seen vs) → most < length vs → elements_of most field d ≡ Err (InvalidArgument field)
+elements-past seen most field d vs is past =
+    let chosen : Bool → Result (List Data) Refusal = λ b. cond b (Ok (map seen vs)) (Err (InvalidArgument field)) in
     ap (λ r. r >>= list_in field most) is ∙ ap chosen (test past)
   where
-    test : most < length vs → nat_le (length (map view vs)) most ≡ false
-    test h = rw (length-map vs view) (grind (arith, nat_tests))
+    test : most < length vs → nat_le (length (map seen vs)) most ≡ false
+    test h = rw (length-map vs seen) (grind (arith, nat_tests))
 
 -- some members are done, and the rest decides what the whole list gives
 pub record Doing {A B : Type 0} (step : A → Result B Refusal) (all : List A) (done : List B) (rest : List A) : Type 0 where

@@ -2,17 +2,16 @@
 
 ghost use Rattle.std.specs.Prelude.{◌≡◌, Ok, Err, MatchResult, map};
 ghost use Rattle.std.specs.Option.{ok_or};
-ghost use Rattle.serde_json.specs.View.{view};
 ghost use Rattle.wf_event_values.specs.Gives.{Gives};
 ghost use Rattle.wf_event_values.specs.declared.refusal.Refusal.TheVariants.{InvalidArgument};
 ghost use Rattle.wire_fields.specs.Kinds.{string_of, text_of, id_of, number_of, moment_of, span_of, flag_of, run_of, token_of, array_of, elements_of, reuse_of, reuse_named, conflict_of, conflict_named, parent_close_of, parent_close_named};
 
-use serde_json::Value;
 use std::alloc::Global;
 use task_token::{RunText, TaskToken};
 use wf_event_values::{
     ConflictPolicy, Field, Id, Moment, ParentClosePolicy, Refusal, ReusePolicy, RunId, Span, Text,
 };
+use wire_trees::Tree;
 
 /// A type that a field's value is read as.
 pub trait FieldValue: Sized {
@@ -24,22 +23,22 @@ pub trait FieldValue: Sized {
     ghost value_of: { Field → Data → Result Self Refusal };
 
     /// The value, or the refusal that it gives under the name of this field.
-    fn from_value(alloc: Global, field: Field, value: &Value) -> Result<Self, Refusal>
-        ensures { Gives result (value_of field (view value.now)) };
+    fn from_value<V: Tree>(alloc: Global, field: Field, value: &V) -> Result<Self, Refusal>
+        ensures { Gives result (value_of field (V.stands_for value.now)) };
 }
 
 /// The text of a value; one of another kind is an invalid argument.
-fn string(field: Field, value: &Value) -> Result<&str, Refusal>
-    ensures { MatchResult result (λ text. string_of field (view value.now) ≡ Ok text.now)
-        (λ e. string_of field (view value.now) ≡ Err e) }
+fn string<V: Tree>(field: Field, value: &V) -> Result<&str, Refusal>
+    ensures { MatchResult result (λ text. string_of field (V.stands_for value.now) ≡ Ok text.now)
+        (λ e. string_of field (V.stands_for value.now) ≡ Err e) }
 {
-    value.as_str().ok_or(Refusal::InvalidArgument(field))
+    value.text().ok_or(Refusal::InvalidArgument(field))
 }
 
 impl FieldValue for Text {
     ghost value_of = { text_of };
 
-    fn from_value(alloc: Global, field: Field, value: &Value) -> Result<Text, Refusal> {
+    fn from_value<V: Tree>(alloc: Global, field: Field, value: &V) -> Result<Text, Refusal> {
         Text::new(alloc, field, string(field, value)?)
     }
 }
@@ -47,7 +46,7 @@ impl FieldValue for Text {
 impl FieldValue for Id {
     ghost value_of = { id_of };
 
-    fn from_value(alloc: Global, field: Field, value: &Value) -> Result<Id, Refusal> {
+    fn from_value<V: Tree>(alloc: Global, field: Field, value: &V) -> Result<Id, Refusal> {
         Id::new(alloc, field, string(field, value)?)
     }
 }
@@ -55,15 +54,15 @@ impl FieldValue for Id {
 impl FieldValue for u64 {
     ghost value_of = { number_of };
 
-    fn from_value(_alloc: Global, field: Field, value: &Value) -> Result<u64, Refusal> {
-        value.as_u64().ok_or(Refusal::InvalidArgument(field))
+    fn from_value<V: Tree>(_alloc: Global, field: Field, value: &V) -> Result<u64, Refusal> {
+        value.whole_number().ok_or(Refusal::InvalidArgument(field))
     }
 }
 
 impl FieldValue for Moment {
     ghost value_of = { moment_of };
 
-    fn from_value(alloc: Global, field: Field, value: &Value) -> Result<Moment, Refusal> {
+    fn from_value<V: Tree>(alloc: Global, field: Field, value: &V) -> Result<Moment, Refusal> {
         Moment::new(field, u64::from_value(alloc, field, value)?)
     }
 }
@@ -71,7 +70,7 @@ impl FieldValue for Moment {
 impl FieldValue for Span {
     ghost value_of = { span_of };
 
-    fn from_value(alloc: Global, field: Field, value: &Value) -> Result<Span, Refusal> {
+    fn from_value<V: Tree>(alloc: Global, field: Field, value: &V) -> Result<Span, Refusal> {
         Span::new(field, u64::from_value(alloc, field, value)?)
     }
 }
@@ -79,8 +78,8 @@ impl FieldValue for Span {
 impl FieldValue for bool {
     ghost value_of = { flag_of };
 
-    fn from_value(_alloc: Global, field: Field, value: &Value) -> Result<bool, Refusal> {
-        value.as_bool().ok_or(Refusal::InvalidArgument(field))
+    fn from_value<V: Tree>(_alloc: Global, field: Field, value: &V) -> Result<bool, Refusal> {
+        value.truth().ok_or(Refusal::InvalidArgument(field))
     }
 }
 
@@ -88,7 +87,7 @@ impl FieldValue for RunId {
     ghost value_of = { run_of };
 
     /// A text that is no run id is `NotFound`.
-    fn from_value(_alloc: Global, field: Field, value: &Value) -> Result<RunId, Refusal> {
+    fn from_value<V: Tree>(_alloc: Global, field: Field, value: &V) -> Result<RunId, Refusal> {
         RunId::read(string(field, value)?)
     }
 }
@@ -97,27 +96,27 @@ impl FieldValue for TaskToken {
     ghost value_of = { token_of };
 
     /// A text that is no token is `InvalidToken`.
-    fn from_value(alloc: Global, field: Field, value: &Value) -> Result<TaskToken, Refusal> {
+    fn from_value<V: Tree>(alloc: Global, field: Field, value: &V) -> Result<TaskToken, Refusal> {
         TaskToken::read(alloc, string(field, value)?)
     }
 }
 
 /// The elements of an array; a value of another kind is an invalid argument.
-pub fn array(field: Field, value: &Value) -> Result<&[Value], Refusal>
-    ensures { MatchResult result (λ elements. array_of field (view value.now) ≡ Ok (map view elements.now))
-        (λ e. array_of field (view value.now) ≡ Err e) }
+pub fn array<V: Tree>(field: Field, value: &V) -> Result<&[V], Refusal>
+    ensures { MatchResult result (λ elements. array_of field (V.stands_for value.now) ≡ Ok (map V.stands_for elements.now))
+        (λ e. array_of field (V.stands_for value.now) ≡ Err e) }
 {
-    match value.as_array() {
-        Some(array) => Ok(array.as_slice()),
+    match value.values() {
+        Some(elements) => Ok(elements),
         None => Err(Refusal::InvalidArgument(field)),
     }
 }
 
 /// The elements of an array; a longer array than that, or a value of another kind, is an invalid argument.
-pub fn elements(field: Field, most: usize, value: &Value) -> Result<&[Value], Refusal>
+pub fn elements<V: Tree>(field: Field, most: usize, value: &V) -> Result<&[V], Refusal>
     ensures { MatchResult result
-        (λ elements. elements_of most field (view value.now) ≡ Ok (map view elements.now))
-        (λ e. elements_of most field (view value.now) ≡ Err e) }
+        (λ elements. elements_of most field (V.stands_for value.now) ≡ Ok (map V.stands_for elements.now))
+        (λ e. elements_of most field (V.stands_for value.now) ≡ Err e) }
 {
     let elements = array(field, value)?;
     if elements.len() > most {
@@ -140,7 +139,11 @@ fn reuse_named(name: &str) -> Option<ReusePolicy>
 impl FieldValue for ReusePolicy {
     ghost value_of = { reuse_of };
 
-    fn from_value(_alloc: Global, field: Field, value: &Value) -> Result<ReusePolicy, Refusal> {
+    fn from_value<V: Tree>(
+        _alloc: Global,
+        field: Field,
+        value: &V,
+    ) -> Result<ReusePolicy, Refusal> {
         reuse_named(string(field, value)?).ok_or(Refusal::InvalidArgument(field))
     }
 }
@@ -159,7 +162,11 @@ fn conflict_named(name: &str) -> Option<ConflictPolicy>
 impl FieldValue for ConflictPolicy {
     ghost value_of = { conflict_of };
 
-    fn from_value(_alloc: Global, field: Field, value: &Value) -> Result<ConflictPolicy, Refusal> {
+    fn from_value<V: Tree>(
+        _alloc: Global,
+        field: Field,
+        value: &V,
+    ) -> Result<ConflictPolicy, Refusal> {
         conflict_named(string(field, value)?).ok_or(Refusal::InvalidArgument(field))
     }
 }
@@ -178,10 +185,10 @@ fn parent_close_named(name: &str) -> Option<ParentClosePolicy>
 impl FieldValue for ParentClosePolicy {
     ghost value_of = { parent_close_of };
 
-    fn from_value(
+    fn from_value<V: Tree>(
         _alloc: Global,
         field: Field,
-        value: &Value,
+        value: &V,
     ) -> Result<ParentClosePolicy, Refusal> {
         parent_close_named(string(field, value)?).ok_or(Refusal::InvalidArgument(field))
     }

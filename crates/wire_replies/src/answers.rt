@@ -74,7 +74,7 @@ fn put_history(page: &mut Page, line: u64, history: &History) -> Result<(), Allo
     ensures { OnOk result (sheet_of page.new
         ≡ add_members (history_members history.now (line_member line)) (sheet_of page.old)) }
 {
-    put_event_list(page, "events", history.events.as_slice())?;
+    put_event_list(page, "events", &history.events)?;
     put_with_run(page, line, "history", history.run)
 }
 

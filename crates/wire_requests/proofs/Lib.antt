@@ -1,2 +1,1 @@
 mod ElementLemmas
-mod FlatLemmas

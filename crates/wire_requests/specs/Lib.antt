@@ -1,7 +1,6 @@
 pub mod Activities
 pub mod ActivityCommands
 pub mod ExternalCommands
-pub mod Flat
 pub mod Commands
 pub mod Starts
 pub mod Ends

@@ -1,20 +1,19 @@
 //! The commands on activities (Temporal, Commands).
 
-ghost use Rattle.serde_json.specs.View.{view};
 ghost use Rattle.wf_event_values.specs.Gives.{Gives};
 ghost use Rattle.wire_requests.specs.ActivityCommands.{activity_of};
 
 use crate::retry_policy::Policy;
-use serde_json::Value;
 use std::alloc::Global;
 use wf_command::command::ScheduleActivityTask;
 use wf_event_values::{Field, Refusal, Span, Text};
 use wire_fields::{or_default, required};
+use wire_trees::Tree;
 
 /// An activity to schedule. Texts and durations may be missing, and so may the policy.
 #[tactic(auto, unfolding(crate::specs::ActivityCommands::activity_of))]
-pub(crate) fn activity(alloc: Global, object: &Value) -> Result<ScheduleActivityTask, Refusal>
-    ensures { Gives result (activity_of (view object.now)) }
+pub(crate) fn activity<V: Tree>(alloc: Global, object: &V) -> Result<ScheduleActivityTask, Refusal>
+    ensures { Gives result (activity_of (V.stands_for object.now)) }
 {
     let by_default = Policy::by_default(alloc);
     let activity_id = required(alloc, object, Field::ActivityId)?;

@@ -1,11 +1,9 @@
 //! A line as what it asks of a service.
 
 ghost use Rattle.std.specs.Prelude.{◌≡◌};
-ghost use Rattle.serde_json.specs.View.{view};
 ghost use Rattle.wf_event_values.specs.Gives.{Gives};
 ghost use Rattle.wire_requests.specs.Calls.{is_barrier, lane_in, lane_call_of, asked_of_object, asked_of_line};
 
-use crate::flat::flat_object;
 use crate::op::Op;
 use crate::operations::call_of;
 use json::Scratch;
@@ -15,6 +13,7 @@ use service_model_types::settings::Settings;
 use std::alloc::Global;
 use wf_event_values::{Field, Moment, Refusal};
 use wire_fields::{or_default, required};
+use wire_trees::{Tree, Unread, borrowed_value};
 
 /// A call, and the lane in which it is served.
 pub struct LaneCall {
@@ -47,11 +46,11 @@ pub enum Asked {
 }
 
 /// Whether an object is a barrier: its `barrier` is true, whatever else it has.
-fn is_barrier(line: &Value) -> bool
-    ensures { result ≡ is_barrier (view line.now) }
+fn is_barrier<V: Tree>(line: &V) -> bool
+    ensures { result ≡ is_barrier (V.stands_for line.now) }
 {
-    match line.get("barrier") {
-        Some(value) => value.as_bool() == Some(true),
+    match line.member("barrier") {
+        Some(value) => value.truth() == Some(true),
         None => false,
     }
 }
@@ -68,8 +67,8 @@ fn lane_in(settings: &Settings, number: u64) -> Result<u8, Refusal>
 
 /// The lane of an object, and what it asks for.
 #[tactic(auto, unfolding(crate::specs::Calls::lane_call_of))]
-fn lane_call_of(alloc: Global, settings: &Settings, line: &Value) -> Result<LaneCall, Refusal>
-    ensures { Gives result (lane_call_of settings.now (view line.now)) }
+fn lane_call_of<V: Tree>(alloc: Global, settings: &Settings, line: &V) -> Result<LaneCall, Refusal>
+    ensures { Gives result (lane_call_of settings.now (V.stands_for line.now)) }
 {
     let lane = lane_in(settings, or_default(alloc, line, Field::Lane, 0)?)?;
     let op: Op = required(alloc, line, Field::Op)?;
@@ -78,8 +77,8 @@ fn lane_call_of(alloc: Global, settings: &Settings, line: &Value) -> Result<Lane
     Ok(LaneCall { lane, call })
 }
 
-fn asked_of_object(alloc: Global, settings: &Settings, line: &Value) -> Result<Asked, Refusal>
-    ensures { Gives result (asked_of_object settings.now (view line.now)) }
+fn asked_of_object<V: Tree>(alloc: Global, settings: &Settings, line: &V) -> Result<Asked, Refusal>
+    ensures { Gives result (asked_of_object settings.now (V.stands_for line.now)) }
 {
     if is_barrier(line) {
         return Ok(Asked::Barrier);
@@ -125,10 +124,10 @@ impl LineReader {
     pub fn read(&mut self, alloc: Global, settings: &Settings, line: &str) -> Result<Asked, Refusal>
         ensures { Gives result (asked_of_line settings.now line.now) }
     {
-        match flat_object(alloc, line, &mut self.scratch) {
-            Ok(Some(tree)) if tree.is_object() => asked_of_object(alloc, settings, &tree),
-            Ok(_) => read_line(alloc, settings, line),
-            Err(_) => Err(Refusal::NoMemory),
+        match borrowed_value(alloc, line, &mut self.scratch) {
+            Ok(tree) if tree.has_members() => asked_of_object(alloc, settings, &tree),
+            Err(Unread::NoMemory) => Err(Refusal::NoMemory),
+            _ => read_line(alloc, settings, line),
         }
     }
 }

@@ -1,7 +1,6 @@
 //! The commands of a completion (Temporal, Commands).
 
 ghost use Rattle.std.specs.Prelude.{◌≡◌, [], map};
-ghost use Rattle.serde_json.specs.View.{view};
 ghost use Rattle.wf_event_values.specs.Gives.{Gives};
 ghost use Rattle.wire_fields.specs.Steps.{for_each};
 ghost use Rattle.wire_fields.specs.Kinds.{text_of};
@@ -10,7 +9,6 @@ ghost use Rattle.wire_requests.specs.Commands.{type_named, type_of, timer_of, ma
 
 use crate::activity_commands::activity;
 use crate::external_commands::{child, external_cancel, external_signal};
-use serde_json::Value;
 use service_model_types::limits::MOST_COMMANDS;
 use std::alloc::Global;
 use std::marker::Model;
@@ -18,6 +16,7 @@ use wf_command::Command;
 use wf_command::command::{ContinueAsNew, RecordMarker, StartTimer};
 use wf_event_values::{Field, Items, Refusal, Span, Text};
 use wire_fields::{FieldValue, elements, optional, or_default, required};
+use wire_trees::Tree;
 
 /// The types of command.
 #[derive(Clone, Copy)]
@@ -61,25 +60,29 @@ fn type_named(name: &str) -> Option<CommandType>
 impl FieldValue for CommandType {
     ghost value_of = { type_of };
 
-    fn from_value(_alloc: Global, field: Field, value: &Value) -> Result<CommandType, Refusal> {
+    fn from_value<V: Tree>(
+        _alloc: Global,
+        field: Field,
+        value: &V,
+    ) -> Result<CommandType, Refusal> {
         value
-            .as_str()
+            .text()
             .and_then(type_named)
             .ok_or(Refusal::InvalidArgument(field))
     }
 }
 
 /// A text of a command, which is empty where it is missing.
-fn text(alloc: Global, object: &Value, field: Field) -> Result<Text, Refusal>
-    ensures { Gives result (or_default text_of [] field (view object.now)) }
+fn text<V: Tree>(alloc: Global, object: &V, field: Field) -> Result<Text, Refusal>
+    ensures { Gives result (or_default text_of [] field (V.stands_for object.now)) }
 {
     or_default(alloc, object, field, Text::empty(alloc))
 }
 
 /// A timer to be started. Without a duration it has none, which its command is judged by.
 #[tactic(auto, unfolding(crate::specs::Commands::timer_of))]
-fn timer(alloc: Global, object: &Value) -> Result<StartTimer, Refusal>
-    ensures { Gives result (timer_of (view object.now)) }
+fn timer<V: Tree>(alloc: Global, object: &V) -> Result<StartTimer, Refusal>
+    ensures { Gives result (timer_of (V.stands_for object.now)) }
 {
     let timer_id = required(alloc, object, Field::TimerId)?;
     let duration = or_default(alloc, object, Field::Duration, Span::none())?;
@@ -87,8 +90,8 @@ fn timer(alloc: Global, object: &Value) -> Result<StartTimer, Refusal>
 }
 
 #[tactic(auto, unfolding(crate::specs::Commands::marker_of))]
-fn marker(alloc: Global, object: &Value) -> Result<RecordMarker, Refusal>
-    ensures { Gives result (marker_of (view object.now)) }
+fn marker<V: Tree>(alloc: Global, object: &V) -> Result<RecordMarker, Refusal>
+    ensures { Gives result (marker_of (V.stands_for object.now)) }
 {
     let name = text(alloc, object, Field::Name)?;
     let details = text(alloc, object, Field::Details)?;
@@ -97,8 +100,8 @@ fn marker(alloc: Global, object: &Value) -> Result<RecordMarker, Refusal>
 
 /// A run to follow this one. What is absent is as it was, but for the input, which is empty then.
 #[tactic(auto, unfolding(crate::specs::Commands::continue_of))]
-fn continue_as_new(alloc: Global, object: &Value) -> Result<ContinueAsNew, Refusal>
-    ensures { Gives result (continue_of (view object.now)) }
+fn continue_as_new<V: Tree>(alloc: Global, object: &V) -> Result<ContinueAsNew, Refusal>
+    ensures { Gives result (continue_of (V.stands_for object.now)) }
 {
     let workflow_type = optional(alloc, object, Field::WorkflowType)?;
     let task_queue = optional(alloc, object, Field::TaskQueue)?;
@@ -115,8 +118,8 @@ fn continue_as_new(alloc: Global, object: &Value) -> Result<ContinueAsNew, Refus
 }
 
 /// The command of that type whose fields an object has.
-fn fields(alloc: Global, of: CommandType, object: &Value) -> Result<Command, Refusal>
-    ensures { Gives result (fields_of of (view object.now)) }
+fn fields<V: Tree>(alloc: Global, of: CommandType, object: &V) -> Result<Command, Refusal>
+    ensures { Gives result (fields_of of (V.stands_for object.now)) }
 {
     match of {
         CommandType::ScheduleActivityTask => {
@@ -161,16 +164,16 @@ fn fields(alloc: Global, of: CommandType, object: &Value) -> Result<Command, Ref
 
 /// A command. One that is no object has no type.
 #[tactic(auto, unfolding(crate::specs::Commands::command_of))]
-fn command(alloc: Global, value: &Value) -> Result<Command, Refusal>
-    ensures { Gives result (command_of (view value.now)) }
+fn command<V: Tree>(alloc: Global, value: &V) -> Result<Command, Refusal>
+    ensures { Gives result (command_of (V.stands_for value.now)) }
 {
     let of = required(alloc, value, Field::Type)?;
     fields(alloc, of, value)
 }
 
 /// All commands, or the fault of the first faulty one.
-pub fn each_command(alloc: Global, values: &[Value]) -> Result<Items<Command>, Refusal>
-    ensures { Gives result (for_each command_of (map view values.now)) }
+pub fn each_command<V: Tree>(alloc: Global, values: &[V]) -> Result<Items<Command>, Refusal>
+    ensures { Gives result (for_each command_of (map V.stands_for values.now)) }
 {
     let mut commands = Vec::new(alloc);
     for value in values {
@@ -198,7 +201,7 @@ impl FieldValue for Commands {
     ghost value_of = { commands_of };
 
     /// Too many commands are found before any of them is looked at; of a faulty command its own field is named.
-    fn from_value(alloc: Global, field: Field, value: &Value) -> Result<Commands, Refusal> {
+    fn from_value<V: Tree>(alloc: Global, field: Field, value: &V) -> Result<Commands, Refusal> {
         let all = each_command(alloc, elements(field, MOST_COMMANDS, value)?)?;
         Ok(Commands { all })
     }

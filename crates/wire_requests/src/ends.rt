@@ -1,19 +1,18 @@
 //! Lines that ask a run to cancel, and that terminate it.
 
-ghost use Rattle.serde_json.specs.View.{view};
 ghost use Rattle.wf_event_values.specs.Gives.{Gives};
 ghost use Rattle.wire_requests.specs.Ends.{request_cancel_of, terminate_of};
 
-use serde_json::Value;
 use service_model_types::request::{RequestCancel, Terminate};
 use std::alloc::Global;
 use wf_event_values::{Field, Refusal, Text};
 use wire_fields::{optional, or_default, required};
+use wire_trees::Tree;
 
 /// The fields of what asks a run to cancel.
 #[tactic(auto, unfolding(crate::specs::Ends::request_cancel_of))]
-pub fn request_cancel(alloc: Global, line: &Value) -> Result<RequestCancel, Refusal>
-    ensures { Gives result (request_cancel_of (view line.now)) }
+pub fn request_cancel<V: Tree>(alloc: Global, line: &V) -> Result<RequestCancel, Refusal>
+    ensures { Gives result (request_cancel_of (V.stands_for line.now)) }
 {
     let workflow_id = required(alloc, line, Field::WorkflowId)?;
     let run = optional(alloc, line, Field::Run)?;
@@ -27,8 +26,8 @@ pub fn request_cancel(alloc: Global, line: &Value) -> Result<RequestCancel, Refu
 
 /// The fields of what terminates a run.
 #[tactic(auto, unfolding(crate::specs::Ends::terminate_of))]
-pub fn terminate(alloc: Global, line: &Value) -> Result<Terminate, Refusal>
-    ensures { Gives result (terminate_of (view line.now)) }
+pub fn terminate<V: Tree>(alloc: Global, line: &V) -> Result<Terminate, Refusal>
+    ensures { Gives result (terminate_of (V.stands_for line.now)) }
 {
     let workflow_id = required(alloc, line, Field::WorkflowId)?;
     let run = optional(alloc, line, Field::Run)?;

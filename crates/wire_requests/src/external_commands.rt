@@ -1,18 +1,17 @@
 //! The commands that reach other workflows: children, and runs outside (Temporal, Commands).
 
-ghost use Rattle.serde_json.specs.View.{view};
 ghost use Rattle.wf_event_values.specs.declared.field.Field.TheVariants as field;
 ghost use Rattle.wf_event_values.specs.Gives.{Gives};
 ghost use Rattle.wire_fields.specs.Fields.{optional};
 ghost use Rattle.wire_requests.specs.ExternalCommands.{child_of, command_run_of, external_cancel_of, external_signal_of};
 
-use serde_json::Value;
 use std::alloc::Global;
 use std::marker::Model;
 use task_token::RunText;
 use wf_command::command::{RequestCancelExternal, SignalExternal, StartChild};
 use wf_event_values::{Field, ParentClosePolicy, Refusal, ReusePolicy, RunId, Span, Text};
 use wire_fields::{FieldValue, optional, or_default, required};
+use wire_trees::Tree;
 
 /// A run that a command names, as a field's value.
 #[derive(Drop)]
@@ -32,8 +31,8 @@ impl FieldValue for CommandRun {
     ghost value_of = { command_run_of };
 
     /// A text that is no run id is a fault of the command, so the argument is invalid.
-    fn from_value(_alloc: Global, field: Field, value: &Value) -> Result<CommandRun, Refusal> {
-        let Some(text) = value.as_str() else {
+    fn from_value<V: Tree>(_alloc: Global, field: Field, value: &V) -> Result<CommandRun, Refusal> {
+        let Some(text) = value.text() else {
             return Err(Refusal::InvalidArgument(field));
         };
         match RunId::read(text) {
@@ -44,8 +43,8 @@ impl FieldValue for CommandRun {
 }
 
 /// The run that a command names, where it names one.
-fn named_run(alloc: Global, object: &Value) -> Result<Option<RunId>, Refusal>
-    ensures { Gives result (optional command_run_of field.Run (view object.now)) }
+fn named_run<V: Tree>(alloc: Global, object: &V) -> Result<Option<RunId>, Refusal>
+    ensures { Gives result (optional command_run_of field.Run (V.stands_for object.now)) }
 {
     match optional(alloc, object, Field::Run)? {
         Some(CommandRun { run }) => Ok(Some(run)),
@@ -55,8 +54,8 @@ fn named_run(alloc: Global, object: &Value) -> Result<Option<RunId>, Refusal>
 
 /// A child to start. Texts, policies and durations may be missing.
 #[tactic(auto, unfolding(crate::specs::ExternalCommands::child_of))]
-pub(crate) fn child(alloc: Global, object: &Value) -> Result<StartChild, Refusal>
-    ensures { Gives result (child_of (view object.now)) }
+pub(crate) fn child<V: Tree>(alloc: Global, object: &V) -> Result<StartChild, Refusal>
+    ensures { Gives result (child_of (V.stands_for object.now)) }
 {
     let workflow_id = required(alloc, object, Field::WorkflowId)?;
     let workflow_type = or_default(alloc, object, Field::WorkflowType, Text::empty(alloc))?;
@@ -81,8 +80,8 @@ pub(crate) fn child(alloc: Global, object: &Value) -> Result<StartChild, Refusal
 
 /// A signal to another workflow. Its texts may be missing.
 #[tactic(auto, unfolding(crate::specs::ExternalCommands::external_signal_of))]
-pub(crate) fn external_signal(alloc: Global, object: &Value) -> Result<SignalExternal, Refusal>
-    ensures { Gives result (external_signal_of (view object.now)) }
+pub(crate) fn external_signal<V: Tree>(alloc: Global, object: &V) -> Result<SignalExternal, Refusal>
+    ensures { Gives result (external_signal_of (V.stands_for object.now)) }
 {
     let workflow_id = required(alloc, object, Field::WorkflowId)?;
     let run = named_run(alloc, object)?;
@@ -97,11 +96,11 @@ pub(crate) fn external_signal(alloc: Global, object: &Value) -> Result<SignalExt
 }
 
 #[tactic(auto, unfolding(crate::specs::ExternalCommands::external_cancel_of))]
-pub(crate) fn external_cancel(
+pub(crate) fn external_cancel<V: Tree>(
     alloc: Global,
-    object: &Value,
+    object: &V,
 ) -> Result<RequestCancelExternal, Refusal>
-    ensures { Gives result (external_cancel_of (view object.now)) }
+    ensures { Gives result (external_cancel_of (V.stands_for object.now)) }
 {
     let workflow_id = required(alloc, object, Field::WorkflowId)?;
     let run = named_run(alloc, object)?;

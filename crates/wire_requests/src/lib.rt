@@ -7,7 +7,6 @@ mod calls;
 mod commands;
 mod ends;
 mod external_commands;
-mod flat;
 mod op;
 mod operations;
 mod polls;

@@ -3,10 +3,10 @@
 ghost use Rattle.std.specs.Prelude.{◌≡◌};
 ghost use Rattle.wire_requests.specs.Ops.{op_named, op_of};
 
-use serde_json::Value;
 use std::alloc::Global;
 use wf_event_values::{Field, Refusal};
 use wire_fields::FieldValue;
+use wire_trees::Tree;
 
 /// What a line can ask for.
 #[derive(Clone, Copy)]
@@ -60,9 +60,9 @@ fn op_named(name: &str) -> Option<Op>
 impl FieldValue for Op {
     ghost value_of = { op_of };
 
-    fn from_value(_alloc: Global, field: Field, value: &Value) -> Result<Op, Refusal> {
+    fn from_value<V: Tree>(_alloc: Global, field: Field, value: &V) -> Result<Op, Refusal> {
         value
-            .as_str()
+            .text()
             .and_then(op_named)
             .ok_or(Refusal::InvalidArgument(field))
     }

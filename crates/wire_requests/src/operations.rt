@@ -1,7 +1,6 @@
 //! The fields of each operation, in the order in which their faults are looked for.
 
 ghost use Rattle.std.specs.Prelude.{◌≡◌, [], Ok, Err, true};
-ghost use Rattle.serde_json.specs.View.{view};
 ghost use Rattle.service_model_types.specs.Clients.{is_clients};
 ghost use Rattle.wf_event_values.specs.Gives.{Gives};
 ghost use Rattle.wire_requests.specs.Operations.{signal_of, complete_workflow_task_of, fail_workflow_task_of, read_of, asks, call_of};
@@ -14,7 +13,6 @@ use crate::polls::poll;
 use crate::starts::{signal_with_start, start};
 use crate::tasks::workflow_task_in;
 use crate::turns::{dispatch_turn, timer_turn, transfer_turn};
-use serde_json::Value;
 use service_model_types::call::{Call, StepCall};
 use service_model_types::client::ClientRequest;
 use service_model_types::request::{
@@ -24,11 +22,12 @@ use service_model_types::settings::Settings;
 use std::alloc::Global;
 use wf_event_values::{Field, Moment, Refusal, TaskKind, Text};
 use wire_fields::{optional, or_default, required};
+use wire_trees::Tree;
 
 /// The fields of a signal.
 #[tactic(auto, unfolding(crate::specs::Operations::signal_of))]
-pub fn signal(alloc: Global, line: &Value) -> Result<Signal, Refusal>
-    ensures { Gives result (signal_of (view line.now)) }
+pub fn signal<V: Tree>(alloc: Global, line: &V) -> Result<Signal, Refusal>
+    ensures { Gives result (signal_of (V.stands_for line.now)) }
 {
     let workflow_id = required(alloc, line, Field::WorkflowId)?;
     let run = optional(alloc, line, Field::Run)?;
@@ -45,12 +44,12 @@ pub fn signal(alloc: Global, line: &Value) -> Result<Signal, Refusal>
 }
 
 #[tactic(auto, unfolding(crate::specs::Operations::complete_workflow_task_of))]
-fn complete_workflow_task(
+fn complete_workflow_task<V: Tree>(
     alloc: Global,
     settings: &Settings,
-    line: &Value,
+    line: &V,
 ) -> Result<CompleteWorkflowTask, Refusal>
-    ensures { Gives result (complete_workflow_task_of settings.now (view line.now)) }
+    ensures { Gives result (complete_workflow_task_of settings.now (V.stands_for line.now)) }
 {
     let token = required(alloc, line, Field::Token)?;
     let task = workflow_task_in(settings, token)?;
@@ -62,12 +61,12 @@ fn complete_workflow_task(
 }
 
 #[tactic(auto, unfolding(crate::specs::Operations::fail_workflow_task_of))]
-fn fail_workflow_task(
+fn fail_workflow_task<V: Tree>(
     alloc: Global,
     settings: &Settings,
-    line: &Value,
+    line: &V,
 ) -> Result<FailWorkflowTask, Refusal>
-    ensures { Gives result (fail_workflow_task_of settings.now (view line.now)) }
+    ensures { Gives result (fail_workflow_task_of settings.now (V.stands_for line.now)) }
 {
     let token = required(alloc, line, Field::Token)?;
     let task = workflow_task_in(settings, token)?;
@@ -77,8 +76,8 @@ fn fail_workflow_task(
 
 /// The run that is to be read.
 #[tactic(auto, unfolding(crate::specs::Operations::read_of))]
-pub fn read(alloc: Global, line: &Value) -> Result<Read, Refusal>
-    ensures { Gives result (read_of (view line.now)) }
+pub fn read<V: Tree>(alloc: Global, line: &V) -> Result<Read, Refusal>
+    ensures { Gives result (read_of (V.stands_for line.now)) }
 {
     let workflow_id = required(alloc, line, Field::WorkflowId)?;
     let run = optional(alloc, line, Field::Run)?;
@@ -95,14 +94,14 @@ fn asks(at: Moment, operation: Operation) -> Call
 }
 
 /// What an operation's line asks for, at the line's moment.
-pub(crate) fn call_of(
+pub(crate) fn call_of<V: Tree>(
     alloc: Global,
     settings: &Settings,
     op: Op,
     at: Moment,
-    line: &Value,
+    line: &V,
 ) -> Result<Call, Refusal>
-    ensures { Gives result (call_of settings.now op at (view line.now)) }
+    ensures { Gives result (call_of settings.now op at (V.stands_for line.now)) }
 {
     match op {
         Op::Start => Ok(asks(at, Operation::Start(start(alloc, line)?))),

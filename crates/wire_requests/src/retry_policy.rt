@@ -1,18 +1,17 @@
 //! A retry policy, as a command has it (Temporal, Retry Policies).
 
 ghost use Rattle.std.specs.Prelude.{◌≡◌, [], map};
-ghost use Rattle.serde_json.specs.View.{view};
 ghost use Rattle.wf_event_values.specs.Gives.{Gives};
 ghost use Rattle.wire_fields.specs.Kinds.{text_of};
 ghost use Rattle.wire_fields.specs.Steps.{for_each};
 ghost use Rattle.wire_requests.specs.RetryPolicies.{texts_of, counts_as, growth_of, policy_fields_of, policy_of, default_policy};
 
-use serde_json::Value;
 use std::alloc::Global;
 use std::marker::Model;
 use wf_event::payloads::PolicyFields;
 use wf_event_values::{Field, Items, Refusal, Text};
 use wire_fields::{FieldValue, array, or_default};
+use wire_trees::Tree;
 
 /// A list of texts, as a field's value.
 #[derive(Drop)]
@@ -29,8 +28,8 @@ impl Model for Texts {
 }
 
 /// All texts, or the fault of the first faulty one.
-fn each_text(alloc: Global, field: Field, values: &[Value]) -> Result<Items<Text>, Refusal>
-    ensures { Gives result (for_each (text_of field) (map view values.now)) }
+fn each_text<V: Tree>(alloc: Global, field: Field, values: &[V]) -> Result<Items<Text>, Refusal>
+    ensures { Gives result (for_each (text_of field) (map V.stands_for values.now)) }
 {
     let mut texts = Vec::new(alloc);
     for value in values {
@@ -42,7 +41,7 @@ fn each_text(alloc: Global, field: Field, values: &[Value]) -> Result<Items<Text
 impl FieldValue for Texts {
     ghost value_of = { texts_of };
 
-    fn from_value(alloc: Global, field: Field, value: &Value) -> Result<Texts, Refusal> {
+    fn from_value<V: Tree>(alloc: Global, field: Field, value: &V) -> Result<Texts, Refusal> {
         let all = each_text(alloc, field, array(field, value)?)?;
         Ok(Texts { all })
     }
@@ -92,11 +91,11 @@ pub fn counts_as(factor: u64) -> u64
 }
 
 /// A policy's coefficient, in hundredths. It may be written as a whole factor, but not as both.
-fn growth(alloc: Global, object: &Value) -> Result<u64, Refusal>
-    ensures { Gives result (growth_of (view object.now)) }
+fn growth<V: Tree>(alloc: Global, object: &V) -> Result<u64, Refusal>
+    ensures { Gives result (growth_of (V.stands_for object.now)) }
 {
-    let coefficient = object.get(Field::Coefficient.name());
-    let factor = object.get(Field::Factor.name());
+    let coefficient = object.member(Field::Coefficient.name());
+    let factor = object.member(Field::Factor.name());
     match (coefficient, factor) {
         (None, None) => Ok(200),
         (Some(value), None) => u64::from_value(alloc, Field::Coefficient, value),
@@ -106,8 +105,8 @@ fn growth(alloc: Global, object: &Value) -> Result<u64, Refusal>
 }
 
 #[tactic(auto, unfolding(crate::specs::RetryPolicies::policy_fields_of))]
-fn policy_fields(alloc: Global, object: &Value) -> Result<PolicyFields, Refusal>
-    ensures { Gives result (policy_fields_of (view object.now)) }
+fn policy_fields<V: Tree>(alloc: Global, object: &V) -> Result<PolicyFields, Refusal>
+    ensures { Gives result (policy_fields_of (V.stands_for object.now)) }
 {
     let none = Texts {
         all: Items::from_vec(Vec::new(alloc)),
@@ -129,8 +128,8 @@ fn policy_fields(alloc: Global, object: &Value) -> Result<PolicyFields, Refusal>
 impl FieldValue for Policy {
     ghost value_of = { policy_of };
 
-    fn from_value(alloc: Global, field: Field, value: &Value) -> Result<Policy, Refusal> {
-        if !value.is_object() {
+    fn from_value<V: Tree>(alloc: Global, field: Field, value: &V) -> Result<Policy, Refusal> {
+        if !value.has_members() {
             return Err(Refusal::InvalidArgument(field));
         }
         let fields = policy_fields(alloc, value)?;

@@ -1,20 +1,19 @@
 //! Lines that start a run.
 
 ghost use Rattle.std.specs.Prelude.{◌≡◌};
-ghost use Rattle.serde_json.specs.View.{view};
 ghost use Rattle.wf_event_values.specs.Gives.{Gives};
 ghost use Rattle.wire_requests.specs.Starts.{start_of, signal_with_start_of};
 
-use serde_json::Value;
 use service_model_types::request::{SignalWithStart, Start};
 use std::alloc::Global;
 use wf_event_values::{ConflictPolicy, Field, Refusal, ReusePolicy, Span, Text};
 use wire_fields::{optional, or_default, required};
+use wire_trees::Tree;
 
 /// The fields of a start.
 #[tactic(auto, unfolding(crate::specs::Starts::start_of))]
-pub fn start(alloc: Global, line: &Value) -> Result<Start, Refusal>
-    ensures { Gives result (start_of (view line.now)) }
+pub fn start<V: Tree>(alloc: Global, line: &V) -> Result<Start, Refusal>
+    ensures { Gives result (start_of (V.stands_for line.now)) }
 {
     let workflow_id = required(alloc, line, Field::WorkflowId)?;
     let workflow_type = required(alloc, line, Field::WorkflowType)?;
@@ -40,8 +39,8 @@ pub fn start(alloc: Global, line: &Value) -> Result<Start, Refusal>
 
 /// The fields of a start but for the conflict policy, and those of the signal.
 #[tactic(auto, unfolding(crate::specs::Starts::signal_with_start_of))]
-pub fn signal_with_start(alloc: Global, line: &Value) -> Result<SignalWithStart, Refusal>
-    ensures { Gives result (signal_with_start_of (view line.now)) }
+pub fn signal_with_start<V: Tree>(alloc: Global, line: &V) -> Result<SignalWithStart, Refusal>
+    ensures { Gives result (signal_with_start_of (V.stands_for line.now)) }
 {
     let workflow_id = required(alloc, line, Field::WorkflowId)?;
     let workflow_type = required(alloc, line, Field::WorkflowType)?;

@@ -1,16 +1,15 @@
 //! The lines that ask a shard for a turn.
 
 ghost use Rattle.std.specs.Prelude.{◌≡◌};
-ghost use Rattle.serde_json.specs.View.{view};
 ghost use Rattle.wf_event_values.specs.Gives.{Gives};
 ghost use Rattle.wire_requests.specs.Turns.{dispatch_turn_of, shard_in, stop_in, timer_turn_of, transfer_turn_of};
 
-use serde_json::Value;
 use service_model_types::call::{DispatchTurn, Stop, TimerTurn, TransferTurn};
 use service_model_types::settings::Settings;
 use std::alloc::Global;
 use wf_event_values::{Field, Moment, Refusal};
 use wire_fields::{or_default, required};
+use wire_trees::Tree;
 
 /// The shard that a number names: one that is there, else this field is at fault.
 fn shard_in(settings: &Settings, field: Field, number: u64) -> Result<u16, Refusal>
@@ -35,26 +34,26 @@ fn stop_in(parts: u64) -> Result<Stop, Refusal>
 }
 
 #[tactic(auto, unfolding(crate::specs::Turns::timer_turn_of))]
-pub(crate) fn timer_turn(
+pub(crate) fn timer_turn<V: Tree>(
     alloc: Global,
     settings: &Settings,
     at: Moment,
-    line: &Value,
+    line: &V,
 ) -> Result<TimerTurn, Refusal>
-    ensures { Gives result (timer_turn_of settings.now at (view line.now)) }
+    ensures { Gives result (timer_turn_of settings.now at (V.stands_for line.now)) }
 {
     let shard = shard_in(settings, Field::Shard, required(alloc, line, Field::Shard)?)?;
     Ok(TimerTurn { shard, at })
 }
 
 #[tactic(auto, unfolding(crate::specs::Turns::dispatch_turn_of))]
-pub(crate) fn dispatch_turn(
+pub(crate) fn dispatch_turn<V: Tree>(
     alloc: Global,
     settings: &Settings,
     at: Moment,
-    line: &Value,
+    line: &V,
 ) -> Result<DispatchTurn, Refusal>
-    ensures { Gives result (dispatch_turn_of settings.now at (view line.now)) }
+    ensures { Gives result (dispatch_turn_of settings.now at (V.stands_for line.now)) }
 {
     let shard = shard_in(settings, Field::Shard, required(alloc, line, Field::Shard)?)?;
     let stop = stop_in(or_default(alloc, line, Field::Stop, 0)?)?;
@@ -62,13 +61,13 @@ pub(crate) fn dispatch_turn(
 }
 
 #[tactic(auto, unfolding(crate::specs::Turns::transfer_turn_of))]
-pub(crate) fn transfer_turn(
+pub(crate) fn transfer_turn<V: Tree>(
     alloc: Global,
     settings: &Settings,
     at: Moment,
-    line: &Value,
+    line: &V,
 ) -> Result<TransferTurn, Refusal>
-    ensures { Gives result (transfer_turn_of settings.now at (view line.now)) }
+    ensures { Gives result (transfer_turn_of settings.now at (V.stands_for line.now)) }
 {
     let from = shard_in(settings, Field::From, required(alloc, line, Field::From)?)?;
     let to = shard_in(settings, Field::To, required(alloc, line, Field::To)?)?;

@@ -3,12 +3,12 @@
 ghost use Rattle.std.specs.Prelude.{◌≡◌};
 ghost use Rattle.wire_transfers.specs.Names.{child_status_name, child_status_named, child_status_of, external_kind_name, external_kind_named, external_kind_of, kind_of, transfer_kind_name, transfer_kind_named, transfer_kind_of};
 
-use serde_json::Value;
 use service_model_types::transfer::{ChildStatus, ExternalKind, TransferContent};
 use std::alloc::Global;
 use std::marker::Model;
 use wf_event_values::{Field, Refusal};
 use wire_fields::FieldValue;
+use wire_trees::Tree;
 
 /// The kinds of transfer.
 #[derive(Clone, Copy)]
@@ -74,9 +74,13 @@ fn transfer_kind_named(name: &str) -> Option<TransferKind>
 impl FieldValue for TransferKind {
     ghost value_of = { transfer_kind_of };
 
-    fn from_value(_alloc: Global, field: Field, value: &Value) -> Result<TransferKind, Refusal> {
+    fn from_value<V: Tree>(
+        _alloc: Global,
+        field: Field,
+        value: &V,
+    ) -> Result<TransferKind, Refusal> {
         value
-            .as_str()
+            .text()
             .and_then(transfer_kind_named)
             .ok_or(Refusal::InvalidArgument(field))
     }
@@ -124,8 +128,8 @@ impl Model for AStatus {
 impl FieldValue for AStatus {
     ghost value_of = { child_status_of };
 
-    fn from_value(_alloc: Global, field: Field, value: &Value) -> Result<AStatus, Refusal> {
-        let Some(text) = value.as_str() else {
+    fn from_value<V: Tree>(_alloc: Global, field: Field, value: &V) -> Result<AStatus, Refusal> {
+        let Some(text) = value.text() else {
             return Err(Refusal::InvalidArgument(field));
         };
         match child_status_named(text) {
@@ -171,8 +175,8 @@ impl Model for AnExternal {
 impl FieldValue for AnExternal {
     ghost value_of = { external_kind_of };
 
-    fn from_value(_alloc: Global, field: Field, value: &Value) -> Result<AnExternal, Refusal> {
-        let Some(text) = value.as_str() else {
+    fn from_value<V: Tree>(_alloc: Global, field: Field, value: &V) -> Result<AnExternal, Refusal> {
+        let Some(text) = value.text() else {
             return Err(Refusal::InvalidArgument(field));
         };
         match external_kind_named(text) {

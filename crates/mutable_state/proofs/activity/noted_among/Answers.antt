@@ -1,17 +1,17 @@
 use Rattle.std.proofs.Common.{ap, arith, sym, ◌∙◌, ◌++◌, ◌∷◌, []}
-use Rattle.mutable_state.specs.Activities.{activity_at}
+use Rattle.mutable_state.specs.Rows.{activity_in}
 use Rattle.mutable_state.proofs.ReaderLemmas.{rows-one, rows-none}
 use Rattle.mutable_state.proofs.activity.noted_among.Goals as goal
 use Rattle.mutable_state.proofs.activity.noted_among.Goals.{in-Some+in_ok-push, in_default}
 
 pub loop-row-preserved : goal.loop-row-preserved
 loop-row-preserved c =
-    let f = activity_at c.args.history.now.lists.events in
-    elim c.match-activity_at.branch [
+    let f = activity_in c.args.history.now.lists.events in
+    elim c.match-activity_in.branch [
       | in-Some+in_ok-push w ↦
           ap (λ v. v.items) w.noted-is ∙ w.in_ok-push.ensures.items ∙ ap (λ t. t ++ w.in-Some.one ∷ []) c.loop-row.invariant
-          ∙ sym (rows-one f c.args.rows.now c.loop-row.row-index c.row-item.result w.in-Some.one (omega arith) (sym (ap f c.row-item.is) ∙ sym c.activity_at.ensures ∙ w.in-Some.is))
+          ∙ sym (rows-one f c.args.rows.now c.loop-row.row-index c.row-item.result w.in-Some.one (omega arith) (sym (ap f c.row-item.is) ∙ sym c.activity_in.ensures ∙ w.in-Some.is))
       | in_default w ↦
           ap (λ v. v.items) w.noted-is ∙ c.loop-row.invariant
-          ∙ sym (rows-none f c.args.rows.now c.loop-row.row-index c.row-item.result (omega arith) (sym (ap f c.row-item.is) ∙ sym c.activity_at.ensures ∙ w.in_default.is))
+          ∙ sym (rows-none f c.args.rows.now c.loop-row.row-index c.row-item.result (omega arith) (sym (ap f c.row-item.is) ∙ sym c.activity_in.ensures ∙ w.in_default.is))
     ]

@@ -8,7 +8,6 @@ use Rattle.mutable_state.proofs.run.Run.noted_activities.Goals as goal
 pub returns : goal.returns
 returns c =
     let a = c.self.inside in
-    let is : filter_map (activity_at a.history.lists.events) c.rows.result.now ≡ noted_activities c.args.self.now.state =
-    ap (λ os. filter_map (activity_at a.history.lists.events) os) c.rows.ensures
-    ∙ noted-are a.history.lists a.request_id a.cancel_request a.status a.task (texts a.signal_requests.keys) a.in_use.rows ∙ ap (λ v. noted_activities v.state) c.self.view_is in
-    subst (λ l. IfOk c.noted_among.result (λ noted. noted.items ≡ l)) is c.noted_among.ensures
+    let is : filter_map (activity_at a.history.lists.events) a.in_use.rows ≡ noted_activities c.args.self.now.state =
+    noted-are a.history.lists a.request_id a.cancel_request a.status a.task (texts a.signal_requests.keys) a.in_use.rows ∙ ap (λ v. noted_activities v.state) c.self.view_is in
+    subst (λ l. IfOk c.noted.result (λ noted. noted.items ≡ l)) is c.noted.ensures

@@ -1,5 +1,7 @@
 use Rattle.std.proofs.Common.{◌∙◌, subst, sym}
 use Rattle.service.specs.Services.{IsServedAtLast, known_by}
+use Rattle.service.specs.Grounding.{SeenGrounds}
+use Rattle.service.proofs.GroundLemmas.{delivery-grounds}
 use Rattle.service.proofs.TransferLemmas.{not-acknowledged}
 use Rattle.service.proofs.service.Service.deliver.Goals as goal
 
@@ -11,3 +13,14 @@ returns-in_err-acknowledge-clause-err g c =
     let w = known_by c.acknowledge.new.pass in
     let step = subst (λ q. IsServedAtLast x v met c.args.turn.to q c.in_ok-reply.reply) c.request-asked.ensures c.in_ok-reply.ensures.ok in
     not-acknowledged c.from_residual-in_err-acknowledge.result x c.args.turn c.args.transfer v met w c.in_ok-reply.reply step (sym c.goes_on.ensures ∙ c.if-not-goes_on.false) c.in_err-acknowledge.ensures.err
+
+pub serve_there-requires-clause-grounds : goal.serve_there-requires-clause-grounds
+serve_there-requires-clause-grounds g c = subst (λ q. SeenGrounds (known_by c.args.pass.now) c.args.turn.to q) (sym c.request-asked.ensures) c.requires.grounds
+
+pub acknowledge-requires-clause-grounds : goal.acknowledge-requires-clause-grounds
+acknowledge-requires-clause-grounds g c =
+    let x = c.args.self.now in
+    let v = known_by c.args.pass.now in
+    let met = known_by c.serve_there.new.pass in
+    let step = subst (λ q. IsServedAtLast x v met c.args.turn.to q c.in_ok-reply.reply) c.request-asked.ensures c.in_ok-reply.ensures.ok in
+    delivery-grounds x v met c.args.turn.from c.args.turn.to c.args.turn.at c.args.turn.stop c.in_ok-reply.reply c.args.transfer step c.requires.source c.requires.grounds (sym c.goes_on.ensures ∙ c.if-not-goes_on.false)

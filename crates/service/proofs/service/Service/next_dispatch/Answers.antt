@@ -12,6 +12,6 @@ returns-in-Ok-clause-shard g c =
     let v = known_by c.args.pass.now in
     let w = known_by c.serve_on.new.pass in
     let A : Option Refusal → ℕ → Request → Type 0 = λ o s q. Answered o (IsServedAtLast x v w s q c.in-Ok.reply) v w c.in-Ok.reply in
-    let done = subst (λ o. A o c.from.result c.request-asked.result) c.shard_refusal-refusal.ensures c.in-Ok.ensures.ok in
-    let there = subst (λ s. A (shard_refusal x.settings c.args.shard) s c.request-asked.result) c.from.ensures done in
-    next-below x c.args.shard c.args.at v w c.in-Ok.reply (subst (λ q. A (shard_refusal x.settings c.args.shard) c.args.shard q) c.request-asked.ensures there)
+    let done = subst (λ o. A o c.from.result c.asked_by_client-asked.result) c.shard_refusal-refusal.ensures c.in-Ok.ensures.ok in
+    let there = subst (λ s. A (shard_refusal x.settings c.args.shard) s c.asked_by_client-asked.result) c.from.ensures done in
+    next-below x c.args.shard c.args.at v w c.in-Ok.reply (subst (λ q. A (shard_refusal x.settings c.args.shard) c.args.shard q) c.asked_by_client-asked.ensures there)

@@ -2,7 +2,7 @@ use Rattle.std.proofs.Common.{◌≡◌, ℕ, None, ap, subst}
 use Rattle.service_model_types.specs.declared.request.Request.{Request}
 use Rattle.service_model.specs.Growth.{KeepsHistories}
 use Rattle.service_model.specs.Service.{answer, after}
-use Rattle.gate.specs.Passes.{Stepped, view}
+use Rattle.gate.specs.Passes.{Stamped, Stepped, view}
 use Rattle.gate.specs.Helds as of_held
 use Rattle.service.specs.Contents.{refusal_of}
 use Rattle.service.specs.Services.{known_by, IsServed}
@@ -18,4 +18,6 @@ returns-in-Ok-clause-ok c =
     let none : refusal_of c.args.self.now.settings c.request-request.result.operation ≡ None = ap (λ q. refusal_of c.args.self.now.settings q.operation) c.request-request.ensures in
     let below = shard-below c.args.self.now.settings c.request-request.result.operation c.requires.opened.range.some_shard none in
     let entered = rw (ap (λ p. view p.0) c.into_parts-inner.ensures) at c.in-Ok.ensures.ok in
-    subst Q c.request-request.ensures (served c.args.pass w c.args.self.now _ c.request-request.result r c.requires below (subst P c.slot_of-slot.ensures entered))
+    let T : ℕ → Type 0 = λ k. Stamped (known_by c.args.pass) w k in
+    let stamp = rw (ap (λ p. view p.0) c.into_parts-inner.ensures) at c.in-Ok.ensures.ticket in
+    subst Q c.request-request.ensures (served c.args.pass w c.args.self.now _ c.request-request.result r c.requires below (subst P c.slot_of-slot.ensures entered) (subst T c.slot_of-slot.ensures stamp))

@@ -1,5 +1,4 @@
-use Rattle.std.proofs.Common.{rules, ◌≡◌, ◌∙◌, sym, ap, true, not, filter, ◌==◌, List, [], ◌∷◌, ◌++◌, append_assoc}
-use Rattle.std.proofs.lemmas.Fn.{filter_same}
+use Rattle.std.proofs.Common.{◌≡◌, ◌∙◌, sym, ap, true, List, [], ◌∷◌, ◌++◌, append_assoc}
 use Rattle.wf_event.specs.declared.attributes.Attributes.{Attributes}
 use Rattle.wf_event.specs.declared.attributes.Attributes.TheVariants.{ActivityTaskCancelRequested, ActivityTaskCanceled}
 use Rattle.service_model.specs.Completion.{cancel_facts}
@@ -11,16 +10,15 @@ pub returns : goal.returns
 returns c =
     let a = c.self.inside in
     let id = c.args.scheduled in
-    let k : Kept = record { setup = a.setup.now; next = a.next; began = a.started.now; facts = a.facts.items; is_closed = a.is_closed; first = a.first; timers = a.timers.items; activities = a.activities.items; notes = a.notes.items; held = a.held.items; outward = a.outward } in
+    let k : Kept = record { setup = a.setup.now; next = a.next; began = a.started.now; facts = a.facts.items; is_closed = a.is_closed; first = a.first; timers = a.timers; activities = a.activities; notes = a.notes.items; held = a.held.items; outward = a.outward } in
     let asked : c.push.new.self.items ≡ a.facts.items ++ ActivityTaskCancelRequested id ∷ [] = c.in_ok-push.ensures.items in
     let facts : c.push-2.new.self.items ≡ a.facts.items ++ cancel_facts id true =
     c.in_ok-push-2.ensures.items
     ∙ ap (λ d. c.push.new.self.items ++ ActivityTaskCanceled (record { scheduled = id; details = d }) ∷ []) c.empty-details.ensures
     ∙ ap (λ l. l ++ ActivityTaskCanceled (record { scheduled = id; details = [] }) ∷ []) asked
     ∙ append_assoc a.facts.items (ActivityTaskCancelRequested id ∷ []) (ActivityTaskCanceled (record { scheduled = id; details = [] }) ∷ []) in
-    let activities : c.retain.new.self.items ≡ filter (λ (r : UsedRow). not (r.event == id)) a.activities.items = filter_same _ (λ (r : UsedRow). not (r.event == id)) _ (λ x b q h. search rules) _ _ c.retain.ensures.filtered in
-    let made : List Attributes → List UsedRow → Kept = λ fs rs. record { setup = a.setup.now; next = a.next; began = a.started.now; facts = fs; is_closed = a.is_closed; first = a.first; timers = a.timers.items; activities = rs; notes = a.notes.items; held = a.held.items; outward = a.outward } in
-    ap (λ fs. made fs c.retain.new.self.items) facts
-    ∙ ap (made (a.facts.items ++ cancel_facts id true)) activities
+    let made : List Attributes → List UsedRow → Kept = λ fs rs. record { setup = a.setup.now; next = a.next; began = a.started.now; facts = fs; is_closed = a.is_closed; first = a.first; timers = a.timers; activities = rs; notes = a.notes.items; held = a.held.items; outward = a.outward } in
+    ap (λ fs. made fs c.remove.new.self) facts
+    ∙ ap (made (a.facts.items ++ cancel_facts id true)) c.remove.ensures
     ∙ ap (λ b. cancel_asked id b k) (sym c.if-not-at_once.false)
     ∙ ap (cancel_asked id c.args.at_once) c.self.view_is

@@ -1,0 +1,25 @@
+use Rattle.std.proofs.Common.{rules, arith, refl, sym, ap, ap₂, ◌∙◌, ℕ, ◌+◌, ◌%◌}
+use Rattle.crossbeam_queue.specs.Stamps.{stamp}
+use Rattle.crossbeam_queue.proofs.Keeps.{claims, publishes}
+use mathlib.Core.Option.{some-injective}
+use Rattle.matching.specs.Plays.{Puts}
+use Rattle.matching.proofs.Keeps.{puts}
+use Rattle.matching.proofs.line.Line.claim.Goals as goal
+
+pub compare_exchange_with-was-requires : goal.compare_exchange_with-was-requires
+compare_exchange_with-was-requires c = let is = sym c.args.self.now.sized.1 in let p : ℕ = c.args.seat.now.me.0.at in let seen = c.requires.seen in (
+  search rules,
+  search rules,
+  claims _ Puts _ _ _ _ _ c.args.hint _ refl (seen.0.1 ∙ ap (λ (z : ℕ). stamp z p) is)
+      (c.after-new_tail.ensures p seen.0.1 seen.1 ∙ ap (λ (z : ℕ). stamp z (p + 1)) is) seen.0.0
+      (puts _ _ _ _ _ _ c.args.hint c.requires.pass (sym is ∙ sym c.requires.room) c.requires.shard),
+)
+
+pub store-requires : goal.store-requires
+store-requires c = let is = sym c.args.self.now.sized.1 in let p : ℕ = c.args.seat.now.me.0.at in let seen = c.requires.seen in
+    let did = c.compare_exchange_with-was.ensures.2.0 c.if-was-tail.false in let now = c.exchange.ensures.3 in let at = ap (λ m. m.0.at) now ∙ did.1 in (
+      search rules,
+      search rules,
+      publishes _ _ _ _ _ _ c.args.index _ _ (omega arith) (seen.1 ∙ ap₂ (λ (a b : ℕ). a % b) (sym at) is) (ap (λ (z : ℕ). z + 1) (seen.0.1 ∙ ap₂ stamp is (sym at)))
+          (ap (λ m. m.0.stage) now ∙ did.0) (ap (λ m. m.0.item) now ∙ did.3.2 ∙ sym (some-injective _ _ did.3.1)) (ap (λ m. m.1) now),
+    )

@@ -1,0 +1,18 @@
+-- MEANING: how the records of a service and the contents of its shards belong together
+use Rattle.std.specs.Prelude.{◌≡◌, ℕ, List}
+use Rattle.service_model.specs.Service.{Entry}
+use Rattle.service_model_types.specs.declared.settings.Settings.{Settings}
+use Rattle.gate.specs.Records.{Begins}
+use Rattle.service.specs.Reopening.{contents_from, record_at}
+use Rattle.script.specs.Lines.{Line}
+use Rattle.script.specs.Output.{records_after, world_after_lines}
+use Rattle.script.specs.World.{World, opening_world}
+
+-- after any lines, behind any records, each shard's content is what its record leaves: a service that is opened from these records begins with just the shards that the lines left
+abbrev pub RecordsTellContents : Type 0
+RecordsTellContents = (K : Settings) (R : List (List Entry)) (lines : List Line) →
+    (world_after_lines K (opening_world K R) lines).contents ≡ contents_from K (records_after K (opening_world K R) lines)
+
+-- no entry of a record is ever changed or lost
+abbrev pub RecordsGrow : Type 0
+RecordsGrow = (K : Settings) (W : World) (lines : List Line) (shard : ℕ) → Begins (record_at W.records shard) (record_at (records_after K W lines) shard)

@@ -1,0 +1,253 @@
+-- how a service is opened from records
+use Rattle.std.proofs.Common.{◌≡◌, ℕ, ◌+◌, ◌<◌, ◌≤◌, Bool, true, false, List, [], ◌∷◌, ◌++◌, refl, sym, ap, ◌≢◌, ◌∙◌, arith, zero, suc, Some, length-append, slice_index_or, subst}
+use Rattle.std.proofs.lemmas.List.{length-map}
+use Rattle.std.proofs.lemmas.List.FromFn.{length-map-range_with_len, map-range_with_len_more}
+use Rattle.std.proofs.lemmas.Bool.Decides.{nat_tests}
+use Rattle.std.specs.Prelude.{All, ◌==◌, ◌||◌, flat_map, length, map, slice_get, slice_set, unwrap_or, if◌then◌else◌, nat_lt, Result, Ok, Err, IfOk, MatchResult}
+use Rattle.std.specs.List.{range_with_len, AllByRecursion, fold}
+use Rattle.wf_event_values.specs.declared.field.Field.TheVariants.{Records}
+use Rattle.wf_event_values.specs.declared.refusal.Refusal.{Refusal}
+use Rattle.wf_event_values.specs.declared.refusal.Refusal.TheVariants.{InvalidArgument, QueueFull, UnknownTaskQueue}
+use Rattle.service_model_types.specs.declared.content.Content.{Content}
+use Rattle.service_model_types.specs.declared.content.Dispatch.{Dispatch}
+use Rattle.service_model_types.specs.declared.request.Hint.{Hint}
+use Rattle.service_model_types.specs.declared.settings.Settings.{Settings}
+use Rattle.service_model.specs.Growth.{KeepsHistories}
+use Rattle.service_model.specs.Service.{Entry, opening, after}
+use Rattle.service_model.specs.Waiting.{all_waiting, waiting}
+use Rattle.service_model.specs.WaitingLaws.{IsNamed}
+use Rattle.service_model.proofs.NamedLemmas.{place-known, waiting-are-named}
+use Rattle.service_model.proofs.ListLemmas.{all-push, map-push}
+use Rattle.gate.specs.Gated.{at}
+use Rattle.gate.specs.Records.{KeepsAll, replay}
+use Rattle.matching.specs.Holding.{all_pushed, held_by, pushed, then_push}
+use Rattle.matching.specs.Named.{IsFresh, place_in, slot_of}
+use Rattle.matching.specs.declared.queues.QueuesPass.{QueuesPass}
+use Rattle.shard.specs.View.{ShardView, states}
+use Rattle.shard.specs.Standing.{StandsFor, opened}
+use Rattle.service.specs.Contents.{setup_of}
+use Rattle.service.specs.Held.{HoldAtOpening}
+use Rattle.service.specs.Laid.{IsLaid, IsReplayed}
+use Rattle.service.specs.Ranges.{range_fault}
+use Rattle.service.specs.Reopening.{are_records, content_from, opens, record_at, records_fault, unless_fault, waiting_from}
+
+abbrev pub Laid : Type 0
+Laid = ShardView × List Entry
+
+-- one more shard, with the next record
+pub laid-more : (K : Settings) (records : List (List Entry)) (xs ys : List Laid) (s : ShardView) (log : List Entry) → ys ≡ xs ++ (s, log) ∷ [] → opened s ≡ opening (setup_of K (length xs)) → StandsFor s (replay after (opened s) log) → KeepsAll after KeepsHistories (opened s) log → IsLaid K records xs → IsLaid K (records ++ log ∷ []) ys
+laid-more K records xs ys s log is content stands keeps h =
+    let P : List Laid → Type 0 = λ t. IsLaid K (records ++ log ∷ []) t in
+    let more : length (xs ++ (s, log) ∷ []) ≡ length xs + 1 = length-append xs ((s, log) ∷ []) in
+    subst P (sym is) (record {
+      starts = map-push (λ (x : Laid). opened x.0) xs (s, log) ∙ ap (λ t. t ++ opened s ∷ []) h.starts ∙ ap (λ c. map (λ k. opening (setup_of K k)) (range_with_len 0 (length xs)) ++ c ∷ []) content
+          ∙ sym (map-range_with_len_more (λ k. opening (setup_of K k)) 0 (length xs) (length xs) (omega arith)) ∙ ap (λ n. map (λ k. opening (setup_of K k)) (range_with_len 0 n)) (sym more);
+      records = map-push (λ (x : Laid). x.1) xs (s, log) ∙ ap (λ t. t ++ log ∷ []) h.records;
+      replayed = all-push IsReplayed xs (s, log) h.replayed (stands, keeps);
+    })
+
+-- as many shards as records
+pub laid-count : (K : Settings) (records : List (List Entry)) (xs : List Laid) → IsLaid K records xs → length xs ≡ length records
+laid-count K records xs h = sym (length-map xs (λ (x : Laid). x.1)) ∙ ap length h.records
+
+-- each shard stands for the replay of its record, and keeps what was there
+pub replayed-at : (xs : List Laid) (k : ℕ) (x : Laid) → AllByRecursion IsReplayed xs → slice_get xs k ≡ Some x → IsReplayed x
+replayed-at [] k x h is = absurd (cc)
+replayed-at (y ∷ xs) zero x h is = subst IsReplayed (ap (λ o. unwrap_or o y) is) h.0
+replayed-at (y ∷ xs) (suc k) x h is = replayed-at xs k x h.1 is
+
+-- the records of a list, one by one from a number on
+each-from : (xs ys : List (List Entry)) (n : ℕ) → ((k : ℕ) → record_at ys k ≡ record_at xs (n + k)) → map (record_at xs) (range_with_len n (length ys)) ≡ ys
+each-from xs [] n h = refl
+each-from xs (y ∷ ys) n h =
+    let first : record_at xs n ≡ y = ap (record_at xs) (omega arith) ∙ sym (h 0) in
+    let rest : (k : ℕ) → record_at ys k ≡ record_at xs ((n + 1) + k) = λ k. h (suc k) ∙ ap (record_at xs) (omega arith) in
+    ap (λ e. e ∷ map (record_at xs) (range_with_len (n + 1) (length ys))) first ∙ ap (λ t. y ∷ t) (each-from xs ys (n + 1) rest)
+
+-- those of all shards are the list itself, where there is one of each
+pub each-record : (xs : List (List Entry)) → map (record_at xs) (range_with_len 0 (length xs)) ≡ xs
+each-record xs = each-from xs xs 0 (λ k. ap (record_at xs) (omega arith))
+
+-- so many shards have so many records
+pub all-counted : (xs : List (List Entry)) (n : ℕ) → length (map (record_at xs) (range_with_len 0 n)) ≡ n
+all-counted xs n = length-map-range_with_len (record_at xs) 0 n
+
+-- a list of records that isn't empty has one of each shard
+pub given-count : (K : Settings) (xs : List (List Entry)) → are_records K xs ≡ true → 0 < length xs → length xs ≡ K.shards
+given-count K xs h some = by_tests (length xs == 0) refl (length xs == K.shards) refl h
+  where
+    by_tests : (a : Bool) → (length xs == 0) ≡ a → (b : Bool) → (length xs == K.shards) ≡ b → (a || b) ≡ true → length xs ≡ K.shards
+    by_tests true none b is h = absurd (grind (arith, nat_tests))
+    by_tests false a true same h = grind (arith, nat_tests)
+    by_tests false a false b h = absurd (cc)
+
+-- an empty list has an empty record of each shard
+pub none-at : (xs : List (List Entry)) (k : ℕ) → length xs ≡ 0 → record_at xs k ≡ []
+none-at [] k h = refl
+none-at (x ∷ xs) k h = absurd (omega arith)
+
+-- one more of them
+pub one-more : (R xs ys : List (List Entry)) (log : List Entry) (n : ℕ) → length R ≡ 0 → xs ≡ map (record_at R) (range_with_len 0 n) → log ≡ [] → ys ≡ xs ++ log ∷ [] → ys ≡ map (record_at R) (range_with_len 0 (n + 1))
+one-more R xs ys log n none so empty is =
+    is ∙ ap (λ t. t ++ log ∷ []) so
+    ∙ ap (λ e. map (record_at R) (range_with_len 0 n) ++ e ∷ []) (empty ∙ sym (none-at R n none))
+    ∙ sym (map-range_with_len_more (record_at R) 0 n n (omega arith))
+
+-- no fault of the records, so the test holds
+pub records-right : (K : Settings) (xs : List (List Entry)) → records_fault K xs ≡ Ok tt → are_records K xs ≡ true
+records-right K xs h = by_test (are_records K xs) refl h
+  where
+    by_test : (b : Bool) → are_records K xs ≡ b → ◌≡◌ {A = Result (Unit {0}) Refusal} (if b then Ok tt else Err (InvalidArgument Records)) (Ok tt) → are_records K xs ≡ true
+    by_test true is h = is
+    by_test false is h = absurd (cc)
+
+-- a replay is the definition's
+pub replay-same : (S : Content) (R : List Entry) → replay after S R ≡ fold (λ S (e : Entry). after S e.request) S R
+replay-same S [] = refl
+replay-same S (e ∷ R) = replay-same (after S e.request) R
+
+-- the tasks that wait in a shard are those of the content for which it stands
+waiting-of : (s : ShardView) (S : Content) → StandsFor s S → all_waiting s.setup (states s.runs) ≡ waiting S
+waiting-of s S h = ap (λ t. all_waiting t.setup t.runs) h.says
+
+waits-from : (K : Settings) (R : List (List Entry)) (n : ℕ) (xs : List Laid)
+    → map (λ (x : Laid). opened x.0) xs ≡ map (λ k. opening (setup_of K k)) (range_with_len n (length xs))
+    → map (λ (x : Laid). x.1) xs ≡ map (record_at R) (range_with_len n (length xs))
+    → AllByRecursion IsReplayed xs
+    → flat_map (λ (x : Laid). all_waiting x.0.setup (states x.0.runs)) xs ≡ flat_map waiting (map (content_from K R) (range_with_len n (length xs)))
+waits-from K R n [] starts logs all = refl
+waits-from K R n (x ∷ xs) starts logs all =
+    let start : opened x.0 ≡ opening (setup_of K n) = ap (λ t. slice_index_or t 0 (opened x.0)) starts in
+    let log : x.1 ≡ record_at R n = ap (λ t. slice_index_or t 0 x.1) logs in
+    let content : replay after (opened x.0) x.1 ≡ content_from K R n =
+    ap (λ c. replay after c x.1) start ∙ ap (replay after (opening (setup_of K n))) log ∙ replay-same (opening (setup_of K n)) (record_at R n) in
+    let here : all_waiting x.0.setup (states x.0.runs) ≡ waiting (content_from K R n) = waiting-of x.0 (replay after (opened x.0) x.1) all.0.0 ∙ ap waiting content in
+    let rest = waits-from K R (n + 1) xs (ap tail_of starts) (ap tail_of logs) all.1 in
+    ap (λ t. t ++ flat_map (λ (x : Laid). all_waiting x.0.setup (states x.0.runs)) xs) here ∙ ap (λ t. waiting (content_from K R n) ++ t) rest
+  where
+    tail_of : {A : Type 0} → List A → List A
+    tail_of [] = []
+    tail_of (x ∷ xs) = xs
+
+-- the tasks that wait in shards that were laid are those that wait in the contents which the records leave
+pub waiting-is : (K : Settings) (R all : List (List Entry)) (xs : List Laid) → IsLaid K all xs → all ≡ map (record_at R) (range_with_len 0 K.shards) → length xs ≡ K.shards
+    → flat_map (λ (x : Laid). all_waiting x.0.setup (states x.0.runs)) xs ≡ waiting_from K R
+waiting-is K R all xs h is count =
+    waits-from K R 0 xs h.starts (h.records ∙ is ∙ ap (λ n. map (record_at R) (range_with_len 0 n)) (sym count)) h.replayed
+    ∙ ap (λ n. flat_map waiting (map (content_from K R) (range_with_len 0 n))) count
+
+-- the same of a list that was gathered from them
+pub waits-laid : (K : Settings) (R all : List (List Entry)) (xs now : List Laid) (ds : List Dispatch) → IsLaid K all xs → all ≡ map (record_at R) (range_with_len 0 K.shards) → now ≡ xs
+    → ds ≡ flat_map (λ (x : Laid). all_waiting x.0.setup (states x.0.runs)) now → ds ≡ waiting_from K R
+waits-laid K R all xs now ds laid each same gathered =
+    gathered ∙ ap (flat_map (λ (x : Laid). all_waiting x.0.setup (states x.0.runs))) same
+    ∙ waiting-is K R all xs laid each (laid-count K all xs laid ∙ ap length each ∙ all-counted R K.shards)
+
+-- what stands at a place of what was made of numbers from one on
+at-range : (f : ℕ → List Entry) (n m s : ℕ) → s < m → at (map f (range_with_len n m)) s ≡ f (n + s)
+at-range f n zero s below = absurd (omega arith)
+at-range f n (suc m) zero below = ap f (omega arith)
+at-range f n (suc m) (suc s) below = at-range f (n + 1) m s (omega arith) ∙ ap f (omega arith)
+
+at-end : (f : ℕ → List Entry) (n m s : ℕ) → m ≤ s → at (map f (range_with_len n m)) s ≡ []
+at-end f n zero s past = refl
+at-end f n (suc m) zero past = absurd (omega arith)
+at-end f n (suc m) (suc s) past = at-end f (n + 1) m s (omega arith)
+
+-- past its end a list has no record
+record-end : (xs : List (List Entry)) (s : ℕ) → length xs ≤ s → record_at xs s ≡ []
+record-end [] s past = refl
+record-end (x ∷ xs) zero past = absurd (omega arith)
+record-end (x ∷ xs) (suc s) past = record-end xs s (omega arith)
+
+-- a list of records has none behind the last shard
+few : (K : Settings) (R : List (List Entry)) → are_records K R ≡ true → length R ≤ K.shards
+few K R right = by_length (length R) refl
+  where
+    by_length : (n : ℕ) → length R ≡ n → length R ≤ K.shards
+    by_length zero is = omega (arith, is)
+    by_length (suc n) is = let same : length R ≡ K.shards = given-count K R right (omega (arith, is)) in omega (arith, same)
+
+-- the record with which a shard is opened is the given one
+pub base-is : (K : Settings) (R : List (List Entry)) (s : ℕ) → are_records K R ≡ true → at (map (record_at R) (range_with_len 0 K.shards)) s ≡ record_at R s
+base-is K R s right = by_place (nat_lt s K.shards) refl
+  where
+    by_place : (b : Bool) → nat_lt s K.shards ≡ b → at (map (record_at R) (range_with_len 0 K.shards)) s ≡ record_at R s
+    by_place true below = let below' : s < K.shards = grind (arith, nat_tests) in at-range (record_at R) 0 K.shards s below' ∙ ap (record_at R) (omega arith)
+    by_place false past = let past' : K.shards ≤ s = grind (arith, nat_tests) in at-end (record_at R) 0 K.shards s past' ∙ sym (record-end R s (omega (arith, few K R right, past')))
+
+-- ---- where the tasks go that wait
+
+-- a hint of a shard that is there, to a queue that was named
+abbrev pub GoesToQueue : Settings → Dispatch → Type 0
+GoesToQueue K d = (d.hint.shard < K.shards) × ((n : ℕ) × (place_in K.queues d.queue ≡ Some n))
+
+goes-from : (K : Settings) (n : ℕ) → n < K.shards → (ds : List Dispatch) → AllByRecursion (IsNamed (setup_of K n)) ds → AllByRecursion (GoesToQueue K) ds
+goes-from K n below [] h = tt
+goes-from K n below (d ∷ ds) h = ((subst (λ s. s < K.shards) (sym h.0.shard) below, place-known (setup_of K n) d h.0), goes-from K n below ds h.1)
+
+all-append : {A : Type 0} (P : A → Type 0) (xs ys : List A) → AllByRecursion P xs → AllByRecursion P ys → AllByRecursion P (xs ++ ys)
+all-append P [] ys h k = k
+all-append P (x ∷ xs) ys h k = (h.0, all-append P xs ys h.1 k)
+
+all-go : (K : Settings) (R : List (List Entry)) (n m : ℕ) → n + m ≤ K.shards → AllByRecursion (GoesToQueue K) (flat_map waiting (map (content_from K R) (range_with_len n m)))
+all-go K R n zero below = tt
+all-go K R n (suc m) below =
+    all-append (GoesToQueue K) (waiting (content_from K R n)) _ (goes-from K n (omega (arith, below)) (waiting (content_from K R n)) (waiting-are-named (setup_of K n) (record_at R n)))
+    (all-go K R (n + 1) m (omega (arith, below)))
+
+-- all tasks that wait go to queues that are there
+pub waiting-go : (K : Settings) (R : List (List Entry)) → AllByRecursion (GoesToQueue K) (waiting_from K R)
+waiting-go K R = all-go K R 0 K.shards (omega arith)
+
+each-at : {A : Type 0} (P : A → Type 0) (xs : List A) → AllByRecursion P xs → (k : ℕ) (d : A) → k < length xs → P (slice_index_or xs k d)
+each-at P [] h k d below = absurd (omega arith)
+each-at P (x ∷ xs) h zero d below = h.0
+each-at P (x ∷ xs) h (suc k) d below = each-at P xs h.1 k d (omega arith)
+
+-- their shards are there
+pub waiting-there : (K : Settings) (R : List (List Entry)) → All (λ (d : Dispatch). d.hint.shard < K.shards) (waiting_from K R)
+waiting-there K R = λ k d below. (each-at (GoesToQueue K) (waiting_from K R) (waiting-go K R) k d below).0
+
+-- a push where there is a queue
+room-known : (K : Settings) (ds : List Dispatch) (b : Bool) (all : List (List Hint)) → ((more : List (List Hint)) → all_pushed K.queues K.capacity more ds ≢ Err UnknownTaskQueue)
+    → then_push (if b then Ok all else Err QueueFull) (λ more. all_pushed K.queues K.capacity more ds) ≢ Err UnknownTaskQueue
+room-known K ds true all rest = rest all
+room-known K ds false all rest = λ e. absurd (cc (e))
+
+-- so no push of them finds an unknown queue
+pub never-unknown : (K : Settings) (all : List (List Hint)) (ds : List Dispatch) → AllByRecursion (GoesToQueue K) ds → all_pushed K.queues K.capacity all ds ≢ Err UnknownTaskQueue
+never-unknown K all [] h = λ e. absurd (cc (e))
+never-unknown K all (d ∷ ds) h = λ e. room-known K ds (nat_lt (length (slice_index_or all (slot_of h.0.1.0 d.hint.kind) [])) K.capacity) (slice_set all (slot_of h.0.1.0 d.hint.kind) (slice_index_or all (slot_of h.0.1.0 d.hint.kind) [] ++ d.hint ∷ [])) (λ more. never-unknown K more ds h.1)
+    (ap (λ p. then_push (pushed K.capacity all p d.hint) (λ more. all_pushed K.queues K.capacity more ds)) (sym h.0.1.1) ∙ e)
+
+-- ---- what opening comes to
+
+-- the settings are in their ranges and the records are as many as they have to be: then the pushes decide
+pub opens-as : (K : Settings) (R : List (List Entry)) (ds : List Dispatch) (r : Result (List (List Hint)) Refusal) → range_fault K ≡ Ok tt → records_fault K R ≡ Ok tt → ds ≡ waiting_from K R → held_by K.queues K.capacity ds ≡ r → opens K R ≡ r
+opens-as K R ds r range right is pushed =
+    ap (λ f. unless_fault f (unless_fault (records_fault K R) (held_by K.queues K.capacity (waiting_from K R)))) range
+    ∙ ap (λ f. unless_fault f (held_by K.queues K.capacity (waiting_from K R))) right ∙ ap (held_by K.queues K.capacity) (sym is) ∙ pushed
+
+pub opens-out : (K : Settings) (R : List (List Entry)) (e : Refusal) → range_fault K ≡ Err e → opens K R ≡ Err e
+opens-out K R e range = ap (λ f. unless_fault f (unless_fault (records_fault K R) (held_by K.queues K.capacity (waiting_from K R)))) range
+
+pub opens-wrong : (K : Settings) (R : List (List Entry)) (e : Refusal) → range_fault K ≡ Ok tt → records_fault K R ≡ Err e → opens K R ≡ Err e
+opens-wrong K R e range wrong =
+    ap (λ f. unless_fault f (unless_fault (records_fault K R) (held_by K.queues K.capacity (waiting_from K R)))) range
+    ∙ ap (λ f. unless_fault f (held_by K.queues K.capacity (waiting_from K R))) wrong
+
+-- what a result is, where it is known of it twice
+pub both-ok : {A E : Type 0} (P Q R : A → Type 0) (S : E → Type 0) (r : Result A E) → MatchResult r P S → IfOk r Q → ((x : A) → P x → Q x → R x) → IfOk r R
+both-ok P Q R S (Ok x) p q more = more x p q
+both-ok P Q R S (Err e) p q more = tt
+
+-- the passes of queues into which the dispatches were pushed
+pub holds-pushed : (K : Settings) (names : List (List ℕ)) (capacity passes shards : ℕ) (ds : List Dispatch) (all : List (List Hint)) (ps : List QueuesPass)
+    → names ≡ K.queues → capacity ≡ K.capacity → passes ≡ K.passes → shards ≡ K.shards
+    → held_by names capacity ds ≡ Ok all → ((k : ℕ) (p : QueuesPass) → slice_get ps k ≡ Some p → IsFresh passes shards capacity all k p) → HoldAtOpening K ds ps
+holds-pushed K names capacity passes shards ds all ps is room many wide pushes fresh = record {
+  held = all;
+  pushed = sym (ap (λ t. held_by t capacity ds) is ∙ ap (λ n. held_by K.queues n ds) room) ∙ pushes;
+  fresh = rw (many, wide, room) at fresh;
+}

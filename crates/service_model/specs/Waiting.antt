@@ -1,0 +1,37 @@
+-- MEANING: the tasks of a shard that wait to be taken: their hints are pushed anew when a service is opened again
+use Rattle.std.specs.Prelude.{ℕ, cond, ◌&&◌, ◌==◌, List, filter_map, flat_map, map, Option, None, option_and_then}
+use Rattle.std.specs.List.{enumerate_from}
+use Rattle.wf_event.specs.declared.event.Event.{Event}
+use Rattle.wf_event.specs.declared.attributes.Attributes.{Attributes}
+use Rattle.wf_event.specs.declared.attributes.Attributes.TheVariants.{WorkflowTaskScheduled, ActivityTaskScheduled}
+use Rattle.service_model_types.specs.declared.content.Content.{Content}
+use Rattle.service_model_types.specs.declared.content.Dispatch.{Dispatch}
+use Rattle.service_model_types.specs.declared.content.Setup.{Setup}
+use Rattle.service_model.specs.Issued.{row_dispatch, task_dispatch}
+use Rattle.service_model.specs.RunState.{RunState, ActivityRow, last_task, state_of}
+use Rattle.service_model.specs.Tasks.{is_queued, is_scheduled_task, pending_row}
+
+-- an activity's attempt waits while it is queued
+abbrev pub queued_dispatch : Setup → ℕ → ActivityRow → Option Dispatch
+queued_dispatch setup run r = cond (is_queued r.phase) (row_dispatch setup run r) None
+
+-- the task that an event schedules, where it waits: the run's workflow task while it is scheduled, the attempt of a pending activity while that is queued
+abbrev pub waiting_task : Setup → ℕ → RunState → Event → Option Dispatch
+waiting_task setup run s e = by_kind e.attributes
+  where
+    by_kind : Attributes → Option Dispatch
+    by_kind (WorkflowTaskScheduled a) = cond (is_scheduled_task s.task && ((last_task s).scheduled == e.id)) (task_dispatch setup run e) None
+    by_kind (ActivityTaskScheduled a) = option_and_then (queued_dispatch setup run) (pending_row s e.id)
+    by_kind _ = None
+
+-- the tasks of a run that wait, in the order of the events that scheduled them
+abbrev pub waiting_of : Setup → ℕ → RunState → List Dispatch
+waiting_of setup run s = filter_map (waiting_task setup run s) s.shown
+
+-- those of all runs, in the order of the runs
+abbrev pub all_waiting : Setup → List RunState → List Dispatch
+all_waiting setup states = flat_map (λ (p : ℕ × RunState). waiting_of setup p.0 p.1) (enumerate_from 1 states)
+
+-- those of a shard
+abbrev pub waiting : Content → List Dispatch
+waiting S = all_waiting S.setup (map state_of S.runs)

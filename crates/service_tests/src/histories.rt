@@ -1,0 +1,183 @@
+//! Histories that are read while they grow.
+
+ghost use Rattle.service.specs.Services.{IsPassOf};
+ghost use Rattle.std.specs.Thread.{IsSync};
+
+use crate::asked::{id, moment, settings, signal};
+use crate::calls::start_one;
+use crate::passes::{open, take_pass};
+use crate::shown::shown;
+use event_pieces::SharedEvents;
+use service::{Pass, Service};
+use service_model_types::answer::{Answer, Reply};
+use service_model_types::request::Read;
+use std::alloc::AllocGlobal;
+use std::process::Abort;
+use std::sync::Wait;
+use std::thread::{self, Threads};
+
+/// How many signals each thread sends.
+const SIGNALS: u64 = 1000;
+
+/// The events of the start, and the signals of four threads.
+const ALL: usize = 4002;
+
+/// How often a thread reads before it gives up.
+const READS: u64 = 100_000_000;
+
+/// What is answered to a read of `a`.
+fn read<R: Abort + AllocGlobal + Wait>(rt: &R, service: &Service, pass: &mut Pass, at: u64) -> Reply
+    requires { IsPassOf pass.old service.now }
+    ensures { IsPassOf pass.new service.now }
+{
+    let asked = Read {
+        workflow_id: id(rt, "a"),
+        run: None,
+    };
+    match service.history(rt, pass, asked, moment(rt, at)) {
+        Ok(reply) => reply,
+        Err(_) => panic!(rt; "no memory"),
+    }
+}
+
+/// The events of an answered history.
+fn events<'a, R: Abort>(rt: &R, reply: &'a Reply) -> &'a SharedEvents {
+    match reply {
+        Ok(Answer::History(history)) => &history.events,
+        _ => panic!(rt; "no history"),
+    }
+}
+
+/// How many events there are, if their ids count from 1, and else none.
+pub(crate) fn count(events: &SharedEvents) -> usize {
+    let mut next: u64 = 1;
+    for event in events.iter() {
+        if event.id != next {
+            return 0;
+        }
+        next = next.saturating_add(1);
+    }
+    (next - 1) as usize
+}
+
+/// Whether the first events are the others.
+fn begins(others: &SharedEvents, events: &SharedEvents) -> bool {
+    let mut behind = events.iter();
+    for other in others.iter() {
+        let Some(event) = behind.next() else {
+            return false;
+        };
+        if event.at.millis() != other.at.millis() {
+            return false;
+        }
+    }
+    true
+}
+
+/// Signals `a` at rising moments.
+fn signal_often<R: Abort + AllocGlobal + Wait>(rt: &R, service: &Service, mut pass: Pass)
+    requires { IsPassOf pass service.now }
+{
+    for at in 0..SIGNALS {
+        let came = service.signal(rt, &mut pass, signal(rt, "a"), moment(rt, at));
+        assert_eq!(rt; shown(came), "signaled");
+    }
+}
+
+/// Reads `a` until all signals are there. Each read begins the next, and the first one stays as it was.
+fn read_often<R: Abort + AllocGlobal + Wait>(rt: &R, service: &Service, mut pass: Pass)
+    requires { IsPassOf pass service.now }
+{
+    let first = read(rt, service, &mut pass, 0);
+    let early = count(events(rt, &first));
+    let mut last = read(rt, service, &mut pass, 0);
+    for _ in 0..READS {
+        let next = read(rt, service, &mut pass, 0);
+        assert!(rt; begins(events(rt, &last), events(rt, &next)));
+        if count(events(rt, &next)) == ALL {
+            assert_eq!(rt; count(events(rt, &first)), early);
+            return;
+        }
+        last = next;
+        thread::yield_now();
+    }
+    panic!(rt; "the signals didn't come to an end")
+}
+
+/// Two threads signal at the same time.
+fn signal_both<R: Abort + AllocGlobal + Wait + Threads + Sync>(
+    rt: &R,
+    service: &Service,
+    one: Pass,
+    two: Pass,
+)
+    requires { IsPassOf one service.now × IsPassOf two service.now }
+{
+    let ((), ()) = thread::join(
+        rt,
+        move || -> ()
+            requires { IsSync R.row × IsPassOf one service.now }
+        { signal_often(rt, service, one) },
+        move || -> ()
+            requires { IsSync R.row × IsPassOf two service.now }
+        { signal_often(rt, service, two) },
+    );
+}
+
+/// Two threads signal while a third one reads.
+fn signal_and_read<R: Abort + AllocGlobal + Wait + Threads + Sync>(
+    rt: &R,
+    service: &Service,
+    signals: (Pass, Pass),
+    reads: Pass,
+)
+    requires signals { IsPassOf signals.0 service.now × IsPassOf signals.1 service.now }
+    requires reads { IsPassOf reads service.now }
+{
+    let ((), ()) = thread::join(
+        rt,
+        move || -> ()
+            requires { IsSync R.row × IsPassOf signals.0 service.now
+                × IsPassOf signals.1 service.now }
+        { signal_both(rt, service, signals.0, signals.1) },
+        move || -> ()
+            requires { IsSync R.row × IsPassOf reads service.now }
+        { read_often(rt, service, reads) },
+    );
+}
+
+/// Four threads signal, and a fifth one reads meanwhile.
+fn write_and_read<R: Abort + AllocGlobal + Wait + Threads + Sync>(
+    rt: &R,
+    service: &Service,
+    one: (Pass, Pass),
+    two: (Pass, Pass),
+    reads: Pass,
+)
+    requires one { IsPassOf one.0 service.now × IsPassOf one.1 service.now }
+    requires two { IsPassOf two.0 service.now × IsPassOf two.1 service.now }
+    requires reads { IsPassOf reads service.now }
+{
+    let ((), ()) = thread::join(
+        rt,
+        move || -> ()
+            requires { IsSync R.row × IsPassOf one.0 service.now × IsPassOf one.1 service.now }
+        { signal_both(rt, service, one.0, one.1) },
+        move || -> ()
+            requires { IsSync R.row × IsPassOf two.0 service.now × IsPassOf two.1 service.now
+                × IsPassOf reads service.now }
+        { signal_and_read(rt, service, two, reads) },
+    );
+}
+
+#[test]
+fn a_history_is_read_while_four_threads_write_it(rt: HostRuntime) {
+    let (service, mut passes) = open(&rt, &settings(&rt, 1, 5, 1));
+    let reads = take_pass(&service, &mut passes);
+    let d = take_pass(&service, &mut passes);
+    let c = take_pass(&service, &mut passes);
+    let b = take_pass(&service, &mut passes);
+    let mut a = take_pass(&service, &mut passes);
+    start_one(&rt, &service, &mut a, "a");
+    write_and_read(&rt, &service, (a, b), (c, d), reads);
+}

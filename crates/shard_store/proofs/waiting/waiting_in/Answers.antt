@@ -1,0 +1,18 @@
+use Rattle.std.proofs.Common.{ap, ◌∙◌, ◌+◌, sym, arith, ◌++◌}
+use Rattle.std.proofs.Math.ListN.{get_or}
+use Rattle.service_model.specs.Waiting.{all_waiting, waiting_of}
+use Rattle.mutable_state.specs.View.{RunView}
+use Rattle.shard_store.specs.View.{states}
+use Rattle.shard_store.proofs.WaitingLemmas.{next-wait, all-wait}
+use Rattle.shard_store.proofs.waiting.waiting_in.Goals as goal
+
+pub loop-index-preserved : goal.loop-index-preserved
+loop-index-preserved g c =
+    let i = c.loop-index.index in
+    let so_far = c.loop-index.waiting.items in
+    c.in_ok-append.ensures.items ∙ ap (λ l. so_far ++ l) (c.in_ok-found.ensures ∙ ap (λ (r : RunView). waiting_of c.args.setup.now (i + 1) r.state) c.index-runs-index.is)
+    ∙ ap (λ l. l ++ waiting_of c.args.setup.now (i + 1) (get_or c.args.runs.now i c.index-runs-index.result).state) c.loop-index.invariant
+    ∙ sym (next-wait c.args.setup.now c.args.runs.now i c.index-runs-index.result (omega arith))
+
+pub returns : goal.returns
+returns g c = c.loop-index.invariant ∙ ap (λ rs. all_waiting c.args.setup.now (states rs)) (all-wait c.args.runs.now c.loop-index.index (omega arith))

@@ -1,0 +1,318 @@
+-- deadlines by numbers, as one comes and one goes
+use Rattle.std.proofs.Common.{◌≡◌, ◌≢◌, ℕ, zero, suc, ◌+◌, ◌-◌, ◌<◌, ◌≤◌, ◌⊎◌, inl, inr, List, [], ◌∷◌, ◌++◌, length, slice_index_or, slice_set, map, refl, sym, ap, arith, ◌∙◌}
+use Rattle.std.specs.FinMap.{FinMap, get, insert, remove, empty, get-empty}
+use Rattle.std.specs.Ordering.{nat_cmp}
+use Rattle.std.specs.Prelude.{Option, Some, None, IfSome, IfNone, Result, Ok, Err, OnOk}
+use Rattle.std.proofs.Math.ListN.{get_or-map}
+use Rattle.std.proofs.lemmas.Bool.{cases_eq}
+use Rattle.std.proofs.lemmas.List.{ext_get_or, get_or-set_same, get_or-set_other, length-set, length-map, get_or_default}
+use Rattle.timeouts.specs.Slots.{IsNotAfter, IsLeastAt}
+use Rattle.timeouts.specs.Places.{known_by, count_none, IsByPlace}
+use Rattle.timeouts.specs.declared.due.Due.{Due}
+use Rattle.timeouts.specs.declared.deadlines.DueId.{DueId}
+use Rattle.timeouts.proofs.MemberLemmas.{get-there, get-elsewhere, get-gone, get-left}
+
+at : List (Option DueId) → ℕ → Option DueId
+at ids k = slice_index_or ids k None
+
+-- what is at a number
+pub known-at : (m : FinMap nat_cmp Due) (ids : List (Option DueId)) (k : ℕ) → slice_index_or (map (known_by m) ids) k None ≡ known_by m (slice_index_or ids k None)
+known-at m ids k = get_or-map (known_by m) ids k None
+
+-- at a number where none is there is no id
+pub no-id : (m : FinMap nat_cmp Due) (ids : List (Option DueId)) (free room k : ℕ) → IsByPlace m ids free room → slice_index_or (map (known_by m) ids) k None ≡ None → slice_index_or ids k None ≡ None
+no-id m ids free room k kept none = by (slice_index_or ids k None) refl
+  where
+    by : (o : Option DueId) → slice_index_or ids k None ≡ o → o ≡ None
+    by None is = refl
+    by (Some id) is =
+        let d = kept.there k id is in
+        let clash : Some d.0 ≡ None = sym d.1 ∙ ap (known_by m) (sym is) ∙ sym (known-at m ids k) ∙ none in
+        cc
+
+some-none : (id : DueId) → Some id ≡ None → ⊥
+some-none id e = cc
+
+same-id : (a b : DueId) → Some a ≡ Some b → a ≡ b
+same-id a b e = cc
+
+id-of : (a : DueId) (q : ℕ) → a.number ≡ q → a ≡ record { number = q }
+id-of a q e = ap (λ (n : ℕ). let r : DueId = record { number = n } in r) e
+
+-- how many numbers are free as one is taken, and as one is given up
+count-step : (o : Option DueId) (ids : List (Option DueId)) → count_none (o ∷ ids) ≡ count_none (o ∷ []) + count_none ids
+count-step None ids = omega arith
+count-step (Some id) ids = omega arith
+
+pub count-set : (ids : List (Option DueId)) (k : ℕ) (o : Option DueId) → k < length ids → count_none (slice_set ids k o) + count_none (slice_index_or ids k None ∷ []) ≡ count_none ids + count_none (o ∷ [])
+count-set [] k o within = absurd (omega arith)
+count-set (x ∷ ids) zero o within =
+    let one = count-step o ids in
+    let two = count-step x ids in
+    omega arith
+count-set (x ∷ ids) (suc k) o within =
+    let below = count-set ids k o (omega arith) in
+    let one = count-step x (slice_set ids k o) in
+    let two = count-step x ids in
+    omega arith
+
+-- at most as many are free as there are
+pub count-few : (ids : List (Option DueId)) → count_none ids ≤ length ids
+count-few [] = omega arith
+count-few (None ∷ ids) = let below = count-few ids in omega arith
+count-few (Some id ∷ ids) = let below = count-few ids in omega arith
+
+count-push : (ids : List (Option DueId)) → count_none (ids ++ None ∷ []) ≡ count_none ids + 1
+count-push [] = refl
+count-push (None ∷ ids) = let below = count-push ids in omega arith
+count-push (Some id ∷ ids) = let below = count-push ids in omega arith
+
+-- one that is free is counted
+pub some-free : (m : FinMap nat_cmp Due) (ids : List (Option DueId)) (free room k : ℕ) → IsByPlace m ids free room → k < length ids → slice_index_or ids k None ≡ None → 1 ≤ free
+some-free m ids free room k kept within none =
+    let counted = kept.counted in
+    let all = count-set ids k (Some (record { number = 0 })) within in
+    let one : count_none (slice_index_or ids k None ∷ []) ≡ 1 = ap (λ o. count_none (o ∷ [])) none in
+    omega arith
+
+module _ (m : FinMap nat_cmp Due) (ids : List (Option DueId)) (free room k : ℕ) (kept : IsByPlace m ids free room) (within : k < length ids) where
+  same-at : (o : Option DueId) → slice_index_or (slice_set ids k o) k None ≡ o
+  same-at o = get_or-set_same ids k o None within
+
+  other-at : (o : Option DueId) (j : ℕ) → j ≢ k → slice_index_or (slice_set ids k o) j None ≡ slice_index_or ids j None
+  other-at o j other = get_or-set_other ids k j o None other
+
+  -- what is at the number is taken away
+  module _ (id : DueId) (is : slice_index_or ids k None ≡ Some id) where
+    away-other : (j : ℕ) (jd : DueId) → slice_index_or (slice_set ids k None) j None ≡ Some jd → (j ≢ k) × (slice_index_or ids j None ≡ Some jd)
+    away-other j jd at = by (cases_eq j k)
+      where
+        by : (j ≡ k) ⊎ (j ≢ k) → (j ≢ k) × (slice_index_or ids j None ≡ Some jd)
+        by (inl same) = absurd (some-none jd (sym at ∙ ap (λ x. slice_index_or (slice_set ids k None) x None) same ∙ same-at None))
+        by (inr other) = (other, sym (other-at None j other) ∙ at)
+
+    away-apart : (j : ℕ) (jd : DueId) → j ≢ k → slice_index_or ids j None ≡ Some jd → jd.number ≢ id.number
+    away-apart j jd other at same = other (kept.apart j k id (at ∙ ap (λ (x : DueId). Some x) (id-of jd id.number same)) is)
+
+    away-only : (q : ℕ) (d : Due) → get (remove m id.number) q ≡ Some d → (j : ℕ) × (slice_index_or (slice_set ids k None) j None ≡ Some (record { number = q }))
+    away-only q d there = by (cases_eq q id.number)
+      where
+        by : (q ≡ id.number) ⊎ (q ≢ id.number) → (j : ℕ) × (slice_index_or (slice_set ids k None) j None ≡ Some (record { number = q }))
+        by (inl same) = absurd (let clash : Some d ≡ None = sym there ∙ ap (get (remove m id.number)) same ∙ get-gone m id.number in cc)
+        by (inr other) =
+            let found = kept.only q d (sym (get-left m id.number q other) ∙ there) in
+            let apart : found.0 ≢ k = (λ same. other (ap (λ (x : DueId). x.number) (same-id (record { number = q }) id (sym found.1 ∙ ap (λ x. slice_index_or ids x None) same ∙ is)))) in
+            (found.0, other-at None found.0 apart ∙ found.1)
+
+    pub taken-away : IsByPlace (remove m id.number) (slice_set ids k None) (free + 1) (room + 1)
+    taken-away = record {
+      there = λ j jd at.
+          let o = away-other j jd at in
+          let d = kept.there j jd o.1 in
+          (d.0, get-left m id.number jd.number (away-apart j jd o.0 o.1) ∙ d.1);
+      apart = λ i j jd a b. kept.apart i j jd (away-other i jd a).1 (away-other j jd b).1;
+      only = away-only;
+      counted =
+          let counted = kept.counted in
+          let all = count-set ids k None within in
+          let none : count_none (slice_index_or ids k None ∷ []) ≡ 0 = ap (λ o. count_none (o ∷ [])) is in
+          omega arith;
+      fits = let fits = kept.fits in omega arith;
+    }
+
+    away-at : (j : ℕ) → (j ≡ k) ⊎ (j ≢ k) → known_by (remove m id.number) (slice_index_or (slice_set ids k None) j None) ≡ slice_index_or (slice_set (map (known_by m) ids) k None) j None
+    away-at j (inl same) =
+        ap (known_by (remove m id.number)) (ap (λ x. slice_index_or (slice_set ids k None) x None) same ∙ same-at None)
+        ∙ sym (ap (λ x. slice_index_or (slice_set (map (known_by m) ids) k None) x None) same ∙ get_or-set_same (map (known_by m) ids) k None None (rw (length-map ids (known_by m)) within))
+    away-at j (inr other) =
+        ap (known_by (remove m id.number)) (other-at None j other) ∙ still (slice_index_or ids j None) refl
+        ∙ sym (get_or-set_other (map (known_by m) ids) k j None None other ∙ known-at m ids j)
+      where
+        still : (o : Option DueId) → slice_index_or ids j None ≡ o → known_by (remove m id.number) (slice_index_or ids j None) ≡ known_by m (slice_index_or ids j None)
+        still None at = ap (known_by (remove m id.number)) at ∙ sym (ap (known_by m) at)
+        still (Some jd) at = ap (known_by (remove m id.number)) at ∙ get-left m id.number jd.number (away-apart j jd other at) ∙ sym (ap (known_by m) at)
+
+    pub slots-away : map (known_by (remove m id.number)) (slice_set ids k None) ≡ slice_set (map (known_by m) ids) k None
+    slots-away = ext_get_or None _ _ lengths (λ j _. known-at (remove m id.number) (slice_set ids k None) j ∙ away-at j (cases_eq j k))
+      where
+        lengths : length (map (known_by (remove m id.number)) (slice_set ids k None)) ≡ length (slice_set (map (known_by m) ids) k None)
+        lengths = length-map (slice_set ids k None) (known_by (remove m id.number)) ∙ length-set ids k None ∙ sym (length-map ids (known_by m)) ∙ sym (length-set (map (known_by m) ids) k None)
+
+  -- one is put at a number at which none is
+  module _ (none : slice_index_or ids k None ≡ None) (id : DueId) (d : Due) (free-id : get m id.number ≡ None) where
+    new-apart : (j : ℕ) (jd : DueId) → slice_index_or ids j None ≡ Some jd → jd.number ≢ id.number
+    new-apart j jd at same =
+        let e = kept.there j jd at in
+        let clash : Some e.0 ≡ None = sym e.1 ∙ ap (get m) same ∙ free-id in
+        cc
+
+    new-there : (j : ℕ) (jd : DueId) → slice_index_or (slice_set ids k (Some id)) j None ≡ Some jd → (e : Due) × (get (insert m id.number d) jd.number ≡ Some e)
+    new-there j jd at = by (cases_eq j k)
+      where
+        by : (j ≡ k) ⊎ (j ≢ k) → (e : Due) × (get (insert m id.number d) jd.number ≡ Some e)
+        by (inl same) =
+            let one : jd ≡ id = same-id jd id (sym at ∙ ap (λ x. slice_index_or (slice_set ids k (Some id)) x None) same ∙ same-at (Some id)) in
+            (d, ap (λ (x : DueId). get (insert m id.number d) x.number) one ∙ get-there m id.number d)
+        by (inr other) =
+            let before = sym (other-at (Some id) j other) ∙ at in
+            let e = kept.there j jd before in
+            (e.0, get-elsewhere m id.number d jd.number (new-apart j jd before) ∙ e.1)
+
+    new-one : (i j : ℕ) (jd : DueId) → slice_index_or (slice_set ids k (Some id)) i None ≡ Some jd → slice_index_or (slice_set ids k (Some id)) j None ≡ Some jd → i ≡ j
+    new-one i j jd a b = by (cases_eq i k) (cases_eq j k)
+      where
+        here : (x : ℕ) → x ≡ k → slice_index_or (slice_set ids k (Some id)) x None ≡ Some jd → jd ≡ id
+        here x same at = same-id jd id (sym at ∙ ap (λ y. slice_index_or (slice_set ids k (Some id)) y None) same ∙ same-at (Some id))
+
+        by : (i ≡ k) ⊎ (i ≢ k) → (j ≡ k) ⊎ (j ≢ k) → i ≡ j
+        by (inl one) (inl two) = one ∙ sym two
+        by (inl one) (inr two) = absurd (new-apart j jd (sym (other-at (Some id) j two) ∙ b) (ap (λ (x : DueId). x.number) (here i one a)))
+        by (inr one) (inl two) = absurd (new-apart i jd (sym (other-at (Some id) i one) ∙ a) (ap (λ (x : DueId). x.number) (here j two b)))
+        by (inr one) (inr two) = kept.apart i j jd (sym (other-at (Some id) i one) ∙ a) (sym (other-at (Some id) j two) ∙ b)
+
+    new-only : (q : ℕ) (e : Due) → get (insert m id.number d) q ≡ Some e → (j : ℕ) × (slice_index_or (slice_set ids k (Some id)) j None ≡ Some (record { number = q }))
+    new-only q e there = by (cases_eq q id.number)
+      where
+        by : (q ≡ id.number) ⊎ (q ≢ id.number) → (j : ℕ) × (slice_index_or (slice_set ids k (Some id)) j None ≡ Some (record { number = q }))
+        by (inl same) = (k, same-at (Some id) ∙ ap (λ (x : DueId). Some x) (id-of id q (sym same)))
+        by (inr other) =
+            let found = kept.only q e (sym (get-elsewhere m id.number d q other) ∙ there) in
+            let apart : found.0 ≢ k = (λ same. some-none (record { number = q }) (sym found.1 ∙ ap (λ x. slice_index_or ids x None) same ∙ none)) in
+            (found.0, other-at (Some id) found.0 apart ∙ found.1)
+
+    pub put-there : (room' : ℕ) → room' + 1 ≡ room → IsByPlace (insert m id.number d) (slice_set ids k (Some id)) (free - 1) room'
+    put-there room' less = record {
+      there = new-there;
+      apart = new-one;
+      only = new-only;
+      counted =
+          let counted = kept.counted in
+          let all = count-set ids k (Some id) within in
+          let one : count_none (slice_index_or ids k None ∷ []) ≡ 1 = ap (λ o. count_none (o ∷ [])) none in
+          omega arith;
+      fits = let fits = kept.fits in omega arith;
+    }
+
+    new-at : (j : ℕ) → (j ≡ k) ⊎ (j ≢ k) → known_by (insert m id.number d) (slice_index_or (slice_set ids k (Some id)) j None) ≡ slice_index_or (slice_set (map (known_by m) ids) k (Some d)) j None
+    new-at j (inl same) =
+        ap (known_by (insert m id.number d)) (ap (λ x. slice_index_or (slice_set ids k (Some id)) x None) same ∙ same-at (Some id)) ∙ get-there m id.number d
+        ∙ sym (ap (λ x. slice_index_or (slice_set (map (known_by m) ids) k (Some d)) x None) same ∙ get_or-set_same (map (known_by m) ids) k (Some d) None (rw (length-map ids (known_by m)) within))
+    new-at j (inr other) =
+        ap (known_by (insert m id.number d)) (other-at (Some id) j other) ∙ still (slice_index_or ids j None) refl
+        ∙ sym (get_or-set_other (map (known_by m) ids) k j (Some d) None other ∙ known-at m ids j)
+      where
+        still : (o : Option DueId) → slice_index_or ids j None ≡ o → known_by (insert m id.number d) (slice_index_or ids j None) ≡ known_by m (slice_index_or ids j None)
+        still None at = ap (known_by (insert m id.number d)) at ∙ sym (ap (known_by m) at)
+        still (Some jd) at = ap (known_by (insert m id.number d)) at ∙ get-elsewhere m id.number d jd.number (new-apart j jd at) ∙ sym (ap (known_by m) at)
+
+    pub slots-put : map (known_by (insert m id.number d)) (slice_set ids k (Some id)) ≡ slice_set (map (known_by m) ids) k (Some d)
+    slots-put = ext_get_or None _ _ lengths (λ j _. known-at (insert m id.number d) (slice_set ids k (Some id)) j ∙ new-at j (cases_eq j k))
+      where
+        lengths : length (map (known_by (insert m id.number d)) (slice_set ids k (Some id))) ≡ length (slice_set (map (known_by m) ids) k (Some d))
+        lengths = length-map (slice_set ids k (Some id)) (known_by (insert m id.number d)) ∙ length-set ids k (Some id) ∙ sym (length-map ids (known_by m)) ∙ sym (length-set (map (known_by m) ids) k (Some d))
+
+-- one more number
+pub pushed : (m : FinMap nat_cmp Due) (ids : List (Option DueId)) (free room : ℕ) → IsByPlace m ids free room → free < room → IsByPlace m (ids ++ None ∷ []) (free + 1) room
+pushed m ids free room kept some = record {
+  there = λ k id at. kept.there k id (old k id at);
+  apart = λ j k id a b. kept.apart j k id (old j id a) (old k id b);
+  only = λ q d at. let found = kept.only q d at in (found.0, new found.0 (record { number = q }) found.1);
+  counted = let counted = kept.counted in let more = count-push ids in omega arith;
+  fits = omega arith;
+}
+  where
+    same : (ids : List (Option DueId)) (k : ℕ) → slice_index_or (ids ++ None ∷ []) k None ≡ slice_index_or ids k None
+    same [] zero = refl
+    same [] (suc k) = refl
+    same (x ∷ ids) zero = refl
+    same (x ∷ ids) (suc k) = same ids k
+
+    old : (k : ℕ) (id : DueId) → slice_index_or (ids ++ None ∷ []) k None ≡ Some id → slice_index_or ids k None ≡ Some id
+    old k id at = sym (same ids k) ∙ at
+
+    new : (k : ℕ) (id : DueId) → slice_index_or ids k None ≡ Some id → slice_index_or (ids ++ None ∷ []) k None ≡ Some id
+    new k id at = same ids k ∙ at
+
+-- the first of the members is the first of those at numbers
+pub least-at : (m : FinMap nat_cmp Due) (ids : List (Option DueId)) (free room : ℕ) (d : Due) → IsByPlace m ids free room → IsLeastAt (get m) d → IsLeastAt (λ k. slice_index_or (map (known_by m) ids) k None) d
+least-at m ids free room d kept h = record {
+  there = there;
+  least = λ k e at. by k e (slice_index_or ids k None) refl (sym (known-at m ids k) ∙ at);
+}
+  where
+    there : (k : ℕ) × (slice_index_or (map (known_by m) ids) k None ≡ Some d)
+    there =
+        let found = kept.only h.there.0 d h.there.1 in
+        (found.0, known-at m ids found.0 ∙ ap (known_by m) found.1 ∙ h.there.1)
+
+    by : (k : ℕ) (e : Due) (o : Option DueId) → slice_index_or ids k None ≡ o → known_by m (slice_index_or ids k None) ≡ Some e → IsNotAfter d e
+    by k e None is at = absurd (let clash : Some e ≡ None = sym at ∙ ap (known_by m) is in cc)
+    by k e (Some id) is at = h.least id.number e (sym (ap (known_by m) is) ∙ at)
+
+-- what no member is, none at a number is
+pub none-at : (m : FinMap nat_cmp Due) (ids : List (Option DueId)) (P : Due → Type 0) → ((q : ℕ) (d : Due) → get m q ≡ Some d → P d) → (k : ℕ) (d : Due) → slice_index_or (map (known_by m) ids) k None ≡ Some d → P d
+none-at m ids P all k d at = by (slice_index_or ids k None) refl (sym (known-at m ids k) ∙ at)
+  where
+    by : (o : Option DueId) → slice_index_or ids k None ≡ o → known_by m (slice_index_or ids k None) ≡ Some d → P d
+    by None is here = absurd (let clash : Some d ≡ None = sym here ∙ ap (known_by m) is in cc)
+    by (Some id) is here = all id.number d (sym (ap (known_by m) is) ∙ here)
+
+pub all-none : (m : FinMap nat_cmp Due) (ids : List (Option DueId)) → ((q : ℕ) → get m q ≡ None) → (k : ℕ) → slice_index_or (map (known_by m) ids) k None ≡ None
+all-none m ids none k = known-at m ids k ∙ by (slice_index_or ids k None)
+  where
+    by : (o : Option DueId) → known_by m o ≡ None
+    by None = refl
+    by (Some id) = none id.number
+
+-- no number
+pub empty-by-place : (m : FinMap nat_cmp Due) (ids : List (Option DueId)) (room : ℕ) → m ≡ empty → ids ≡ [] → IsByPlace m ids 0 room
+empty-by-place m ids room none nil = record {
+  there = λ k id at. absurd (some-none id (sym at ∙ nothing k));
+  apart = λ j k id a b. absurd (some-none id (sym a ∙ nothing j));
+  only = λ q d at. absurd (let clash : Some d ≡ None = sym at ∙ ap (λ (x : FinMap nat_cmp Due). get x q) none ∙ get-empty nat_cmp q in cc);
+  counted = sym (ap count_none nil);
+  fits = omega arith;
+}
+  where
+    nothing : (k : ℕ) → slice_index_or ids k None ≡ None
+    nothing k = ap (λ (x : List (Option DueId)). slice_index_or x k None) nil ∙ past k
+      where
+        past : (k : ℕ) → slice_index_or {A = Option DueId} [] k None ≡ None
+        past zero = refl
+        past (suc k) = refl
+
+-- what holds where a call went well
+pub room-ok : {E : Type 0} (r : Result (Unit {0}) E) (P Q : Type 0) → (P → Q) → OnOk r P → OnOk r Q
+room-ok (Ok tt) P Q f p = f p
+room-ok (Err e) P Q f p = tt
+
+pub if-some : (r : Option Due) (P Q : Due → Type 0) → ((d : Due) → P d → Q d) → IfSome r P → IfSome r Q
+if-some None P Q f p = tt
+if-some (Some d) P Q f p = f d p
+
+pub if-none : (r : Option Due) (P Q : Type 0) → (P → Q) → IfNone r P → IfNone r Q
+if-none None P Q f p = f p
+if-none (Some d) P Q f p = tt
+
+-- an id that was read
+pub read-id : (ids : List (Option DueId)) (k : ℕ) (o : Option DueId) → k < length ids → o ≡ slice_index_or ids k o → slice_index_or ids k None ≡ o
+read-id ids k o within is = get_or_default ids k None o within ∙ sym is
+
+-- at a number where none is none is put
+pub cleared : (m : FinMap nat_cmp Due) (ids : List (Option DueId)) (k : ℕ) → slice_index_or ids k None ≡ None → map (known_by m) ids ≡ slice_set (map (known_by m) ids) k None
+cleared m ids k none = sym (set-same (map (known_by m) ids) k (known-at m ids k ∙ ap (known_by m) none))
+  where
+    set-same : (xs : List (Option Due)) (k : ℕ) → slice_index_or xs k None ≡ None → slice_set xs k None ≡ xs
+    set-same [] k is = refl
+    set-same (x ∷ xs) zero is = ap (λ y. y ∷ xs) (sym is)
+    set-same (x ∷ xs) (suc k) is = ap (λ ys. x ∷ ys) (set-same xs k is)
+
+-- there are as many ids as numbers
+pub as-many : (m : FinMap nat_cmp Due) (ids : List (Option DueId)) (slots : List (Option Due)) (k : ℕ) → map (known_by m) ids ≡ slots → k < length slots → k < length ids
+as-many m ids slots k is within = let same : length slots ≡ length ids = sym (ap length is) ∙ length-map ids (known_by m) in omega arith
+
+-- what is put last at a number is there
+pub set-twice : (xs : List (Option Due)) (k : ℕ) (x y : Option Due) → slice_set (slice_set xs k x) k y ≡ slice_set xs k y
+set-twice [] k x y = refl
+set-twice (z ∷ xs) zero x y = refl
+set-twice (z ∷ xs) (suc k) x y = ap (λ ys. z ∷ ys) (set-twice xs k x y)

@@ -1,0 +1,125 @@
+//! Deadlines by numbers, and the first of them.
+
+ghost use Rattle.std.specs.Prelude.{◌≡◌, ℕ, ◌+◌, ◌<◌, ◌≤◌, ◌∷◌, ◌++◌, [], OnOk, IfSome, IfNone, None, Some, length, slice_set};
+ghost use Rattle.timeouts.specs.Slots.{due_at, IsLeastAt};
+ghost use Rattle.timeouts.specs.declared.due.Due.{Due};
+
+use crate::deadlines::{Deadlines, DueId};
+use crate::due::Due;
+use std::alloc::{AllocError, Global};
+use std::marker::Model;
+use wf_event_values::Moment;
+
+/// A deadline, or none, at each number from 0 on.
+#[derive(Drop)]
+pub struct ByPlace {
+    heap: Deadlines,
+    /// The id of the deadline at each number.
+    ids: Vec<Option<DueId>>,
+    /// At how many numbers no deadline is.
+    free: usize,
+}
+
+impl Model for ByPlace {
+    ghost use Rattle.std.specs.Prelude.{◌-◌, length, map, min, vec_capacity};
+    ghost use Rattle.timeouts.specs.Slots.{Slots};
+    ghost use Rattle.timeouts.specs.Places.{known_by, IsByPlace};
+
+    ghost Value = { Slots };
+
+    ghost view = { λ a. record {
+      slots = map (known_by a.heap.members) a.ids.items;
+      room = min (vec_capacity a.ids - length a.ids.items) (a.heap.room - a.free);
+    } };
+
+    ghost invariant = { λ a. IsByPlace a.heap.members a.ids.items a.free a.heap.room };
+}
+
+impl ByPlace {
+    /// No number, and no room, which takes no memory.
+    pub fn new(alloc: Global) -> ByPlace
+        ensures { result.slots ≡ [] }
+    {
+        ByPlace {
+            heap: Deadlines::new(alloc),
+            ids: Vec::new(alloc),
+            free: 0,
+        }
+    }
+
+    /// Makes room for so many more numbers. Where memory is refused, the deadlines stay as they
+    /// were.
+    pub fn reserve(&mut self, additional: usize) -> Result<(), AllocError>
+        ensures same { self.new.slots ≡ self.old.slots }
+        ensures ok { OnOk result (additional ≤ self.new.room) }
+        ensures room { self.old.room ≤ self.new.room }
+    {
+        self.ids.reserve(additional)?;
+        self.heap.reserve(self.free.saturating_add(additional))
+    }
+
+    /// The next number, at which no deadline is. It takes no memory.
+    pub fn push_none(&mut self)
+        requires { 0 < self.old.room }
+        ensures slots { self.new.slots ≡ self.old.slots ++ None ∷ [] }
+        ensures room { self.old.room ≤ self.new.room + 1 }
+    {
+        self.ids.push_reserved(None);
+        self.free += 1;
+    }
+
+    /// Puts a deadline, or none, at a number in the place of what was there. It takes no memory.
+    pub fn set(&mut self, number: usize, due: Option<Due>)
+        requires { number < length self.old.slots }
+        ensures slots { self.new.slots ≡ slice_set self.old.slots number due }
+        ensures room { self.new.room ≡ self.old.room }
+    {
+        self.take_away(number);
+        if let Some(due) = due {
+            self.put(number, due);
+        }
+    }
+
+    /// Takes away what is at a number.
+    fn take_away(&mut self, number: usize)
+        requires { number < length self.old.slots }
+        ensures slots { self.new.slots ≡ slice_set self.old.slots number None }
+        ensures room { self.new.room ≡ self.old.room }
+    {
+        let Some(id) = self.ids[number] else {
+            return;
+        };
+        self.heap.remove(id);
+        self.ids[number] = None;
+        self.free += 1;
+    }
+
+    /// Puts a deadline at a number at which none is.
+    fn put(&mut self, number: usize, due: Due)
+        requires there { number < length self.old.slots }
+        requires none { due_at self.old number ≡ None }
+        ensures slots { self.new.slots ≡ slice_set self.old.slots number (Some due) }
+        ensures room { self.new.room ≡ self.old.room }
+    {
+        let id = self.heap.add(due);
+        self.ids[number] = Some(id);
+        self.free -= 1;
+    }
+
+    /// The deadline that fires first.
+    pub fn least(&self) -> Option<Due>
+        ensures least { IfSome result (IsLeastAt (due_at self.now)) }
+        ensures empty { IfNone result ((k : ℕ) → due_at self.now k ≡ None) }
+    {
+        self.heap.least()
+    }
+
+    /// The deadline that fires first, where its moment has come.
+    pub fn due(&self, moment: Moment) -> Option<Due>
+        ensures least { IfSome result (λ d. IsLeastAt (due_at self.now) d × (d.due ≤ moment)) }
+        ensures none { IfNone result
+            ((k : ℕ) (d : Due) → due_at self.now k ≡ Some d → moment < d.due) }
+    {
+        self.heap.due(moment)
+    }
+}

@@ -1,0 +1,164 @@
+#!/usr/bin/env python3
+"""Runs three lanes on two shards under many schedules, and asks each time the one-lane program.
+
+    tools/schedules.py [--runs N] [--seed S] PROGRAM
+
+PROGRAM is the built `wfserve` (tools/build_program.py builds it). Each run serves drawn lines with
+three lanes, where threads give the processor away at drawn places (tools/yield_often.c), and saves the
+records. Then:
+
+- each record has the lines of each lane for that shard, once and in their order, and nothing else;
+- the one-lane program, given the records' requests as lines in the order of the records, answers each
+  of them as its lane was answered, histories among them;
+- opened from the records it answers every history as at the end of that.
+
+Any other end fails the run, and its seed is printed.
+"""
+import argparse
+import collections
+import concurrent.futures
+import json
+import os
+import pathlib
+import random
+import subprocess
+import sys
+import tempfile
+
+ROOT = pathlib.Path(__file__).resolve().parent.parent
+LANES, SHARDS, LINES = 3, 2, 24
+NAMES = ["a", "b", "c", "d"]
+SETTINGS = ["--shards", str(SHARDS)]
+
+
+def shard_of(workflow_id):
+    """The workflow ID's hash (FNV-1a of 32 bits) modulo the number of shards."""
+    value = 2166136261
+    for byte in workflow_id.encode():
+        value = (value ^ byte) * 16777619 % 2**32
+    return value % SHARDS
+
+
+def drawn(source):
+    """One line, of those that are one step on one shard."""
+    name = source.choice(NAMES)
+    start = {
+        "workflow_id": name,
+        "workflow_type": "drawn",
+        "task_queue": "main",
+        "reuse": "AllowDuplicate",
+        "run_timeout": source.choice([0, 5]),
+    }
+    lines = [
+        {"op": "start", **start, "conflict": source.choice(["Fail", "UseExisting", "TerminateExisting"])},
+        {"op": "signal", "workflow_id": name, "name": str(source.randrange(100))},
+        {"op": "signal", "workflow_id": name, "name": "once", "request_id": "r"},
+        {"op": "signal_with_start", **start, "name": "both"},
+        {"op": "request_cancel", "workflow_id": name},
+        {"op": "terminate", "workflow_id": name},
+        {"op": "history", "workflow_id": name},
+        {"op": "describe", "workflow_id": name},
+        {"op": "timer_turn", "shard": source.randrange(SHARDS)},
+    ]
+    (line,) = source.choices(lines, weights=[6, 8, 4, 4, 1, 1, 5, 2, 3])
+    return {**line, "at": source.randrange(10), "lane": source.randrange(LANES)}
+
+
+def home(line):
+    return line["shard"] if line["op"] == "timer_turn" else shard_of(line["workflow_id"])
+
+
+def is_asked(line, request):
+    """Whether a record's request is what a line asks: it has the line's fields, and defaults besides."""
+    fields = {key: value for key, value in line.items() if key not in ("lane", "shard")}
+    return all(request.get(key) == value for key, value in fields.items())
+
+
+def texts(lines):
+    return "".join(json.dumps(line, separators=(",", ":")) + "\n" for line in lines).encode()
+
+
+def served(program, words, lines, allocator=None, seed=0):
+    """The replies to the lines, without their numbers."""
+    environment = {"LD_PRELOAD": str(allocator), "YIELD_SEED": str(seed)} if allocator else {}
+    done = subprocess.run(
+        [str(program), *SETTINGS, *words], input=texts(lines), capture_output=True, env=environment, timeout=60
+    )
+    if done.returncode not in (0, 1) or done.stderr:
+        raise ValueError(f"status {done.returncode}: {done.stderr.decode()}")
+    replies = [json.loads(line) for line in done.stdout.splitlines()]
+    if len(replies) != len(lines):
+        raise ValueError(f"{len(replies)} replies to {len(lines)} lines")
+    for reply in replies:
+        del reply["line"]
+    return replies
+
+
+def in_order_of_records(lines, replies, records):
+    """The lines and replies in the order in which the records have them."""
+    waiting = collections.defaultdict(collections.deque)
+    for line, reply in zip(lines, replies):
+        waiting[home(line), line["lane"]].append((line, reply))
+    ordered = []
+    for shard, entries in enumerate(records):
+        for entry in entries:
+            own = waiting[shard, entry["pass"]]
+            if not own or not is_asked(own[0][0], entry["request"]):
+                raise ValueError(f"shard {shard}: {entry} is not what lane {entry['pass']} asked next")
+            ordered.append(own.popleft())
+    if any(waiting.values()):
+        raise ValueError("a line that was answered is in no record")
+    return ordered
+
+
+def attempt(program, allocator, seed):
+    """Runs one schedule, and returns what is wrong with it."""
+    source = random.Random(seed)
+    lines = [drawn(source) for _ in range(LINES)]
+    with tempfile.TemporaryDirectory() as folder:
+        try:
+            words = ["--passes", str(LANES), "--save", folder]
+            replies = served(program, words, lines, allocator, seed)
+            records = [
+                [json.loads(line) for line in pathlib.Path(folder, f"shard-{shard:02}.rec").open()]
+                for shard in range(SHARDS)
+            ]
+            ordered = in_order_of_records(lines, replies, records)
+            reads = [{"op": "history", "workflow_id": name} for name in NAMES]
+            alone = [{**line, "lane": 0} for line, _ in ordered] + reads
+            again = served(program, [], alone)
+            if again[: len(ordered)] != [reply for _, reply in ordered]:
+                return "the one-lane program answers otherwise", None
+            if served(program, ["--load", folder], reads) != again[len(ordered) :]:
+                return "opened from the records it answers otherwise", None
+        except ValueError as fault:
+            return str(fault), None
+    turns = sum(before["pass"] != behind["pass"] for entries in records for before, behind in zip(entries, entries[1:]))
+    return None, turns
+
+
+def main():
+    parser = argparse.ArgumentParser(description=__doc__.split("\n")[0])
+    parser.add_argument("--runs", type=int, default=10_000)
+    parser.add_argument("--seed", type=int, default=0)
+    parser.add_argument("program", type=pathlib.Path)
+    told = parser.parse_args()
+    program, seeds = told.program.resolve(), range(told.seed, told.seed + told.runs)
+    wrong, turns = 0, 0
+    with tempfile.TemporaryDirectory() as folder:
+        allocator = pathlib.Path(folder, "yield_often.so")
+        source = ROOT / "tools" / "yield_often.c"
+        subprocess.run(["cc", "-O2", "-shared", "-fPIC", "-o", allocator, source], check=True)
+        with concurrent.futures.ThreadPoolExecutor(len(os.sched_getaffinity(0))) as pool:
+            tried = pool.map(lambda seed: attempt(program, allocator, seed), seeds)
+            for seed, (fault, count) in zip(seeds, tried):
+                turns += count or 0
+                if fault:
+                    wrong += 1
+                    print(f"seed {seed}: {fault}")
+    print(f"{told.runs} schedules, {turns / told.runs:.1f} turns from one lane to another in each; {wrong} went wrong")
+    return 1 if wrong else 0
+
+
+if __name__ == "__main__":
+    sys.exit(main())
