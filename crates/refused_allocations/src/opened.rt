@@ -78,12 +78,7 @@ impl Opened {
 }
 
 /// Serves a call, and keeps what comes back where memory was refused.
-fn served<R: Wait>(
-    rt: &R,
-    service: &Service,
-    pass: &mut Pass,
-    call: Call,
-) -> Result<Reply, Refused>
+fn served<R: Wait>(rt: &R, service: &Service, pass: &mut Pass, call: Call) -> Result<Reply, Refused>
     requires { IsPassOf pass.old service.now }
     ensures { IsPassOf pass.new service.now }
 {
