@@ -3,25 +3,33 @@
 
     tools/check_docs.py        prints what isn't there, a line each, and fails if there is anything
 
-A name in back quotes is looked for word by word in all files that are no documents. Names of the
-toolchain and of its libraries are listed in tools/known_names.txt. Each file of definitions says in its
-first line whether it is meaning or proof, and docs/ARCHITECTURE.md how much there is of the former.
+A name in back quotes is looked for word by word in all files that are no documents, and a file or a
+lemma in its crate. Names of the toolchain and of its libraries are listed in tools/known_names.txt. Each
+file of definitions says in its first line whether it is meaning or proof, and docs/ARCHITECTURE.md how much
+there is of the former, and where.
 
 Beside a rule of docs/PROFILE.md stand its definition, an example, a case and a wrong body, in the last four
-columns of its table or in a line below it. Each of these has to be there, under its name in its file.
+columns of its table or in a line below it. Each of these has to be there, under its name in its file. What
+else the documents claim of crates, calls, clauses and options is looked up by docs_claims.py. A note says
+where they name another toolchain than the one that is here.
 """
 from __future__ import annotations
 
 import re
+import shutil
 import subprocess
 import sys
 from pathlib import Path
 
+import docs_claims
+from docs_claims import QUOTED
+
 TOP = Path(__file__).resolve().parent.parent
 ROOTS = ("bench/", "clients/", "crates/", "docs/", "examples/", "tools/")
 NAME = re.compile(r"[A-Za-z_][\w.:/-]*")
+BRACED = re.compile(r"[A-Za-z_][\w.:/-]*\{[\w, .-]*\}[\w.-]*")
+IN_CRATE = re.compile(r"(\w+)/((?:src|data|must-fail)/[\w./-]+)")
 WORD = re.compile(r"[A-Za-z_][\w-]*")
-QUOTED = re.compile(r"`([^`\n]+)`")
 LINK = re.compile(r"\]\(([^)#\s]+)[^)]*\)")
 KINDS = ("Definition", "Example", "Case", "Wrong body")
 PLACES = {
@@ -59,6 +67,25 @@ def is_path(name: str) -> bool:
     return name.startswith(ROOTS) and not any(letter in name for letter in "*<>{} ")
 
 
+def is_there(name: str) -> bool:
+    """Whether the file of a crate is there that a name like `shard/src/starts.rt` is of. Other names say no file."""
+    found = IN_CRATE.fullmatch(name)
+    return not found or any((TOP / "crates" / found[1] / f"{found[2]}{end}").exists() for end in ("", ".rt"))
+
+
+def missing_of(quoted: str, words: set[str]) -> list[str]:
+    """What is not there of a text in back quotes."""
+    if is_path(quoted):
+        return [] if (TOP / quoted).exists() else [f"no such path: {quoted}"]
+    if not NAME.fullmatch(quoted) and not BRACED.fullmatch(quoted):
+        return []
+    names = docs_claims.expanded(quoted)
+    return [f"no such file: {name} (in `{quoted}`)" for name in names if not is_there(name)] + [
+        f"no such name: {word} (in `{quoted}`)"
+        for name in names for word in WORD.findall(name) if word not in words
+    ]
+
+
 def missing_in(document: Path, words: set[str]) -> list[str]:
     """What a document cites that isn't there."""
     text = re.sub(r"(?ms)^(```|    ).*?$", "", document.read_text())
@@ -67,13 +94,8 @@ def missing_in(document: Path, words: set[str]) -> list[str]:
         if "://" not in link and not (document.parent / link).exists():
             missing.append(f"no such file: {link}")
     for quoted in QUOTED.findall(text):
-        if is_path(quoted):
-            if not (TOP / quoted).exists():
-                missing.append(f"no such path: {quoted}")
-        elif NAME.fullmatch(quoted):
-            missing += [f"no such name: {word} (in `{quoted}`)"
-                        for word in WORD.findall(quoted) if word not in words]
-    return missing
+        missing += missing_of(quoted, words)
+    return missing + docs_claims.wrong_lemmas(text, TOP)
 
 
 def has_line(file: Path, pattern: str) -> bool:
@@ -153,15 +175,45 @@ def size_of(file: Path) -> int:
 
 
 def wrong_markers(files: list[Path]) -> list[str]:
-    """Files of definitions that don't say what they are, and a count that is out of date."""
+    """Files of definitions that don't say what they are, or aren't listed, and a count that is out of date."""
     specifications = [file for file in files if is_specification(file)]
     wrong = [f"{file.relative_to(TOP)}: its first line says neither MEANING nor PROOF"
              for file in specifications if not file.read_text().startswith(("-- MEANING", "-- PROOF"))]
     meaning = [file for file in specifications if file.read_text().startswith("-- MEANING")]
     said = f"{len(meaning)} files, {sum(map(size_of, meaning)):,} lines"
-    if said not in (TOP / "docs/ARCHITECTURE.md").read_text():
+    architecture = (TOP / "docs/ARCHITECTURE.md").read_text()
+    if said not in architecture:
         wrong.append(f"docs/ARCHITECTURE.md: what must be believed are {said}")
-    return wrong
+    names = [str(file.relative_to(TOP / "crates").with_suffix("")) for file in meaning]
+    return wrong + [f"docs/ARCHITECTURE.md: {fault}"
+                    for fault in docs_claims.not_to_be_believed(architecture, names)]
+
+
+def kit_here() -> str:
+    """What the toolchain says that it is, or nothing where it isn't there."""
+    if not shutil.which("rt"):
+        return ""
+    return subprocess.run(["rt", "version"], capture_output=True, text=True, check=True).stdout
+
+
+def faults_of_claims() -> list[str]:
+    """What single documents claim of the code that isn't so."""
+    claims = {
+        "README.md": [docs_claims.wrong_promises],
+        "docs/ARCHITECTURE.md": [docs_claims.crates_without_a_row],
+        "docs/PROVED.md": [docs_claims.wrong_contracts, docs_claims.wrong_waits],
+        "docs/PROFILE.md": [missing_beside_rules, docs_claims.unnamed],
+    }
+    return [f"{name}: {fault}" for name, looks in claims.items() for look in looks
+            for fault in look((TOP / name).read_text(), TOP)]
+
+
+def other_kits(documents: list[Path]) -> list[str]:
+    """Documents that name another toolchain than the one that is here. That is no fault: what was proved with the
+    one they name was proved with it, and the gate says what passes with this one."""
+    kit = kit_here()
+    return [f"{document.relative_to(TOP)}: {kit_named}" for document in documents if kit
+            for kit_named in docs_claims.other_kits(document.read_text(), kit)]
 
 
 def main() -> int:
@@ -169,17 +221,14 @@ def main() -> int:
     documents = [file for file in files if file.suffix == ".md"]
     known = (TOP / "tools/known_names.txt").read_text().split()
     words = words_of([file for file in files if file.suffix != ".md"]).union(known)
-    faults = wrong_markers(files)
-    profile = (TOP / "docs/PROFILE.md").read_text()
-    faults += [f"docs/PROFILE.md: {fault}" for fault in missing_beside_rules(profile)]
+    faults = wrong_markers(files) + faults_of_claims()
+    faults += [f"{document.relative_to(TOP)}: {fault}"
+               for document in documents for fault in missing_in(document, words)]
+    for note in other_kits(documents):
+        print(f"note: {note}", file=sys.stderr)
     for fault in faults:
         print(fault)
-    count = len(faults)
-    for document in documents:
-        for fault in missing_in(document, words):
-            print(f"{document.relative_to(TOP)}: {fault}")
-            count += 1
-    return 1 if count else 0
+    return 1 if faults else 0
 
 
 if __name__ == "__main__":

@@ -1,13 +1,12 @@
 """What the documents show of the code is the code."""
 
-import importlib.util
+import sys
 import unittest
 
 from programs import ROOT
 
-SPEC = importlib.util.spec_from_file_location("check_docs", ROOT / "tools/check_docs.py")
-check_docs = importlib.util.module_from_spec(SPEC)
-SPEC.loader.exec_module(check_docs)
+sys.path.append(str(ROOT / "tools"))
+import check_docs
 
 HEAD = "| Rule | Definition | Example | Case | Wrong body |\n|---|---|---|---|---|\n"
 RULE = ["`service_model/Signals: signal`", "`TaskRows: repeated_signal`", "`signals: a repeated signal`",

@@ -1,37 +1,53 @@
-"""The examples are cases of the gate: their lines stand there once more, and must be the same."""
+"""The examples are cases of the gate: their lines stand there once more, and must be the same. And each case has
+its line in what the program that runs them has to print."""
 
-import pathlib
+import subprocess
 import unittest
 
-ROOT = pathlib.Path(__file__).resolve().parents[2]
-FILES = {
-    "an order": "order.jsonl",
-    "a payment": "payment.jsonl",
-    "a site": "provisioning.jsonl",
-    "an order and its payment": "order_and_payment.jsonl",
+from programs import BUILT, ROOT, needs_program
+from stored_cases import CASES, cases_of
+
+# Of each example the file of cases, and the case's name.
+EXAMPLES = {
+    "order.jsonl": ("examples", "an order"),
+    "payment.jsonl": ("examples", "a payment"),
+    "provisioning.jsonl": ("examples", "a site"),
+    "order_and_payment.jsonl": ("examples", "an order and its payment"),
+    "signals.jsonl": ("examples", "a signal that is sent twice"),
+    "start_and_history.jsonl": ("whole_workflows", "start and history"),
 }
-
-
-def lines_of_cases():
-    """The lines of each case, by its name."""
-    found, name = {}, None
-    text = (ROOT / "crates/cases/data/examples.cases").read_text(encoding="utf-8")
-    for line in text.splitlines():
-        if line.startswith("## "):
-            name = line[3:]
-            found[name] = []
-        elif line.startswith("> "):
-            found[name].append(line[2:])
-    return found
 
 
 class Examples(unittest.TestCase):
     def test_each_example_is_a_case(self):
-        cases = lines_of_cases()
-        self.assertEqual(set(cases), set(FILES))
-        for name, file in FILES.items():
-            lines = (ROOT / "examples" / file).read_text(encoding="utf-8").splitlines()
-            self.assertEqual(cases[name], lines, file)
+        self.assertEqual({path.name for path in (ROOT / "examples").iterdir()}, set(EXAMPLES))
+        for example, (file, name) in EXAMPLES.items():
+            lines = (ROOT / "examples" / example).read_text(encoding="utf-8").splitlines()
+            self.assertEqual(cases_of(file)[name].lines, lines, example)
+
+    @needs_program
+    def test_each_example_is_answered_as_its_case(self):
+        for example, (file, name) in EXAMPLES.items():
+            with self.subTest(example=example):
+                case = cases_of(file)[name]
+                ran = subprocess.run(
+                    [BUILT, *case.words, ROOT / "examples" / example], capture_output=True, text=True,
+                )
+                self.assertEqual(ran.stdout.splitlines(), case.replies)
+
+
+class Cases(unittest.TestCase):
+    def test_each_case_has_its_line_of_output(self):
+        files = (CASES / "args").read_text(encoding="utf-8").split()
+        self.assertEqual(set(files), {path.name for path in (CASES / "data").glob("*.cases")})
+        names = [f"{file}: {name}: ok" for file in files for name in cases_of(file.split(".")[0])]
+        printed = (CASES / "stdout").read_text(encoding="utf-8").splitlines()
+        self.assertEqual(printed, [*names, f"{len(names)} cases, 0 failed"])
+
+    def test_no_file_has_two_cases_of_one_name(self):
+        for path in (CASES / "data").glob("*.cases"):
+            names = [line for line in path.read_text(encoding="utf-8").splitlines() if line.startswith("## ")]
+            self.assertEqual(len(names), len(set(names)), path.name)
 
 
 if __name__ == "__main__":

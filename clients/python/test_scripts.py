@@ -1,0 +1,178 @@
+"""tools/timeline.py, ./serve and ./try: what they draw, build and hand on. No proof is run: the toolchain and the
+build are stood in for by scripts that write down how they were called."""
+
+import json
+import os
+import pathlib
+import re
+import shutil
+import subprocess
+import sys
+import tempfile
+import unittest
+import xml.etree.ElementTree as xml
+
+from programs import ROOT
+from stored_cases import cases_of
+
+sys.path.append(str(ROOT / "tools"))
+import timeline
+
+
+def replies_of_case(file, name):
+    return cases_of(file)[name].replies
+
+
+def run(words, **more):
+    return subprocess.run([str(word) for word in words], capture_output=True, text=True, **more)
+
+
+class Timeline(unittest.TestCase):
+    def drawn(self, lines):
+        return run([sys.executable, ROOT / "tools/timeline.py"], input="".join(f"{line}\n" for line in lines))
+
+    def test_bars_go_from_what_opened_to_what_ended(self):
+        events = json.loads(replies_of_case("examples", "an order")[-1])["events"]
+        bars = {event: (bar.kind, bar.begin, bar.taken, bar.end, bar.attempt)
+                for event, bar in timeline.bars_of(events).items()}
+        self.assertEqual(bars, {
+            2: ("task", 0, 0, 0, 1),
+            5: ("activity", 0, 3700, 4000, 3),
+            8: ("task", 4000, 4000, 4100, 1),
+            11: ("timer", 4100, 4100, 60100, 1),
+            13: ("task", 60000, 60000, 60100, 1),
+        })
+
+    def test_a_bar_that_nothing_ended_stays_open(self):
+        events = json.loads(replies_of_case("examples", "an order")[-1])["events"]
+        bars = timeline.bars_of(events[:5])
+        self.assertEqual((bars[5].taken, bars[5].end), (None, None))
+
+    def test_events_that_were_held_back_have_rings(self):
+        replies = replies_of_case("whole_workflows", "signal held then flushed")
+        events = json.loads(replies[-1])["events"]
+        signals = {event["id"] for event in events if event["type"] == "WorkflowExecutionSignaled"}
+        self.assertEqual(timeline.held_back(events), signals)
+        self.assertEqual(self.drawn(replies).stdout.count('class="ring"'), len(signals))
+
+    def test_the_page_shows_the_last_history(self):
+        replies = replies_of_case("examples", "an order and its payment")
+        ran = self.drawn(replies)
+        history = [json.loads(line) for line in replies if '"ok":"history"' in line][-1]
+        self.assertEqual((ran.returncode, ran.stderr), (0, ""))
+        self.assertIn(f"<h1>Run {history['run']}</h1>", ran.stdout)
+        picture = xml.fromstring(ran.stdout[ran.stdout.index("<svg"):ran.stdout.index("</svg>") + len("</svg>")])
+        titles = [part.text for part in picture.iter("{http://www.w3.org/2000/svg}title")]
+        self.assertEqual(len(titles), len(history["events"]))
+
+    def test_a_text_of_a_workflow_is_no_html(self):
+        attrs = {"name": "</text><script>alert(1)</script>", "input": '"&<'}
+        event = {"at": 0, "attrs": attrs, "id": 1, "type": "WorkflowExecutionSignaled"}
+        ran = self.drawn([json.dumps({"ok": "history", "run": "<r>", "events": [event]})])
+        self.assertNotIn("<script>", ran.stdout)
+        self.assertIn("&lt;r&gt;", ran.stdout)
+
+    def test_replies_without_a_history_are_a_fault(self):
+        for lines in (['{"line":1,"ok":"signaled"}'], [], ["no reply"]):
+            with self.subTest(lines=lines):
+                ran = self.drawn(lines)
+                self.assertEqual((ran.returncode, ran.stdout), (1, ""))
+                self.assertRegex(ran.stderr, "^timeline: ")
+
+    def test_the_tour_shows_the_order(self):
+        events = json.loads(replies_of_case("examples", "an order")[-1])["events"]
+        drawn = re.sub(r"^<svg[^>]*>", "", timeline.picture(events))
+        self.assertIn(drawn, (ROOT / "docs/order.svg").read_text(encoding="utf-8"))
+
+
+class InAFolder(unittest.TestCase):
+    """A folder with the scripts, in which other programs stand for the toolchain and the build."""
+
+    def setUp(self):
+        folder = tempfile.TemporaryDirectory()
+        self.addCleanup(folder.cleanup)
+        self.top = pathlib.Path(folder.name)
+        for name in ("tools", "bin", "crates/wfserve/src", "out/build/crates/wfserve/out"):
+            (self.top / name).mkdir(parents=True)
+        for name in ("serve", "try"):
+            shutil.copy(ROOT / name, self.top / name)
+        (self.top / "crates.txt").write_text("wfserve:\n")
+        self.source = self.top / "crates/wfserve/src/main.rt"
+        self.source.write_text("")
+        self.program = self.top / "out/build/crates/wfserve/out/wfserve"
+
+    def script(self, path, text):
+        path.write_text(f"#!/bin/sh\n{text}\n")
+        path.chmod(0o755)
+
+
+class Serve(InAFolder):
+    SAYS = 'echo "served $*"; cat; exit 1'
+
+    def setUp(self):
+        super().setUp()
+        built = self.top / "built.sh"
+        self.script(built, self.SAYS)
+        (self.top / "tools/build_program.py").write_text(
+            f"import shutil, sys\nassert sys.argv[1:] == ['wfserve']\nprint('building', file=sys.stderr)\n"
+            f"shutil.copy({str(built)!r}, {str(self.program)!r})\n"
+        )
+
+    def serve(self):
+        return run([self.top / "serve", "--shards", "2", "a file"], input="a line\n", cwd="/")
+
+    def test_it_builds_what_is_missing_and_hands_on_all(self):
+        ran = self.serve()
+        self.assertEqual((ran.returncode, ran.stdout), (1, "served --shards 2 a file\na line\n"))
+        self.assertEqual(ran.stderr, "building\n")
+        self.assertEqual(self.serve().stderr, "")
+
+    def test_it_builds_again_what_is_older_than_a_source(self):
+        self.serve()
+        later = self.program.stat().st_mtime + 10
+        for changed in (self.source, self.top / "crates.txt"):
+            os.utime(changed, (later, later))
+            self.assertEqual(self.serve().stderr, "building\n", changed)
+            os.utime(changed, (1, 1))
+        kept = self.top / "crates/wfserve/out/kept"
+        kept.parent.mkdir()
+        kept.write_text("")
+        os.utime(kept, (later, later))
+        self.assertEqual(self.serve().stderr, "")
+
+    def test_it_serves_nothing_where_the_build_fails(self):
+        (self.top / "tools/build_program.py").write_text("raise SystemExit(3)\n")
+        ran = self.serve()
+        self.assertEqual((ran.returncode, ran.stdout), (3, ""))
+
+
+class Try(InAFolder):
+    def tried(self, words, status=0):
+        self.script(self.top / "bin/rt", f'pwd; echo "rt $*"; cat; echo compiled >&2; exit {status}')
+        (self.top / "lines").write_text("a line\n")
+        path = f"{self.top / 'bin'}:{os.environ['PATH']}"
+        return run([self.top / "try", *words], cwd=self.top, env={**os.environ, "PATH": path})
+
+    def test_it_runs_the_file_and_says_that_this_is_not_proved(self):
+        for status in (0, 1):
+            ran = self.tried(["lines", "--queues", "orders"], status)
+            crate = self.top.resolve() / "crates/wfserve"
+            self.assertEqual(ran.stdout, f"{crate}\nrt try -- --queues orders\na line\n")
+            self.assertEqual(ran.returncode, status)
+            self.assertIn("not proved", ran.stderr)
+            self.assertNotIn("compiled", ran.stderr)
+
+    def test_what_went_wrong_is_shown(self):
+        ran = self.tried(["lines"], 2)
+        self.assertEqual(ran.returncode, 2)
+        self.assertIn("compiled\n", ran.stderr)
+
+    def test_a_file_has_to_be_named(self):
+        ran = self.tried([])
+        self.assertEqual((ran.returncode, ran.stdout), (2, ""))
+        self.assertIn("usage", ran.stderr)
+        self.assertNotEqual(self.tried(["no such file"]).returncode, 0)
+
+
+if __name__ == "__main__":
+    unittest.main()
