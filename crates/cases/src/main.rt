@@ -4,7 +4,7 @@
 //! runs a script, and by the calls of the service, in the form that may wait and in the one that
 //! never does; the answers have to be the same, also where the program is ended behind a line and goes
 //! on from its records. The exit status is 0 only where all cases passed.
-//! `data/README` says how a case is written.
+//! `README.md` beside `src` says how a case is written.
 #![tactic(auto)]
 
 mod calls;
