@@ -86,15 +86,9 @@ pub(crate) fn run_cut<R: Clock + Files + AllocGlobal + Threads + Wait + Sync>(
 ) -> io::Result<String> {
     empty_folder(rt, SAVED)?;
     empty_folder(rt, SAVED_AGAIN)?;
-    let lines = case.steps().len();
     let mut front = run_part(rt, case, &["--save", SAVED], 0, line)?;
-    // What was loaded is looked at once more only where no line is left: each save waits for the disk.
-    let behind = if line == lines {
-        let words = ["--load", SAVED, "--save", SAVED_AGAIN];
-        run_part(rt, case, &words, line, lines)?
-    } else {
-        run_part(rt, case, &["--load", SAVED], line, lines)?
-    };
+    let words = ["--load", SAVED, "--save", SAVED_AGAIN];
+    let behind = run_part(rt, case, &words, line, case.steps().len())?;
     front.output.extend_from_slice(&behind.output)?;
     front.errors.extend_from_slice(&behind.errors)?;
     let status = front.status.max(behind.status);
