@@ -5,7 +5,7 @@ use crate::reads::reads;
 use case_files::{Case, Step};
 use script::LINE_LIMIT;
 use service_model_types::answer::{Answer, Reply};
-use service_model_types::call::{Call, StartTask, StepCall, Stop};
+use service_model_types::call::{Call, StartTask, StepCall, Stop, TransferTurn};
 use service_model_types::client::{ClientRequest, is_clients};
 use service_model_types::request::{Operation, Request};
 use service_model_types::settings::Settings;
@@ -111,6 +111,18 @@ fn kind_of(call: &Call) -> Where {
     }
 }
 
+/// The transfer turn that is asked for, if it is one, ended behind its delivery.
+fn turn_to_delivery(asked: Result<Option<Call>, Refusal>) -> Option<TransferTurn> {
+    match asked {
+        Ok(Some(Call::TransferTurn(turn))) => {
+            let mut turn = turn;
+            turn.stop = Stop::AfterSecondPart;
+            Some(turn)
+        }
+        _ => None,
+    }
+}
+
 /// The call that makes a step of the request that came back, where a client may ask for it by itself.
 fn same_request(request: Request) -> Option<Call> {
     let names_its_shard = !matches!(
@@ -169,10 +181,9 @@ impl Story<'_> {
         let Some(step) = self.steps.get(place) else {
             return Ok(false);
         };
-        let Ok(Some(Call::TransferTurn(mut turn))) = asked(rt.alloc(), &self.settings, step) else {
+        let Some(turn) = turn_to_delivery(asked(rt.alloc(), &self.settings, step)) else {
             return Ok(false);
         };
-        turn.stop = Stop::AfterSecondPart;
         if twin.serve(rt, place, Call::TransferTurn(turn)).is_err() {
             return Err(Fault::Memory);
         }
