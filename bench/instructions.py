@@ -6,8 +6,9 @@ Usage: bench/instructions.py [--parts N]
 Each case runs at two sizes, and a line's instructions are those by which the sum grows from one size
 to the next: they don't depend on the machine's load, and what is done once falls away. Polls and
 completions come behind the starts and dispatch turns of 1,024 workflows, and completions behind their
-polls as well. A read is counted by the events that it writes. `--parts N` prints the N functions that take most of a line,
-with what they call. Valgrind has to be there; `rt run` in crates/wfserve and crates/line_floor builds
+polls as well. An activity's four lines hand it to its queue, take it, say a heartbeat and complete it. A
+read is counted by the events that it writes. `--parts N` prints the N functions that take most of a
+line, with what they call. Valgrind has to be there; `rt run` in crates/wfserve and crates/line_floor builds
 both programs.
 """
 import os
@@ -20,6 +21,7 @@ import first_path
 import queues
 
 WORKFLOWS = 1_024
+FEW, MANY = 10, 500
 
 
 def polls(count):
@@ -46,12 +48,36 @@ def activities(count):
                                "start_to_close": 30_000, "retry": {"initial": 1_000, "attempts": 5}})
 
 
+def attempts(activities, count):
+    """One run with so many activities, of which `count` are taken, say a heartbeat and are completed."""
+    commands = [{"type": "ScheduleActivityTask", "activity_id": f"a{number}", "task_queue": "main",
+                 "start_to_close": 30_000} for number in range(activities)]
+    tokens = [queues.token(queues.ACTIVITY, 1, 5 + number, 1, 0) for number in range(count)]
+    lines = [first_path.start("order"), {"op": "dispatch_turn", "shard": 0},
+             {"op": "poll_workflow_task", "task_queue": "main"},
+             {"op": "complete_workflow_task", "commands": commands, "token": queues.token(queues.WORKFLOW, 1, 2, 1, 0)}]
+    for token in tokens:
+        lines += [{"op": "dispatch_turn", "shard": 0}, {"op": "poll_activity_task", "task_queue": "main"},
+                  {"op": "heartbeat", "token": token}, {"op": "complete_activity", "token": token}]
+    return lines
+
+
+def of_few(count):
+    return attempts(FEW, count)
+
+
+def of_many(count):
+    return attempts(MANY, count)
+
+
 CASES = [("a start", first_path.starts, 5_000, 10_000),
          ("a start that replaces a run", first_path.replacements, 5_000, 10_000),
          ("a signal", first_path.signals, 5_000, 10_000),
          ("a poll that finds a task", polls, 24, WORKFLOWS),
          ("a completion that starts a timer", timers, 24, WORKFLOWS),
-         ("a completion that schedules an activity", activities, 24, WORKFLOWS)]
+         ("a completion that schedules an activity", activities, 24, WORKFLOWS),
+         (f"the four lines of an activity, of {FEW} in its run", of_few, 2, FEW),
+         (f"the four lines of an activity, of {MANY} in its run", of_many, 2, FEW)]
 READS = 10
 COUNT = re.compile(r"^ *([\d,]+) \([ \d.]+%\) +(?:\S*:)?(.*?)(?: \[.*\])?$")
 

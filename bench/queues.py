@@ -2,7 +2,7 @@
 """What whole workflows cost by lines: started, handed to their task queue, polled and completed; with
 activities that fail once and are tried again; and the same over several lanes.
 
-Usage: bench/queues.py [--instructions]
+Usage: bench/queues.py [--instructions] [SCALE..]   (default: 1 4, times 12,500 workflows and 5,000 activities)
 
 Times are processor times of the built program and times by the clock, the shortest of three runs; with
 --instructions they are instructions instead, counted by callgrind over a tenth of the work. The program
@@ -104,6 +104,9 @@ def activities(count, shards=1, lanes=1):
     return script.lines
 
 
+CASES = [(workflows, 12_500), (activities, 5_000)]
+
+
 def run(words, path):
     """One run: processor time, time by the clock, and what was written."""
     before, began = resource.getrusage(resource.RUSAGE_CHILDREN), time.monotonic()
@@ -142,20 +145,21 @@ def measure(name, lines, words, path, counts):
 def main():
     counts = "--instructions" in sys.argv[1:]
     tenth = 10 if counts else 1
+    scales = [float(word) for word in sys.argv[1:] if word[0] != "-"] or [1, 4]
     if not os.access(PROGRAM, os.X_OK):
         sys.exit(f"queues: {PROGRAM} is not built; `rt run` in its folder builds it")
     names = ",".join(f"q{number}" for number in range(QUEUES))
     print(f"load {os.getloadavg()[0]:.1f} on {os.cpu_count()} processors")
     with tempfile.TemporaryDirectory() as folder:
         path = os.path.join(folder, "lines")
-        for case, sizes in ((workflows, (12_500, 50_000)), (activities, (5_000, 20_000))):
-            for size in sizes:
+        for case, least in CASES:
+            for size in [int(scale * least) for scale in scales]:
                 measure(f"{size} {case.__name__}", case(size // tenth), [PROGRAM, "--queues", names], path, counts)
         for lanes in () if counts else (1, 2, 4, 8):
             words = [PROGRAM, "--queues", names, "--shards", str(LANE_SHARDS), "--passes", str(lanes)]
-            for case, size in ((workflows, 50_000), (activities, 20_000)):
-                measure(f"{size} {case.__name__} on {LANE_SHARDS} shards, {lanes} lanes",
-                        case(size, LANE_SHARDS, lanes), words, path, counts)
+            for case, least in CASES:
+                measure(f"{4 * least} {case.__name__} on {LANE_SHARDS} shards, {lanes} lanes",
+                        case(4 * least, LANE_SHARDS, lanes), words, path, counts)
 
 
 if __name__ == "__main__":

@@ -16,6 +16,7 @@ refused. Any other end fails the run.
 import argparse
 import collections
 import concurrent.futures
+import json
 import os
 import pathlib
 import re
@@ -44,6 +45,15 @@ ROWS = {
     "transfer_turns.cases": ["the parts of a turn"],
 }
 OLDER = "an older file\n"
+COUNT_BYTES = 8
+
+
+def compact(line):
+    """The line without blanks between its parts, so that CALLS finds the workflow IDs in it."""
+    try:
+        return "> " + json.dumps(json.loads(line[2:]), separators=(",", ":"))
+    except ValueError:
+        return line
 
 
 def text_of(file, name):
@@ -54,7 +64,7 @@ def text_of(file, name):
     if len(found) != 1:
         sys.exit(f"refused_allocations: {file} has {len(found)} cases with the name {name}")
     lines = [line for line in found[0].split("\n")[1:] if not line.startswith("@ cuts")]
-    return [f"## {name}", *lines]
+    return [f"## {name}", *(compact(line) if line[:2] == "> " else line for line in lines)]
 
 
 class Subject:
@@ -66,25 +76,22 @@ class Subject:
 
     def run(self, refused, folder, call, given):
         """Runs the program, and returns its status, output, errors and how many allocations it asked for."""
-        read, write = os.pipe()
-        environment = {"LD_PRELOAD": str(self.allocator), "REFUSED_TOLD": str(write)}
-        if refused:
-            environment["REFUSED_ALLOCATION"] = str(refused)
-        try:
+        with tempfile.TemporaryFile() as told:
+            told.truncate(COUNT_BYTES)
+            environment = {"LD_PRELOAD": str(self.allocator), "REFUSED_TOLD": str(told.fileno())}
+            if refused:
+                environment["REFUSED_ALLOCATION"] = str(refused)
             done = subprocess.run(
                 call,
                 cwd=folder,
                 input=given,
                 capture_output=True,
                 env=environment,
-                pass_fds=[write],
+                pass_fds=[told.fileno()],
                 timeout=60,
             )
-        finally:
-            os.close(write)
-        with os.fdopen(read) as told:
-            count = told.read()
-        return done.returncode, done.stdout, done.stderr, int(count or 0)
+            count = int.from_bytes(told.read(COUNT_BYTES), sys.byteorder)
+        return done.returncode, done.stdout, done.stderr, count
 
 
 class Calls(Subject):
@@ -149,6 +156,8 @@ class Program(Subject):
 def tried(subject, every, first):
     """Refuses the allocations of a subject in turn. Returns how often each place came, and the faults."""
     count, _, fault = subject.attempt(None)
+    if not count:
+        fault = "no allocation was counted"
     if fault:
         return collections.Counter(), [f"{subject.title}: {fault}"]
     numbers = range(first, count + 1, every)

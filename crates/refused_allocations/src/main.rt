@@ -32,8 +32,13 @@ use wf_event_values::Refusal;
 /// The story of a case, or nothing where its command line asks for more than one script read from
 /// standard input by one lane.
 fn story_of<'a>(alloc: Global, case: &'a Case<'a>) -> Result<Option<Story<'a>>, Fault> {
-    let Ok(line) = settings_of(alloc, case.words()) else {
-        return Ok(None);
+    // Where this fails for memory, the second time does not.
+    let line = match settings_of(alloc, case.words()) {
+        Ok(line) => line,
+        Err(_) => match settings_of(alloc, case.words()) {
+            Ok(line) => line,
+            Err(_) => return Ok(None),
+        },
     };
     let reads_no_file = line.file.is_none() && line.load.is_none() && line.save.is_none();
     if !reads_no_file || line.settings.passes != 1 || case.room().is_some() {

@@ -5,6 +5,7 @@ use crate::story::Fault;
 use service_model_types::settings::Settings;
 use std::alloc::{AllocError, AllocGlobal, Global};
 use std::sync::Wait;
+use wf_event_values::Refusal;
 use wire_replies::reply_text;
 use wire_requests::{Asked, read_line};
 
@@ -17,10 +18,12 @@ fn push_read<R: AllocGlobal + Wait>(
     text: &mut String,
 ) -> Result<(), Fault> {
     let alloc = rt.alloc();
-    let Ok(Asked::Call(asked)) = read_line(alloc, settings, line) else {
-        return Ok(text.push_str("no read\n")?);
+    let call = match read_line(alloc, settings, line) {
+        Ok(Asked::Call(asked)) => asked.into_call(),
+        Err(Refusal::NoMemory) => return Err(Fault::Memory),
+        _ => return Ok(text.push_str("no read\n")?),
     };
-    match opened.serve(rt, 0, asked.into_call()) {
+    match opened.serve(rt, 0, call) {
         Ok(reply) => Ok(text.push_str(reply_text(alloc, 0, &reply)?.as_str())?),
         Err(_) => Err(Fault::Memory),
     }
