@@ -112,13 +112,14 @@ fn kind_of(call: &Call) -> Where {
 }
 
 /// The transfer turn that is asked for, if it is one, ended behind its delivery.
-fn turn_to_delivery(asked: Result<Option<Call>, Refusal>) -> Option<TransferTurn> {
+fn turn_to_delivery(asked: &Result<Option<Call>, Refusal>) -> Option<TransferTurn> {
     match asked {
-        Ok(Some(Call::TransferTurn(turn))) => {
-            let mut turn = turn;
-            turn.stop = Stop::AfterSecondPart;
-            Some(turn)
-        }
+        Ok(Some(Call::TransferTurn(turn))) => Some(TransferTurn {
+            from: turn.from,
+            to: turn.to,
+            stop: Stop::AfterSecondPart,
+            at: turn.at,
+        }),
         _ => None,
     }
 }
@@ -181,7 +182,8 @@ impl Story<'_> {
         let Some(step) = self.steps.get(place) else {
             return Ok(false);
         };
-        let Some(turn) = turn_to_delivery(asked(rt.alloc(), &self.settings, step)) else {
+        let asked = asked(rt.alloc(), &self.settings, step);
+        let Some(turn) = turn_to_delivery(&asked) else {
             return Ok(false);
         };
         if twin.serve(rt, place, Call::TransferTurn(turn)).is_err() {

@@ -103,6 +103,27 @@ fn start_again<R: Abort + AllocGlobal>(rt: &R, service: &Service, pass: &mut Pas
     assert_eq!(rt; began(came, 0), "already started");
 }
 
+/// The other pass makes its calls on a thread of its own.
+fn start_beside<R: Abort + AllocGlobal + Threads + Sync>(
+    rt: &R,
+    service: &Service,
+    pass: Pass,
+) -> Pass
+    requires { IsPassOf pass service.now }
+    ensures { ComesBack service.now pass result }
+{
+    let (pass, ()) = thread::join(
+        rt,
+        move || -> Pass
+            requires { IsSync R.row × IsPassOf pass service.now }
+            ensures { IsPassOf result service.entry.now
+                × (number (known_by result) ≡ number (known_by pass)) }
+        { start_both(rt, service, pass) },
+        || (),
+    );
+    pass
+}
+
 /// One pass stays on the shard of `a` while another makes its calls, and then leaves.
 fn stay_and_leave<R: Abort + AllocGlobal + Threads + Sync>(
     rt: &R,
@@ -118,15 +139,7 @@ fn stay_and_leave<R: Abort + AllocGlobal + Threads + Sync>(
     let Ok(held) = service.try_enter_start(first, start(rt, "a", None), Moment::zero()) else {
         panic!(rt; "the shard was free")
     };
-    let (second, ()) = thread::join(
-        rt,
-        move || -> Pass
-            requires { IsSync R.row × IsPassOf second service.now }
-            ensures { IsPassOf result service.entry.now
-                × (number (known_by result) ≡ number (known_by second)) }
-        { start_both(rt, service, second) },
-        || (),
-    );
+    let second = start_beside(rt, service, second);
     let (first, reply) = held.leave();
     assert!(rt; is_started(&reply, 0));
     (first, second)
