@@ -50,14 +50,14 @@ fn events<'a, R: Abort>(rt: &R, reply: &'a Reply) -> &'a SharedEvents {
 
 /// How many events there are, if their ids count from 1, and else none.
 pub(crate) fn count(events: &SharedEvents) -> usize {
-    let mut next: u64 = 1;
+    let mut last: u64 = 0;
     for event in events.iter() {
-        if event.id != next {
+        last = last.saturating_add(1);
+        if event.id != last {
             return 0;
         }
-        next = next.saturating_add(1);
     }
-    (next - 1) as usize
+    last as usize
 }
 
 /// Whether the first events are the others.
