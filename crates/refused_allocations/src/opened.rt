@@ -1,5 +1,6 @@
 //! A service whose two passes make calls in turn.
 
+ghost use Rattle.std.specs.Prelude.{◌≡◌, ◌+◌, ◌<◌, ℕ, Some, length, slice_get};
 ghost use Rattle.service.specs.Services.{IsPassOf};
 
 use service::{Pass, Service, Turned};
@@ -44,12 +45,8 @@ impl Opened {
         let mut settings = settings.copy(alloc)?;
         settings.passes = 2;
         let (service, mut passes) = Service::open(alloc, &settings, records)?;
-        let Some(second) = passes.pop() else {
-            return Err(Refusal::Busy);
-        };
-        let Some(first) = passes.pop() else {
-            return Err(Refusal::Busy);
-        };
+        let second = take_pass(&service, &mut passes);
+        let first = take_pass(&service, &mut passes);
         Ok(Opened {
             service,
             first,
@@ -75,6 +72,24 @@ impl Opened {
     pub(crate) fn meet(&mut self) {
         self.service.meet(&mut self.first, &mut self.second);
     }
+}
+
+/// Takes the last pass.
+fn take_pass(service: &Service, passes: &mut Vec<Pass>) -> Pass
+    requires some { 0 < length passes.old.items }
+    requires own { (k : ℕ) (p : _)
+        → slice_get passes.old.items k ≡ Some p
+        → IsPassOf p service.now }
+    ensures own { IsPassOf result service.now }
+    ensures less { length passes.old.items ≡ length passes.new.items + 1 }
+    ensures rest { (k : ℕ) (p : _)
+        → slice_get passes.new.items k ≡ Some p
+        → IsPassOf p service.now }
+{
+    let Some(pass) = passes.pop() else {
+        unreachable!()
+    };
+    pass
 }
 
 /// Serves a call, and keeps what comes back where memory was refused.
