@@ -4,11 +4,14 @@ lines at the limit of a line's length and above it, and empty ones.
 
 Usage: bench/hostile.py
 
-Each kind is sent twice, the second time four times as many lines. All are refused or find no
-workflow, so no line leaves anything behind: what the program holds more after the second time is
-memory that was not given back. Above 256 KiB of it the script ends with status 1. Times are
-processor times of the program. `rt run` in crates/wfserve builds it.
+Each kind is sent twice, the second time four times as many lines. All are refused before any shard is
+asked, so no line leaves a step behind: what the program holds more after the second time is memory
+that was not given back. Where that is above 256 KiB, it is sent a third time, and the script
+ends with status 1 if the program then holds as much more again: what a system gives out at once, as
+large pages, doesn't come twice. Times are processor times of the program. `rt run` in crates/wfserve
+builds it.
 """
+import contextlib
 import os
 import subprocess
 import sys
@@ -18,7 +21,10 @@ import first_path
 
 LIMIT = 1_048_576
 SLACK = 256 * 1024
-HEAD, TAIL = b'{"op":"describe","workflow_id":"a","unknown":', b"}"
+# A line's reply comes within some hundredths of a second, on a machine that is busy too.
+REPLIES_SECONDS = 300
+# Without a workflow ID it is refused, but only once all of it was read.
+HEAD, TAIL = b'{"op":"describe","workflow_id":"","unknown":', b"}"
 
 
 def filled(size, front, middle, back):
@@ -67,15 +73,23 @@ def held(pid):
 def send(program, line, count):
     """Sends so many lines, and reads their replies."""
     def write():
-        for _ in range(count):
-            program.stdin.write(line + b"\n")
-        program.stdin.flush()
-    writer = threading.Thread(target=write)
+        # Where the program has ended, its replies end too.
+        with contextlib.suppress(BrokenPipeError):
+            for _ in range(count):
+                program.stdin.write(line + b"\n")
+            program.stdin.flush()
+    writer = threading.Thread(target=write, daemon=True)
+    watch = threading.Timer(REPLIES_SECONDS, program.kill)
+    watch.daemon = True
     writer.start()
+    watch.start()
     for _ in range(count):
-        if not program.stdout.readline().startswith(b'{"error":'):
-            sys.exit("hostile: a line was served")
+        reply = program.stdout.readline()
+        if not reply.startswith(b'{"error":'):
+            program.kill()
+            sys.exit(f"hostile: a line was not refused, but answered: {reply[:200]!r}")
     writer.join()
+    watch.cancel()
 
 
 def measure(name, line, count):
@@ -85,12 +99,16 @@ def measure(name, line, count):
         before, began = held(program.pid), used(program.pid)
         send(program, line, 4 * count)
         kept, took = held(program.pid) - before, used(program.pid) - began
+        again = kept
+        if kept > SLACK:
+            send(program, line, 4 * count)
+            again = held(program.pid) - before - kept
         program.stdin.close()
         program.stdout.read()
     each = took / (4 * count)
     print(f"{name}: {5 * count:,} lines, {each * 1e6:,.1f} us a line, {before / 1e6:.1f} MB, "
           f"{kept / 1e3:,.0f} kB more at the end", flush=True)
-    return kept
+    return min(kept, again)
 
 
 def main():
@@ -98,7 +116,8 @@ def main():
         sys.exit(f"hostile: {first_path.PROGRAM} is not built; run `rt run` in its folder")
     print(f"load {os.getloadavg()[0]:.1f}")
     most = max(measure(*case) for case in cases())
-    sys.exit(most > SLACK)
+    if most > SLACK:
+        sys.exit(f"hostile: {most:,} bytes were not given back")
 
 
 if __name__ == "__main__":

@@ -27,6 +27,8 @@ import records
 LANES, SHARDS, QUEUES = 8, 16, 4
 WORKFLOWS, BATCH = 400, 2_000
 KEPT_TOKENS = 3_000
+# Thousands of replies come within a second, on a machine that is busy too.
+REPLY_SECONDS = 300
 SETTINGS = ["--passes", str(LANES), "--shards", str(SHARDS), "--capacity", "65536"]
 SETTINGS += ["--queues", ",".join(f"q{number}" for number in range(QUEUES))]
 REUSE = ["AllowDuplicate", "AllowDuplicateFailedOnly", "RejectDuplicate"]
@@ -170,8 +172,9 @@ class Program:
         return [self.reply() for _ in lines]
 
     def reply(self):
-        if not self.came.acquire(timeout=60):
-            sys.exit("soak: a reply did not come within 60 seconds")
+        if not self.came.acquire(timeout=REPLY_SECONDS):
+            self.process.kill()
+            sys.exit(f"soak: a reply did not come within {REPLY_SECONDS} seconds")
         return json.loads(self.replies.popleft())
 
     def end(self):

@@ -11,7 +11,8 @@ there is of the former, and where.
 Beside a rule of docs/PROFILE.md stand its definition, an example, a case and a wrong body, in the last four
 columns of its table or in a line below it. Each of these has to be there, under its name in its file. What
 else the documents claim of crates, calls, clauses and options is looked up by docs_claims.py. A note says
-where they name another toolchain than the one that is here.
+where they name another toolchain than the one that is here. No text of the tree may hold what a merge
+leaves where two sides differ.
 """
 from __future__ import annotations
 
@@ -31,6 +32,7 @@ BRACED = re.compile(r"[A-Za-z_][\w.:/-]*\{[\w, .-]*\}[\w.-]*")
 IN_CRATE = re.compile(r"(\w+)/((?:src|data|must-fail)/[\w./-]+)")
 WORD = re.compile(r"[A-Za-z_][\w-]*")
 LINK = re.compile(r"\]\(([^)#\s]+)[^)]*\)")
+MERGE = re.compile(r"^(?:<{7} .*|\|{7} .*|={7}|>{7} .*)$")
 KINDS = ("Definition", "Example", "Case", "Wrong body")
 PLACES = {
     "Definition": "crates/{}/specs/{}.antt",
@@ -49,6 +51,16 @@ def tracked() -> list[Path]:
         cwd=TOP, capture_output=True, text=True, check=True,
     )
     return [TOP / line for line in listed.stdout.splitlines() if (TOP / line).is_file()]
+
+
+def left_of_merges(file: Path) -> list[str]:
+    """The lines of a text that a merge left where its two sides differ."""
+    try:
+        lines = file.read_text().splitlines()
+    except UnicodeDecodeError:
+        return []
+    return [f"line {number} is left of a merge: {line}"
+            for number, line in enumerate(lines, 1) if MERGE.fullmatch(line)]
 
 
 def words_of(files: list[Path]) -> set[str]:
@@ -221,7 +233,8 @@ def main() -> int:
     documents = [file for file in files if file.suffix == ".md"]
     known = (TOP / "tools/known_names.txt").read_text().split()
     words = words_of([file for file in files if file.suffix != ".md"]).union(known)
-    faults = wrong_markers(files) + faults_of_claims()
+    faults = [f"{file.relative_to(TOP)}: {fault}" for file in files for fault in left_of_merges(file)]
+    faults += wrong_markers(files) + faults_of_claims()
     faults += [f"{document.relative_to(TOP)}: {fault}"
                for document in documents for fault in missing_in(document, words)]
     for note in other_kits(documents):

@@ -1,12 +1,13 @@
 #!/usr/bin/env python3
 """Refuses each allocation of a run in turn, and looks at what the service makes of it.
 
-    tools/refused_allocations.py [--every K] [--first F] CALLS PROGRAM
+    tools/refused_allocations.py [--within SECONDS --day D] CALLS PROGRAM
 
 CALLS is the built program `refused_allocations`, PROGRAM the built `wfserve` (tools/build_program.py
-builds each). Of each case in ROWS every allocation, or every Kth from the Fth on, is refused, once a
-run: for CALLS, which makes the service's calls and checks what each leaves, and for PROGRAM, which is
-given the same lines.
+builds each). Of each case in ROWS every allocation is refused, once a run: for CALLS, which makes the
+service's calls and checks what each leaves, and for PROGRAM, which is given the same lines. Where that
+would take longer than SECONDS, by the time that a few runs take, every Kth is refused, from the one on
+that the number D of a day gives: so K days on end refuse all of them.
 
 CALLS ends with status 0, or with 2 where memory was refused outside of the service, as its own texts.
 PROGRAM ends with status 2, and has written a beginning of its undisturbed output and saved nothing: an
@@ -17,12 +18,14 @@ import argparse
 import collections
 import concurrent.futures
 import json
+import math
 import os
 import pathlib
 import re
 import subprocess
 import sys
 import tempfile
+import time
 
 ROOT = pathlib.Path(__file__).resolve().parent.parent
 DATA = ROOT / "crates" / "cases" / "data"
@@ -46,6 +49,9 @@ ROWS = {
 }
 OLDER = "an older file\n"
 COUNT_BYTES = 8
+# A run takes some hundredths of a second, on a machine that is busy too.
+RUN_SECONDS = 300
+TIMED_RUNS = 80
 
 
 def compact(line):
@@ -88,7 +94,7 @@ class Subject:
                 capture_output=True,
                 env=environment,
                 pass_fds=[told.fileno()],
-                timeout=60,
+                timeout=RUN_SECONDS,
             )
             count = int.from_bytes(told.read(COUNT_BYTES), sys.byteorder)
         return done.returncode, done.stdout, done.stderr, count
@@ -153,48 +159,97 @@ class Program(Subject):
         return None, repr(came)
 
 
-def tried(subject, every, first):
-    """Refuses the allocations of a subject in turn. Returns how often each place came, and the faults."""
+def at_once():
+    return concurrent.futures.ThreadPoolExecutor(len(os.sched_getaffinity(0)))
+
+
+def attempted(subject, refused):
+    """Where a subject was refused this allocation, and the fault of that run."""
+    try:
+        _, place, fault = subject.attempt(refused)
+    except subprocess.TimeoutExpired:
+        return None, f"no end within {RUN_SECONDS} s"
+    return place, fault
+
+
+def counted(subject):
+    """How many allocations an undisturbed run of a subject asks for, and its fault."""
     count, _, fault = subject.attempt(None)
-    if not count:
-        fault = "no allocation was counted"
-    if fault:
-        return collections.Counter(), [f"{subject.title}: {fault}"]
+    return count, fault or (None if count else "no allocation was counted")
+
+
+def spread_over(counts):
+    """Subjects and allocations for a few runs, spread over all."""
+    subjects = list(counts.items())
+    for number in range(TIMED_RUNS):
+        subject, count = subjects[number % len(subjects)]
+        yield subject, 1 + number * count // TIMED_RUNS
+
+
+def step_within(seconds, counts):
+    """Every how manyth allocation can be refused in so many seconds, by the time that a few runs take."""
+    began = time.monotonic()
+    with at_once() as pool:
+        list(pool.map(lambda run: attempted(*run), spread_over(counts)))
+    each = (time.monotonic() - began) / TIMED_RUNS
+    return max(1, math.ceil(sum(counts.values()) * each / seconds))
+
+
+def tried(subject, count, every, first):
+    """Refuses allocations of a subject in turn. Returns how often each place came, and the faults."""
     numbers = range(first, count + 1, every)
     places, faults = collections.Counter(), []
-    with concurrent.futures.ThreadPoolExecutor(len(os.sched_getaffinity(0))) as pool:
-        for number, (_, place, fault) in zip(numbers, pool.map(subject.attempt, numbers)):
+    with at_once() as pool:
+        for number, (place, fault) in zip(numbers, pool.map(lambda one: attempted(subject, one), numbers)):
             places[place] += 1
             if fault:
                 faults.append(f"{subject.title}, allocation {number}: {fault}")
     print(f"{subject.title}: {len(numbers)} of {count} allocations")
     for place, times in places.most_common():
-        print(f"  {times:6} {place or 'FAULTS'}")
+        print(f"  {times:6} {place or 'FAULTS'}", flush=True)
     return places, faults
+
+
+def subjects_of(calls, program, allocator):
+    """Both programs with each of the cases."""
+    for file, names in ROWS.items():
+        for name in names:
+            lines = text_of(file, name)
+            yield Calls(calls.resolve(), allocator, name, lines)
+            yield Program(program.resolve(), allocator, name, lines)
+
+
+def refuse_all(subjects, within, day):
+    """Refuses the allocations of all subjects, and returns how many runs there were, and the faults."""
+    told = {subject: counted(subject) for subject in subjects}
+    faults = [f"{subject.title}: {fault}" for subject, (_, fault) in told.items() if fault]
+    counts = {subject: count for subject, (count, fault) in told.items() if not fault}
+    every = step_within(within, counts) if within and counts else 1
+    first = 1 + day % every
+    if every > 1:
+        print(f"only one in {every} of {sum(counts.values())} allocations, from number {first} on")
+    runs = 0
+    for subject, count in counts.items():
+        places, wrong = tried(subject, count, every, first)
+        runs += sum(places.values())
+        faults += wrong
+    return runs, faults
 
 
 def main():
     parser = argparse.ArgumentParser(description=__doc__.split("\n")[0])
-    parser.add_argument("--every", type=int, default=1)
-    parser.add_argument("--first", type=int, default=1)
+    parser.add_argument("--within", type=int)
+    parser.add_argument("--day", type=int, default=0)
     parser.add_argument("calls", type=pathlib.Path)
     parser.add_argument("program", type=pathlib.Path)
     told = parser.parse_args()
-    places, faults = collections.Counter(), []
     with tempfile.TemporaryDirectory() as folder:
         allocator = pathlib.Path(folder, "refuse_nth.so")
         source = ROOT / "tools" / "refuse_nth.c"
         subprocess.run(["cc", "-O2", "-shared", "-fPIC", "-o", allocator, source], check=True)
-        for file, names in ROWS.items():
-            for name in names:
-                lines = text_of(file, name)
-                calls = Calls(told.calls.resolve(), allocator, name, lines)
-                program = Program(told.program.resolve(), allocator, name, lines)
-                for subject in (calls, program):
-                    more, wrong = tried(subject, told.every, told.first)
-                    places.update(more)
-                    faults += wrong
-    print(f"{sum(places.values())} runs, {len(faults)} faults")
+        subjects = list(subjects_of(told.calls, told.program, allocator))
+        runs, faults = refuse_all(subjects, told.within, told.day)
+    print(f"{runs} runs, {len(faults)} faults")
     for fault in faults[:20]:
         print(fault)
     return 1 if faults else 0

@@ -28,6 +28,8 @@ import tempfile
 ROOT = pathlib.Path(__file__).resolve().parent.parent
 LANES, SHARDS, LINES = 3, 2, 24
 NAMES = ["a", "b", "c", "d"]
+# A run takes some hundredths of a second, on a machine that is busy too.
+RUN_SECONDS = 300
 SETTINGS = ["--shards", str(SHARDS)]
 
 
@@ -82,7 +84,8 @@ def served(program, words, lines, allocator=None, seed=0):
     """The replies to the lines, without their numbers."""
     environment = {"LD_PRELOAD": str(allocator), "YIELD_SEED": str(seed)} if allocator else {}
     done = subprocess.run(
-        [str(program), *SETTINGS, *words], input=texts(lines), capture_output=True, env=environment, timeout=60
+        [str(program), *SETTINGS, *words],
+        input=texts(lines), capture_output=True, env=environment, timeout=RUN_SECONDS,
     )
     if done.returncode not in (0, 1) or done.stderr:
         raise ValueError(f"status {done.returncode}: {done.stderr.decode()}")
@@ -131,7 +134,7 @@ def attempt(program, allocator, seed):
                 return "the one-lane program answers otherwise", None
             if served(program, ["--load", folder], reads) != again[len(ordered) :]:
                 return "opened from the records it answers otherwise", None
-        except ValueError as fault:
+        except (ValueError, subprocess.TimeoutExpired) as fault:
             return str(fault), None
     turns = sum(before["pass"] != behind["pass"] for entries in records for before, behind in zip(entries, entries[1:]))
     return None, turns

@@ -1,7 +1,9 @@
 """What tools/docs_claims.py finds: nothing in the documents as they are, and each claim that is made untrue."""
 
 import sys
+import tempfile
 import unittest
+from pathlib import Path
 
 from programs import ROOT
 
@@ -46,7 +48,7 @@ class Claims(unittest.TestCase):
     def test_a_promise_that_no_clause_makes(self):
         look = docs_claims.wrong_promises
         wrong = {
-            "clauses of `meet` (`agree`, `hints`)": "clauses of `meet` (`agree`, `queues`)",
+            "clauses of `meet` (`agree`, `hints`)": "clauses of `meet` (`agree`, `popped`)",
             "clause of `close` (`queues`)": "clause of `closes` (`queues`)",
             "clause (`Stepped`, `kept`)": "clause (`Stepped`, `keeps`)",
         }
@@ -111,6 +113,26 @@ class Names(unittest.TestCase):
         for quoted in wrong:
             with self.subTest(quoted=quoted):
                 self.assertEqual(len(check_docs.missing_of(quoted, words)), 1)
+
+
+class Merges(unittest.TestCase):
+    """What a merge leaves where its two sides differ."""
+
+    def faults(self, text):
+        with tempfile.TemporaryDirectory() as folder:
+            file = Path(folder, "page.md")
+            file.write_bytes(text)
+            return check_docs.left_of_merges(file)
+
+    def test_each_line_that_a_merge_leaves_is_a_fault(self):
+        for line in ("<" * 7 + " HEAD", "|" * 7 + " base", "=" * 7, ">" * 7 + " 0123abc"):
+            with self.subTest(line=line):
+                self.assertEqual(self.faults(f"one\n{line}\ntwo\n".encode()), [f"line 2 is left of a merge: {line}"])
+
+    def test_what_only_looks_like_it_is_none(self):
+        for line in ("<" * 7, "  " + "=" * 7, "=" * 8, "a " + ">" * 7 + " b", ""):
+            self.assertEqual(self.faults(f"one\n{line}\ntwo\n".encode()), [], line)
+        self.assertEqual(self.faults(b"\xff\n" + b"=" * 7 + b"\n"), [])
 
 
 if __name__ == "__main__":

@@ -5,7 +5,7 @@ ghost use Rattle.service.specs.Services.{IsPassOf};
 use case_files::{Case, Step, transcript};
 use script::LINE_LIMIT;
 use script_settings::settings_of;
-use service::{Pass, Service};
+use workflow_service::{Pass, Service};
 use service_model_types::answer::Reply;
 use service_model_types::call::{Call, StartTask, StepCall};
 use service_model_types::request::Hint;

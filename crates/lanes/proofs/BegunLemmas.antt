@@ -5,7 +5,7 @@ use Rattle.std.specs.Io.KnownBytes.{Appends, Consumes, Keeps}
 use Rattle.wf_event_values.specs.declared.refusal.Refusal.{Refusal}
 use Rattle.service_model_types.specs.declared.settings.Settings.{Settings}
 use Rattle.service_model_types.specs.Replies.{Reply}
-use Rattle.service.specs.declared.service.Pass.{Pass}
+use Rattle.service.specs.Views.{Pass}
 use Rattle.wire_requests.specs.declared.calls.Asked.{Asked}
 use Rattle.wire_requests.specs.declared.calls.Asked.TheVariants.{Barrier as a_barrier}
 use Rattle.script.specs.Asked.{asked}
@@ -59,59 +59,61 @@ begins-more {serves} {meets} {K} {ps} lines more held w b = record {
   written = b.written;
 }
 
--- the lines before the last barrier were printed
-begins-told : {serves : Serves} {meets : Meets} {K : Settings} {ps : List Pass} (lines : List Line) (s : Script) (held w : Option (List ℕ)) → Told serves meets K ps lines s held w → Beginning serves meets K ps lines held w
-begins-told lines s held w h = record {
-  front = h.done;
-  rest = h.waits;
-  replies = h.replies;
-  served = passes_of s.lanes.items;
-  parts = h.parts;
-  course = h.course;
-  written = beginning_of_all held w (numbered_from 1 h.replies) h.written;
-}
+module _ {Keeper Plan : Type 0} where
+  -- the lines before the last barrier were printed
+  begins-told : {serves : Serves} {meets : Meets} {K : Settings} {ps : List Pass} (lines : List Line) (s : Script Keeper Plan) (held w : Option (List ℕ)) → Told serves meets K ps lines s held w → Beginning serves meets K ps lines held w
+  begins-told lines s held w h = record {
+    front = h.done;
+    rest = h.waits;
+    replies = h.replies;
+    served = passes_of s.lanes.items;
+    parts = h.parts;
+    course = h.course;
+    written = beginning_of_all held w (numbered_from 1 h.replies) h.written;
+  }
 
 both-begun : (first : ℕ) (rs ss : List (Option Reply)) (held w w' : Option (List ℕ)) → 1 + length rs ≡ first → Appends held w (numbered_from 1 rs) → AppendsBeginning w w' (numbered_from first ss) → AppendsBeginning held w' (numbered_from 1 (rs ++ ss))
 both-begun first rs ss held w w' count h k = rw (numbered-append 1 rs ss, count) (beginning_behind held w w' (numbered_from 1 rs) (numbered_from first ss) h k)
 
--- the lines before the last barrier, and the first of those behind it
-begins-front : {serves : Serves} {meets : Meets} {K : Settings} {ps : List Pass} (lines : List Line) (s : Script) (held w w' : Option (List ℕ)) (more : List (Result Asked Refusal)) (n : ℕ) (rs : List (Option Reply)) (ps' : List Pass) (all : List Line)
-    → (h : Told serves meets K ps lines s held w) → asks_of K all ≡ h.done ++ more → Course serves meets (passes_of s.lanes.items) (take n more) rs ps' → AppendsBeginning w w' (numbered_from s.first rs) → Beginning serves meets K ps all held w'
-begins-front {serves} {meets} {K} {ps} lines s held w w' more n rs ps' all h parts course written = record {
-  front = h.done ++ take n more;
-  rest = drop n more;
-  replies = h.replies ++ rs;
-  served = ps';
-  parts = parts ∙ ap (λ x. h.done ++ x) (sym (take-append-drop n more)) ∙ sym (append_assoc h.done (take n more) (drop n more));
-  course = turn-append (LineServed serves meets) ps (passes_of s.lanes.items) ps' h.done (take n more) h.replies rs h.course course;
-  written = both-begun s.first h.replies rs held w w' (next-number lines s held w h) h.written written;
-}
+module _ {Keeper Plan : Type 0} where
+  -- the lines before the last barrier, and the first of those behind it
+  begins-front : {serves : Serves} {meets : Meets} {K : Settings} {ps : List Pass} (lines : List Line) (s : Script Keeper Plan) (held w w' : Option (List ℕ)) (more : List (Result Asked Refusal)) (n : ℕ) (rs : List (Option Reply)) (ps' : List Pass) (all : List Line)
+      → (h : Told serves meets K ps lines s held w) → asks_of K all ≡ h.done ++ more → Course serves meets (passes_of s.lanes.items) (take n more) rs ps' → AppendsBeginning w w' (numbered_from s.first rs) → Beginning serves meets K ps all held w'
+  begins-front {serves} {meets} {K} {ps} lines s held w w' more n rs ps' all h parts course written = record {
+    front = h.done ++ take n more;
+    rest = drop n more;
+    replies = h.replies ++ rs;
+    served = ps';
+    parts = parts ∙ ap (λ x. h.done ++ x) (sym (take-append-drop n more)) ∙ sym (append_assoc h.done (take n more) (drop n more));
+    course = turn-append (LineServed serves meets) ps (passes_of s.lanes.items) ps' h.done (take n more) h.replies rs h.course course;
+    written = both-begun s.first h.replies rs held w w' (next-number lines s held w h) h.written written;
+  }
 
--- a phase was not printed whole
-pub begins-phase : {serves : Serves} {meets : Meets} {K : Settings} {ps : List Pass} (lines : List Line) (s : Script) (held w w' : Option (List ℕ)) → Stopped serves meets s w w' → Told serves meets K ps lines s held w → Beginning serves meets K ps lines held w'
-begins-phase {serves} {meets} {K} {ps} lines s held w w' (inl same) h = subst (λ x. Beginning serves meets K ps lines held x) (sym same) (begins-told lines s held w h)
-begins-phase {serves} {meets} {K} {ps} lines s held w w' (inr p) h =
-    let b = p.begun in
-    let part = phase-part serves meets h.waits s.places.items b.count b.replies s.lanes.items p.after b.left h.plain h.waiting p.phase (subst (λ x. InTurn Took p.after (take b.count x) b.replies b.left) h.waiting.places b.took) in
-    begins-front lines s held w w' h.waits b.count b.replies part.0 lines h h.parts part.1 b.written
+  -- a phase was not printed whole
+  pub begins-phase : {serves : Serves} {meets : Meets} {K : Settings} {ps : List Pass} (lines : List Line) (s : Script Keeper Plan) (held w w' : Option (List ℕ)) → Stopped serves meets s w w' → Told serves meets K ps lines s held w → Beginning serves meets K ps lines held w'
+  begins-phase {serves} {meets} {K} {ps} lines s held w w' (inl same) h = subst (λ x. Beginning serves meets K ps lines held x) (sym same) (begins-told lines s held w h)
+  begins-phase {serves} {meets} {K} {ps} lines s held w w' (inr p) h =
+      let b = p.begun in
+      let part = phase-part serves meets h.waits s.places.items b.count b.replies s.lanes.items p.after b.left h.plain h.waiting p.phase (subst (λ x. InTurn Took p.after (take b.count x) b.replies b.left) h.waiting.places b.took) in
+      begins-front lines s held w w' h.waits b.count b.replies part.0 lines h h.parts part.1 b.written
 
--- a line more was read, and nothing printed
-pub begins-line : {serves : Serves} {meets : Meets} {K : Settings} {ps : List Pass} (lines : List Line) (line : Line) (s : Script) (held w : Option (List ℕ)) → Told serves meets K ps lines s held w → Beginning serves meets K ps (lines ++ line ∷ []) held w
-begins-line lines line s held w h = begins-more lines (line ∷ []) held w (begins-told lines s held w h)
+  -- a line more was read, and nothing printed
+  pub begins-line : {serves : Serves} {meets : Meets} {K : Settings} {ps : List Pass} (lines : List Line) (line : Line) (s : Script Keeper Plan) (held w : Option (List ℕ)) → Told serves meets K ps lines s held w → Beginning serves meets K ps (lines ++ line ∷ []) held w
+  begins-line lines line s held w h = begins-more lines (line ∷ []) held w (begins-told lines s held w h)
 
--- a phase that a barrier ends was not printed whole
-pub begins-barrier : {serves : Serves} {meets : Meets} {K : Settings} {ps : List Pass} (lines : List Line) (line : Line) (s s1 : Script) (held w w' : Option (List ℕ)) → Added (asked K line) s s1 → is_barrier (place_in (asked K line)) ≡ true
-    → Stopped serves meets s1 w w' → Told serves meets K ps lines s held w → Beginning serves meets K ps (lines ++ line ∷ []) held w'
-begins-barrier {serves} {meets} {K} {ps} lines line s s1 held w w' a barrier (inl same) h = subst (λ x. Beginning serves meets K ps (lines ++ line ∷ []) held x) (sym same) (begins-line lines line s held w h)
-begins-barrier {serves} {meets} {K} {ps} lines line s s1 held w w' a barrier (inr p) h =
-    let is : asked K line ≡ Ok a_barrier = barrier-asked (asked K line) barrier in
-    let all = h.waits ++ Ok a_barrier ∷ [] in
-    let b = p.begun in
-    let places : s1.places.items ≡ map place_in all = barrier-places (asked K line) h.waits s.places.items s1.places.items is a.places h.waiting.places in
-    let waiting = waiting-same h.waits s.places.items s.lanes.items s1.lanes.items (subst (λ x. WereAsked (λ k. own_calls k x) s.lanes.items s1.lanes.items) is a.lanes) h.waiting in
-    let part = phase-part-barrier serves meets h.waits s.places.items b.count b.replies s1.lanes.items p.after b.left h.plain waiting p.phase (subst (λ x. InTurn Took p.after (take b.count x) b.replies b.left) places b.took) in
-    begins-front lines s held w w' all b.count b.replies part.0 (lines ++ line ∷ []) h (asks-push K lines line h.done h.waits h.parts ∙ ap (λ x. h.done ++ (h.waits ++ x ∷ [])) is)
-    (subst (λ x. Course serves meets x (take b.count all) b.replies part.0) a.lanes.passes part.1) (subst (λ n. AppendsBeginning w w' (numbered_from n b.replies)) a.first b.written)
+  -- a phase that a barrier ends was not printed whole
+  pub begins-barrier : {serves : Serves} {meets : Meets} {K : Settings} {ps : List Pass} (lines : List Line) (line : Line) (s s1 : Script Keeper Plan) (held w w' : Option (List ℕ)) → Added (asked K line) s s1 → is_barrier (place_in (asked K line)) ≡ true
+      → Stopped serves meets s1 w w' → Told serves meets K ps lines s held w → Beginning serves meets K ps (lines ++ line ∷ []) held w'
+  begins-barrier {serves} {meets} {K} {ps} lines line s s1 held w w' a barrier (inl same) h = subst (λ x. Beginning serves meets K ps (lines ++ line ∷ []) held x) (sym same) (begins-line lines line s held w h)
+  begins-barrier {serves} {meets} {K} {ps} lines line s s1 held w w' a barrier (inr p) h =
+      let is : asked K line ≡ Ok a_barrier = barrier-asked (asked K line) barrier in
+      let all = h.waits ++ Ok a_barrier ∷ [] in
+      let b = p.begun in
+      let places : s1.places.items ≡ map place_in all = barrier-places (asked K line) h.waits s.places.items s1.places.items is a.places h.waiting.places in
+      let waiting = waiting-same h.waits s.places.items s.lanes.items s1.lanes.items (subst (λ x. WereAsked (λ k. own_calls k x) s.lanes.items s1.lanes.items) is a.lanes) h.waiting in
+      let part = phase-part-barrier serves meets h.waits s.places.items b.count b.replies s1.lanes.items p.after b.left h.plain waiting p.phase (subst (λ x. InTurn Took p.after (take b.count x) b.replies b.left) places b.took) in
+      begins-front lines s held w w' all b.count b.replies part.0 (lines ++ line ∷ []) h (asks-push K lines line h.done h.waits h.parts ∙ ap (λ x. h.done ++ (h.waits ++ x ∷ [])) is)
+      (subst (λ x. Course serves meets x (take b.count all) b.replies part.0) a.lanes.passes part.1) (subst (λ n. AppendsBeginning w w' (numbered_from n b.replies)) a.first b.written)
 
 -- ---- texts
 
@@ -119,18 +121,19 @@ begins-barrier {serves} {meets} {K} {ps} lines line s s1 held w w' a barrier (in
 begins-longer : {serves : Serves} {meets : Meets} {K : Settings} {ps : List Pass} (a b : List ℕ) (held w : Option (List ℕ)) → Beginning serves meets K ps (ended (Some []) a) held w → Beginning serves meets K ps (ended (Some []) (a ++ b)) held w
 begins-longer {serves} {meets} {K} {ps} a b held w h = subst (λ ls. Beginning serves meets K ps ls held w) (sym (ended-append (Some []) a b)) (begins-more (ended (Some []) a) (ended (left (Some []) a) b) held w h)
 
--- a part that ends a line
-pub begins-end : {serves : Serves} {meets : Meets} {K : Settings} {ps : List Pass} (text part : List ℕ) (s s1 : Script) (held w w' : Option (List ℕ)) → has_feed part ≡ false → s1.line ≡ grown s.line part
-    → s1.lanes ≡ s.lanes → s1.places ≡ s.places → s1.first ≡ s.first → s1.refused ≡ s.refused → BeginsLine serves meets K s1.line s1 w w'
-    → TextTold serves meets K ps text s held w → Beginning serves meets K ps (ended (Some []) (text ++ (part ++ 10 ∷ []))) held w'
-begins-end {serves} {meets} {K} {ps} text part s s1 held w w' free grows lanes places first refused step h =
-    let line : s1.line ≡ grown (left (Some []) text) part = grows ∙ ap (λ l. grown l part) h.line in
-    subst (λ ls. Beginning serves meets K ps ls held w') (sym (lines-end text part free ∙ ap (λ l. ended (Some []) text ++ l ∷ []) (sym line)))
-    (step ps (ended (Some []) text) held (told-longer (ended (Some []) text) s s1 held w lanes places first refused h.told))
+module _ {Keeper Plan : Type 0} where
+  -- a part that ends a line
+  pub begins-end : {serves : Serves} {meets : Meets} {K : Settings} {ps : List Pass} (text part : List ℕ) (s s1 : Script Keeper Plan) (held w w' : Option (List ℕ)) → has_feed part ≡ false → s1.line ≡ grown s.line part
+      → s1.lanes ≡ s.lanes → s1.places ≡ s.places → s1.first ≡ s.first → s1.refused ≡ s.refused → BeginsLine serves meets K s1.line s1 w w'
+      → TextTold serves meets K ps text s held w → Beginning serves meets K ps (ended (Some []) (text ++ (part ++ 10 ∷ []))) held w'
+  begins-end {serves} {meets} {K} {ps} text part s s1 held w w' free grows lanes places first refused step h =
+      let line : s1.line ≡ grown (left (Some []) text) part = grows ∙ ap (λ l. grown l part) h.line in
+      subst (λ ls. Beginning serves meets K ps ls held w') (sym (lines-end text part free ∙ ap (λ l. ended (Some []) text ++ l ∷ []) (sym line)))
+      (step ps (ended (Some []) text) held (told-longer (ended (Some []) text) s s1 held w lanes places first refused h.told))
 
--- a part that nothing was made of
-pub begins-part : {serves : Serves} {meets : Meets} {K : Settings} {ps : List Pass} (text part : List ℕ) (s : Script) (held w : Option (List ℕ)) → TextTold serves meets K ps text s held w → Beginning serves meets K ps (ended (Some []) (text ++ part)) held w
-begins-part text part s held w h = begins-longer text part held w (begins-told (ended (Some []) text) s held w h.told)
+  -- a part that nothing was made of
+  pub begins-part : {serves : Serves} {meets : Meets} {K : Settings} {ps : List Pass} (text part : List ℕ) (s : Script Keeper Plan) (held w : Option (List ℕ)) → TextTold serves meets K ps text s held w → Beginning serves meets K ps (ended (Some []) (text ++ part)) held w
+  begins-part text part s held w h = begins-longer text part held w (begins-told (ended (Some []) text) s held w h.told)
 
 -- the parts of a chunk, one after another: `done` was told of, and then a beginning with `part`
 pub begins-chunk : {serves : Serves} {meets : Meets} {K : Settings} {ps : List Pass} (text all done part rest : List ℕ) (held w : Option (List ℕ)) → all ≡ (done ++ part) ++ rest → Beginning serves meets K ps (ended (Some []) ((text ++ done) ++ part)) held w
@@ -142,41 +145,43 @@ begins-chunk {serves} {meets} {K} {ps} text all done part rest held w is b =
 
 -- ---- turns
 
-pub broke-reading : {serves : Serves} {meets : Meets} {K : Settings} {ps : List Pass} (s : Script) (unread held r r' w : Option (List ℕ)) → Keeps r r' → Progress serves meets K ps s unread held r w → Broke serves meets K ps unread held r' w
-broke-reading {serves} {meets} {K} {ps} s unread held r r' w keeps p = record {
-  text = p.text;
-  read = Consumes-keeps unread r r' p.text p.read keeps;
-  begun = subst (λ ls. Beginning serves meets K ps ls held w) (ended-whole p.text) (begins-told (ended (Some []) p.text) s held w p.told.told);
-}
+module _ {Keeper Plan : Type 0} where
+  pub broke-reading : {serves : Serves} {meets : Meets} {K : Settings} {ps : List Pass} (s : Script Keeper Plan) (unread held r r' w : Option (List ℕ)) → Keeps r r' → Progress serves meets K ps s unread held r w → Broke serves meets K ps unread held r' w
+  broke-reading {serves} {meets} {K} {ps} s unread held r r' w keeps p = record {
+    text = p.text;
+    read = Consumes-keeps unread r r' p.text p.read keeps;
+    begun = subst (λ ls. Beginning serves meets K ps ls held w) (ended-whole p.text) (begins-told (ended (Some []) p.text) s held w p.told.told);
+  }
 
-pub broke-feeding : {serves : Serves} {meets : Meets} {K : Settings} {ps : List Pass} (s : Script) (unread held r r' w w' : Option (List ℕ)) (chunk : List ℕ) → Consumes r r' chunk → (p : Progress serves meets K ps s unread held r w)
-    → Beginning serves meets K ps (ended (Some []) (p.text ++ chunk)) held w' → Broke serves meets K ps unread held r' w'
-broke-feeding {serves} {meets} {K} {ps} s unread held r r' w w' chunk read p b = record {
-  text = p.text ++ chunk;
-  read = Consumes-then unread r r' p.text chunk p.read read;
-  begun = subst (λ ls. Beginning serves meets K ps ls held w') (ended-whole (p.text ++ chunk)) b;
-}
+  pub broke-feeding : {serves : Serves} {meets : Meets} {K : Settings} {ps : List Pass} (s : Script Keeper Plan) (unread held r r' w w' : Option (List ℕ)) (chunk : List ℕ) → Consumes r r' chunk → (p : Progress serves meets K ps s unread held r w)
+      → Beginning serves meets K ps (ended (Some []) (p.text ++ chunk)) held w' → Broke serves meets K ps unread held r' w'
+  broke-feeding {serves} {meets} {K} {ps} s unread held r r' w w' chunk read p b = record {
+    text = p.text ++ chunk;
+    read = Consumes-then unread r r' p.text chunk p.read read;
+    begun = subst (λ ls. Beginning serves meets K ps ls held w') (ended-whole (p.text ++ chunk)) b;
+  }
 
 pub nothing-read : {serves : Serves} {meets : Meets} {K : Settings} {ps : List Pass} (unread held : Option (List ℕ)) → Halted serves meets K ps unread held unread held
 nothing-read unread held = inl (record { text = []; read = Consumes-none unread; begun = begins-nothing (whole_lines []) held })
 
 -- ---- the end
 
--- behind a line feed
-pub begins-clean : {serves : Serves} {meets : Meets} {K : Settings} {ps : List Pass} (text : List ℕ) (s : Script) (held w w' : Option (List ℕ)) → is_empty_line s.line ≡ true → Stopped serves meets s w w'
-    → TextTold serves meets K ps text s held w → Beginning serves meets K ps (all_lines text) held w'
-begins-clean {serves} {meets} {K} {ps} text s held w w' empty stop h =
-    subst (λ ls. Beginning serves meets K ps ls held w') (lines-clean text s.line h.line empty) (begins-phase (ended (Some []) text) s held w w' stop h.told)
+module _ {Keeper Plan : Type 0} where
+  -- behind a line feed
+  pub begins-clean : {serves : Serves} {meets : Meets} {K : Settings} {ps : List Pass} (text : List ℕ) (s : Script Keeper Plan) (held w w' : Option (List ℕ)) → is_empty_line s.line ≡ true → Stopped serves meets s w w'
+      → TextTold serves meets K ps text s held w → Beginning serves meets K ps (all_lines text) held w'
+  begins-clean {serves} {meets} {K} {ps} text s held w w' empty stop h =
+      subst (λ ls. Beginning serves meets K ps ls held w') (lines-clean text s.line h.line empty) (begins-phase (ended (Some []) text) s held w w' stop h.told)
 
--- in a last line without its line feed
-pub begins-last : {serves : Serves} {meets : Meets} {K : Settings} {ps : List Pass} (text : List ℕ) (s : Script) (held w w' : Option (List ℕ)) → is_empty_line s.line ≡ false → BeginsLine serves meets K s.line s w w'
-    → TextTold serves meets K ps text s held w → Beginning serves meets K ps (all_lines text) held w'
-begins-last {serves} {meets} {K} {ps} text s held w w' some step h =
-    subst (λ ls. Beginning serves meets K ps ls held w') (lines-last text s.line h.line some) (step ps (ended (Some []) text) held h.told)
+  -- in a last line without its line feed
+  pub begins-last : {serves : Serves} {meets : Meets} {K : Settings} {ps : List Pass} (text : List ℕ) (s : Script Keeper Plan) (held w w' : Option (List ℕ)) → is_empty_line s.line ≡ false → BeginsLine serves meets K s.line s w w'
+      → TextTold serves meets K ps text s held w → Beginning serves meets K ps (all_lines text) held w'
+  begins-last {serves} {meets} {K} {ps} text s held w w' some step h =
+      subst (λ ls. Beginning serves meets K ps ls held w') (lines-last text s.line h.line some) (step ps (ended (Some []) text) held h.told)
 
--- behind it
-pub begins-behind : {serves : Serves} {meets : Meets} {K : Settings} {ps : List Pass} (text : List ℕ) (s s1 : Script) (held w w1 w' : Option (List ℕ)) → is_empty_line s.line ≡ false → TellsLine serves meets K s.line s s1 w w1 → Stopped serves meets s1 w1 w'
-    → TextTold serves meets K ps text s held w → Beginning serves meets K ps (all_lines text) held w'
-begins-behind {serves} {meets} {K} {ps} text s s1 held w w1 w' some step stop h =
-    subst (λ ls. Beginning serves meets K ps ls held w') (lines-last text s.line h.line some)
-    (begins-phase (ended (Some []) text ++ s.line ∷ []) s1 held w1 w' stop (step ps (ended (Some []) text) held h.told))
+  -- behind it
+  pub begins-behind : {serves : Serves} {meets : Meets} {K : Settings} {ps : List Pass} (text : List ℕ) (s s1 : Script Keeper Plan) (held w w1 w' : Option (List ℕ)) → is_empty_line s.line ≡ false → TellsLine serves meets K s.line s s1 w w1 → Stopped serves meets s1 w1 w'
+      → TextTold serves meets K ps text s held w → Beginning serves meets K ps (all_lines text) held w'
+  begins-behind {serves} {meets} {K} {ps} text s s1 held w w1 w' some step stop h =
+      subst (λ ls. Beginning serves meets K ps ls held w') (lines-last text s.line h.line some)
+      (begins-phase (ended (Some []) text ++ s.line ∷ []) s1 held w1 w' stop (step ps (ended (Some []) text) held h.told))

@@ -33,67 +33,69 @@ or-false : (b : Bool) → (b || false) ≡ b
 or-false true = refl
 or-false false = refl
 
--- nothing was printed yet
-pub printed-none : (first : ℕ) (ls : List Lane) (held : Option (List ℕ)) → Printed first [] ls ls false held held
-printed-none first ls held = record { replies = []; took = refl; written = Appends-none held; refused_is = refl }
+module _ {Keeper Plan : Type 0} where
+  -- nothing was printed yet
+  pub printed-none : (first : ℕ) (ls : List (Lane Keeper Plan)) (held : Option (List ℕ)) → Printed first [] ls ls false held held
+  printed-none first ls held = record { replies = []; took = refl; written = Appends-none held; refused_is = refl }
 
--- nothing of some lines was printed
-pub begun-none : (first : ℕ) (ps : List Place) (ls : List Lane) (held : Option (List ℕ)) → Begun first ps ls held held
-begun-none first ps ls held = record { count = 0; replies = []; left = ls; took = refl; written = beginning_of_nothing held [] }
+  -- nothing of some lines was printed
+  pub begun-none : (first : ℕ) (ps : List Place) (ls : List (Lane Keeper Plan)) (held : Option (List ℕ)) → Begun first ps ls held held
+  begun-none first ps ls held = record { count = 0; replies = []; left = ls; took = refl; written = beginning_of_nothing held [] }
 
--- a beginning of one line was printed
-pub begun-one : (number : ℕ) (p : Place) (reply : Option Reply) (ls left : List Lane) (held held' : Option (List ℕ)) → Took ls p reply left → AppendsBeginning held held' (text_of number reply) → Begun number (p ∷ []) ls held held'
-begun-one number p reply ls left held held' took written = record {
-  count = 1;
-  replies = reply ∷ [];
-  left = left;
-  took = turn-one Took ls left p reply took;
-  written = subst (AppendsBeginning held held') (sym (append-nil (text_of number reply))) written;
-}
+  -- a beginning of one line was printed
+  pub begun-one : (number : ℕ) (p : Place) (reply : Option Reply) (ls left : List (Lane Keeper Plan)) (held held' : Option (List ℕ)) → Took ls p reply left → AppendsBeginning held held' (text_of number reply) → Begun number (p ∷ []) ls held held'
+  begun-one number p reply ls left held held' took written = record {
+    count = 1;
+    replies = reply ∷ [];
+    left = left;
+    took = turn-one Took ls left p reply took;
+    written = subst (AppendsBeginning held held') (sym (append-nil (text_of number reply))) written;
+  }
 
--- one line more was printed
-pub printed-more : (first number i : ℕ) (ps : List Place) (p : Place) (b c : Bool) (l0 l1 l2 : List Lane) (h0 h1 h2 : Option (List ℕ)) → i < length ps → p ≡ get_or ps i p → number ≡ first + i
-    → Printed first (take i ps) l0 l1 b h0 h1 → PrintedOne number p l1 l2 c h1 h2 → Printed first (take (i + 1) ps) l0 l2 (b || c) h0 h2
-printed-more first number i ps p b c l0 l1 l2 h0 h1 h2 below is counts h k =
-    let grows : take (i + 1) ps ≡ take i ps ++ p ∷ [] = take_more ps i p below ∙ ap (λ x. take i ps ++ x ∷ []) (sym is) in
-    let count : i ≡ length h.replies = sym (length-take-le i ps (omega arith)) ∙ turn-count Took l0 l1 (take i ps) h.replies h.took in
-    let place : number ≡ first + length h.replies = counts ∙ ap (λ n. first + n) count in
-    record {
-      replies = h.replies ++ k.reply ∷ [];
-      took = subst (λ x. InTurn Took l0 x (h.replies ++ k.reply ∷ []) l2) (sym grows) (turn-append Took l0 l1 l2 (take i ps) (p ∷ []) h.replies (k.reply ∷ []) h.took (turn-one Took l1 l2 p k.reply k.took));
-      written = rw (numbered-append first h.replies (k.reply ∷ []), append-nil (text_of (first + length h.replies) k.reply), ← place) (Appends-then h0 h1 h2 (numbered_from first h.replies) (text_of number k.reply) h.written k.written);
-      refused_is = ap (λ x. x || c) h.refused_is ∙ ap (λ x. list_any is_refusal h.replies || x) (k.refused_is ∙ sym (or-false (is_refusal k.reply))) ∙ sym (any-append h.replies (k.reply ∷ []));
-    }
+  -- one line more was printed
+  pub printed-more : (first number i : ℕ) (ps : List Place) (p : Place) (b c : Bool) (l0 l1 l2 : List (Lane Keeper Plan)) (h0 h1 h2 : Option (List ℕ)) → i < length ps → p ≡ get_or ps i p → number ≡ first + i
+      → Printed first (take i ps) l0 l1 b h0 h1 → PrintedOne number p l1 l2 c h1 h2 → Printed first (take (i + 1) ps) l0 l2 (b || c) h0 h2
+  printed-more first number i ps p b c l0 l1 l2 h0 h1 h2 below is counts h k =
+      let grows : take (i + 1) ps ≡ take i ps ++ p ∷ [] = take_more ps i p below ∙ ap (λ x. take i ps ++ x ∷ []) (sym is) in
+      let count : i ≡ length h.replies = sym (length-take-le i ps (omega arith)) ∙ turn-count Took l0 l1 (take i ps) h.replies h.took in
+      let place : number ≡ first + length h.replies = counts ∙ ap (λ n. first + n) count in
+      record {
+        replies = h.replies ++ k.reply ∷ [];
+        took = subst (λ x. InTurn Took l0 x (h.replies ++ k.reply ∷ []) l2) (sym grows) (turn-append Took l0 l1 l2 (take i ps) (p ∷ []) h.replies (k.reply ∷ []) h.took (turn-one Took l1 l2 p k.reply k.took));
+        written = rw (numbered-append first h.replies (k.reply ∷ []), append-nil (text_of (first + length h.replies) k.reply), ← place) (Appends-then h0 h1 h2 (numbered_from first h.replies) (text_of number k.reply) h.written k.written);
+        refused_is = ap (λ x. x || c) h.refused_is ∙ ap (λ x. list_any is_refusal h.replies || x) (k.refused_is ∙ sym (or-false (is_refusal k.reply))) ∙ sym (any-append h.replies (k.reply ∷ []));
+      }
 
 take-none : (n : ℕ) → take {A = Place} n [] ≡ []
 take-none zero = refl
 take-none (suc n) = refl
 
--- all lines before one were printed, and a beginning of that one
-pub begun-at : (first number i : ℕ) (ps : List Place) (p : Place) (b : Bool) (l0 l1 : List Lane) (h0 h1 h2 : Option (List ℕ)) → i < length ps → p ≡ get_or ps i p → number ≡ first + i
-    → Printed first (take i ps) l0 l1 b h0 h1 → Begun number (p ∷ []) l1 h1 h2 → Begun first ps l0 h0 h2
-begun-at first number i ps p b l0 l1 h0 h1 h2 below is counts h k =
-    let grows : take (i + 1) ps ≡ take i ps ++ p ∷ [] = take_more ps i p below ∙ ap (λ x. take i ps ++ x ∷ []) (sym is) in
-    let count : i ≡ length h.replies = sym (length-take-le i ps (omega arith)) ∙ turn-count Took l0 l1 (take i ps) h.replies h.took in
-    let place : number ≡ first + length h.replies = counts ∙ ap (λ n. first + n) count in
-    record {
-      count = i + min 1 k.count;
-      replies = h.replies ++ k.replies;
-      left = k.left;
-      took = subst (λ x. InTurn Took l0 x (h.replies ++ k.replies) k.left) (sym (one-more k.count grows)) (turn-append Took l0 l1 k.left (take i ps) (take k.count (p ∷ [])) h.replies k.replies h.took k.took);
-      written = rw (numbered-append first h.replies k.replies, ← place) (beginning_behind h0 h1 h2 (numbered_from first h.replies) (numbered_from number k.replies) h.written k.written);
-    }
-  where
-    one-more : (n : ℕ) → take (i + 1) ps ≡ take i ps ++ p ∷ [] → take (i + min 1 n) ps ≡ take i ps ++ take n (p ∷ [])
-    one-more zero grows = ap (λ k. take k ps) (let e : i + min 1 0 ≡ i = omega arith in e) ∙ sym (append-nil (take i ps))
-    one-more (suc n) grows = ap (λ k. take k ps) (let e : i + min 1 (suc n) ≡ i + 1 = omega arith in e) ∙ grows ∙ ap (λ x. take i ps ++ p ∷ x) (sym (take-none n))
+module _ {Keeper Plan : Type 0} where
+  -- all lines before one were printed, and a beginning of that one
+  pub begun-at : (first number i : ℕ) (ps : List Place) (p : Place) (b : Bool) (l0 l1 : List (Lane Keeper Plan)) (h0 h1 h2 : Option (List ℕ)) → i < length ps → p ≡ get_or ps i p → number ≡ first + i
+      → Printed first (take i ps) l0 l1 b h0 h1 → Begun number (p ∷ []) l1 h1 h2 → Begun first ps l0 h0 h2
+  begun-at first number i ps p b l0 l1 h0 h1 h2 below is counts h k =
+      let grows : take (i + 1) ps ≡ take i ps ++ p ∷ [] = take_more ps i p below ∙ ap (λ x. take i ps ++ x ∷ []) (sym is) in
+      let count : i ≡ length h.replies = sym (length-take-le i ps (omega arith)) ∙ turn-count Took l0 l1 (take i ps) h.replies h.took in
+      let place : number ≡ first + length h.replies = counts ∙ ap (λ n. first + n) count in
+      record {
+        count = i + min 1 k.count;
+        replies = h.replies ++ k.replies;
+        left = k.left;
+        took = subst (λ x. InTurn Took l0 x (h.replies ++ k.replies) k.left) (sym (one-more k.count grows)) (turn-append Took l0 l1 k.left (take i ps) (take k.count (p ∷ [])) h.replies k.replies h.took k.took);
+        written = rw (numbered-append first h.replies k.replies, ← place) (beginning_behind h0 h1 h2 (numbered_from first h.replies) (numbered_from number k.replies) h.written k.written);
+      }
+    where
+      one-more : (n : ℕ) → take (i + 1) ps ≡ take i ps ++ p ∷ [] → take (i + min 1 n) ps ≡ take i ps ++ take n (p ∷ [])
+      one-more zero grows = ap (λ k. take k ps) (let e : i + min 1 0 ≡ i = omega arith in e) ∙ sym (append-nil (take i ps))
+      one-more (suc n) grows = ap (λ k. take k ps) (let e : i + min 1 (suc n) ≡ i + 1 = omega arith in e) ∙ grows ∙ ap (λ x. take i ps ++ p ∷ x) (sym (take-none n))
 
--- all of them were printed
-pub begun-all : (first : ℕ) (ps : List Place) (b : Bool) (ls ls' : List Lane) (h0 h1 h2 : Option (List ℕ)) → Printed first ps ls ls' b h0 h1 → Keeps h1 h2 → Begun first ps ls h0 h2
-begun-all first ps b ls ls' h0 h1 h2 h keeps = record {
-  count = length ps;
-  replies = h.replies;
-  left = ls';
-  took = subst (λ x. InTurn Took ls x h.replies ls') (sym (take_all (length ps) ps (omega arith))) h.took;
-  written = beginning_of_all h0 h2 (numbered_from first h.replies) (Appends-keeps h0 h1 h2 (numbered_from first h.replies) h.written keeps);
-}
+  -- all of them were printed
+  pub begun-all : (first : ℕ) (ps : List Place) (b : Bool) (ls ls' : List (Lane Keeper Plan)) (h0 h1 h2 : Option (List ℕ)) → Printed first ps ls ls' b h0 h1 → Keeps h1 h2 → Begun first ps ls h0 h2
+  begun-all first ps b ls ls' h0 h1 h2 h keeps = record {
+    count = length ps;
+    replies = h.replies;
+    left = ls';
+    took = subst (λ x. InTurn Took ls x h.replies ls') (sym (take_all (length ps) ps (omega arith))) h.took;
+    written = beginning_of_all h0 h2 (numbered_from first h.replies) (Appends-keeps h0 h1 h2 (numbered_from first h.replies) h.written keeps);
+  }

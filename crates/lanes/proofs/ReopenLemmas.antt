@@ -13,8 +13,8 @@ use Rattle.service.specs.Ends.{base_of}
 use Rattle.service.specs.Held.{HoldsAtOpening}
 use Rattle.service.specs.Reopening.{opens, record_at}
 use Rattle.service.specs.Services.{IsPassOf, known_by, settings_of}
-use Rattle.service.specs.declared.service.Service.{Service}
-use Rattle.service.specs.declared.service.Pass.{Pass}
+use Rattle.service.specs.Views.{Service}
+use Rattle.service.specs.Views.{Pass}
 use Rattle.script.specs.declared.fault.ScriptFault.{ScriptFault}
 use Rattle.script.specs.declared.fault.ScriptFault.TheVariants.{Memory, Read, Write, Setting, Records, QueueFull}
 use Rattle.script.specs.Endings.{IfRefused, IsDeviceFault, IsFaultOf, IsRefusedOpening}

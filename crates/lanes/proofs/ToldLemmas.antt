@@ -7,7 +7,7 @@ use Rattle.std.specs.Io.KnownBytes.{Appends}
 use Rattle.wf_event_values.specs.declared.refusal.Refusal.{Refusal}
 use Rattle.service_model_types.specs.declared.settings.Settings.{Settings}
 use Rattle.service_model_types.specs.Replies.{Reply}
-use Rattle.service.specs.declared.service.Pass.{Pass}
+use Rattle.service.specs.Views.{Pass}
 use Rattle.wire_requests.specs.declared.calls.Asked.{Asked}
 use Rattle.wire_requests.specs.declared.calls.Asked.TheVariants.{Barrier as a_barrier, Call as in_a_lane}
 use Rattle.script.specs.Asked.{asked}
@@ -47,9 +47,10 @@ barrier-asked (Ok a_barrier) is = refl
 barrier-asked (Ok (in_a_lane c)) is = absurd (true≢false (sym is))
 barrier-asked (Err refusal) is = absurd (true≢false (sym is))
 
--- the number of the next line
-pub next-number : {serves : Serves} {meets : Meets} {K : Settings} {ps : List Pass} (lines : List Line) (s : Script) (held w : Option (List ℕ)) → (h : Told serves meets K ps lines s held w) → 1 + length h.replies ≡ s.first
-next-number {serves} {meets} {K} {ps} lines s held w h = ap (λ n. 1 + n) (sym (turn-count (LineServed serves meets) ps (passes_of s.lanes.items) h.done h.replies h.course)) ∙ sym h.number
+module _ {Keeper Plan : Type 0} where
+  -- the number of the next line
+  pub next-number : {serves : Serves} {meets : Meets} {K : Settings} {ps : List Pass} (lines : List Line) (s : Script Keeper Plan) (held w : Option (List ℕ)) → (h : Told serves meets K ps lines s held w) → 1 + length h.replies ≡ s.first
+  next-number {serves} {meets} {K} {ps} lines s held w h = ap (λ n. 1 + n) (sym (turn-count (LineServed serves meets) ps (passes_of s.lanes.items) h.done h.replies h.course)) ∙ sym h.number
 
 both-written : (first : ℕ) (rs ss : List (Option Reply)) (held w w' : Option (List ℕ)) → 1 + length rs ≡ first → Appends held w (numbered_from 1 rs) → Appends w w' (numbered_from first ss) → Appends held w' (numbered_from 1 (rs ++ ss))
 both-written first rs ss held w w' count h k = rw (numbered-append 1 rs ss, count) (Appends-then held w w' (numbered_from 1 rs) (numbered_from first ss) h k)
@@ -59,87 +60,89 @@ both-refused a b c rs ss is first second = is ∙ ap (λ x. x || b) first ∙ ap
 
 -- ---- steps
 
--- before the first byte
-pub told-nothing : {serves : Serves} {meets : Meets} {K : Settings} (ps : List Pass) (held : Option (List ℕ)) (s : Script) → Opened ps s → TextTold serves meets K ps [] s held held
-unfolding ended left
-told-nothing ps held s o = record {
-  line = o.line;
-  told = record {
-    done = [];
-    waits = [];
-    replies = [];
-    parts = refl;
-    course = o.passes;
-    waiting = o.waiting;
-    plain = refl;
-    written = Appends-none held;
-    number = o.first;
-    refused_is = o.refused;
-  };
-}
+module _ {Keeper Plan : Type 0} where
+  -- before the first byte
+  pub told-nothing : {serves : Serves} {meets : Meets} {K : Settings} (ps : List Pass) (held : Option (List ℕ)) (s : Script Keeper Plan) → Opened ps s → TextTold serves meets K ps [] s held held
+  unfolding ended left
+  told-nothing ps held s o = record {
+    line = o.line;
+    told = record {
+      done = [];
+      waits = [];
+      replies = [];
+      parts = refl;
+      course = o.passes;
+      waiting = o.waiting;
+      plain = refl;
+      written = Appends-none held;
+      number = o.first;
+      refused_is = o.refused;
+    };
+  }
 
--- one line more waits
-pub told-line : {serves : Serves} {meets : Meets} {K : Settings} {ps : List Pass} (lines : List Line) (line : Line) (s s' : Script) (held w : Option (List ℕ)) → Added (asked K line) s s' → is_barrier (place_in (asked K line)) ≡ false
-    → Told serves meets K ps lines s held w → Told serves meets K ps (lines ++ line ∷ []) s' held w
-told-line {serves} {meets} {K} {ps} lines line s s' held w a no_barrier h = record {
-  done = h.done;
-  waits = h.waits ++ asked K line ∷ [];
-  replies = h.replies;
-  parts = asks-push K lines line h.done h.waits h.parts;
-  course = subst (λ x. Course serves meets ps h.done h.replies x) (sym a.lanes.passes) h.course;
-  waiting = waiting-more h.waits (asked K line) s.places.items s'.places.items s.lanes.items s'.lanes.items a.places a.lanes h.waiting;
-  plain = plain-push h.waits (asked K line) h.plain no_barrier;
-  written = h.written;
-  number = a.first ∙ h.number;
-  refused_is = a.refused ∙ h.refused_is;
-}
+  -- one line more waits
+  pub told-line : {serves : Serves} {meets : Meets} {K : Settings} {ps : List Pass} (lines : List Line) (line : Line) (s s' : Script Keeper Plan) (held w : Option (List ℕ)) → Added (asked K line) s s' → is_barrier (place_in (asked K line)) ≡ false
+      → Told serves meets K ps lines s held w → Told serves meets K ps (lines ++ line ∷ []) s' held w
+  told-line {serves} {meets} {K} {ps} lines line s s' held w a no_barrier h = record {
+    done = h.done;
+    waits = h.waits ++ asked K line ∷ [];
+    replies = h.replies;
+    parts = asks-push K lines line h.done h.waits h.parts;
+    course = subst (λ x. Course serves meets ps h.done h.replies x) (sym a.lanes.passes) h.course;
+    waiting = waiting-more h.waits (asked K line) s.places.items s'.places.items s.lanes.items s'.lanes.items a.places a.lanes h.waiting;
+    plain = plain-push h.waits (asked K line) h.plain no_barrier;
+    written = h.written;
+    number = a.first ∙ h.number;
+    refused_is = a.refused ∙ h.refused_is;
+  }
 
 -- the places of lines and of the barrier behind them
 pub barrier-places : (ask : Result Asked Refusal) (waits : List (Result Asked Refusal)) (ps ps' : List Place) → ask ≡ Ok a_barrier → ps' ≡ ps ++ place_in ask ∷ [] → ps ≡ map place_in waits → ps' ≡ map place_in (waits ++ Ok a_barrier ∷ [])
 barrier-places ask waits ps ps' is grows places = grows ∙ ap (λ x. ps ++ place_in x ∷ []) is ∙ ap (λ x. x ++ place_in (Ok a_barrier) ∷ []) places ∙ sym (map-append place_in waits (Ok a_barrier ∷ []))
 
--- a barrier, and what waited before it
-pub told-barrier : {serves : Serves} {meets : Meets} {K : Settings} {ps : List Pass} (lines : List Line) (line : Line) (s s1 s' : Script) (held w w' : Option (List ℕ)) → Added (asked K line) s s1 → is_barrier (place_in (asked K line)) ≡ true
-    → Closed serves meets s1 s' w w' → Told serves meets K ps lines s held w → Told serves meets K ps (lines ++ line ∷ []) s' held w'
-told-barrier {serves} {meets} {K} {ps} lines line s s1 s' held w w' a barrier c h =
-    let is : asked K line ≡ Ok a_barrier = barrier-asked (asked K line) barrier in
-    let all = h.waits ++ Ok a_barrier ∷ [] in
-    let p = c.printed in
-    let rs = p.printed.replies in
-    let places : s1.places.items ≡ map place_in all = barrier-places (asked K line) h.waits s.places.items s1.places.items is a.places h.waiting.places in
-    let waiting = waiting-same h.waits s.places.items s.lanes.items s1.lanes.items (subst (λ x. WereAsked (λ k. own_calls k x) s.lanes.items s1.lanes.items) is a.lanes) h.waiting in
-    let phase = phase-barrier serves meets h.waits s.places.items rs s1.lanes.items p.after s'.lanes.items h.plain waiting p.phase (subst (λ x. InTurn Took p.after x rs s'.lanes.items) places p.printed.took) in
-    let course = subst (λ x. Course serves meets x all rs (passes_of s'.lanes.items)) a.lanes.passes (subst (λ x. Course serves meets (passes_of s1.lanes.items) all rs x) (sym p.passes) phase.course) in
-    let count : 1 + length h.replies ≡ s1.first = next-number lines s held w h ∙ sym a.first in
-    record {
-      done = h.done ++ all;
-      waits = [];
-      replies = h.replies ++ rs;
-      parts = asks-push K lines line h.done h.waits h.parts ∙ ap (λ x. h.done ++ (h.waits ++ x ∷ [])) is ∙ sym (append-nil (h.done ++ all));
-      course = turn-append (LineServed serves meets) ps (passes_of s.lanes.items) (passes_of s'.lanes.items) h.done all h.replies rs h.course course;
-      waiting = record { places = c.places; asked = phase.empty.asked; answered = phase.empty.answered };
-      plain = refl;
-      written = both-written s1.first h.replies rs held w w' count h.written p.printed.written;
-      number = omega (arith, c.first, a.first, h.number, length-append h.done all, ap length places, length-map all place_in);
-      refused_is = both-refused s.refused c.refused s'.refused h.replies rs (c.refused_is ∙ ap (λ x. x || c.refused) a.refused) h.refused_is p.printed.refused_is;
-    }
+module _ {Keeper Plan : Type 0} where
+  -- a barrier, and what waited before it
+  pub told-barrier : {serves : Serves} {meets : Meets} {K : Settings} {ps : List Pass} (lines : List Line) (line : Line) (s s1 s' : Script Keeper Plan) (held w w' : Option (List ℕ)) → Added (asked K line) s s1 → is_barrier (place_in (asked K line)) ≡ true
+      → Closed serves meets s1 s' w w' → Told serves meets K ps lines s held w → Told serves meets K ps (lines ++ line ∷ []) s' held w'
+  told-barrier {serves} {meets} {K} {ps} lines line s s1 s' held w w' a barrier c h =
+      let is : asked K line ≡ Ok a_barrier = barrier-asked (asked K line) barrier in
+      let all = h.waits ++ Ok a_barrier ∷ [] in
+      let p = c.printed in
+      let rs = p.printed.replies in
+      let places : s1.places.items ≡ map place_in all = barrier-places (asked K line) h.waits s.places.items s1.places.items is a.places h.waiting.places in
+      let waiting = waiting-same h.waits s.places.items s.lanes.items s1.lanes.items (subst (λ x. WereAsked (λ k. own_calls k x) s.lanes.items s1.lanes.items) is a.lanes) h.waiting in
+      let phase = phase-barrier serves meets h.waits s.places.items rs s1.lanes.items p.after s'.lanes.items h.plain waiting p.phase (subst (λ x. InTurn Took p.after x rs s'.lanes.items) places p.printed.took) in
+      let course = subst (λ x. Course serves meets x all rs (passes_of s'.lanes.items)) a.lanes.passes (subst (λ x. Course serves meets (passes_of s1.lanes.items) all rs x) (sym p.passes) phase.course) in
+      let count : 1 + length h.replies ≡ s1.first = next-number lines s held w h ∙ sym a.first in
+      record {
+        done = h.done ++ all;
+        waits = [];
+        replies = h.replies ++ rs;
+        parts = asks-push K lines line h.done h.waits h.parts ∙ ap (λ x. h.done ++ (h.waits ++ x ∷ [])) is ∙ sym (append-nil (h.done ++ all));
+        course = turn-append (LineServed serves meets) ps (passes_of s.lanes.items) (passes_of s'.lanes.items) h.done all h.replies rs h.course course;
+        waiting = record { places = c.places; asked = phase.empty.asked; answered = phase.empty.answered };
+        plain = refl;
+        written = both-written s1.first h.replies rs held w w' count h.written p.printed.written;
+        number = omega (arith, c.first, a.first, h.number, length-append h.done all, ap length places, length-map all place_in);
+        refused_is = both-refused s.refused c.refused s'.refused h.replies rs (c.refused_is ∙ ap (λ x. x || c.refused) a.refused) h.refused_is p.printed.refused_is;
+      }
 
--- the end, and what waited before it
-pub told-ended : {serves : Serves} {meets : Meets} {K : Settings} {ps : List Pass} (text : List ℕ) (lines : List Line) (s s' : Script) (held w w' : Option (List ℕ)) → lines ≡ all_lines text
-    → Closed serves meets s s' w w' → Told serves meets K ps lines s held w → Ended serves meets K ps text held w' s'.refused (passes_of s'.lanes.items)
-told-ended {serves} {meets} {K} {ps} text lines s s' held w w' all c h =
-    let p = c.printed in
-    let rs = p.printed.replies in
-    let phase = phase-last serves meets h.waits s.places.items rs s.lanes.items p.after s'.lanes.items h.plain h.waiting p.phase (subst (λ x. InTurn Took p.after x rs s'.lanes.items) h.waiting.places p.printed.took) in
-    record {
-      replies = h.replies ++ rs;
-      served = passes_of p.phase.worked;
-      course = subst (λ x. Course serves meets ps x (h.replies ++ rs) (passes_of p.phase.worked)) (sym h.parts ∙ ap (asks_of K) all)
-          (turn-append (LineServed serves meets) ps (passes_of s.lanes.items) (passes_of p.phase.worked) h.done h.waits h.replies rs h.course phase.course);
-      met = subst (AllMet meets (passes_of p.phase.worked)) (sym p.passes) p.phase.met;
-      written = both-written s.first h.replies rs held w w' (next-number lines s held w h) h.written p.printed.written;
-      refused_is = both-refused s.refused c.refused s'.refused h.replies rs c.refused_is h.refused_is p.printed.refused_is;
-    }
+  -- the end, and what waited before it
+  pub told-ended : {serves : Serves} {meets : Meets} {K : Settings} {ps : List Pass} (text : List ℕ) (lines : List Line) (s s' : Script Keeper Plan) (held w w' : Option (List ℕ)) → lines ≡ all_lines text
+      → Closed serves meets s s' w w' → Told serves meets K ps lines s held w → Ended serves meets K ps text held w' s'.refused (passes_of s'.lanes.items)
+  told-ended {serves} {meets} {K} {ps} text lines s s' held w w' all c h =
+      let p = c.printed in
+      let rs = p.printed.replies in
+      let phase = phase-last serves meets h.waits s.places.items rs s.lanes.items p.after s'.lanes.items h.plain h.waiting p.phase (subst (λ x. InTurn Took p.after x rs s'.lanes.items) h.waiting.places p.printed.took) in
+      record {
+        replies = h.replies ++ rs;
+        served = passes_of p.phase.worked;
+        course = subst (λ x. Course serves meets ps x (h.replies ++ rs) (passes_of p.phase.worked)) (sym h.parts ∙ ap (asks_of K) all)
+            (turn-append (LineServed serves meets) ps (passes_of s.lanes.items) (passes_of p.phase.worked) h.done h.waits h.replies rs h.course phase.course);
+        met = subst (AllMet meets (passes_of p.phase.worked)) (sym p.passes) p.phase.met;
+        written = both-written s.first h.replies rs held w w' (next-number lines s held w h) h.written p.printed.written;
+        refused_is = both-refused s.refused c.refused s'.refused h.replies rs c.refused_is h.refused_is p.printed.refused_is;
+      }
 
 -- ---- texts
 
@@ -147,51 +150,52 @@ told-ended {serves} {meets} {K} {ps} text lines s s' held w w' all c h =
 pub lines-end : (text part : List ℕ) → has_feed part ≡ false → ended (Some []) (text ++ (part ++ 10 ∷ [])) ≡ ended (Some []) text ++ grown (left (Some []) text) part ∷ []
 lines-end text part free = ended-append (Some []) text (part ++ 10 ∷ []) ∙ ap (λ ls. ended (Some []) text ++ ls) (line-ended (left (Some []) text) part free)
 
--- what was told of lines is told of them while the line behind them grows
-pub told-longer : {serves : Serves} {meets : Meets} {K : Settings} {ps : List Pass} (lines : List Line) (s s' : Script) (held w : Option (List ℕ)) → s'.lanes ≡ s.lanes → s'.places ≡ s.places → s'.first ≡ s.first → s'.refused ≡ s.refused
-    → Told serves meets K ps lines s held w → Told serves meets K ps lines s' held w
-told-longer {serves} {meets} {K} {ps} lines s s' held w lanes places first refused h = record {
-  done = h.done;
-  waits = h.waits;
-  replies = h.replies;
-  parts = h.parts;
-  course = subst (λ x. Course serves meets ps h.done h.replies (passes_of x.items)) (sym lanes) h.course;
-  waiting = subst (λ x. Waiting h.waits x.items s'.lanes.items) (sym places) (subst (λ x. Waiting h.waits s.places.items x.items) (sym lanes) h.waiting);
-  plain = h.plain;
-  written = h.written;
-  number = first ∙ h.number;
-  refused_is = refused ∙ h.refused_is;
-}
+module _ {Keeper Plan : Type 0} where
+  -- what was told of lines is told of them while the line behind them grows
+  pub told-longer : {serves : Serves} {meets : Meets} {K : Settings} {ps : List Pass} (lines : List Line) (s s' : Script Keeper Plan) (held w : Option (List ℕ)) → s'.lanes ≡ s.lanes → s'.places ≡ s.places → s'.first ≡ s.first → s'.refused ≡ s.refused
+      → Told serves meets K ps lines s held w → Told serves meets K ps lines s' held w
+  told-longer {serves} {meets} {K} {ps} lines s s' held w lanes places first refused h = record {
+    done = h.done;
+    waits = h.waits;
+    replies = h.replies;
+    parts = h.parts;
+    course = subst (λ x. Course serves meets ps h.done h.replies (passes_of x.items)) (sym lanes) h.course;
+    waiting = subst (λ x. Waiting h.waits x.items s'.lanes.items) (sym places) (subst (λ x. Waiting h.waits s.places.items x.items) (sym lanes) h.waiting);
+    plain = h.plain;
+    written = h.written;
+    number = first ∙ h.number;
+    refused_is = refused ∙ h.refused_is;
+  }
 
--- a part that ends a line
-pub text-line : {serves : Serves} {meets : Meets} {K : Settings} {ps : List Pass} (text part : List ℕ) (s s1 s' : Script) (held w w' : Option (List ℕ)) → has_feed part ≡ false → s1.line ≡ grown s.line part
-    → s1.lanes ≡ s.lanes → s1.places ≡ s.places → s1.first ≡ s.first → s1.refused ≡ s.refused → s'.line ≡ Some []
-    → TellsLine serves meets K s1.line s1 s' w w' → TextTold serves meets K ps text s held w → TextTold serves meets K ps (text ++ (part ++ 10 ∷ [])) s' held w'
-text-line {serves} {meets} {K} {ps} text part s s1 s' held w w' free grows lanes places first refused empty step h =
-    let line : s1.line ≡ grown (left (Some []) text) part = grows ∙ ap (λ l. grown l part) h.line in
-    let lines : ended (Some []) (text ++ (part ++ 10 ∷ [])) ≡ ended (Some []) text ++ s1.line ∷ [] = lines-end text part free ∙ ap (λ l. ended (Some []) text ++ l ∷ []) (sym line) in
-    record {
-      line = empty ∙ sym (left-append (Some []) text (part ++ 10 ∷ []) ∙ left-line (left (Some []) text) part);
-      told = subst (λ ls. Told serves meets K ps ls s' held w') (sym lines) (step ps (ended (Some []) text) held (told-longer (ended (Some []) text) s s1 held w lanes places first refused h.told));
-    }
+  -- a part that ends a line
+  pub text-line : {serves : Serves} {meets : Meets} {K : Settings} {ps : List Pass} (text part : List ℕ) (s s1 s' : Script Keeper Plan) (held w w' : Option (List ℕ)) → has_feed part ≡ false → s1.line ≡ grown s.line part
+      → s1.lanes ≡ s.lanes → s1.places ≡ s.places → s1.first ≡ s.first → s1.refused ≡ s.refused → s'.line ≡ Some []
+      → TellsLine serves meets K s1.line s1 s' w w' → TextTold serves meets K ps text s held w → TextTold serves meets K ps (text ++ (part ++ 10 ∷ [])) s' held w'
+  text-line {serves} {meets} {K} {ps} text part s s1 s' held w w' free grows lanes places first refused empty step h =
+      let line : s1.line ≡ grown (left (Some []) text) part = grows ∙ ap (λ l. grown l part) h.line in
+      let lines : ended (Some []) (text ++ (part ++ 10 ∷ [])) ≡ ended (Some []) text ++ s1.line ∷ [] = lines-end text part free ∙ ap (λ l. ended (Some []) text ++ l ∷ []) (sym line) in
+      record {
+        line = empty ∙ sym (left-append (Some []) text (part ++ 10 ∷ []) ∙ left-line (left (Some []) text) part);
+        told = subst (λ ls. Told serves meets K ps ls s' held w') (sym lines) (step ps (ended (Some []) text) held (told-longer (ended (Some []) text) s s1 held w lanes places first refused h.told));
+      }
 
--- a part within a line
-text-part : {serves : Serves} {meets : Meets} {K : Settings} {ps : List Pass} (text part : List ℕ) (s s' : Script) (held w : Option (List ℕ)) → has_feed part ≡ false → s'.line ≡ grown s.line part
-    → s'.lanes ≡ s.lanes → s'.places ≡ s.places → s'.first ≡ s.first → s'.refused ≡ s.refused → TextTold serves meets K ps text s held w → TextTold serves meets K ps (text ++ part) s' held w
-text-part {serves} {meets} {K} {ps} text part s s' held w free grows lanes places first refused h =
-    let so_far = left (Some []) text in
-    let lines : ended (Some []) (text ++ part) ≡ ended (Some []) text =
-    ended-append (Some []) text part ∙ ap (λ ls. ended (Some []) text ++ ls) (ended-free so_far part free) ∙ append-nil (ended (Some []) text) in
-    record {
-      line = grows ∙ ap (λ l. grown l part) h.line ∙ sym (left-append (Some []) text part ∙ left-free so_far part free);
-      told = subst (λ ls. Told serves meets K ps ls s' held w) (sym lines) (told-longer (ended (Some []) text) s s' held w lanes places first refused h.told);
-    }
+  -- a part within a line
+  text-part : {serves : Serves} {meets : Meets} {K : Settings} {ps : List Pass} (text part : List ℕ) (s s' : Script Keeper Plan) (held w : Option (List ℕ)) → has_feed part ≡ false → s'.line ≡ grown s.line part
+      → s'.lanes ≡ s.lanes → s'.places ≡ s.places → s'.first ≡ s.first → s'.refused ≡ s.refused → TextTold serves meets K ps text s held w → TextTold serves meets K ps (text ++ part) s' held w
+  text-part {serves} {meets} {K} {ps} text part s s' held w free grows lanes places first refused h =
+      let so_far = left (Some []) text in
+      let lines : ended (Some []) (text ++ part) ≡ ended (Some []) text =
+      ended-append (Some []) text part ∙ ap (λ ls. ended (Some []) text ++ ls) (ended-free so_far part free) ∙ append-nil (ended (Some []) text) in
+      record {
+        line = grows ∙ ap (λ l. grown l part) h.line ∙ sym (left-append (Some []) text part ∙ left-free so_far part free);
+        told = subst (λ ls. Told serves meets K ps ls s' held w) (sym lines) (told-longer (ended (Some []) text) s s' held w lanes places first refused h.told);
+      }
 
--- a chunk whose parts so far were told of, and the rest within a line
-pub text-whole : {serves : Serves} {meets : Meets} {K : Settings} {ps : List Pass} (text chunk done rest : List ℕ) (s s' : Script) (held w : Option (List ℕ)) → chunk ≡ done ++ rest → has_feed rest ≡ false → s'.line ≡ grown s.line rest
-    → s'.lanes ≡ s.lanes → s'.places ≡ s.places → s'.first ≡ s.first → s'.refused ≡ s.refused → TextTold serves meets K ps (text ++ done) s held w → TextTold serves meets K ps (text ++ chunk) s' held w
-text-whole {serves} {meets} {K} {ps} text chunk done rest s s' held w is free grows lanes places first refused h =
-    subst (λ t. TextTold serves meets K ps t s' held w) (append_assoc text done rest ∙ ap (λ t. text ++ t) (sym is)) (text-part (text ++ done) rest s s' held w free grows lanes places first refused h)
+  -- a chunk whose parts so far were told of, and the rest within a line
+  pub text-whole : {serves : Serves} {meets : Meets} {K : Settings} {ps : List Pass} (text chunk done rest : List ℕ) (s s' : Script Keeper Plan) (held w : Option (List ℕ)) → chunk ≡ done ++ rest → has_feed rest ≡ false → s'.line ≡ grown s.line rest
+      → s'.lanes ≡ s.lanes → s'.places ≡ s.places → s'.first ≡ s.first → s'.refused ≡ s.refused → TextTold serves meets K ps (text ++ done) s held w → TextTold serves meets K ps (text ++ chunk) s' held w
+  text-whole {serves} {meets} {K} {ps} text chunk done rest s s' held w is free grows lanes places first refused h =
+      subst (λ t. TextTold serves meets K ps t s' held w) (append_assoc text done rest ∙ ap (λ t. text ++ t) (sym is)) (text-part (text ++ done) rest s s' held w free grows lanes places first refused h)
 
 -- all lines of a text behind a line feed
 pub lines-clean : (text : List ℕ) (line : Line) → line ≡ left (Some []) text → is_empty_line line ≡ true → ended (Some []) text ≡ all_lines text
@@ -203,13 +207,14 @@ pub lines-last : (text : List ℕ) (line : Line) → line ≡ left (Some []) tex
 lines-last text line is some =
     ap (λ l. ended (Some []) text ++ l ∷ []) is ∙ ap (λ b. ended (Some []) text ++ cond b [] (left (Some []) text ∷ [])) (sym (ap is_empty_line (sym is) ∙ some)) ∙ ended-all text
 
--- the end behind a line feed
-pub ended-clean : {serves : Serves} {meets : Meets} {K : Settings} {ps : List Pass} (text : List ℕ) (s s' : Script) (held w w' : Option (List ℕ)) → is_empty_line s.line ≡ true → Closed serves meets s s' w w'
-    → TextTold serves meets K ps text s held w → Ended serves meets K ps text held w' s'.refused (passes_of s'.lanes.items)
-ended-clean text s s' held w w' empty c h = told-ended text (ended (Some []) text) s s' held w w' (lines-clean text s.line h.line empty) c h.told
+module _ {Keeper Plan : Type 0} where
+  -- the end behind a line feed
+  pub ended-clean : {serves : Serves} {meets : Meets} {K : Settings} {ps : List Pass} (text : List ℕ) (s s' : Script Keeper Plan) (held w w' : Option (List ℕ)) → is_empty_line s.line ≡ true → Closed serves meets s s' w w'
+      → TextTold serves meets K ps text s held w → Ended serves meets K ps text held w' s'.refused (passes_of s'.lanes.items)
+  ended-clean text s s' held w w' empty c h = told-ended text (ended (Some []) text) s s' held w w' (lines-clean text s.line h.line empty) c h.told
 
--- the end behind a last line without its line feed
-pub ended-line : {serves : Serves} {meets : Meets} {K : Settings} {ps : List Pass} (text : List ℕ) (s s1 s' : Script) (held w w1 w' : Option (List ℕ)) → is_empty_line s.line ≡ false
-    → TellsLine serves meets K s.line s s1 w w1 → Closed serves meets s1 s' w1 w' → TextTold serves meets K ps text s held w → Ended serves meets K ps text held w' s'.refused (passes_of s'.lanes.items)
-ended-line {serves} {meets} {K} {ps} text s s1 s' held w w1 w' some step c h =
-    told-ended text (ended (Some []) text ++ s.line ∷ []) s1 s' held w1 w' (lines-last text s.line h.line some) c (step ps (ended (Some []) text) held h.told)
+  -- the end behind a last line without its line feed
+  pub ended-line : {serves : Serves} {meets : Meets} {K : Settings} {ps : List Pass} (text : List ℕ) (s s1 s' : Script Keeper Plan) (held w w1 w' : Option (List ℕ)) → is_empty_line s.line ≡ false
+      → TellsLine serves meets K s.line s s1 w w1 → Closed serves meets s1 s' w1 w' → TextTold serves meets K ps text s held w → Ended serves meets K ps text held w' s'.refused (passes_of s'.lanes.items)
+  ended-line {serves} {meets} {K} {ps} text s s1 s' held w w1 w' some step c h =
+      told-ended text (ended (Some []) text ++ s.line ∷ []) s1 s' held w1 w' (lines-last text s.line h.line some) c (step ps (ended (Some []) text) held h.told)

@@ -10,7 +10,7 @@ use Rattle.wf_event_values.specs.declared.refusal.Refusal.{Refusal}
 use Rattle.wf_event_values.specs.declared.refusal.Refusal.TheVariants.{InvalidArgument}
 use Rattle.service_model_types.specs.declared.call.Call.{Call}
 use Rattle.service_model_types.specs.Replies.{Reply}
-use Rattle.service.specs.declared.service.Pass.{Pass}
+use Rattle.service.specs.Views.{Pass}
 use Rattle.wire_requests.specs.declared.calls.Asked.{Asked}
 use Rattle.wire_requests.specs.declared.calls.Asked.TheVariants.{Barrier as a_barrier}
 use Rattle.lanes.specs.declared.lane.Lane.{Lane}
@@ -22,20 +22,21 @@ use Rattle.lanes.proofs.TurnLemmas.{turn-append, turn-one}
 
 -- ---- calls that are made
 
--- no call was made yet
-pub working-none : (serves : Serves) (l l' : Lane) → l'.pass ≡ l.pass → l'.asked.items ≡ [] → l'.answered.items ≡ l.answered.items → Working serves l l.asked.items l'
-working-none serves l l' pass asked kept = record { done = []; replies = []; parts = refl; turns = pass; kept = kept ∙ sym (append-nil l.answered.items); asked = asked }
+module _ {Keeper Plan : Type 0} where
+  -- no call was made yet
+  pub working-none : (serves : Serves) (l l' : Lane Keeper Plan) → l'.pass ≡ l.pass → l'.asked.items ≡ [] → l'.answered.items ≡ l.answered.items → Working serves l l.asked.items l'
+  working-none serves l l' pass asked kept = record { done = []; replies = []; parts = refl; turns = pass; kept = kept ∙ sym (append-nil l.answered.items); asked = asked }
 
--- one more was made
-pub working-one : (serves : Serves) (l m l' : Lane) (c : Call) (rest : List Call) → Working serves l (c ∷ rest) m → AnsweredOne serves c m l' → l'.asked ≡ m.asked → Working serves l rest l'
-working-one serves l m l' c rest h k asked = record {
-  done = h.done ++ c ∷ [];
-  replies = h.replies ++ k.reply ∷ [];
-  parts = h.parts ∙ sym (append_assoc h.done (c ∷ []) rest);
-  turns = turn-append (λ p c r p'. serves p p' c r) l.pass m.pass l'.pass h.done (c ∷ []) h.replies (k.reply ∷ []) h.turns (turn-one (λ p c r p'. serves p p' c r) m.pass l'.pass c k.reply k.served);
-  kept = k.kept ∙ ap (λ rs. rs ++ k.reply ∷ []) h.kept ∙ append_assoc l.answered.items h.replies (k.reply ∷ []);
-  asked = ap (λ v. v.items) asked ∙ h.asked;
-}
+  -- one more was made
+  pub working-one : (serves : Serves) (l m l' : Lane Keeper Plan) (c : Call) (rest : List Call) → Working serves l (c ∷ rest) m → AnsweredOne serves c m l' → l'.asked ≡ m.asked → Working serves l rest l'
+  working-one serves l m l' c rest h k asked = record {
+    done = h.done ++ c ∷ [];
+    replies = h.replies ++ k.reply ∷ [];
+    parts = h.parts ∙ sym (append_assoc h.done (c ∷ []) rest);
+    turns = turn-append (λ p c r p'. serves p p' c r) l.pass m.pass l'.pass h.done (c ∷ []) h.replies (k.reply ∷ []) h.turns (turn-one (λ p c r p'. serves p p' c r) m.pass l'.pass c k.reply k.served);
+    kept = k.kept ∙ ap (λ rs. rs ++ k.reply ∷ []) h.kept ∙ append_assoc l.answered.items h.replies (k.reply ∷ []);
+    asked = ap (λ v. v.items) asked ∙ h.asked;
+  }
 
 -- the calls that were answered, and those that were not
 answered-of : (serves : Serves) (p m p' : Pass) (done rest : List Call) (rs : List Reply) → InTurn (λ q c r q'. serves q q' c r) p done rs m → (rest ≡ [] → p' ≡ m) → Answered serves p (done ++ rest) rs p'
@@ -45,102 +46,105 @@ answered-of serves p m p' [] rest (r ∷ rs) h last = absurd h
 answered-of serves p m p' (c ∷ done) rest [] h last = absurd h
 answered-of serves p m p' (c ∷ done) rest (r ∷ rs) h last = (h.0, h.1, answered-of serves h.0 m p' done rest rs h.2 last)
 
--- all were made
-pub worked-all : (serves : Serves) (l l' : Lane) (rest : List Call) → rest ≡ [] → Working serves l rest l' → Worked serves l l'
-worked-all serves l l' rest none h = record {
-  replies = h.replies;
-  answered = subst (λ calls. Answered serves l.pass calls h.replies l'.pass) (sym h.parts) (answered-of serves l.pass l'.pass l'.pass h.done rest h.replies h.turns (λ e. refl));
-  kept = h.kept;
-  asked = h.asked;
-}
+module _ {Keeper Plan : Type 0} where
+  -- all were made
+  pub worked-all : (serves : Serves) (l l' : Lane Keeper Plan) (rest : List Call) → rest ≡ [] → Working serves l rest l' → Worked serves l l'
+  worked-all serves l l' rest none h = record {
+    replies = h.replies;
+    answered = subst (λ calls. Answered serves l.pass calls h.replies l'.pass) (sym h.parts) (answered-of serves l.pass l'.pass l'.pass h.done rest h.replies h.turns (λ e. refl));
+    kept = h.kept;
+    asked = h.asked;
+  }
 
--- memory ran out at one of them
-pub worked-some : (serves : Serves) (l m l' : Lane) (c : Call) (rest : List Call) → Working serves l (c ∷ rest) m → l'.asked ≡ m.asked → l'.answered.items ≡ m.answered.items → Worked serves l l'
-worked-some serves l m l' c rest h asked kept = record {
-  replies = h.replies;
-  answered = subst (λ calls. Answered serves l.pass calls h.replies l'.pass) (sym h.parts) (answered-of serves l.pass m.pass l'.pass h.done (c ∷ rest) h.replies h.turns (λ e. absurd (cc)));
-  kept = kept ∙ h.kept;
-  asked = ap (λ v. v.items) asked ∙ h.asked;
-}
+  -- memory ran out at one of them
+  pub worked-some : (serves : Serves) (l m l' : Lane Keeper Plan) (c : Call) (rest : List Call) → Working serves l (c ∷ rest) m → l'.asked ≡ m.asked → l'.answered.items ≡ m.answered.items → Worked serves l l'
+  worked-some serves l m l' c rest h asked kept = record {
+    replies = h.replies;
+    answered = subst (λ calls. Answered serves l.pass calls h.replies l'.pass) (sym h.parts) (answered-of serves l.pass m.pass l'.pass h.done (c ∷ rest) h.replies h.turns (λ e. absurd (cc)));
+    kept = kept ∙ h.kept;
+    asked = ap (λ v. v.items) asked ∙ h.asked;
+  }
 
 -- ---- calls that wait
 
--- no lane was asked anything
-pub asked-none : (calls : ℕ → List Call) (ls : List Lane) → ((k : ℕ) → k < length ls → calls k ≡ []) → WereAsked calls ls ls
-asked-none calls ls none = record {
-  passes = refl;
-  each = λ k l at. record {
-    before = l;
-    there = at;
-    asked = sym (append-nil l.asked.items) ∙ ap (λ more. l.asked.items ++ more) (sym (none k (slice_get_within ls k l at)));
-    answered = refl;
-  };
-}
-
--- a lane that is not there
-pub asked-past : (lane : ℕ) (c : Call) (ls : List Lane) → length ls ≤ lane → WereAsked (only_in lane c) ls ls
-asked-past lane c ls past = asked-none (only_in lane c) ls (λ k below. ap (λ b. cond b (c ∷ []) []) (false_from_ne_true (eqb lane k) (λ e. let same : lane ≡ k = eqb-true lane k e in absurd (omega arith))))
-
--- one lane was asked one call
-pub asked-in : (lane : ℕ) (c : Call) (ls : List Lane) (l l' : Lane) → slice_get ls lane ≡ Some l → l'.pass ≡ l.pass → l'.answered.items ≡ l.answered.items → l'.asked.items ≡ l.asked.items ++ c ∷ [] → WereAsked (only_in lane c) ls (set ls lane l')
-asked-in lane c ls l l' at pass answered asked = record {
-  passes = map-set_same (λ (x : Lane). x.pass) ls lane l' l (pass ∙ ap (λ (x : Lane). x.pass) (sym (get_or_from_slice_get ls lane l l at)));
-  each = λ k m at_m. by-place k m at_m (cases_eq lane k);
-}
-  where
-    by-place : (k : ℕ) (m : Lane) → slice_get (set ls lane l') k ≡ Some m → (lane ≡ k) ⊎ (¬ (lane ≡ k)) → HasMore (only_in lane c k) ls k m
-    by-place k m at_m (inl own) =
-        let is : l' ≡ m = same_Some l' m (sym (get-set ls lane l l' at) ∙ ap (slice_get (set ls lane l')) own ∙ at_m) in
-        record {
-          before = l;
-          there = ap (slice_get ls) (sym own) ∙ at;
-          asked = ap (λ (x : Lane). x.asked.items) (sym is) ∙ asked ∙ ap (λ b. l.asked.items ++ cond b (c ∷ []) []) (sym (eq-eqb lane k own));
-          answered = ap (λ (x : Lane). x.answered.items) (sym is) ∙ answered;
-        }
-    by-place k m at_m (inr other) = record {
-      before = m;
-      there = sym (get-other ls lane k l' other) ∙ at_m;
-      asked = sym (append-nil m.asked.items) ∙ ap (λ b. m.asked.items ++ cond b (c ∷ []) []) (sym (false_from_ne_true (eqb lane k) (λ e. other (eqb-true lane k e))));
+module _ {Keeper Plan : Type 0} where
+  -- no lane was asked anything
+  pub asked-none : (calls : ℕ → List Call) (ls : List (Lane Keeper Plan)) → ((k : ℕ) → k < length ls → calls k ≡ []) → WereAsked calls ls ls
+  asked-none calls ls none = record {
+    passes = refl;
+    each = λ k l at. record {
+      before = l;
+      there = at;
+      asked = sym (append-nil l.asked.items) ∙ ap (λ more. l.asked.items ++ more) (sym (none k (slice_get_within ls k l at)));
       answered = refl;
-    }
+    };
+  }
 
--- no line waits
-pub waiting-none : (ls : List Lane) → AreIdle ls → Waiting [] [] ls
-waiting-none ls idle = record { places = refl; asked = λ k l at. (idle k l at).0; answered = λ k l at. (idle k l at).1 }
+  -- a lane that is not there
+  pub asked-past : (lane : ℕ) (c : Call) (ls : List (Lane Keeper Plan)) → length ls ≤ lane → WereAsked (only_in lane c) ls ls
+  asked-past lane c ls past = asked-none (only_in lane c) ls (λ k below. ap (λ b. cond b (c ∷ []) []) (false_from_ne_true (eqb lane k) (λ e. let same : lane ≡ k = eqb-true lane k e in absurd (omega arith))))
 
--- one line more waits
-pub waiting-more : (lines : List (Result Asked Refusal)) (ask : Result Asked Refusal) (ps ps' : List Place) (ls ls' : List Lane) → ps' ≡ ps ++ place_in ask ∷ [] → WereAsked (λ k. own_calls k ask) ls ls' → Waiting lines ps ls → Waiting (lines ++ ask ∷ []) ps' ls'
-waiting-more lines ask ps ps' ls ls' places were w = record {
-  places = places ∙ ap (λ x. x ++ place_in ask ∷ []) w.places ∙ sym (map-append place_in lines (ask ∷ []));
-  asked = λ k l at.
-      let m = were.each k l at in
-      m.asked ∙ ap (λ x. x ++ own_calls k ask) (w.asked k m.before m.there) ∙ ap (λ x. calls_in k lines ++ x) (sym (append-nil (own_calls k ask))) ∙ sym (flat_map-append (own_calls k) lines (ask ∷ []));
-  answered = λ k l at.
-      let m = were.each k l at in
-      m.answered ∙ w.answered k m.before m.there;
-}
+  -- one lane was asked one call
+  pub asked-in : (lane : ℕ) (c : Call) (ls : List (Lane Keeper Plan)) (l l' : Lane Keeper Plan) → slice_get ls lane ≡ Some l → l'.pass ≡ l.pass → l'.answered.items ≡ l.answered.items → l'.asked.items ≡ l.asked.items ++ c ∷ [] → WereAsked (only_in lane c) ls (set ls lane l')
+  asked-in lane c ls l l' at pass answered asked = record {
+    passes = map-set_same (λ (x : Lane Keeper Plan). x.pass) ls lane l' l (pass ∙ ap (λ (x : Lane Keeper Plan). x.pass) (sym (get_or_from_slice_get ls lane l l at)));
+    each = λ k m at_m. by-place k m at_m (cases_eq lane k);
+  }
+    where
+      by-place : (k : ℕ) (m : Lane Keeper Plan) → slice_get (set ls lane l') k ≡ Some m → (lane ≡ k) ⊎ (¬ (lane ≡ k)) → HasMore (only_in lane c k) ls k m
+      by-place k m at_m (inl own) =
+          let is : l' ≡ m = same_Some l' m (sym (get-set ls lane l l' at) ∙ ap (slice_get (set ls lane l')) own ∙ at_m) in
+          record {
+            before = l;
+            there = ap (slice_get ls) (sym own) ∙ at;
+            asked = ap (λ (x : Lane Keeper Plan). x.asked.items) (sym is) ∙ asked ∙ ap (λ b. l.asked.items ++ cond b (c ∷ []) []) (sym (eq-eqb lane k own));
+            answered = ap (λ (x : Lane Keeper Plan). x.answered.items) (sym is) ∙ answered;
+          }
+      by-place k m at_m (inr other) = record {
+        before = m;
+        there = sym (get-other ls lane k l' other) ∙ at_m;
+        asked = sym (append-nil m.asked.items) ∙ ap (λ b. m.asked.items ++ cond b (c ∷ []) []) (sym (false_from_ne_true (eqb lane k) (λ e. other (eqb-true lane k e))));
+        answered = refl;
+      }
 
--- a barrier asks nothing of any lane
-pub waiting-same : (lines : List (Result Asked Refusal)) (ps : List Place) (ls ls' : List Lane) → WereAsked (λ k. own_calls k (Ok a_barrier)) ls ls' → Waiting lines ps ls → Waiting lines ps ls'
-waiting-same lines ps ls ls' were w = record {
-  places = w.places;
-  asked = λ k l at.
-      let m = were.each k l at in
-      m.asked ∙ append-nil m.before.asked.items ∙ w.asked k m.before m.there;
-  answered = λ k l at.
-      let m = were.each k l at in
-      m.answered ∙ w.answered k m.before m.there;
-}
+  -- no line waits
+  pub waiting-none : (ls : List (Lane Keeper Plan)) → AreIdle ls → Waiting [] [] ls
+  waiting-none ls idle = record { places = refl; asked = λ k l at. (idle k l at).0; answered = λ k l at. (idle k l at).1 }
+
+  -- one line more waits
+  pub waiting-more : (lines : List (Result Asked Refusal)) (ask : Result Asked Refusal) (ps ps' : List Place) (ls ls' : List (Lane Keeper Plan)) → ps' ≡ ps ++ place_in ask ∷ [] → WereAsked (λ k. own_calls k ask) ls ls' → Waiting lines ps ls → Waiting (lines ++ ask ∷ []) ps' ls'
+  waiting-more lines ask ps ps' ls ls' places were w = record {
+    places = places ∙ ap (λ x. x ++ place_in ask ∷ []) w.places ∙ sym (map-append place_in lines (ask ∷ []));
+    asked = λ k l at.
+        let m = were.each k l at in
+        m.asked ∙ ap (λ x. x ++ own_calls k ask) (w.asked k m.before m.there) ∙ ap (λ x. calls_in k lines ++ x) (sym (append-nil (own_calls k ask))) ∙ sym (flat_map-append (own_calls k) lines (ask ∷ []));
+    answered = λ k l at.
+        let m = were.each k l at in
+        m.answered ∙ w.answered k m.before m.there;
+  }
+
+  -- a barrier asks nothing of any lane
+  pub waiting-same : (lines : List (Result Asked Refusal)) (ps : List Place) (ls ls' : List (Lane Keeper Plan)) → WereAsked (λ k. own_calls k (Ok a_barrier)) ls ls' → Waiting lines ps ls → Waiting lines ps ls'
+  waiting-same lines ps ls ls' were w = record {
+    places = w.places;
+    asked = λ k l at.
+        let m = were.each k l at in
+        m.asked ∙ append-nil m.before.asked.items ∙ w.asked k m.before m.there;
+    answered = λ k l at.
+        let m = were.each k l at in
+        m.answered ∙ w.answered k m.before m.there;
+  }
 
 -- ---- replies that are taken
 
--- from a lane that is not there
-pub took-past : (lane : ℕ) (ls : List Lane) → length ls ≤ lane → TookIn lane (slice_get ls lane) ls (Some (Err (InvalidArgument field.Lane))) ls
-took-past lane ls past = subst (λ o. TookIn lane o ls (Some (Err (InvalidArgument field.Lane))) ls) (sym (slice_get_past ls lane past)) (refl, refl)
+module _ {Keeper Plan : Type 0} where
+  -- from a lane that is not there
+  pub took-past : (lane : ℕ) (ls : List (Lane Keeper Plan)) → length ls ≤ lane → TookIn lane (slice_get ls lane) ls (Some (Err (InvalidArgument field.Lane))) ls
+  took-past lane ls past = subst (λ o. TookIn lane o ls (Some (Err (InvalidArgument field.Lane))) ls) (sym (slice_get_past ls lane past)) (refl, refl)
 
--- from a lane that is there
-pub took-first : (lane : ℕ) (ls : List Lane) (l left : Lane) (reply : Reply) → slice_get ls lane ≡ Some l → l.answered.items ≡ reply ∷ left.answered.items → left.asked ≡ l.asked → TookIn lane (slice_get ls lane) ls (Some reply) (set ls lane left)
-took-first lane ls l left reply at first asked = subst (λ o. TookIn lane o ls (Some reply) (set ls lane left)) (sym at) (record { reply = reply; left = left; is = refl; first = first; asked = asked; lanes = refl })
+  -- from a lane that is there
+  pub took-first : (lane : ℕ) (ls : List (Lane Keeper Plan)) (l left : Lane Keeper Plan) (reply : Reply) → slice_get ls lane ≡ Some l → l.answered.items ≡ reply ∷ left.answered.items → left.asked ≡ l.asked → TookIn lane (slice_get ls lane) ls (Some reply) (set ls lane left)
+  took-first lane ls l left reply at first asked = subst (λ o. TookIn lane o ls (Some reply) (set ls lane left)) (sym at) (record { reply = reply; left = left; is = refl; first = first; asked = asked; lanes = refl })
 
 -- ---- a call that may have failed
 
@@ -158,20 +162,21 @@ then_ok (Err e) P Q h f = tt
 
 -- ---- lanes that have nothing to do
 
-pub idle-none : (ls : List Lane) → ls ≡ [] → AreIdle ls
-idle-none ls none = λ k l at. absurd (none-some l (sym (ap (λ xs. slice_get xs k) none) ∙ at))
+module _ {Keeper Plan : Type 0} where
+  pub idle-none : (ls : List (Lane Keeper Plan)) → ls ≡ [] → AreIdle ls
+  idle-none ls none = λ k l at. absurd (none-some l (sym (ap (λ xs. slice_get xs k) none) ∙ at))
 
-idle-behind : (xs : List Lane) (l : Lane) → l.asked.items ≡ [] → l.answered.items ≡ [] → AreIdle xs → (k : ℕ) (x : Lane) → slice_get (xs ++ l ∷ []) k ≡ Some x → (x.asked.items ≡ []) × (x.answered.items ≡ [])
-idle-behind [] l asked answered h zero x at = let is : l ≡ x = same_Some l x at in (ap (λ (o : Lane). o.asked.items) (sym is) ∙ asked, ap (λ (o : Lane). o.answered.items) (sym is) ∙ answered)
-idle-behind [] l asked answered h (suc k) x at = absurd (none-some x at)
-idle-behind (y ∷ xs) l asked answered h zero x at = h zero x at
-idle-behind (y ∷ xs) l asked answered h (suc k) x at = idle-behind xs l asked answered (λ n o at_n. h (suc n) o at_n) k x at
+  idle-behind : (xs : List (Lane Keeper Plan)) (l : Lane Keeper Plan) → l.asked.items ≡ [] → l.answered.items ≡ [] → AreIdle xs → (k : ℕ) (x : Lane Keeper Plan) → slice_get (xs ++ l ∷ []) k ≡ Some x → (x.asked.items ≡ []) × (x.answered.items ≡ [])
+  idle-behind [] l asked answered h zero x at = let is : l ≡ x = same_Some l x at in (ap (λ (o : Lane Keeper Plan). o.asked.items) (sym is) ∙ asked, ap (λ (o : Lane Keeper Plan). o.answered.items) (sym is) ∙ answered)
+  idle-behind [] l asked answered h (suc k) x at = absurd (none-some x at)
+  idle-behind (y ∷ xs) l asked answered h zero x at = h zero x at
+  idle-behind (y ∷ xs) l asked answered h (suc k) x at = idle-behind xs l asked answered (λ n o at_n. h (suc n) o at_n) k x at
 
-pub idle-push : (ls ls' : List Lane) (l : Lane) → ls' ≡ ls ++ l ∷ [] → l.asked.items ≡ [] → l.answered.items ≡ [] → AreIdle ls → AreIdle ls'
-idle-push ls ls' l grows asked answered idle = subst AreIdle (sym grows) (idle-behind ls l asked answered idle)
+  pub idle-push : (ls ls' : List (Lane Keeper Plan)) (l : Lane Keeper Plan) → ls' ≡ ls ++ l ∷ [] → l.asked.items ≡ [] → l.answered.items ≡ [] → AreIdle ls → AreIdle ls'
+  idle-push ls ls' l grows asked answered idle = subst AreIdle (sym grows) (idle-behind ls l asked answered idle)
 
--- a pass got its lane
-pub passes-push : (ls ls' : List Lane) (l : Lane) (p : Pass) (it rest all : List Pass) → ls' ≡ ls ++ l ∷ [] → l.pass ≡ p → it ≡ p ∷ rest → passes_of ls ++ it ≡ all → passes_of ls' ++ rest ≡ all
-passes-push ls ls' l p it rest all grows pass it_is h =
-    ap (λ x. passes_of x ++ rest) grows ∙ ap (λ x. x ++ rest) (map-append (λ (o : Lane). o.pass) ls (l ∷ [])) ∙ append_assoc (passes_of ls) (l.pass ∷ []) rest
-    ∙ ap (λ q. passes_of ls ++ q ∷ rest) pass ∙ ap (λ x. passes_of ls ++ x) (sym it_is) ∙ h
+  -- a pass got its lane
+  pub passes-push : (ls ls' : List (Lane Keeper Plan)) (l : Lane Keeper Plan) (p : Pass) (it rest all : List Pass) → ls' ≡ ls ++ l ∷ [] → l.pass ≡ p → it ≡ p ∷ rest → passes_of ls ++ it ≡ all → passes_of ls' ++ rest ≡ all
+  passes-push ls ls' l p it rest all grows pass it_is h =
+      ap (λ x. passes_of x ++ rest) grows ∙ ap (λ x. x ++ rest) (map-append (λ (o : Lane Keeper Plan). o.pass) ls (l ∷ [])) ∙ append_assoc (passes_of ls) (l.pass ∷ []) rest
+      ∙ ap (λ q. passes_of ls ++ q ∷ rest) pass ∙ ap (λ x. passes_of ls ++ x) (sym it_is) ∙ h

@@ -6,7 +6,7 @@ use Rattle.wf_event_values.specs.declared.refusal.Refusal.{Refusal}
 use Rattle.wf_event_values.specs.declared.refusal.Refusal.TheVariants.{InvalidArgument}
 use Rattle.service_model_types.specs.declared.call.Call.{Call}
 use Rattle.service_model_types.specs.Replies.{Reply}
-use Rattle.service.specs.declared.service.Pass.{Pass}
+use Rattle.service.specs.Views.{Pass}
 use Rattle.wire_requests.specs.declared.calls.Asked.{Asked}
 use Rattle.wire_requests.specs.declared.calls.Asked.TheVariants.{Barrier as a_barrier, Call as in_a_lane}
 use Rattle.lanes.specs.declared.lane.Lane.{Lane}
@@ -28,9 +28,10 @@ is_barrier _ = false
 abbrev pub ArePlain : List (Result Asked Refusal) → Type 0
 ArePlain lines = list_any is_barrier (map place_in lines) ≡ false
 
--- the passes of lanes
-abbrev pub passes_of : List Lane → List Pass
-passes_of lanes = map (λ (l : Lane). l.pass) lanes
+module _ {Keeper Plan : Type 0} where
+  -- the passes of lanes
+  abbrev pub passes_of : List (Lane Keeper Plan) → List Pass
+  passes_of lanes = map (λ (l : Lane Keeper Plan). l.pass) lanes
 
 -- ---- calls that wait
 
@@ -48,44 +49,46 @@ own_calls k (Err refusal) = []
 abbrev pub calls_in : ℕ → List (Result Asked Refusal) → List Call
 calls_in k lines = flat_map (own_calls k) lines
 
--- a lane as it was at its place, with these calls more
-pub record HasMore (calls : List Call) (ls : List Lane) (k : ℕ) (l' : Lane) : Type 0 where
-  pub before : Lane
-  pub there : slice_get ls k ≡ Some before
-  pub asked : l'.asked.items ≡ before.asked.items ++ calls
-  pub answered : l'.answered.items ≡ before.answered.items
+module _ {Keeper Plan : Type 0} where
+  -- a lane as it was at its place, with these calls more
+  pub record HasMore (calls : List Call) (ls : List (Lane Keeper Plan)) (k : ℕ) (l' : Lane Keeper Plan) : Type 0 where
+    pub before : Lane Keeper Plan
+    pub there : slice_get ls k ≡ Some before
+    pub asked : l'.asked.items ≡ before.asked.items ++ calls
+    pub answered : l'.answered.items ≡ before.answered.items
 
--- each lane was asked these calls more
-pub record WereAsked (calls : ℕ → List Call) (ls ls' : List Lane) : Type 0 where
-  pub passes : passes_of ls' ≡ passes_of ls
-  pub each : (k : ℕ) (l' : Lane) → slice_get ls' k ≡ Some l' → HasMore (calls k) ls k l'
+  -- each lane was asked these calls more
+  pub record WereAsked (calls : ℕ → List Call) (ls ls' : List (Lane Keeper Plan)) : Type 0 where
+    pub passes : passes_of ls' ≡ passes_of ls
+    pub each : (k : ℕ) (l' : Lane Keeper Plan) → slice_get ls' k ≡ Some l' → HasMore (calls k) ls k l'
 
--- no lane has a call to make, or a reply that was not taken
-abbrev pub AreIdle : List Lane → Type 0
-AreIdle lanes = (k : ℕ) (l : Lane) → slice_get lanes k ≡ Some l → (l.asked.items ≡ []) × (l.answered.items ≡ [])
+  -- no lane has a call to make, or a reply that was not taken
+  abbrev pub AreIdle : List (Lane Keeper Plan) → Type 0
+  AreIdle lanes = (k : ℕ) (l : Lane Keeper Plan) → slice_get lanes k ≡ Some l → (l.asked.items ≡ []) × (l.answered.items ≡ [])
 
--- these lines wait: each has its place, and each lane the calls that are its own
-pub record Waiting (lines : List (Result Asked Refusal)) (ps : List Place) (lanes : List Lane) : Type 0 where
-  pub places : ps ≡ map place_in lines
-  pub asked : (k : ℕ) (l : Lane) → slice_get lanes k ≡ Some l → l.asked.items ≡ calls_in k lines
-  pub answered : (k : ℕ) (l : Lane) → slice_get lanes k ≡ Some l → l.answered.items ≡ []
+  -- these lines wait: each has its place, and each lane the calls that are its own
+  pub record Waiting (lines : List (Result Asked Refusal)) (ps : List Place) (lanes : List (Lane Keeper Plan)) : Type 0 where
+    pub places : ps ≡ map place_in lines
+    pub asked : (k : ℕ) (l : Lane Keeper Plan) → slice_get lanes k ≡ Some l → l.asked.items ≡ calls_in k lines
+    pub answered : (k : ℕ) (l : Lane Keeper Plan) → slice_get lanes k ≡ Some l → l.answered.items ≡ []
 
 -- ---- calls that are made
 
--- one call more was answered, and its reply waits behind the others
-pub record AnsweredOne (serves : Serves) (call : Call) (l l' : Lane) : Type 0 where
-  pub reply : Reply
-  pub served : serves l.pass l'.pass call reply
-  pub kept : l'.answered.items ≡ l.answered.items ++ reply ∷ []
+module _ {Keeper Plan : Type 0} where
+  -- one call more was answered, and its reply waits behind the others
+  pub record AnsweredOne (serves : Serves) (call : Call) (l l' : Lane Keeper Plan) : Type 0 where
+    pub reply : Reply
+    pub served : serves l.pass l'.pass call reply
+    pub kept : l'.answered.items ≡ l.answered.items ++ reply ∷ []
 
--- a lane made some of its calls, one after another, and has these yet to make
-pub record Working (serves : Serves) (l : Lane) (rest : List Call) (l' : Lane) : Type 0 where
-  pub done : List Call
-  pub replies : List Reply
-  pub parts : l.asked.items ≡ done ++ rest
-  pub turns : InTurn (λ p c r p'. serves p p' c r) l.pass done replies l'.pass
-  pub kept : l'.answered.items ≡ l.answered.items ++ replies
-  pub asked : l'.asked.items ≡ []
+  -- a lane made some of its calls, one after another, and has these yet to make
+  pub record Working (serves : Serves) (l : Lane Keeper Plan) (rest : List Call) (l' : Lane Keeper Plan) : Type 0 where
+    pub done : List Call
+    pub replies : List Reply
+    pub parts : l.asked.items ≡ done ++ rest
+    pub turns : InTurn (λ p c r p'. serves p p' c r) l.pass done replies l'.pass
+    pub kept : l'.answered.items ≡ l.answered.items ++ replies
+    pub asked : l'.asked.items ≡ []
 
 -- Calls of a pass were answered one after another, up to the first that memory ran out at. These are the replies, and where there are
 -- as many as calls, the pass is this one then.
@@ -95,48 +98,50 @@ Answered serves p [] (r ∷ rs) p' = ⊥
 Answered serves p (c ∷ calls) [] p' = Unit {0}
 Answered serves p (c ∷ calls) (r ∷ rs) p' = (q : Pass) × serves p q c r × Answered serves q calls rs p'
 
--- a lane made its calls
-pub record Worked (serves : Serves) (l l' : Lane) : Type 0 where
-  pub replies : List Reply
-  pub answered : Answered serves l.pass l.asked.items replies l'.pass
-  pub kept : l'.answered.items ≡ l.answered.items ++ replies
-  pub asked : l'.asked.items ≡ []
+module _ {Keeper Plan : Type 0} where
+  -- a lane made its calls
+  pub record Worked (serves : Serves) (l l' : Lane Keeper Plan) : Type 0 where
+    pub replies : List Reply
+    pub answered : Answered serves l.pass l.asked.items replies l'.pass
+    pub kept : l'.answered.items ≡ l.answered.items ++ replies
+    pub asked : l'.asked.items ≡ []
 
--- each lane made its calls
-abbrev pub EachWorked : Serves → List Lane → List Lane → Type 0
-EachWorked serves ls ls' = (k : ℕ) (d : Lane) → k < length ls → Worked serves (get_or ls k d) (get_or ls' k d)
+  -- each lane made its calls
+  abbrev pub EachWorked : Serves → List (Lane Keeper Plan) → List (Lane Keeper Plan) → Type 0
+  EachWorked serves ls ls' = (k : ℕ) (d : Lane Keeper Plan) → k < length ls → Worked serves (get_or ls k d) (get_or ls' k d)
 
--- nothing of lanes changed but their passes
-pub record KeepsReplies (ls ls' : List Lane) : Type 0 where
-  pub asked : map (λ (l : Lane). l.asked) ls' ≡ map (λ (l : Lane). l.asked) ls
-  pub answered : map (λ (l : Lane). l.answered) ls' ≡ map (λ (l : Lane). l.answered) ls
+  -- nothing of lanes changed but their passes
+  pub record KeepsReplies (ls ls' : List (Lane Keeper Plan)) : Type 0 where
+    pub asked : map (λ (l : Lane Keeper Plan). l.asked) ls' ≡ map (λ (l : Lane Keeper Plan). l.asked) ls
+    pub answered : map (λ (l : Lane Keeper Plan). l.answered) ls' ≡ map (λ (l : Lane Keeper Plan). l.answered) ls
 
--- all lanes made their calls, and then the first pass met every other
-pub record Phase (serves : Serves) (meets : Meets) (ls after : List Lane) : Type 0 where
-  pub worked : List Lane
-  pub count : length worked ≡ length ls
-  pub each : EachWorked serves ls worked
-  pub met : AllMet meets (passes_of worked) (passes_of after)
-  pub kept : KeepsReplies worked after
+  -- all lanes made their calls, and then the first pass met every other
+  pub record Phase (serves : Serves) (meets : Meets) (ls after : List (Lane Keeper Plan)) : Type 0 where
+    pub worked : List (Lane Keeper Plan)
+    pub count : length worked ≡ length ls
+    pub each : EachWorked serves ls worked
+    pub met : AllMet meets (passes_of worked) (passes_of after)
+    pub kept : KeepsReplies worked after
 
 -- ---- replies that are taken
 
--- the first reply of a lane was taken
-pub record TookFirst (lane : ℕ) (l : Lane) (ls : List Lane) (r : Option Reply) (ls' : List Lane) : Type 0 where
-  pub reply : Reply
-  pub left : Lane
-  pub is : r ≡ Some reply
-  pub first : l.answered.items ≡ reply ∷ left.answered.items
-  pub asked : left.asked ≡ l.asked
-  pub lanes : ls' ≡ set ls lane left
+module _ {Keeper Plan : Type 0} where
+  -- the first reply of a lane was taken
+  pub record TookFirst (lane : ℕ) (l : Lane Keeper Plan) (ls : List (Lane Keeper Plan)) (r : Option Reply) (ls' : List (Lane Keeper Plan)) : Type 0 where
+    pub reply : Reply
+    pub left : Lane Keeper Plan
+    pub is : r ≡ Some reply
+    pub first : l.answered.items ≡ reply ∷ left.answered.items
+    pub asked : left.asked ≡ l.asked
+    pub lanes : ls' ≡ set ls lane left
 
--- the reply of a call is the first that its lane has; a lane that is not there is an invalid argument
-abbrev pub TookIn : ℕ → Option Lane → List Lane → Option Reply → List Lane → Type 0
-TookIn lane None ls r ls' = (r ≡ Some (Err (InvalidArgument field.Lane))) × (ls' ≡ ls)
-TookIn lane (Some l) ls r ls' = TookFirst lane l ls r ls'
+  -- the reply of a call is the first that its lane has; a lane that is not there is an invalid argument
+  abbrev pub TookIn : ℕ → Option (Lane Keeper Plan) → List (Lane Keeper Plan) → Option Reply → List (Lane Keeper Plan) → Type 0
+  TookIn lane None ls r ls' = (r ≡ Some (Err (InvalidArgument field.Lane))) × (ls' ≡ ls)
+  TookIn lane (Some l) ls r ls' = TookFirst lane l ls r ls'
 
--- the reply of a line, by its place, was taken from the lanes
-abbrev pub Took : List Lane → Place → Option Reply → List Lane → Type 0
-Took ls Barrier r ls' = (r ≡ None) × (ls' ≡ ls)
-Took ls (Refused refusal) r ls' = (r ≡ Some (Err refusal)) × (ls' ≡ ls)
-Took ls (InLane lane) r ls' = TookIn lane (slice_get ls lane) ls r ls'
+  -- the reply of a line, by its place, was taken from the lanes
+  abbrev pub Took : List (Lane Keeper Plan) → Place → Option Reply → List (Lane Keeper Plan) → Type 0
+  Took ls Barrier r ls' = (r ≡ None) × (ls' ≡ ls)
+  Took ls (Refused refusal) r ls' = (r ≡ Some (Err refusal)) × (ls' ≡ ls)
+  Took ls (InLane lane) r ls' = TookIn lane (slice_get ls lane) ls r ls'

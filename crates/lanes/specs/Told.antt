@@ -5,7 +5,7 @@ use Rattle.std.specs.Io.KnownBytes.{Appends, Consumes}
 use Rattle.wf_event_values.specs.declared.refusal.Refusal.{Refusal}
 use Rattle.service_model_types.specs.declared.settings.Settings.{Settings}
 use Rattle.service_model_types.specs.Replies.{Reply}
-use Rattle.service.specs.declared.service.Pass.{Pass}
+use Rattle.service.specs.Views.{Pass}
 use Rattle.wire_requests.specs.declared.calls.Asked.{Asked}
 use Rattle.script.specs.Lines.{Line, all_lines}
 use Rattle.script.specs.Pending.{ended, left}
@@ -17,89 +17,91 @@ use Rattle.lanes.specs.Endings.{Beginning, Broke, Ended}
 use Rattle.lanes.specs.Lanes.{ArePlain, Waiting, WereAsked, own_calls, passes_of, place_in}
 use Rattle.lanes.specs.Printed.{PhaseBegun, PhasePrinted}
 
--- the lines before the last barrier were served and printed, the lines behind it wait
-pub record Told (serves : Serves) (meets : Meets) (K : Settings) (ps : List Pass) (lines : List Line) (s : Script) (held held' : Option (List ℕ)) : Type 0 where
-  pub done : List (Result Asked Refusal)
-  pub waits : List (Result Asked Refusal)
-  pub replies : List (Option Reply)
-  pub parts : asks_of K lines ≡ done ++ waits
-  pub course : Course serves meets ps done replies (passes_of s.lanes.items)
-  pub waiting : Waiting waits s.places.items s.lanes.items
-  pub plain : ArePlain waits
-  pub written : Appends held held' (numbered_from 1 replies)
-  pub number : s.first ≡ 1 + length done
-  pub refused_is : s.refused ≡ list_any is_refusal replies
+module _ {Keeper Plan : Type 0} where
+  -- the lines before the last barrier were served and printed, the lines behind it wait
+  pub record Told (serves : Serves) (meets : Meets) (K : Settings) (ps : List Pass) (lines : List Line) (s : Script Keeper Plan) (held held' : Option (List ℕ)) : Type 0 where
+    pub done : List (Result Asked Refusal)
+    pub waits : List (Result Asked Refusal)
+    pub replies : List (Option Reply)
+    pub parts : asks_of K lines ≡ done ++ waits
+    pub course : Course serves meets ps done replies (passes_of s.lanes.items)
+    pub waiting : Waiting waits s.places.items s.lanes.items
+    pub plain : ArePlain waits
+    pub written : Appends held held' (numbered_from 1 replies)
+    pub number : s.first ≡ 1 + length done
+    pub refused_is : s.refused ≡ list_any is_refusal replies
 
--- what it has told of a text so far
-pub record TextTold (serves : Serves) (meets : Meets) (K : Settings) (ps : List Pass) (text : List ℕ) (s : Script) (held held' : Option (List ℕ)) : Type 0 where
-  pub line : s.line ≡ left (Some []) text
-  pub told : Told serves meets K ps (ended (Some []) text) s held held'
+  -- what it has told of a text so far
+  pub record TextTold (serves : Serves) (meets : Meets) (K : Settings) (ps : List Pass) (text : List ℕ) (s : Script Keeper Plan) (held held' : Option (List ℕ)) : Type 0 where
+    pub line : s.line ≡ left (Some []) text
+    pub told : Told serves meets K ps (ended (Some []) text) s held held'
 
--- some text was read, and told of
-pub record Progress (serves : Serves) (meets : Meets) (K : Settings) (ps : List Pass) (s : Script) (unread held unread' held' : Option (List ℕ)) : Type 0 where
-  pub text : List ℕ
-  pub read : Consumes unread unread' text
-  pub told : TextTold serves meets K ps text s held held'
+  -- some text was read, and told of
+  pub record Progress (serves : Serves) (meets : Meets) (K : Settings) (ps : List Pass) (s : Script Keeper Plan) (unread held unread' held' : Option (List ℕ)) : Type 0 where
+    pub text : List ℕ
+    pub read : Consumes unread unread' text
+    pub told : TextTold serves meets K ps text s held held'
 
--- nothing was read, and no line waits
-pub record Opened (ps : List Pass) (s : Script) : Type 0 where
-  pub passes : passes_of s.lanes.items ≡ ps
-  pub waiting : Waiting [] s.places.items s.lanes.items
-  pub first : s.first ≡ 1
-  pub refused : s.refused ≡ false
-  pub line : s.line ≡ Some []
+  -- nothing was read, and no line waits
+  pub record Opened (ps : List Pass) (s : Script Keeper Plan) : Type 0 where
+    pub passes : passes_of s.lanes.items ≡ ps
+    pub waiting : Waiting [] s.places.items s.lanes.items
+    pub first : s.first ≡ 1
+    pub refused : s.refused ≡ false
+    pub line : s.line ≡ Some []
 
--- one line more waits, which asks this
-pub record Added (ask : Result Asked Refusal) (s s' : Script) : Type 0 where
-  pub places : s'.places.items ≡ s.places.items ++ place_in ask ∷ []
-  pub lanes : WereAsked (λ k. own_calls k ask) s.lanes.items s'.lanes.items
-  pub first : s'.first ≡ s.first
-  pub refused : s'.refused ≡ s.refused
-  pub line : s'.line ≡ Some []
+  -- one line more waits, which asks this
+  pub record Added (ask : Result Asked Refusal) (s s' : Script Keeper Plan) : Type 0 where
+    pub places : s'.places.items ≡ s.places.items ++ place_in ask ∷ []
+    pub lanes : WereAsked (λ k. own_calls k ask) s.lanes.items s'.lanes.items
+    pub first : s'.first ≡ s.first
+    pub refused : s'.refused ≡ s.refused
+    pub line : s'.line ≡ Some []
 
--- a phase was served and printed: nothing waits
-pub record Closed (serves : Serves) (meets : Meets) (s s' : Script) (held held' : Option (List ℕ)) : Type 0 where
-  pub refused : Bool
-  pub printed : PhasePrinted serves meets s.first s.places.items s.lanes.items s'.lanes.items refused held held'
-  pub first : s'.first ≡ s.first + length s.places.items
-  pub places : s'.places.items ≡ []
-  pub refused_is : s'.refused ≡ (s.refused || refused)
-  pub line : s'.line ≡ s.line
+  -- a phase was served and printed: nothing waits
+  pub record Closed (serves : Serves) (meets : Meets) (s s' : Script Keeper Plan) (held held' : Option (List ℕ)) : Type 0 where
+    pub refused : Bool
+    pub printed : PhasePrinted serves meets s.first s.places.items s.lanes.items s'.lanes.items refused held held'
+    pub first : s'.first ≡ s.first + length s.places.items
+    pub places : s'.places.items ≡ []
+    pub refused_is : s'.refused ≡ (s.refused || refused)
+    pub line : s'.line ≡ s.line
 
--- a phase was not served; or it was, and a beginning of it was printed
-abbrev pub Stopped : Serves → Meets → Script → (held held' : Option (List ℕ)) → Type 0
-Stopped serves meets s held held' = (held' ≡ held) ⊎ PhaseBegun serves meets s.first s.places.items s.lanes.items held held'
+  -- a phase was not served; or it was, and a beginning of it was printed
+  abbrev pub Stopped : Serves → Meets → (Script Keeper Plan) → (held held' : Option (List ℕ)) → Type 0
+  Stopped serves meets s held held' = (held' ≡ held) ⊎ PhaseBegun serves meets s.first s.places.items s.lanes.items held held'
 
 -- ---- a step of the script, whatever was told before it
 
--- all was told of the lines before, and then of this one too
-abbrev pub TellsLine : Serves → Meets → Settings → Line → Script → Script → Option (List ℕ) → Option (List ℕ) → Type 0
-TellsLine serves meets K line s s' w w' = (ps : List Pass) (lines : List Line) (held : Option (List ℕ)) → Told serves meets K ps lines s held w → Told serves meets K ps (lines ++ line ∷ []) s' held w'
+module _ {Keeper Plan : Type 0} where
+  -- all was told of the lines before, and then of this one too
+  abbrev pub TellsLine : Serves → Meets → Settings → Line → (Script Keeper Plan) → (Script Keeper Plan) → Option (List ℕ) → Option (List ℕ) → Type 0
+  TellsLine serves meets K line s s' w w' = (ps : List Pass) (lines : List Line) (held : Option (List ℕ)) → Told serves meets K ps lines s held w → Told serves meets K ps (lines ++ line ∷ []) s' held w'
 
--- all was told of the lines before, and then a beginning
-abbrev pub BeginsLine : Serves → Meets → Settings → Line → Script → Option (List ℕ) → Option (List ℕ) → Type 0
-BeginsLine serves meets K line s w w' = (ps : List Pass) (lines : List Line) (held : Option (List ℕ)) → Told serves meets K ps lines s held w → Beginning serves meets K ps (lines ++ line ∷ []) held w'
+  -- all was told of the lines before, and then a beginning
+  abbrev pub BeginsLine : Serves → Meets → Settings → Line → (Script Keeper Plan) → Option (List ℕ) → Option (List ℕ) → Type 0
+  BeginsLine serves meets K line s w w' = (ps : List Pass) (lines : List Line) (held : Option (List ℕ)) → Told serves meets K ps lines s held w → Beginning serves meets K ps (lines ++ line ∷ []) held w'
 
--- all was told of a text, and then of these bytes more
-abbrev pub TellsMore : Serves → Meets → Settings → List ℕ → Script → Script → Option (List ℕ) → Option (List ℕ) → Type 0
-TellsMore serves meets K more s s' w w' = (ps : List Pass) (text : List ℕ) (held : Option (List ℕ)) → TextTold serves meets K ps text s held w → TextTold serves meets K ps (text ++ more) s' held w'
+  -- all was told of a text, and then of these bytes more
+  abbrev pub TellsMore : Serves → Meets → Settings → List ℕ → (Script Keeper Plan) → (Script Keeper Plan) → Option (List ℕ) → Option (List ℕ) → Type 0
+  TellsMore serves meets K more s s' w w' = (ps : List Pass) (text : List ℕ) (held : Option (List ℕ)) → TextTold serves meets K ps text s held w → TextTold serves meets K ps (text ++ more) s' held w'
 
--- all was told of a text, and then a beginning of it with these bytes
-abbrev pub BeginsMore : Serves → Meets → Settings → List ℕ → Script → Option (List ℕ) → Option (List ℕ) → Type 0
-BeginsMore serves meets K more s w w' = (ps : List Pass) (text : List ℕ) (held : Option (List ℕ)) → TextTold serves meets K ps text s held w → Beginning serves meets K ps (ended (Some []) (text ++ more)) held w'
+  -- all was told of a text, and then a beginning of it with these bytes
+  abbrev pub BeginsMore : Serves → Meets → Settings → List ℕ → (Script Keeper Plan) → Option (List ℕ) → Option (List ℕ) → Type 0
+  BeginsMore serves meets K more s w w' = (ps : List Pass) (text : List ℕ) (held : Option (List ℕ)) → TextTold serves meets K ps text s held w → Beginning serves meets K ps (ended (Some []) (text ++ more)) held w'
 
--- some text was read and told of, and then more of it
-abbrev pub ReadsOn : Serves → Meets → Settings → Script → Script → (r r' w w' : Option (List ℕ)) → Type 0
-ReadsOn serves meets K s s' r r' w w' = (ps : List Pass) (unread held : Option (List ℕ)) → Progress serves meets K ps s unread held r w → Progress serves meets K ps s' unread held r' w'
+  -- some text was read and told of, and then more of it
+  abbrev pub ReadsOn : Serves → Meets → Settings → (Script Keeper Plan) → (Script Keeper Plan) → (r r' w w' : Option (List ℕ)) → Type 0
+  ReadsOn serves meets K s s' r r' w w' = (ps : List Pass) (unread held : Option (List ℕ)) → Progress serves meets K ps s unread held r w → Progress serves meets K ps s' unread held r' w'
 
--- some text was read and told of, and then a beginning of more
-abbrev pub Breaks : Serves → Meets → Settings → Script → (r r' w w' : Option (List ℕ)) → Type 0
-Breaks serves meets K s r r' w w' = (ps : List Pass) (unread held : Option (List ℕ)) → Progress serves meets K ps s unread held r w → Broke serves meets K ps unread held r' w'
+  -- some text was read and told of, and then a beginning of more
+  abbrev pub Breaks : Serves → Meets → Settings → (Script Keeper Plan) → (r r' w w' : Option (List ℕ)) → Type 0
+  Breaks serves meets K s r r' w w' = (ps : List Pass) (unread held : Option (List ℕ)) → Progress serves meets K ps s unread held r w → Broke serves meets K ps unread held r' w'
 
--- all was told of a text, and then of its last line too
-abbrev pub TellsAll : Serves → Meets → Settings → Script → Script → Option (List ℕ) → Option (List ℕ) → Type 0
-TellsAll serves meets K s s' w w' = (ps : List Pass) (text : List ℕ) (held : Option (List ℕ)) → TextTold serves meets K ps text s held w → Ended serves meets K ps text held w' s'.refused (passes_of s'.lanes.items)
+  -- all was told of a text, and then of its last line too
+  abbrev pub TellsAll : Serves → Meets → Settings → (Script Keeper Plan) → (Script Keeper Plan) → Option (List ℕ) → Option (List ℕ) → Type 0
+  TellsAll serves meets K s s' w w' = (ps : List Pass) (text : List ℕ) (held : Option (List ℕ)) → TextTold serves meets K ps text s held w → Ended serves meets K ps text held w' s'.refused (passes_of s'.lanes.items)
 
--- all was told of a text, and then a beginning of all its lines
-abbrev pub BeginsAll : Serves → Meets → Settings → Script → Option (List ℕ) → Option (List ℕ) → Type 0
-BeginsAll serves meets K s w w' = (ps : List Pass) (text : List ℕ) (held : Option (List ℕ)) → TextTold serves meets K ps text s held w → Beginning serves meets K ps (all_lines text) held w'
+  -- all was told of a text, and then a beginning of all its lines
+  abbrev pub BeginsAll : Serves → Meets → Settings → (Script Keeper Plan) → Option (List ℕ) → Option (List ℕ) → Type 0
+  BeginsAll serves meets K s w w' = (ps : List Pass) (text : List ℕ) (held : Option (List ℕ)) → TextTold serves meets K ps text s held w → Beginning serves meets K ps (all_lines text) held w'

@@ -4,7 +4,7 @@ ghost use Rattle.std.specs.Prelude.{◌≡◌, [], ◌∷◌, ◌++◌, OnOk, On
 ghost use Rattle.lanes.specs.Lanes.{AnsweredOne, Worked};
 
 use crate::door::Door;
-use service::Pass;
+use service::{KeepsShard, Pass};
 use service_model_types::answer::Reply;
 use service_model_types::call::Call;
 use std::alloc::{AllocError, Global};
@@ -14,14 +14,14 @@ use std::sync::Wait;
 
 /// A lane: its pass, the calls that it is to make, and the replies to those that it made.
 #[derive(Drop)]
-pub(crate) struct Lane {
-    pub(crate) pass: Pass,
+pub(crate) struct Lane<S: KeepsShard> {
+    pub(crate) pass: Pass<S>,
     asked: Vec<Call>,
     answered: VecDeque<Reply>,
 }
 
-impl Lane {
-    pub(crate) fn new(alloc: Global, pass: Pass) -> Lane
+impl<S: KeepsShard> Lane<S> {
+    pub(crate) fn new(alloc: Global, pass: Pass<S>) -> Lane<S>
         ensures pass { result.pass ≡ pass }
         ensures asked { result.asked.items ≡ [] }
         ensures answered { result.answered.items ≡ [] }
@@ -34,7 +34,7 @@ impl Lane {
     }
 
     /// Its pass.
-    pub(crate) fn into_pass(self) -> Pass
+    pub(crate) fn into_pass(self) -> Pass<S>
         ensures { result ≡ self.pass }
     {
         let Lane {
@@ -65,7 +65,7 @@ impl Lane {
     }
 
     /// Makes the calls in their order, up to the first that memory runs out at.
-    pub(crate) fn serve<R: Wait, D: Door>(&mut self, rt: &R, alloc: Global, door: &D)
+    pub(crate) fn serve<R: Wait, D: Door<S>>(&mut self, rt: &R, alloc: Global, door: &D)
         requires { D.admits door.now self.old.pass }
         ensures own { D.admits door.now self.new.pass }
         ensures worked { Worked (D.serves door.now) self.old self.new }
@@ -79,7 +79,7 @@ impl Lane {
     }
 
     /// Makes one call.
-    fn serve_one<R: Wait, D: Door>(
+    fn serve_one<R: Wait, D: Door<S>>(
         &mut self,
         rt: &R,
         door: &D,

@@ -10,6 +10,7 @@ use crate::door::Door;
 use crate::lane::Lane;
 use crate::print::{Place, print};
 use script::ScriptFault;
+use service::KeepsShard;
 use std::alloc::Global;
 use std::io::Write;
 use std::sync::Wait;
@@ -18,11 +19,11 @@ use std::thread::Threads;
 use wire_counted::Counted;
 
 /// Lets all lanes make their calls at the same time, each in a thread of its own.
-fn serve_lanes<R: Threads + Wait + Sync, D: Door + Sync>(
+fn serve_lanes<R: Threads + Wait + Sync, S: KeepsShard + Send + Sync, D: Door<S> + Sync>(
     rt: &R,
     alloc: Global,
     door: &D,
-    lanes: &mut [Lane],
+    lanes: &mut [Lane<S>],
 )
     requires { All (λ l. D.admits door.now l.pass) lanes.old }
     ensures own { All (λ l. D.admits door.now l.pass) lanes.new }
@@ -35,7 +36,7 @@ fn serve_lanes<R: Threads + Wait + Sync, D: Door + Sync>(
             rt,
             lanes,
             threads,
-            &|_, lane: &mut Lane|
+            &|_, lane: &mut Lane<S>|
                 requires { D.admits door.now lane.now.pass }
                 ensures own { D.admits door.entry.now lane.exit.now.pass }
                 ensures worked { Worked (D.serves door.entry.now) lane.entry.now lane.exit.now }
@@ -45,7 +46,7 @@ fn serve_lanes<R: Threads + Wait + Sync, D: Door + Sync>(
 }
 
 /// The first lane meets every other, in their order.
-fn meet_others<D: Door>(door: &D, lanes: &mut [Lane])
+fn meet_others<S: KeepsShard, D: Door<S>>(door: &D, lanes: &mut [Lane<S>])
     requires { All (λ l. D.admits door.now l.pass) lanes.old }
     ensures own { All (λ l. D.admits door.now l.pass) lanes.new }
     ensures count { length lanes.new ≡ length lanes.old }
@@ -60,7 +61,7 @@ fn meet_others<D: Door>(door: &D, lanes: &mut [Lane])
 }
 
 /// The first lane meets every other twice, so that all of them have seen what any of them did.
-fn meet_all<D: Door>(door: &D, lanes: &mut [Lane])
+fn meet_all<S: KeepsShard, D: Door<S>>(door: &D, lanes: &mut [Lane<S>])
     requires { All (λ l. D.admits door.now l.pass) lanes.old }
     ensures own { All (λ l. D.admits door.now l.pass) lanes.new }
     ensures count { length lanes.new ≡ length lanes.old }
@@ -73,11 +74,16 @@ fn meet_all<D: Door>(door: &D, lanes: &mut [Lane])
 
 /// Lets all lanes make their calls, lets the first one meet every other, and writes the replies to the
 /// lines, which are numbered from this one on. It says whether one of them is a refusal.
-pub(crate) fn serve_phase<R: Threads + Wait + Sync, D: Door + Sync, W: Write>(
+pub(crate) fn serve_phase<
+    R: Threads + Wait + Sync,
+    S: KeepsShard + Send + Sync,
+    D: Door<S> + Sync,
+    W: Write,
+>(
     rt: &R,
     alloc: Global,
     door: &D,
-    lanes: &mut [Lane],
+    lanes: &mut [Lane<S>],
     first: u64,
     places: &[Place],
     writer: &mut Counted<W>,

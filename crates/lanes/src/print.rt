@@ -8,6 +8,7 @@ ghost use Rattle.lanes.specs.Printed.{Begun, Printed, PrintedOne};
 
 use crate::lane::Lane;
 use script::ScriptFault;
+use service::KeepsShard;
 use service_model_types::answer::Reply;
 use std::alloc::Global;
 use std::io::Write;
@@ -30,7 +31,10 @@ pub(crate) enum Place {
 ///
 /// # Errors
 /// A call has none where memory ran out in its lane.
-fn reply_at(lanes: &mut [Lane], place: Place) -> Result<Option<Reply>, ScriptFault>
+fn reply_at<S: KeepsShard>(
+    lanes: &mut [Lane<S>],
+    place: Place,
+) -> Result<Option<Reply>, ScriptFault>
     ensures passes { passes_of lanes.new ≡ passes_of lanes.old }
     ensures took { IfOk result (λ r. Took lanes.old place r lanes.new) }
     ensures fault { IfErr result (λ e. e ≡ Memory) }
@@ -46,7 +50,7 @@ fn reply_at(lanes: &mut [Lane], place: Place) -> Result<Option<Reply>, ScriptFau
 ///
 /// # Errors
 /// There is none where memory ran out in the lane.
-fn reply_of(lanes: &mut [Lane], lane: usize) -> Result<Option<Reply>, ScriptFault>
+fn reply_of<S: KeepsShard>(lanes: &mut [Lane<S>], lane: usize) -> Result<Option<Reply>, ScriptFault>
     ensures passes { passes_of lanes.new ≡ passes_of lanes.old }
     ensures took { IfOk result (λ r. TookIn lane (slice_get lanes.old lane) lanes.old r lanes.new) }
     ensures fault { IfErr result (λ e. e ≡ Memory) }
@@ -62,9 +66,9 @@ fn reply_of(lanes: &mut [Lane], lane: usize) -> Result<Option<Reply>, ScriptFaul
 }
 
 /// Writes the reply line of a line, and says whether it is a refusal.
-fn print_one<W: Write>(
+fn print_one<S: KeepsShard, W: Write>(
     alloc: Global,
-    lanes: &mut [Lane],
+    lanes: &mut [Lane<S>],
     number: u64,
     place: Place,
     writer: &mut Counted<W>,
@@ -89,9 +93,9 @@ fn print_one<W: Write>(
 
 /// Writes the reply lines of lines that are numbered from this one on, and says whether one of them is
 /// a refusal.
-pub(crate) fn print<W: Write>(
+pub(crate) fn print<S: KeepsShard, W: Write>(
     alloc: Global,
-    lanes: &mut [Lane],
+    lanes: &mut [Lane<S>],
     first: u64,
     places: &[Place],
     writer: &mut Counted<W>,

@@ -6,7 +6,7 @@ ghost use Rattle.lanes.specs.Reopened.{HaltedFrom, IsFaultFrom, RanFrom};
 
 use crate::run::run_lanes;
 use script::{Outcome, ScriptFault, opening_fault};
-use service::Service;
+use service::{KeepsShard, Service};
 use service_model_types::request::Request;
 use service_model_types::settings::Settings;
 use std::alloc::Global;
@@ -24,7 +24,7 @@ use wire_counted::Counted;
 ///
 /// Where the opening is refused, nothing was read or written. After any other fault what was written
 /// is as `run_lanes` says, and no record comes back.
-pub fn run_lanes_from<H: Threads + Wait + Sync, R: Read, W: Write>(
+pub fn run_lanes_from<S: KeepsShard + Send + Sync, H: Threads + Wait + Sync, R: Read, W: Write>(
     rt: &H,
     alloc: Global,
     settings: &Settings,
@@ -44,7 +44,7 @@ pub fn run_lanes_from<H: Threads + Wait + Sync, R: Read, W: Write>(
     ensures fault { IfErr result (λ e. IsFaultFrom settings.now records.items e
         reader.old.failures reader.new.failures writer.old.failures writer.new.failures) }
 {
-    let (service, passes) = match Service::open(alloc, settings, records) {
+    let (service, passes) = match Service::<S>::open(alloc, settings, records) {
         Ok(opened) => opened,
         Err(refusal) => return Err(opening_fault(refusal)),
     };

@@ -2,7 +2,6 @@
 
 use crate::serving::open;
 use lanes::{Door, run_lanes};
-use service::Pass;
 use service_model_types::answer::{Answer, Reply};
 use service_model_types::call::Call;
 use std::alloc::{AllocError, AllocGlobal};
@@ -12,6 +11,7 @@ use std::sync::atomic::{AtomicU64, Ordering};
 use std::thread;
 use std::thread::Threads;
 use wire_counted::Counted;
+use workflow_service::{Pass, Shard};
 
 /// How often a held call looks whether the other was answered.
 const TURNS: u64 = 10_000_000;
@@ -55,7 +55,7 @@ fn shard_of(call: &Call) -> u16 {
     }
 }
 
-impl Door for HoldingDoor {
+impl Door<Shard> for HoldingDoor {
     ghost use Rattle.std.specs.Prelude.{⊤};
 
     ghost admits = { λ d p. ⊤ };

@@ -12,6 +12,7 @@ use std::sync::Wait;
 use std::thread::Threads;
 use step_record::Record;
 use wire_counted::Counted;
+use workflow_service::Shard;
 
 /// Two starts, each on a shard and in a lane of its own.
 const BEFORE: &str = r#"{"op":"start","task_queue":"main","workflow_id":"a","workflow_type":"w"}
@@ -70,7 +71,14 @@ fn served<R: AllocGlobal + Threads + Wait + Sync>(
 ) -> Result<Left, ScriptFault> {
     let mut reader = Counted::new(lines.as_bytes());
     let mut writer = Counted::new(Vec::new(rt.alloc()));
-    let outcome = run_lanes_from(rt, rt.alloc(), settings, records, &mut reader, &mut writer)?;
+    let outcome = run_lanes_from::<Shard, _, _, _>(
+        rt,
+        rt.alloc(),
+        settings,
+        records,
+        &mut reader,
+        &mut writer,
+    )?;
     Ok(Left {
         printed: writer.inner,
         records: outcome.records,

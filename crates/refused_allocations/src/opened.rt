@@ -3,7 +3,6 @@
 ghost use Rattle.std.specs.Prelude.{◌≡◌, ◌+◌, ◌<◌, ℕ, Some, length, slice_get};
 ghost use Rattle.service.specs.Services.{IsPassOf};
 
-use service::{Pass, Service, Turned};
 use service_model_types::answer::{Answer, Reply};
 use service_model_types::call::{Call, Poll, StartTask, StepCall};
 use service_model_types::client::{ClientRequest, is_clients};
@@ -13,6 +12,7 @@ use std::alloc::{AllocError, Global};
 use std::sync::Wait;
 use step_record::Record;
 use wf_event_values::{Moment, Refusal, TaskKind};
+use workflow_service::{Pass, Service, Turned};
 
 /// What a call that was refused memory leaves its caller with.
 #[derive(Drop)]

@@ -12,6 +12,7 @@ use std::sync::Wait;
 use step_record::Record;
 use wf_event_values::Refusal;
 use wire_counted::Counted;
+use workflow_service::Shard;
 
 /// The lines of a case, or nothing where it has steps that no line asks for.
 fn script_of(alloc: Global, steps: &[Step]) -> Result<Option<Vec<u8>>, AllocError> {
@@ -39,7 +40,7 @@ fn records_of<R: AllocGlobal + Wait>(
     }
     let mut reader = Counted::new(script);
     let mut writer = Counted::new(Vec::new(rt.alloc()));
-    match run_one(rt, rt.alloc(), settings, &mut reader, &mut writer) {
+    match run_one::<Shard, _, _, _>(rt, rt.alloc(), settings, &mut reader, &mut writer) {
         Ok(outcome) => Ok(outcome.records),
         Err(_) => Err(Fault::Memory),
     }

@@ -23,15 +23,15 @@ use Rattle.matching.specs.Named.{at, held_at, place_in, slot_of}
 use Rattle.matching.specs.Plays.{fresh, nobody}
 use Rattle.matching.specs.Queues as one
 use Rattle.matching.proofs.Exact.{opens_exactly}
-use Rattle.service.specs.declared.service.Service.{Service}
-use Rattle.service.specs.declared.service.Pass.{Pass}
+use Rattle.service.specs.Views.{Service}
+use Rattle.service.specs.Views.{Pass}
 use Rattle.service.specs.Contents.{setup_of}
 use Rattle.service.specs.Ends.{base_of}
 use Rattle.service.specs.Held.{HoldsAtOpening}
 use Rattle.service.specs.Ranges.{range_fault}
 use Rattle.service.specs.Reopening.{are_records, content_from, contents_from, opens, record_at, records_fault, unless_fault, waiting_from}
 use Rattle.service.specs.Services.{IsPassOf, hints_by, known_by}
-use Rattle.service.proofs.ReopenLemmas.{replay-same}
+use Rattle.shard_gate.proofs.OpenLemmas.{replay-same}
 use Rattle.script.specs.OnePass.{IsOnePass, KnowsAll, KnowsQueues, content_seen, contents_seen, records_seen, world_seen}
 use Rattle.script.specs.World.{World, held_at_opening, opening_world}
 use Rattle.script.proofs.OnePassLemmas.{same-map}

@@ -12,6 +12,7 @@ use std::process::Abort;
 use std::sync::Wait;
 use step_record::Record;
 use wire_counted::Counted;
+use workflow_service::Shard;
 
 /// What was served before, if anything was, a script whose last line has no line feed, and what it
 /// prints then.
@@ -66,7 +67,7 @@ fn reads_so_many<R: Abort + AllocGlobal + Wait>(rt: &R, row: &Row, left: usize) 
     let mut reader = Counted::new(CutShort { input, left });
     let mut writer = Counted::new(Vec::new(rt.alloc()));
     let records = records(rt, row);
-    let result = run_from(
+    let result = run_from::<Shard, _, _, _>(
         rt,
         rt.alloc(),
         &defaults(rt),
@@ -97,7 +98,7 @@ fn writes_so_much<R: Abort + AllocGlobal + Wait>(
         flushes,
     });
     let records = records(rt, row);
-    let result = run_from(
+    let result = run_from::<Shard, _, _, _>(
         rt,
         rt.alloc(),
         &defaults(rt),

@@ -12,6 +12,7 @@ use std::process::Abort;
 use std::sync::Wait;
 use step_record::Record;
 use wire_counted::Counted;
+use workflow_service::Shard;
 
 /// One pass, service 1 and the queue `main`.
 pub(crate) fn settings<R: Abort + AllocGlobal>(rt: &R, shards: u64, capacity: u64) -> Settings
@@ -55,7 +56,14 @@ pub(crate) fn served<R: AllocGlobal + Wait>(
 {
     let mut reader = Counted::new(lines.as_bytes());
     let mut writer = Counted::new(Vec::new(rt.alloc()));
-    let outcome = run_from(rt, rt.alloc(), settings, records, &mut reader, &mut writer)?;
+    let outcome = run_from::<Shard, _, _, _>(
+        rt,
+        rt.alloc(),
+        settings,
+        records,
+        &mut reader,
+        &mut writer,
+    )?;
     Ok(Left {
         printed: writer.inner,
         refused: outcome.refused,

@@ -1,5 +1,5 @@
 -- each part of a transfer turn grounds the next
-use Rattle.std.proofs.Common.{◌≡◌, ℕ, zero, suc, ◌+◌, ◌<◌, ◌≤◌, true, List, [], ◌∷◌, ◌++◌, length, refl, sym, ap, ◌∙◌, subst, arith, Some}
+use Rattle.std.proofs.Common.{◌≡◌, ℕ, zero, suc, ◌+◌, ◌≤◌, true, List, [], ◌∷◌, length, refl, sym, ap, ◌∙◌, subst, arith, Some}
 use Rattle.std.specs.Prelude.{slice_get, replicate}
 use Rattle.service_model_types.specs.declared.call.Stop.{Stop}
 use Rattle.service_model_types.specs.declared.call.Stop.TheVariants.{AtEnd, AfterFirstPart, AfterSecondPart}
@@ -15,10 +15,10 @@ use Rattle.gate.specs.declared.view.View.{View}
 use Rattle.gate.specs.Passes.{Stepped, seen, starts}
 use Rattle.gate.specs.Records.{contents, replay}
 use Rattle.gate.proofs.Growth.{replay-snoc}
-use Rattle.service.specs.declared.service.Service.{Service}
+use Rattle.service.specs.Views.{Service}
 use Rattle.service.specs.Asks.{to_acknowledge, to_deliver, to_next_transfer}
 use Rattle.service.specs.Contents.{setup_of}
-use Rattle.service.specs.Grounding.{SeenGrounds}
+use Rattle.shard_gate.specs.Views.{SeenGrounds}
 use Rattle.service.specs.Services.{IsServedAtLast}
 use Rattle.service.specs.TransferTurns.{goes_on}
 

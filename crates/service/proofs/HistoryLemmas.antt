@@ -1,29 +1,24 @@
 -- the history of a service is a run of it
 use Rattle.std.proofs.Common.{◌≡◌, ℕ, zero, suc, ◌+◌, List, [], ◌∷◌, ◌++◌, refl, sym, ap, ◌∙◌, subst, arith, Some}
 use Rattle.std.specs.Prelude.{map, slice_get}
-use Rattle.std.specs.List.{fold, range_with_len}
+use Rattle.std.specs.List.{range_with_len}
 use Rattle.service_model_types.specs.declared.content.Content.{Content}
 use Rattle.service_model_types.specs.declared.content.Setup.{Setup}
 use Rattle.service_model_types.specs.declared.request.Operation.{Operation}
 use Rattle.service_model_types.specs.declared.request.Operation.TheVariants as operation
-use Rattle.service_model_types.specs.declared.request.Request.{Request}
 use Rattle.service_model.specs.Grounds.{Grounds}
 use Rattle.service_model.specs.Service.{Entry, after, opening}
 use Rattle.service_model.specs.WholeRuns.{Whole, on, content_at, Grounded, Holds, Accepted, IsWhole}
 use Rattle.gate.specs.Records.{contents, replay, grounds_by}
 use Rattle.gate.specs.Records as gate
 use Rattle.gate.specs.Ends.{IsHistory}
-use Rattle.shard.specs.Grounding.{grounds}
+use Rattle.shard_gate.specs.Grounding.{grounds}
+use Rattle.shard_gate.proofs.OpenLemmas.{replay-same}
 use Rattle.service_model_types.specs.declared.settings.Settings.{Settings}
 use Rattle.service_model.proofs.WholeLemmas.{in-order}
-use Rattle.service.specs.declared.service.Service.{Service}
 use Rattle.service.specs.Contents.{opening_contents, setup_of}
-use Rattle.service.specs.Ends.{base_of, IsHistoryOf}
+use Rattle.service.specs.Ends.{base_of}
 use Rattle.service.specs.HistoryLaws.{HistoriesInOrder}
-
-same-replay : (S : Content) (R : List Entry) → replay after S R ≡ fold (λ T (e : Entry). after T e.request) S R
-same-replay S [] = refl
-same-replay S (e ∷ R) = same-replay (after S e.request) R
 
 content-there : (starts : List Content) (logs : ℕ → List Entry) (j : ℕ) (S : Content) → slice_get (contents after starts logs) j ≡ Some S → (T : Content) × (slice_get starts j ≡ Some T) × (S ≡ replay after T (logs j))
 content-there [] logs j S e = absurd (cc e)
@@ -33,7 +28,7 @@ content-there (c ∷ cs) logs (suc j) S e = let h = content-there cs (λ k. logs
 module _ (setups : ℕ → Setup) (starts : List Content) (opened : (j : ℕ) (S : Content) → slice_get starts j ≡ Some S → S ≡ opening (setups j)) (bases : ℕ → List Entry) (none : (k : ℕ) → bases k ≡ []) (front : Whole) where
   the-content : (j : ℕ) (S : Content) → slice_get (contents after starts (gate.grown bases front)) j ≡ Some S → S ≡ content_at setups front j
   the-content j S e = let h = content-there starts (gate.grown bases front) j S e in
-      h.2 ∙ (ap (λ (l : List Entry). replay after h.0 (l ++ on j front)) (none j) ∙ ap (λ (T : Content). replay after T (on j front)) (opened j h.0 h.1) ∙ same-replay (opening (setups j)) (on j front))
+      h.2 ∙ (ap (λ (l : List Entry). replay after h.0 (l ++ on j front)) (none j) ∙ ap (λ (T : Content). replay after T (on j front)) (opened j h.0 h.1) ∙ replay-same (opening (setups j)) (on j front))
 
   pub grounded-of : (s : ℕ) (a : Operation) → Grounds (contents after starts (gate.grown bases front)) s a → Grounded (content_at setups front) s a
   grounded-of s (operation.Deliver t) (source, there, holds) = subst (Holds s t) (the-content t.from source there) holds

@@ -3,58 +3,31 @@ use Rattle.std.proofs.Common.{◌≡◌, ℕ, ◌+◌, ◌<◌, ◌≤◌, Bool,
 use Rattle.std.proofs.lemmas.List.{length-map}
 use Rattle.std.proofs.lemmas.List.FromFn.{length-map-range_with_len, map-range_with_len_more}
 use Rattle.std.proofs.lemmas.Bool.Decides.{nat_tests}
-use Rattle.std.specs.Prelude.{All, ◌==◌, ◌||◌, flat_map, length, map, slice_get, slice_set, unwrap_or, if◌then◌else◌, nat_lt, Result, Ok, Err, IfOk, MatchResult}
-use Rattle.std.specs.List.{range_with_len, AllByRecursion, fold}
+use Rattle.std.specs.Prelude.{All, ◌==◌, ◌||◌, flat_map, length, map, slice_get, slice_set, if◌then◌else◌, nat_lt, Result, Ok, Err, IfOk, MatchResult}
+use Rattle.std.specs.List.{range_with_len, AllByRecursion}
 use Rattle.wf_event_values.specs.declared.field.Field.TheVariants.{Records}
 use Rattle.wf_event_values.specs.declared.refusal.Refusal.{Refusal}
 use Rattle.wf_event_values.specs.declared.refusal.Refusal.TheVariants.{InvalidArgument, QueueFull, UnknownTaskQueue}
-use Rattle.service_model_types.specs.declared.content.Content.{Content}
 use Rattle.service_model_types.specs.declared.content.Dispatch.{Dispatch}
+use Rattle.service_model_types.specs.declared.content.Setup.{Setup}
 use Rattle.service_model_types.specs.declared.request.Hint.{Hint}
 use Rattle.service_model_types.specs.declared.settings.Settings.{Settings}
-use Rattle.service_model.specs.Growth.{KeepsHistories}
-use Rattle.service_model.specs.Service.{Entry, opening, after}
-use Rattle.service_model.specs.Waiting.{all_waiting, waiting}
+use Rattle.service_model.specs.Service.{Entry, opening, replay}
+use Rattle.service_model.specs.Waiting.{waiting}
 use Rattle.service_model.specs.WaitingLaws.{IsNamed}
 use Rattle.service_model.proofs.NamedLemmas.{place-known, waiting-are-named}
-use Rattle.service_model.proofs.ListLemmas.{all-push, map-push}
+use mathlib.Core.List.{map-map}
+use Rattle.service_model.proofs.ListLemmas.{map-push}
 use Rattle.gate.specs.Gated.{at}
-use Rattle.gate.specs.Records.{KeepsAll, replay}
 use Rattle.matching.specs.Holding.{all_pushed, held_by, pushed, then_push}
 use Rattle.matching.specs.Named.{IsFresh, place_in, slot_of}
 use Rattle.matching.specs.declared.queues.QueuesPass.{QueuesPass}
-use Rattle.shard.specs.View.{ShardView, states}
-use Rattle.shard.specs.Standing.{StandsFor, opened}
-use Rattle.service.specs.Contents.{setup_of}
+use Rattle.shard_gate.specs.Opening.{IsSetup, opened_with, waiting_in}
+use Rattle.service.specs.Contents.{opening_contents, setup_of}
 use Rattle.service.specs.Held.{HoldAtOpening}
-use Rattle.service.specs.Laid.{IsLaid, IsReplayed}
 use Rattle.service.specs.Ranges.{range_fault}
+use Rattle.service.specs.Services.{IsInRange}
 use Rattle.service.specs.Reopening.{are_records, content_from, opens, record_at, records_fault, unless_fault, waiting_from}
-
-abbrev pub Laid : Type 0
-Laid = ShardView × List Entry
-
--- one more shard, with the next record
-pub laid-more : (K : Settings) (records : List (List Entry)) (xs ys : List Laid) (s : ShardView) (log : List Entry) → ys ≡ xs ++ (s, log) ∷ [] → opened s ≡ opening (setup_of K (length xs)) → StandsFor s (replay after (opened s) log) → KeepsAll after KeepsHistories (opened s) log → IsLaid K records xs → IsLaid K (records ++ log ∷ []) ys
-laid-more K records xs ys s log is content stands keeps h =
-    let P : List Laid → Type 0 = λ t. IsLaid K (records ++ log ∷ []) t in
-    let more : length (xs ++ (s, log) ∷ []) ≡ length xs + 1 = length-append xs ((s, log) ∷ []) in
-    subst P (sym is) (record {
-      starts = map-push (λ (x : Laid). opened x.0) xs (s, log) ∙ ap (λ t. t ++ opened s ∷ []) h.starts ∙ ap (λ c. map (λ k. opening (setup_of K k)) (range_with_len 0 (length xs)) ++ c ∷ []) content
-          ∙ sym (map-range_with_len_more (λ k. opening (setup_of K k)) 0 (length xs) (length xs) (omega arith)) ∙ ap (λ n. map (λ k. opening (setup_of K k)) (range_with_len 0 n)) (sym more);
-      records = map-push (λ (x : Laid). x.1) xs (s, log) ∙ ap (λ t. t ++ log ∷ []) h.records;
-      replayed = all-push IsReplayed xs (s, log) h.replayed (stands, keeps);
-    })
-
--- as many shards as records
-pub laid-count : (K : Settings) (records : List (List Entry)) (xs : List Laid) → IsLaid K records xs → length xs ≡ length records
-laid-count K records xs h = sym (length-map xs (λ (x : Laid). x.1)) ∙ ap length h.records
-
--- each shard stands for the replay of its record, and keeps what was there
-pub replayed-at : (xs : List Laid) (k : ℕ) (x : Laid) → AllByRecursion IsReplayed xs → slice_get xs k ≡ Some x → IsReplayed x
-replayed-at [] k x h is = absurd (cc)
-replayed-at (y ∷ xs) zero x h is = subst IsReplayed (ap (λ o. unwrap_or o y) is) h.0
-replayed-at (y ∷ xs) (suc k) x h is = replayed-at xs k x h.1 is
 
 -- the records of a list, one by one from a number on
 each-from : (xs ys : List (List Entry)) (n : ℕ) → ((k : ℕ) → record_at ys k ≡ record_at xs (n + k)) → map (record_at xs) (range_with_len n (length ys)) ≡ ys
@@ -73,8 +46,8 @@ pub all-counted : (xs : List (List Entry)) (n : ℕ) → length (map (record_at 
 all-counted xs n = length-map-range_with_len (record_at xs) 0 n
 
 -- a list of records that isn't empty has one of each shard
-pub given-count : (K : Settings) (xs : List (List Entry)) → are_records K xs ≡ true → 0 < length xs → length xs ≡ K.shards
-given-count K xs h some = by_tests (length xs == 0) refl (length xs == K.shards) refl h
+pub records-count : (K : Settings) (xs : List (List Entry)) → are_records K xs ≡ true → 0 < length xs → length xs ≡ K.shards
+records-count K xs h some = by_tests (length xs == 0) refl (length xs == K.shards) refl h
   where
     by_tests : (a : Bool) → (length xs == 0) ≡ a → (b : Bool) → (length xs == K.shards) ≡ b → (a || b) ≡ true → length xs ≡ K.shards
     by_tests true none b is h = absurd (grind (arith, nat_tests))
@@ -101,47 +74,78 @@ records-right K xs h = by_test (are_records K xs) refl h
     by_test true is h = is
     by_test false is h = absurd (cc)
 
--- a replay is the definition's
-pub replay-same : (S : Content) (R : List Entry) → replay after S R ≡ fold (λ S (e : Entry). after S e.request) S R
-replay-same S [] = refl
-replay-same S (e ∷ R) = replay-same (after S e.request) R
+-- what a shard is opened from
+abbrev pub Given : Type 0
+Given = Setup × List Entry
 
--- the tasks that wait in a shard are those of the content for which it stands
-waiting-of : (s : ShardView) (S : Content) → StandsFor s S → all_waiting s.setup (states s.runs) ≡ waiting S
-waiting-of s S h = ap (λ t. all_waiting t.setup t.runs) h.says
+-- one more of them, with the next setup
+pub given-more : (K : Settings) (xs ys : List Given) (s : Setup) (log : List Entry) → ys ≡ xs ++ (s, log) ∷ [] → s ≡ setup_of K (length xs)
+    → map (λ (g : Given). g.0) xs ≡ map (λ k. setup_of K k) (range_with_len 0 (length xs)) → map (λ (g : Given). g.0) ys ≡ map (λ k. setup_of K k) (range_with_len 0 (length ys))
+given-more K xs ys s log is next h =
+    let one : List Given = (s, log) ∷ [] in
+    let more : length ys ≡ length xs + 1 = ap length is ∙ length-append xs one in
+    ap (map (λ (g : Given). g.0)) is ∙ map-push (λ (g : Given). g.0) xs (s, log) ∙ ap (λ t. t ++ s ∷ []) h ∙ ap (λ u. map (λ k. setup_of K k) (range_with_len 0 (length xs)) ++ u ∷ []) next
+    ∙ sym (map-range_with_len_more (λ k. setup_of K k) 0 (length xs) (length xs) (omega arith)) ∙ ap (λ n. map (λ k. setup_of K k) (range_with_len 0 n)) (sym more)
 
-waits-from : (K : Settings) (R : List (List Entry)) (n : ℕ) (xs : List Laid)
-    → map (λ (x : Laid). opened x.0) xs ≡ map (λ k. opening (setup_of K k)) (range_with_len n (length xs))
-    → map (λ (x : Laid). x.1) xs ≡ map (record_at R) (range_with_len n (length xs))
-    → AllByRecursion IsReplayed xs
-    → flat_map (λ (x : Laid). all_waiting x.0.setup (states x.0.runs)) xs ≡ flat_map waiting (map (content_from K R) (range_with_len n (length xs)))
-waits-from K R n [] starts logs all = refl
-waits-from K R n (x ∷ xs) starts logs all =
-    let start : opened x.0 ≡ opening (setup_of K n) = ap (λ t. slice_index_or t 0 (opened x.0)) starts in
-    let log : x.1 ≡ record_at R n = ap (λ t. slice_index_or t 0 x.1) logs in
-    let content : replay after (opened x.0) x.1 ≡ content_from K R n =
-    ap (λ c. replay after c x.1) start ∙ ap (replay after (opening (setup_of K n))) log ∙ replay-same (opening (setup_of K n)) (record_at R n) in
-    let here : all_waiting x.0.setup (states x.0.runs) ≡ waiting (content_from K R n) = waiting-of x.0 (replay after (opened x.0) x.1) all.0.0 ∙ ap waiting content in
-    let rest = waits-from K R (n + 1) xs (ap tail_of starts) (ap tail_of logs) all.1 in
-    ap (λ t. t ++ flat_map (λ (x : Laid). all_waiting x.0.setup (states x.0.runs)) xs) here ∙ ap (λ t. waiting (content_from K R n) ++ t) rest
+pub records-more : (xs ys : List Given) (s : Setup) (log : List Entry) (logs : List (List Entry)) → ys ≡ xs ++ (s, log) ∷ [] → map (λ (g : Given). g.1) xs ≡ logs → map (λ (g : Given). g.1) ys ≡ logs ++ log ∷ []
+records-more xs ys s log logs is h = ap (map (λ (g : Given). g.1)) is ∙ map-push (λ (g : Given). g.1) xs (s, log) ∙ ap (λ t. t ++ log ∷ []) h
+
+heads : {A B : Type 0} (f : A → B) (n : ℕ) (g : ℕ → B) (x : A) (xs : List A) → map f (x ∷ xs) ≡ map g (range_with_len n (length (x ∷ xs))) → f x ≡ g n
+heads f n g x xs same = ap (λ t. slice_index_or t 0 (f x)) same
+
+tails : {A B : Type 0} (f : A → B) (n : ℕ) (g : ℕ → B) (x : A) (xs : List A) → map f (x ∷ xs) ≡ map g (range_with_len n (length (x ∷ xs))) → map f xs ≡ map g (range_with_len (n + 1) (length xs))
+tails {B = B} f n g x xs same = ap tail_of same
   where
-    tail_of : {A : Type 0} → List A → List A
+    tail_of : List B → List B
     tail_of [] = []
-    tail_of (x ∷ xs) = xs
+    tail_of (y ∷ ys) = ys
 
--- the tasks that wait in shards that were laid are those that wait in the contents which the records leave
-pub waiting-is : (K : Settings) (R all : List (List Entry)) (xs : List Laid) → IsLaid K all xs → all ≡ map (record_at R) (range_with_len 0 K.shards) → length xs ≡ K.shards
-    → flat_map (λ (x : Laid). all_waiting x.0.setup (states x.0.runs)) xs ≡ waiting_from K R
-waiting-is K R all xs h is count =
-    waits-from K R 0 xs h.starts (h.records ∙ is ∙ ap (λ n. map (record_at R) (range_with_len 0 n)) (sym count)) h.replayed
+-- as many as there are shards
+pub given-count : (K : Settings) (gs : List Given) → map (λ (g : Given). g.0) gs ≡ map (λ k. setup_of K k) (range_with_len 0 K.shards) → length gs ≡ K.shards
+given-count K gs same = sym (length-map gs (λ (g : Given). g.0)) ∙ ap length same ∙ length-map-range_with_len (λ k. setup_of K k) 0 K.shards
+
+-- the same, each behind as many numbers as there are of them
+pub each-of : {B : Type 0} (K : Settings) (gs : List Given) (f : Given → B) (g : ℕ → B) → length gs ≡ K.shards → map f gs ≡ map g (range_with_len 0 K.shards) → map f gs ≡ map g (range_with_len 0 (length gs))
+each-of K gs f g count same = same ∙ ap (λ n. map g (range_with_len 0 n)) (sym count)
+
+setups-from : (K : Settings) → IsInRange K → (n : ℕ) (gs : List Given) → n + length gs ≤ 64 → map (λ (g : Given). g.0) gs ≡ map (λ k. setup_of K k) (range_with_len n (length gs)) → AllByRecursion (λ (g : Given). IsSetup g.0) gs
+setups-from K range n [] few same = tt
+setups-from K range n (g ∷ gs) few same =
+    let number : n < 64 = omega (arith, few) in
+    let own : IsSetup (setup_of K n) = record { service = omega (arith, range.service); shard = omega (arith, number); some = omega (arith, range.some_shard) } in
+    (subst IsSetup (sym (heads (λ (g : Given). g.0) n (λ k. setup_of K k) g gs same)) own, setups-from K range (n + 1) gs (omega (arith, few)) (tails (λ (g : Given). g.0) n (λ k. setup_of K k) g gs same))
+
+-- each shard's setup fits
+pub setups-fit : (K : Settings) (gs : List Given) → IsInRange K → map (λ (g : Given). g.0) gs ≡ map (λ k. setup_of K k) (range_with_len 0 K.shards) → AllByRecursion (λ (g : Given). IsSetup g.0) gs
+setups-fit K gs range same =
+    let count = given-count K gs same in
+    setups-from K range 0 gs (omega (arith, count, range.few_shards)) (each-of K gs (λ (g : Given). g.0) (λ k. setup_of K k) count same)
+
+-- the contents with which they are opened
+pub opens-with : (K : Settings) (gs : List Given) → map (λ (g : Given). g.0) gs ≡ map (λ k. setup_of K k) (range_with_len 0 K.shards) → opened_with gs ≡ opening_contents K
+opens-with K gs same =
+    sym (map-map opening (λ (g : Given). g.0) gs) ∙ ap (map opening) same ∙ map-map opening (λ k. setup_of K k) (range_with_len 0 K.shards)
+
+waits-from : (K : Settings) (R : List (List Entry)) (n : ℕ) (gs : List Given)
+    → map (λ (g : Given). g.0) gs ≡ map (λ k. setup_of K k) (range_with_len n (length gs))
+    → map (λ (g : Given). g.1) gs ≡ map (record_at R) (range_with_len n (length gs))
+    → waiting_in gs ≡ flat_map waiting (map (content_from K R) (range_with_len n (length gs)))
+waits-from K R n [] setups logs = refl
+waits-from K R n (g ∷ gs) setups logs =
+    let here : waiting (replay g.0 g.1) ≡ waiting (content_from K R n) =
+    ap (λ s. waiting (replay s g.1)) (heads (λ (g : Given). g.0) n (λ k. setup_of K k) g gs setups) ∙ ap (λ l. waiting (replay (setup_of K n) l)) (heads (λ (g : Given). g.1) n (record_at R) g gs logs) in
+    let rest = waits-from K R (n + 1) gs (tails (λ (g : Given). g.0) n (λ k. setup_of K k) g gs setups) (tails (λ (g : Given). g.1) n (record_at R) g gs logs) in
+    ap (λ t. t ++ waiting_in gs) here ∙ ap (λ t. waiting (content_from K R n) ++ t) rest
+
+-- the tasks that wait on them are those that wait in the contents which the records leave
+pub waiting-is : (K : Settings) (R : List (List Entry)) (gs : List Given)
+    → map (λ (g : Given). g.0) gs ≡ map (λ k. setup_of K k) (range_with_len 0 K.shards)
+    → map (λ (g : Given). g.1) gs ≡ map (record_at R) (range_with_len 0 K.shards)
+    → waiting_in gs ≡ waiting_from K R
+waiting-is K R gs setups logs =
+    let count = given-count K gs setups in
+    waits-from K R 0 gs (each-of K gs (λ (g : Given). g.0) (λ k. setup_of K k) count setups) (each-of K gs (λ (g : Given). g.1) (record_at R) count logs)
     ∙ ap (λ n. flat_map waiting (map (content_from K R) (range_with_len 0 n))) count
-
--- the same of a list that was gathered from them
-pub waits-laid : (K : Settings) (R all : List (List Entry)) (xs now : List Laid) (ds : List Dispatch) → IsLaid K all xs → all ≡ map (record_at R) (range_with_len 0 K.shards) → now ≡ xs
-    → ds ≡ flat_map (λ (x : Laid). all_waiting x.0.setup (states x.0.runs)) now → ds ≡ waiting_from K R
-waits-laid K R all xs now ds laid each same gathered =
-    gathered ∙ ap (flat_map (λ (x : Laid). all_waiting x.0.setup (states x.0.runs))) same
-    ∙ waiting-is K R all xs laid each (laid-count K all xs laid ∙ ap length each ∙ all-counted R K.shards)
 
 -- what stands at a place of what was made of numbers from one on
 at-range : (f : ℕ → List Entry) (n m s : ℕ) → s < m → at (map f (range_with_len n m)) s ≡ f (n + s)
@@ -166,7 +170,7 @@ few K R right = by_length (length R) refl
   where
     by_length : (n : ℕ) → length R ≡ n → length R ≤ K.shards
     by_length zero is = omega (arith, is)
-    by_length (suc n) is = let same : length R ≡ K.shards = given-count K R right (omega (arith, is)) in omega (arith, same)
+    by_length (suc n) is = let same : length R ≡ K.shards = records-count K R right (omega (arith, is)) in omega (arith, same)
 
 -- the record with which a shard is opened is the given one
 pub base-is : (K : Settings) (R : List (List Entry)) (s : ℕ) → are_records K R ≡ true → at (map (record_at R) (range_with_len 0 K.shards)) s ≡ record_at R s

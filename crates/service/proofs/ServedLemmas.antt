@@ -1,5 +1,5 @@
 -- a step of the gate is one of the service
-use Rattle.std.proofs.Common.{◌≡◌, ℕ, ◌+◌, ◌<◌, ◌≤◌, Bool, true, false, List, refl, sym, ap, subst, ◌∙◌, arith, zero, suc, Option, Some, None, IfOk, Ok, Err}
+use Rattle.std.proofs.Common.{◌≡◌, ℕ, ◌+◌, ◌<◌, ◌≤◌, Bool, true, false, List, refl, sym, ap, subst, ◌∙◌, arith, zero, suc, Option, Some, None, IfOk, IfErr, Ok, Err}
 use Rattle.std.proofs.lemmas.Bool.Decides.{nat_tests}
 use Rattle.std.proofs.lemmas.Nat.{mod_below}
 use Rattle.std.specs.Prelude.{length, map, slice_get, unwrap_or, if◌then◌else◌, nat_lt, ◌&&◌, Result}
@@ -21,14 +21,16 @@ use Rattle.service_model_types.specs.Clients.{is_clients}
 use Rattle.service_model_types.specs.Replies.{Reply}
 use Rattle.service_model_types.specs.Routing.{hash_of}
 use Rattle.service_model.specs.Service.{answer, after, opening}
+use Rattle.gate.specs.declared.object.Refused.{Refused}
 use Rattle.gate.specs.declared.view.View.{View}
 use Rattle.gate.specs.Passes as gate
 use Rattle.gate.specs.Gated as rule
 use Rattle.gate.specs.Records.{Begins, past}
-use Rattle.service.specs.declared.service.Service.{Service}
-use Rattle.service.specs.declared.service.Pass.{Pass}
+use Rattle.shard_gate.specs.Views as gates
+use Rattle.service.specs.Views.{Service}
+use Rattle.service.specs.Views.{Pass}
 use Rattle.service.specs.Contents.{setup_of, opening_contents, ends_refusal, is_token, refusal_of, refusal_of_step, shard_of, shard_refusal, slot_of_step}
-use Rattle.service.specs.Services.{known_by, Answered, IsPassOf, IsServedAtLast, IsServedOn}
+use Rattle.service.specs.Services.{known_by, Answered, IsPassOf, IsServedAtLast, IsServedOn, IsServedOnBy, IsTriedOn}
 
 get-range : {X : Type 0} (f : ℕ → X) (a n k : ℕ) → k < n → slice_get (map f (range_with_len a n)) k ≡ Some (f (a + k))
 get-range f a zero k h = absurd (omega arith)
@@ -162,3 +164,43 @@ both (Err e) P Q R f h k = tt
 pub weaker : {T E : Type 0} (r : Result T E) (P Q : T → Type 0) → ((x : T) → P x → Q x) → IfOk r P → IfOk r Q
 weaker (Ok x) P Q f h = f x h
 weaker (Err e) P Q f h = tt
+
+-- A step of the gate is one of the service, whichever way its parts are seen: x and p as they lie in memory are y and q as clauses read them
+pub tried : (x y : Service) (p q : Pass) (w : gates.PassView) → x ≡ y → p ≡ q → (refusal : Option Refusal) (shard : ℕ) (a : Request) (result : Result Reply (Refused × Request)) → IsPassOf q y → refusal ≡ None → shard < y.settings.shards
+    → gates.IsPassOf w x.gate → gate.number w.known ≡ gate.number p.inner.known
+    → IfOk result (λ r. gate.Stepped after answer KeepsHistories p.inner.known w.known shard a r) → IfOk result (λ r. gate.Stamped p.inner.known w.known shard)
+    → IfErr result (λ e. e.1 ≡ a) → IfErr result (λ e. gate.Refuses e.0 p.inner.known w.known shard)
+    → IsTriedOn y q (record { inner = w; hints = p.hints }) refusal shard a result
+tried x y p q w is same refusal shard a result own none below kept named step stamp back err =
+    let whole : Pass = record { inner = w; hints = p.hints } in
+    let own_here : IsPassOf p x = subst (λ (z : Service). IsPassOf p z) (sym is) (subst (λ (u : Pass). IsPassOf u y) (sym same) own) in
+    let below_here : shard < x.settings.shards = subst (λ (z : Service). shard < z.settings.shards) (sym is) below in
+    let here : IsTriedOn x p whole refusal shard a result = record {
+      own = record { opened = own_here.opened; own = kept; hints = own_here.hints };
+      named = named;
+      hints = refl;
+      ok = both result _ _ _ (λ r stepped stamped. by-step _ _ _ _ r none (served p w.known x shard a r own_here below_here stepped stamped)) step stamp;
+      back = back;
+      err = err;
+    } in
+    subst (λ (u : Pass). IsTriedOn y u whole refusal shard a result) same (subst (λ (z : Service). IsTriedOn z p whole refusal shard a result) is here)
+
+-- the same, where it may have waited
+pub served-on : {E : Type 0} (x y : Service) (p q : Pass) (w : gates.PassView) → x ≡ y → p ≡ q → (refusal : Option Refusal) (shard : ℕ) (a : Request) (result : Result Reply (E × Request)) → IsPassOf q y → refusal ≡ None → shard < y.settings.shards
+    → gates.IsPassOf w x.gate → gate.number w.known ≡ gate.number p.inner.known
+    → IfOk result (λ r. gate.SteppedAt after answer KeepsHistories p.inner.known w.known shard a r) → IfOk result (λ r. gate.Stamped p.inner.known w.known shard)
+    → IfErr result (λ e. e.1 ≡ a) → IfErr result (λ e. gate.Waited p.inner.known w.known shard)
+    → IsServedOnBy y q (record { inner = w; hints = p.hints }) refusal shard a result
+served-on x y p q w is same refusal shard a result own none below kept named step stamp back err =
+    let whole : Pass = record { inner = w; hints = p.hints } in
+    let own_here : IsPassOf p x = subst (λ (z : Service). IsPassOf p z) (sym is) (subst (λ (u : Pass). IsPassOf u y) (sym same) own) in
+    let below_here : shard < x.settings.shards = subst (λ (z : Service). shard < z.settings.shards) (sym is) below in
+    let here : IsServedOnBy x p whole refusal shard a result = record {
+      own = record { opened = own_here.opened; own = kept; hints = own_here.hints };
+      named = named;
+      hints = refl;
+      ok = both result _ _ _ (λ r stepped stamped. by-step _ _ _ _ r none (served-at-last p w.known x shard a r own_here below_here stepped stamped)) step stamp;
+      back = back;
+      err = err;
+    } in
+    subst (λ (u : Pass). IsServedOnBy y u whole refusal shard a result) same (subst (λ (z : Service). IsServedOnBy z p whole refusal shard a result) is here)

@@ -14,7 +14,7 @@ use Rattle.service_model.specs.Service.{Entry, after}
 use Rattle.service_model.proofs.DispatchLemmas.{NamesShard, names-after, names-opening, next-named}
 use Rattle.gate.specs.declared.view.View.{View}
 use Rattle.gate.specs.Records.{replay}
-use Rattle.service.specs.declared.service.Service.{Service}
+use Rattle.service.specs.Views.{Service}
 use Rattle.matching.specs.declared.view.View.{View as HintView}
 use Rattle.matching.specs.Named.{Pops}
 use Rattle.service.specs.Asks.{to_next_dispatch, to_start_task}

@@ -3,18 +3,18 @@ use Rattle.std.specs.Prelude.{ℕ, List, [], map, slice_index_or}
 use Rattle.service_model.specs.Service.{Entry, after}
 use Rattle.service_model_types.specs.declared.request.Hint.{Hint}
 use Rattle.gate.specs.Ends as of_gate_end
-use Rattle.gate.specs.Gates as of_gate
+use Rattle.shard_gate.specs.Views as gates
 use Rattle.gate.specs.Records.{grounds_by}
-use Rattle.shard.specs.Grounding.{grounds}
+use Rattle.shard_gate.specs.Grounding.{grounds}
 use Rattle.service.specs.Contents.{opening_contents}
 use Rattle.matching.specs.Named as matching
 use Rattle.matching.specs.declared.view.Part.{Part}
-use Rattle.service.specs.declared.service.Pass.{Pass}
-use Rattle.service.specs.declared.service.Service.{Service}
+use Rattle.service.specs.Views.{Pass}
+use Rattle.service.specs.Views.{Service}
 
 -- the record with which a shard was opened
 abbrev pub base_of : Service → ℕ → List Entry
-base_of x shard = of_gate.base_of x.gate shard
+base_of x shard = gates.base_of x.gate shard
 
 -- the hints with which the queue in that slot was opened
 abbrev pub held_at : Service → ℕ → List Hint

@@ -4,18 +4,17 @@ use Rattle.service_model_types.specs.declared.content.Content.{Content}
 use Rattle.service_model_types.specs.declared.request.Request.{Request}
 use Rattle.service_model_types.specs.Replies.{Reply}
 use Rattle.gate.specs.declared.view.View.{View}
-use Rattle.gate.specs.Helds as of_held
+use Rattle.shard_gate.specs.Views as gates
 use Rattle.matching.specs.declared.view.View.{View as HintView}
 use Rattle.matching.specs.Named as matching
-use Rattle.shard.specs.Standing as shard
-use Rattle.service.specs.declared.held.Held.{Held}
-use Rattle.service.specs.declared.service.Service.{Service}
-use Rattle.service.specs.declared.service.Pass.{Pass}
+use Rattle.service.specs.Views.{Held}
+use Rattle.service.specs.Views.{Service}
+use Rattle.service.specs.Views.{Pass}
 use Rattle.service.specs.Services.{known_by, IsOpened, IsServed}
 
 -- what the pass will know once it has left
 abbrev pub leaving : Held → View Request Content
-leaving h = of_held.leaving h.inner
+leaving h = h.inner.leaving
 
 -- what the pass knows of the hints in each queue
 abbrev pub hints_of : Held → List HintView
@@ -23,12 +22,12 @@ hints_of h = matching.known_by h.hints
 
 -- the reply that `leave` hands over
 abbrev pub promised : Held → Reply
-promised h = of_held.promised h.inner
+promised h = h.inner.promised
 
 -- the pass is one that this service gave
 pub record IsHeldBy (h : Held) (x : Service) : Type 0 where
   pub opened : IsOpened x
-  pub own : of_held.IsHeldBy shard.opened h.inner x.gate
+  pub own : gates.IsHeldBy h.inner x.gate
   pub hints : matching.IsPassOf h.hints x.queues
 
 -- the request was served to the pass, as far as it knows once it has left

@@ -1,6 +1,6 @@
 -- MEANING: what the one history of all shards says of the transfers between them
 use Rattle.std.specs.Prelude.{◌≡◌, ℕ, List, [], ◌++◌}
-use Rattle.service.specs.declared.service.Service.{Service}
+use Rattle.service.specs.Views.{Service}
 use Rattle.service_model.specs.Service.{Entry}
 use Rattle.service_model.specs.WholeRuns.{Whole, InOrder, IsWhole}
 use Rattle.service.specs.Contents.{setup_of}

@@ -1,12 +1,11 @@
+pub mod Views
 pub mod Asks
 pub mod Calls
 pub mod Contents
 pub mod Ends
-pub mod Grounding
 pub mod Held
 pub mod Helds
 pub mod HistoryLaws
-pub mod Laid
 pub mod Ranges
 pub mod Reopening
 pub mod Services

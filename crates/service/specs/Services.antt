@@ -1,5 +1,5 @@
 -- MEANING: what a clause reads of a service and of its passes
-use Rattle.std.specs.Prelude.{◌≡◌, ℕ, ◌<◌, ◌≤◌, true, List, length, map, Option, None, Some, Err, Result, IfOk, IfErr}
+use Rattle.std.specs.Prelude.{◌≡◌, ℕ, ◌<◌, ◌≤◌, true, List, length, Option, None, Some, Err, Result, IfOk, IfErr}
 use Rattle.wf_event_values.specs.declared.refusal.Refusal.{Refusal}
 use Rattle.service_model_types.specs.declared.call.StepCall.{StepCall}
 use Rattle.service_model_types.specs.declared.content.Content.{Content}
@@ -13,10 +13,9 @@ use Rattle.service_model.specs.Service.{answer, after, opening}
 use Rattle.gate.specs.declared.object.Refused.{Refused}
 use Rattle.gate.specs.declared.view.View.{View}
 use Rattle.gate.specs.Passes as gate
-use Rattle.gate.specs.Gates as of_gate
-use Rattle.shard.specs.Standing as shard
-use Rattle.service.specs.declared.service.Service.{Service}
-use Rattle.service.specs.declared.service.Pass.{Pass}
+use Rattle.shard_gate.specs.Views as gates
+use Rattle.service.specs.Views.{Service}
+use Rattle.service.specs.Views.{Pass}
 use Rattle.matching.specs.declared.view.View.{View as HintView}
 use Rattle.matching.specs.Named as matching
 use Rattle.service.specs.Ranges.{are_different}
@@ -31,7 +30,7 @@ shard_of_request x q = slot_of x.settings q
 
 -- what a pass knows: of each shard the record that it last saw, and its own steps in it
 abbrev pub known_by : Pass → View Request Content
-known_by p = gate.view p.inner
+known_by p = p.inner.known
 
 -- what it knows of the hints in each queue
 abbrev pub hints_by : Pass → List HintView
@@ -53,9 +52,9 @@ pub record IsInRange (K : Settings) : Type 0 where
 -- the service was opened by its settings
 pub record IsOpened (x : Service) : Type 0 where
   pub range : IsInRange x.settings
-  pub slots : of_gate.slots x.gate ≡ x.settings.shards
-  pub starts : map (λ y. shard.opened y.0) (of_gate.opened x.gate) ≡ opening_contents x.settings
-  pub passes : of_gate.given x.gate ≡ x.settings.passes
+  pub slots : gates.slots x.gate ≡ x.settings.shards
+  pub starts : gates.starts_of x.gate ≡ opening_contents x.settings
+  pub passes : gates.given x.gate ≡ x.settings.passes
   pub names : matching.names_of x.queues ≡ x.settings.queues
   pub capacity : matching.capacity_of x.queues ≡ x.settings.capacity
   pub named_shards : matching.shards_of x.queues ≡ x.settings.shards
@@ -64,7 +63,7 @@ pub record IsOpened (x : Service) : Type 0 where
 -- the pass is one that this service gave
 pub record IsPassOf (p : Pass) (x : Service) : Type 0 where
   pub opened : IsOpened x
-  pub own : of_gate.IsPassOf p.inner x.gate
+  pub own : gates.IsPassOf p.inner x.gate
   pub hints : matching.IsPassOf p.hints x.queues
 
 -- A request was served on a shard to a pass that knew v and then knows w: the record that it then has seen of that shard

@@ -14,8 +14,8 @@ use Rattle.gate.specs.Passes as gate
 use Rattle.matching.specs.declared.view.View.{View as HintView}
 use Rattle.matching.specs.Named as matching
 use Rattle.matching.specs.Named.{place_in, slot_of, StoodAt, TakenAt, Pushes}
-use Rattle.service.specs.declared.service.Pass.{Pass}
-use Rattle.service.specs.declared.service.Service.{Service}
+use Rattle.service.specs.Views.{Pass}
+use Rattle.service.specs.Views.{Service}
 use Rattle.service_model_types.specs.declared.call.Stop.{Stop}
 use Rattle.service_model_types.specs.declared.call.Stop.TheVariants.{AtEnd, AfterFirstPart, AfterSecondPart}
 use Rattle.service.specs.declared.dispatch_turns.Turned.{Turned}

@@ -8,11 +8,12 @@ use crate::service::{Pass, Service};
 use gate::Refused;
 use service_model_types::answer::Reply;
 use service_model_types::request::{ActivityText, FailActivity, Operation, Request};
+use shard_gate::KeepsShard;
 use std::alloc::AllocError;
 use std::sync::Wait;
 use wf_event_values::Moment;
 
-impl Service {
+impl<S: KeepsShard> Service<S> {
     ghost use Rattle.service.specs.Services.{IsPassOf, IsServedBy, IsTried};
 
     /// [`Service::complete_activity`] that never waits.
@@ -21,7 +22,7 @@ impl Service {
     /// As [`Service::try_serve`].
     pub fn try_complete_activity(
         &self,
-        pass: &mut Pass,
+        pass: &mut Pass<S>,
         asked: ActivityText,
         at: Moment,
     ) -> Result<Reply, (Refused, Request)>
@@ -43,7 +44,7 @@ impl Service {
     pub fn complete_activity<R: Wait>(
         &self,
         rt: &R,
-        pass: &mut Pass,
+        pass: &mut Pass<S>,
         asked: ActivityText,
         at: Moment,
     ) -> Result<Reply, (AllocError, Request)>
@@ -63,7 +64,7 @@ impl Service {
     /// As [`Service::try_serve`].
     pub fn try_fail_activity(
         &self,
-        pass: &mut Pass,
+        pass: &mut Pass<S>,
         asked: FailActivity,
         at: Moment,
     ) -> Result<Reply, (Refused, Request)>
@@ -83,7 +84,7 @@ impl Service {
     pub fn fail_activity<R: Wait>(
         &self,
         rt: &R,
-        pass: &mut Pass,
+        pass: &mut Pass<S>,
         asked: FailActivity,
         at: Moment,
     ) -> Result<Reply, (AllocError, Request)>
@@ -103,7 +104,7 @@ impl Service {
     /// As [`Service::try_serve`].
     pub fn try_cancel_activity(
         &self,
-        pass: &mut Pass,
+        pass: &mut Pass<S>,
         asked: ActivityText,
         at: Moment,
     ) -> Result<Reply, (Refused, Request)>
@@ -123,7 +124,7 @@ impl Service {
     pub fn cancel_activity<R: Wait>(
         &self,
         rt: &R,
-        pass: &mut Pass,
+        pass: &mut Pass<S>,
         asked: ActivityText,
         at: Moment,
     ) -> Result<Reply, (AllocError, Request)>
@@ -143,7 +144,7 @@ impl Service {
     /// As [`Service::try_serve`].
     pub fn try_heartbeat(
         &self,
-        pass: &mut Pass,
+        pass: &mut Pass<S>,
         asked: ActivityText,
         at: Moment,
     ) -> Result<Reply, (Refused, Request)>
@@ -163,7 +164,7 @@ impl Service {
     pub fn heartbeat<R: Wait>(
         &self,
         rt: &R,
-        pass: &mut Pass,
+        pass: &mut Pass<S>,
         asked: ActivityText,
         at: Moment,
     ) -> Result<Reply, (AllocError, Request)>

@@ -9,10 +9,11 @@ use crate::dispatch_turns::Turned;
 use crate::service::{Pass, Service};
 use service_model_types::answer::{Answer, Reply};
 use service_model_types::call::{Call, DispatchTurn, Poll, StepCall};
+use shard_gate::KeepsShard;
 use std::alloc::AllocError;
 use std::sync::Wait;
 
-impl Service {
+impl<S: KeepsShard> Service<S> {
     ghost use Rattle.service.specs.Services.{IsPassOf, known_by};
 
     /// Serves a call of any kind: a step as [`Service::serve_step`] does, a poll as
@@ -27,7 +28,7 @@ impl Service {
     pub fn serve_call<R: Wait>(
         &self,
         rt: &R,
-        pass: &mut Pass,
+        pass: &mut Pass<S>,
         call: Call,
     ) -> Result<Reply, AllocError>
         requires { IsPassOf pass.old self.now }
@@ -49,7 +50,7 @@ impl Service {
     fn step_replied<R: Wait>(
         &self,
         rt: &R,
-        pass: &mut Pass,
+        pass: &mut Pass<S>,
         step: StepCall,
     ) -> Result<Reply, AllocError>
         requires { IsPassOf pass.old self.now }
@@ -67,7 +68,7 @@ impl Service {
     fn poll_replied<R: Wait>(
         &self,
         rt: &R,
-        pass: &mut Pass,
+        pass: &mut Pass<S>,
         poll: Poll,
     ) -> Result<Reply, AllocError>
         requires { IsPassOf pass.old self.now }
@@ -85,7 +86,7 @@ impl Service {
     fn turn_replied<R: Wait>(
         &self,
         rt: &R,
-        pass: &mut Pass,
+        pass: &mut Pass<S>,
         turn: DispatchTurn,
     ) -> Result<Reply, AllocError>
         requires { IsPassOf pass.old self.now }

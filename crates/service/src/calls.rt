@@ -9,11 +9,12 @@ use gate::Refused;
 use service_model_types::answer::Reply;
 use service_model_types::client::ClientRequest;
 use service_model_types::request::{Operation, Read, Request, Signal, Start};
+use shard_gate::KeepsShard;
 use std::alloc::AllocError;
 use std::sync::Wait;
 use wf_event_values::Moment;
 
-impl Service {
+impl<S: KeepsShard> Service<S> {
     ghost use Rattle.service.specs.Services.{IsPassOf, IsServedBy, IsTried};
 
     /// [`Service::start`] that never waits.
@@ -22,7 +23,7 @@ impl Service {
     /// As [`Service::try_serve`].
     pub fn try_start(
         &self,
-        pass: &mut Pass,
+        pass: &mut Pass<S>,
         asked: Start,
         at: Moment,
     ) -> Result<Reply, (Refused, Request)>
@@ -39,7 +40,7 @@ impl Service {
     pub fn start<R: Wait>(
         &self,
         rt: &R,
-        pass: &mut Pass,
+        pass: &mut Pass<S>,
         asked: Start,
         at: Moment,
     ) -> Result<Reply, (AllocError, Request)>
@@ -55,7 +56,7 @@ impl Service {
     /// As [`Service::try_serve`].
     pub fn try_signal(
         &self,
-        pass: &mut Pass,
+        pass: &mut Pass<S>,
         asked: Signal,
         at: Moment,
     ) -> Result<Reply, (Refused, Request)>
@@ -72,7 +73,7 @@ impl Service {
     pub fn signal<R: Wait>(
         &self,
         rt: &R,
-        pass: &mut Pass,
+        pass: &mut Pass<S>,
         asked: Signal,
         at: Moment,
     ) -> Result<Reply, (AllocError, Request)>
@@ -88,7 +89,7 @@ impl Service {
     /// As [`Service::try_serve`].
     pub fn try_history(
         &self,
-        pass: &mut Pass,
+        pass: &mut Pass<S>,
         asked: Read,
         at: Moment,
     ) -> Result<Reply, (Refused, Request)>
@@ -105,7 +106,7 @@ impl Service {
     pub fn history<R: Wait>(
         &self,
         rt: &R,
-        pass: &mut Pass,
+        pass: &mut Pass<S>,
         asked: Read,
         at: Moment,
     ) -> Result<Reply, (AllocError, Request)>
@@ -121,7 +122,7 @@ impl Service {
     /// As [`Service::try_serve`].
     pub fn try_describe(
         &self,
-        pass: &mut Pass,
+        pass: &mut Pass<S>,
         asked: Read,
         at: Moment,
     ) -> Result<Reply, (Refused, Request)>
@@ -140,7 +141,7 @@ impl Service {
     pub fn describe<R: Wait>(
         &self,
         rt: &R,
-        pass: &mut Pass,
+        pass: &mut Pass<S>,
         asked: Read,
         at: Moment,
     ) -> Result<Reply, (AllocError, Request)>

@@ -13,6 +13,7 @@ use crate::service::{Pass, Service};
 use service_model_types::answer::{NumberedDispatch, Reply};
 use service_model_types::call::Stop;
 use service_model_types::request::Operation;
+use shard_gate::KeepsShard;
 use std::alloc::AllocError;
 use std::sync::Wait;
 use wf_event_values::{Moment, Refusal};
@@ -32,7 +33,7 @@ pub enum Turned {
     Dispatched(u64),
 }
 
-impl Service {
+impl<S: KeepsShard> Service<S> {
     ghost use Rattle.service.specs.Services.{IsPassOf, hints_by, known_by, settings_of};
 
     /// Reads the first dispatch of a shard that is not counted, pushes its hint to its task queue, and
@@ -46,7 +47,7 @@ impl Service {
     pub fn dispatch_turn<R: Wait>(
         &self,
         rt: &R,
-        pass: &mut Pass,
+        pass: &mut Pass<S>,
         shard: u16,
         stop: Stop,
         at: Moment,
@@ -90,7 +91,7 @@ impl Service {
     fn next_dispatch<R: Wait>(
         &self,
         rt: &R,
-        pass: &mut Pass,
+        pass: &mut Pass<S>,
         shard: u16,
         at: Moment,
     ) -> Result<Reply, AllocError>
@@ -118,7 +119,7 @@ impl Service {
     fn count_dispatch<R: Wait>(
         &self,
         rt: &R,
-        pass: &mut Pass,
+        pass: &mut Pass<S>,
         shard: u16,
         number: u64,
         at: Moment,

@@ -5,21 +5,31 @@ ghost use Rattle.gate.specs.Passes.{Refuses};
 ghost use Rattle.service.specs.Asks.{to_start};
 
 use crate::calls::request;
-use crate::service::{Pass, Service, Shard};
+use crate::service::{Pass, Service};
 use gate::Refused;
 use matching::QueuesPass;
 use service_model_types::answer::Reply;
 use service_model_types::request::{Operation, Request, Start};
+use shard_gate::{HeldShard, KeepsShard};
+use std::marker::Model;
 use wf_event_values::Moment;
 
 /// A pass that keeps others from the shard where its start was served. It can't be dropped: `leave`
 /// spends it.
-pub struct Held<'a> {
-    pub(crate) inner: gate::Held<'a, Shard>,
+pub struct Held<'a, S: KeepsShard> {
+    pub(crate) inner: HeldShard<'a, S>,
     pub(crate) hints: QueuesPass,
 }
 
-impl Service {
+impl<'a, S: KeepsShard> Model for Held<'a, S> {
+    ghost use Rattle.service.specs.Views.{Held};
+
+    ghost Value = { Held };
+
+    ghost view = { λ h. record { inner = h.inner; hints = h.hints } };
+}
+
+impl<S: KeepsShard> Service<S> {
     ghost use Rattle.service.specs.Services.{IsPassOf, hints_by, known_by, shard_of_request};
     ghost use Rattle.service.specs.Helds.{IsHeldBy, Enters, hints_of};
 
@@ -30,10 +40,10 @@ impl Service {
     /// Those of [`Service::try_serve`], with the pass and the request.
     pub fn try_enter_start(
         &self,
-        pass: Pass,
+        pass: Pass<S>,
         asked: Start,
         at: Moment,
-    ) -> Result<Held<'_>, (Refused, Pass, Request)>
+    ) -> Result<Held<'_, S>, (Refused, Pass<S>, Request)>
         requires { IsPassOf pass self.now }
         ensures own { IfOk result (λ h. IsHeldBy h self.entry.now) }
         ensures ok { IfOk result (λ h. Enters self.entry.now pass h (to_start at asked)) }
@@ -55,13 +65,14 @@ impl Service {
     }
 }
 
-impl Held<'_> {
+impl<S: KeepsShard> Held<'_, S> {
     ghost use Rattle.service.specs.Services.{IsPassOf, hints_by, known_by};
     ghost use Rattle.service.specs.Helds.{IsHeldBy, hints_of, leaving, promised};
+    ghost use Rattle.service.specs.Views.{Service as ServiceView};
 
     /// Leaves the shard, and hands the pass and the start's reply over. It takes no memory.
-    pub fn leave(self) -> (Pass, Reply)
-        ensures own { (x : Service) → IsHeldBy self.entry x → IsPassOf result.0 x }
+    pub fn leave(self) -> (Pass<S>, Reply)
+        ensures own { (x : ServiceView) → IsHeldBy self.entry x → IsPassOf result.0 x }
         ensures seen { known_by result.0 ≡ leaving self.entry }
         ensures reply { result.1 ≡ promised self.entry }
         ensures hints { hints_by result.0 ≡ hints_of self.entry }

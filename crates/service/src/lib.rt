@@ -1,8 +1,8 @@
 //! The service: its calls, each on the shard of the workflow ID, the hint or the task token that it
 //! names.
 //!
-//! Many threads call one service at once, each with a [`Pass`] of its own. A shard lies with its
-//! record in one slot of a gate; a call enters that slot, serves its request, adds an entry to the
+//! Many threads call one service at once, each with a [`Pass`] of its own. A shard, whatever keeps it,
+//! lies with its record in one slot of a gate; a call enters that slot, serves its request, adds an entry to the
 //! record and leaves. So each reply is the sequential service's at that place of the record.
 //!
 //! Two passes that [meet](Service::meet) agree on what was done so far, and [`Service::close`]
@@ -28,9 +28,9 @@ mod transfer_turns;
 mod turns;
 mod workflows;
 
-pub use close::Closed;
 pub use dispatch_turns::Turned;
 pub use gate::Refused;
 pub use held::Held;
 pub use laws::histories_are_in_order;
 pub use service::{Pass, Service};
+pub use shard_gate::{Closed, KeepsShard};

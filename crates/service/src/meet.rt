@@ -5,14 +5,15 @@ ghost use Rattle.gate.specs.Passes.{Agree, KeepsOwn};
 ghost use Rattle.matching.specs.Named.{Met};
 
 use crate::service::{Pass, Service};
+use shard_gate::KeepsShard;
 
-impl Service {
+impl<S: KeepsShard> Service<S> {
     ghost use Rattle.service.specs.Services.{IsPassOf, hints_by, known_by, settings_of};
 
     /// Of each shard, the record that one pass had seen began the one that the other had, and so it
     /// was with what each had seen of a task queue. Afterwards both have seen the longer. It takes no
     /// memory, and changes no shard and no queue.
-    pub fn meet(&self, first: &mut Pass, second: &mut Pass)
+    pub fn meet(&self, first: &mut Pass<S>, second: &mut Pass<S>)
         requires first { IsPassOf first.old self.now }
         requires second { IsPassOf second.old self.now }
         ensures first_own { IsPassOf first.new self.now }

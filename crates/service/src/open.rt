@@ -1,10 +1,9 @@
 //! How a service is opened.
 //!
-//! The settings are looked at first, then how many records there are. Each shard is brought to where
-//! its record left it, and laid with that into a slot of the gate, in the order of the shards. The
-//! hints of all tasks that wait are put into their queues. The gate gives as many passes as the
-//! settings say, so do the task queues, and one of each becomes a pass of the service. The room that
-//! `close` needs is made here.
+//! The settings are looked at first, then how many records there are. The shards are opened behind
+//! their gate, each as its record left it. The hints of all tasks that wait are put into their queues.
+//! The gate gives as many passes as the settings say, so do the task queues, and one of each becomes a
+//! pass of the service. The room that `close` needs is made here.
 
 ghost use Rattle.std.specs.Prelude.{◌≡◌, ◌≢◌, ℕ, ◌<◌, All, Some, Ok, Err, length, map, slice_get, IfOk, IfErr};
 ghost use Rattle.gate.specs.Passes.{IsFresh};
@@ -14,13 +13,12 @@ ghost use Rattle.service.specs.Ends.{base_of};
 ghost use Rattle.service.specs.Held.{HoldsAtOpening, HoldAtOpening};
 ghost use Rattle.service.specs.Reopening.{opens, record_at, records_fault};
 ghost use Rattle.service.specs.Ranges.{are_different, are_queues, range_fault, stands_in};
-ghost use Rattle.service.specs.declared.service.Pass.{Pass};
+ghost use Rattle.service.specs.Views.{Pass as PassView};
 ghost use Rattle.service.specs.Services.{IsPassOf, IsInRange, known_by, settings_of};
 
-use crate::close::{Closed, PassRoom};
-use crate::reopen::{all_waiting, one_each, replay_shards};
-use crate::service::{Pass, Service, Shard};
-use gate::Gate;
+use crate::close::PassRoom;
+use crate::reopen::setups_and_records;
+use crate::service::{Pass, Service};
 use matching::{Queues, QueuesPass};
 use service_model_types::content::Dispatch;
 use service_model_types::limits::{
@@ -28,12 +26,13 @@ use service_model_types::limits::{
 };
 use service_model_types::request::Request;
 use service_model_types::settings::Settings;
+use shard_gate::{KeepsShard, Opened, ShardGate, ShardPass};
 use std::alloc::{AllocError, Global};
 use std::sync::Mutex;
 use step_record::Record;
 use wf_event_values::{Field, Id, Refusal};
 
-impl Service {
+impl<S: KeepsShard> Service<S> {
     /// Opens a service and gives its passes, numbered from 0.
     ///
     /// Without records nothing was done in it. With one record of each shard it goes on where these
@@ -49,12 +48,12 @@ impl Service {
         alloc: Global,
         settings: &Settings,
         records: Vec<Record<Request>>,
-    ) -> Result<(Service, Vec<Pass>), Refusal>
+    ) -> Result<(Service<S>, Vec<Pass<S>>), Refusal>
         ensures own { IfOk result (λ r.
-            (k : ℕ) (p : Pass) → slice_get r.1.items k ≡ Some p
+            (k : ℕ) (p : PassView) → slice_get r.1.items k ≡ Some p
             → IsPassOf p r.0) }
         ensures fresh { IfOk result (λ r.
-            (k : ℕ) (p : Pass) → slice_get r.1.items k ≡ Some p
+            (k : ℕ) (p : PassView) → slice_get r.1.items k ≡ Some p
             → IsFresh k (known_by p)) }
         ensures records { IfOk result (λ r.
             (s : ℕ) → base_of r.0 s ≡ record_at records.items s) }
@@ -67,20 +66,20 @@ impl Service {
     {
         check_ranges(settings)?;
         check_records(settings, &records)?;
-        let records = one_each(alloc, settings, records)?;
-        let objects = replay_shards(alloc, settings, records)?;
-        let waiting = all_waiting(alloc, &objects)?;
+        let given = setups_and_records(alloc, settings, records)?;
+        let Opened {
+            gate,
+            passes: inner,
+            waiting,
+        } = ShardGate::open(alloc, given, settings.passes as usize)?;
         let (queues, hints) = open_queues(alloc, settings, waiting)?;
-        let (gate, inner) = Gate::open(alloc, objects, settings.passes as usize)?;
         let passes = paired(alloc, inner, hints)?;
         let room = PassRoom::new(alloc)?;
-        let closed = Closed::new(alloc, settings.shards as usize)?;
         let service = Service {
             settings: settings.copy(alloc)?,
             gate,
             queues,
             handed_down: Mutex::new(room),
-            closed,
         };
         Ok((service, passes))
     }
@@ -174,15 +173,15 @@ fn open_queues(
     Queues::open(alloc, names, capacity, passes, shards, waiting)
 }
 
-/// The passes of the gate with those of the queues.
-fn paired(
+/// The passes on the shards with those at the queues.
+fn paired<S: KeepsShard>(
     alloc: Global,
-    inner: Vec<gate::Pass<Shard>>,
+    inner: Vec<ShardPass<S>>,
     hints: Vec<QueuesPass>,
-) -> Result<Vec<Pass>, AllocError>
+) -> Result<Vec<Pass<S>>, AllocError>
     requires { length inner.items ≡ length hints.items }
-    ensures inner { IfOk result (λ v. map (λ (p : Pass). p.inner) v.items ≡ inner.items) }
-    ensures hints { IfOk result (λ v. map (λ (p : Pass). p.hints) v.items ≡ hints.items) }
+    ensures inner { IfOk result (λ v. map (λ (p : PassView). p.inner) v.items ≡ inner.items) }
+    ensures hints { IfOk result (λ v. map (λ (p : PassView). p.hints) v.items ≡ hints.items) }
 {
     let mut passes = Vec::with_capacity(alloc, inner.len())?;
     let mut hints = hints.into_iter();

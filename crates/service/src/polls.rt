@@ -10,11 +10,12 @@ use crate::calls::asked_by_client;
 use crate::service::{Pass, Service};
 use service_model_types::answer::Reply;
 use service_model_types::request::{Hint, Operation};
+use shard_gate::KeepsShard;
 use std::alloc::AllocError;
 use std::sync::Wait;
 use wf_event_values::{Id, Moment, TaskKind};
 
-impl Service {
+impl<S: KeepsShard> Service<S> {
     ghost use Rattle.service.specs.Services.{IsPassOf, IsServedAtLast, hints_by, known_by, settings_of};
 
     /// Takes a workflow task of that task queue for a worker (Temporal, PollWorkflowTaskQueue): the
@@ -27,7 +28,7 @@ impl Service {
     pub fn poll_workflow_task<R: Wait>(
         &self,
         rt: &R,
-        pass: &mut Pass,
+        pass: &mut Pass<S>,
         queue: &Id,
         at: Moment,
     ) -> Result<Option<Reply>, (AllocError, Hint)>
@@ -45,7 +46,7 @@ impl Service {
     pub fn poll_activity_task<R: Wait>(
         &self,
         rt: &R,
-        pass: &mut Pass,
+        pass: &mut Pass<S>,
         queue: &Id,
         at: Moment,
     ) -> Result<Option<Reply>, (AllocError, Hint)>
@@ -58,7 +59,7 @@ impl Service {
     pub(crate) fn poll<R: Wait>(
         &self,
         rt: &R,
-        pass: &mut Pass,
+        pass: &mut Pass<S>,
         queue: &Id,
         kind: TaskKind,
         at: Moment,
@@ -90,7 +91,7 @@ impl Service {
     fn start_taken<R: Wait>(
         &self,
         rt: &R,
-        pass: &mut Pass,
+        pass: &mut Pass<S>,
         hint: Hint,
         at: Moment,
     ) -> Result<Reply, AllocError>

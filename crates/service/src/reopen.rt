@@ -1,27 +1,19 @@
-//! The shards of a service that is opened: each as its record left it, and the tasks that wait there.
+//! What the shards of a service are opened from: of each its setup and its record.
 
-ghost use Rattle.std.specs.Prelude.{◌≡◌, ◌≢◌, ◌<◌, flat_map, length, map, true, IfOk, IfErr};
+ghost use Rattle.std.specs.Prelude.{◌≡◌, ◌<◌, length, map, true, IfOk};
 ghost use Rattle.std.specs.List.{range_with_len};
-ghost use Rattle.service_model.specs.Service.{opening};
-ghost use Rattle.service_model.specs.Waiting.{all_waiting};
-ghost use Rattle.shard.specs.Standing.{StandsFor, opened};
-ghost use Rattle.shard.specs.View.{states};
 ghost use Rattle.service.specs.Contents.{setup_of};
-ghost use Rattle.service.specs.Laid.{IsLaid};
 ghost use Rattle.service.specs.Reopening.{are_records, record_at};
 ghost use Rattle.service.specs.Services.{IsInRange};
 
-use crate::service::Shard;
-use gate::replayed;
-use service_model_types::content::{Dispatch, Setup};
+use service_model_types::content::Setup;
 use service_model_types::request::Request;
 use service_model_types::settings::Settings;
 use std::alloc::{AllocError, Global};
 use step_record::Record;
-use wf_event_values::Refusal;
 
 /// A record for each shard: those that are given, or else empty ones.
-pub(crate) fn one_each(
+fn one_each(
     alloc: Global,
     settings: &Settings,
     records: Vec<Record<Request>>,
@@ -40,59 +32,54 @@ pub(crate) fn one_each(
     Ok(all)
 }
 
-/// All shards, each as its record left it.
-pub(crate) fn replay_shards(
+/// One shard's setup.
+fn setup(alloc: Global, settings: &Settings, shard: u64) -> Result<Setup, AllocError>
+    requires range { IsInRange settings.now }
+    requires shard { shard < 64 }
+    ensures { IfOk result (λ s. s ≡ setup_of settings.now shard) }
+{
+    let queues = settings.copy_queues(alloc)?;
+    Ok(Setup {
+        service: settings.service,
+        shard: shard as u16,
+        shards: settings.shards as u16,
+        queues,
+    })
+}
+
+/// Each shard's setup beside its record.
+fn beside_setups(
     alloc: Global,
     settings: &Settings,
     records: Vec<Record<Request>>,
-) -> Result<Vec<(Shard, Record<Request>)>, Refusal>
+) -> Result<Vec<(Setup, Record<Request>)>, AllocError>
     requires range { IsInRange settings.now }
     requires count { length records.items ≡ settings.now.shards }
-    ensures laid { IfOk result (λ v. IsLaid settings.now records.items v.items) }
-    ensures err { IfErr result (λ e. e ≢ Refusal.NoMemory → ⊥) }
-{
-    let mut objects = Vec::new(alloc);
-    for log in records {
-        let shard = objects.len() as u64;
-        let fresh = open_shard(alloc, settings, shard)?;
-        objects.push(replayed(alloc, fresh, log)?)?;
-    }
-    Ok(objects)
-}
-
-/// One shard, without runs.
-fn open_shard(alloc: Global, settings: &Settings, shard: u64) -> Result<Shard, Refusal>
-    requires range { IsInRange settings.now }
-    requires shard { shard < 64 }
-    ensures opened { IfOk result (λ s. opened s ≡ opening (setup_of settings.now shard)) }
-    ensures stands { IfOk result (λ s. StandsFor s (opened s)) }
-    ensures err { IfErr result (λ e. e ≢ Refusal.NoMemory → ⊥) }
-{
-    let queues = settings.copy_queues(alloc)?;
-    let fresh = Shard::new(
-        alloc,
-        Setup {
-            service: settings.service,
-            shard: shard as u16,
-            shards: settings.shards as u16,
-            queues,
-        },
-    )?;
-    Ok(fresh)
-}
-
-/// The tasks that wait to be taken, by shard, run and event.
-pub(crate) fn all_waiting(
-    alloc: Global,
-    objects: &[(Shard, Record<Request>)],
-) -> Result<Vec<Dispatch>, AllocError>
-    ensures { IfOk result (λ all. all.items
-        ≡ flat_map (λ x. all_waiting x.0.setup (states x.0.runs)) objects.now) }
+    ensures setups { IfOk result (λ v. map (λ g. g.0) v.items
+        ≡ map (λ k. setup_of settings.now k) (range_with_len 0 (length v.items))) }
+    ensures records { IfOk result (λ v. map (λ g. g.1) v.items ≡ records.items) }
 {
     let mut all = Vec::new(alloc);
-    for (shard, _) in objects {
-        let mut waiting = shard.waiting(alloc)?;
-        all.append(&mut waiting)?;
+    for log in records {
+        let shard = all.len() as u64;
+        all.push((setup(alloc, settings, shard)?, log))?;
     }
     Ok(all)
+}
+
+/// Each shard's setup, with its record: one of those that are given, or else an empty one.
+pub(crate) fn setups_and_records(
+    alloc: Global,
+    settings: &Settings,
+    records: Vec<Record<Request>>,
+) -> Result<Vec<(Setup, Record<Request>)>, AllocError>
+    requires range { IsInRange settings.now }
+    requires count { are_records settings.now records.items ≡ true }
+    ensures setups { IfOk result (λ v. map (λ g. g.0) v.items
+        ≡ map (λ k. setup_of settings.now k) (range_with_len 0 settings.now.shards)) }
+    ensures records { IfOk result (λ v. map (λ g. g.1) v.items
+        ≡ map (record_at records.items) (range_with_len 0 settings.now.shards)) }
+{
+    let all = one_each(alloc, settings, records)?;
+    beside_setups(alloc, settings, all)
 }

@@ -9,9 +9,10 @@ use service_model_types::limits::MOST_COMMANDS;
 use service_model_types::request::{CompleteWorkflowTask, Operation, Request, TakenTask};
 use service_model_types::routing::hash_of;
 use service_model_types::settings::Settings;
+use shard_gate::KeepsShard;
 use wf_event_values::{Field, Id, Refusal};
 
-impl Service {
+impl<S: KeepsShard> Service<S> {
     ghost use Rattle.service.specs.Services.{settings_of, shard_of_request};
 
     /// As what an operation is refused before any shard is entered, where it is. A task that waits, a

@@ -1,64 +1,73 @@
 //! The service and its passes, and the request that every call makes.
 
-ghost use Rattle.std.specs.Prelude.{◌≡◌, ◌<◌, ◌≤◌, None, length, vec_capacity};
+ghost use Rattle.std.specs.Prelude.{◌≡◌, ◌<◌};
 
-use crate::close::{Closed, PassRoom};
-use gate::{Gate, Refused};
+use crate::close::PassRoom;
+use gate::Refused;
 use matching::{Queues, QueuesPass};
 use service_model_types::answer::Reply;
 use service_model_types::client::ClientRequest;
 use service_model_types::request::Request;
 use service_model_types::settings::Settings;
+use shard_gate::{KeepsShard, ShardGate, ShardPass};
 use std::alloc::AllocError;
+use std::marker::Model;
 use std::sync::{Mutex, Wait};
 use wf_event_values::Refusal;
 
-/// A shard, whose runs are kept by tables.
-pub(crate) type Shard = shard::Shard<mutable_state::Run>;
-
-/// A workflow service.
-pub struct Service {
+/// A workflow service, over shards that `S` keeps.
+pub struct Service<S: KeepsShard> {
     pub(crate) settings: Settings,
-    pub(crate) gate: Gate<Shard>,
+    pub(crate) gate: ShardGate<S>,
     pub(crate) queues: Queues,
-    // Room for what `close` hands down and for what it answers, made by `open` so that closing
-    // can't fail. Threads can't share a list of passes, so that one lies behind a lock, which
-    // nobody takes.
-    pub(crate) handed_down: Mutex<PassRoom>,
-    pub(crate) closed: Closed,
+    // Room for what `close` hands down, made by `open` so that closing can't fail. Threads can't share
+    // a list of passes, so it lies behind a lock, which nobody takes.
+    pub(crate) handed_down: Mutex<PassRoom<S>>,
     ghost some_pass: { 0 < settings.passes },
-    ghost roomy: { (length closed.records.items ≡ 0) × (length closed.tickets.items ≡ 0)
-        × (settings.shards ≤ vec_capacity closed.records)
-        × (settings.shards ≤ vec_capacity closed.tickets) },
 }
 
-impl Drop for Service {
+impl<S: KeepsShard> Drop for Service<S> {
     fn drop(self) {
         let Service {
             settings: _,
             gate: _,
             queues: _,
             handed_down: _,
-            closed: _,
         } = self;
     }
 }
 
+impl<S: KeepsShard> Model for Service<S> {
+    ghost use Rattle.service.specs.Views.{Service};
+
+    ghost Value = { Service };
+
+    ghost view = { λ x. record { settings = x.settings; gate = x.gate; queues = x.queues } };
+}
+
 /// The right to call one service. It is one thread's at a time.
-pub struct Pass {
-    pub(crate) inner: gate::Pass<Shard>,
+pub struct Pass<S: KeepsShard> {
+    pub(crate) inner: ShardPass<S>,
     pub(crate) hints: QueuesPass,
 }
 
-impl Drop for Pass {
+impl<S: KeepsShard> Drop for Pass<S> {
     fn drop(self) {
         let Pass { inner: _, hints: _ } = self;
     }
 }
 
-impl Pass {
+impl<S: KeepsShard> Model for Pass<S> {
+    ghost use Rattle.service.specs.Views.{Pass};
+
+    ghost Value = { Pass };
+
+    ghost view = { λ p. record { inner = p.inner; hints = p.hints } };
+}
+
+impl<S: KeepsShard> Pass<S> {
     /// The right to step on the shards, and the one to push and pop hints.
-    pub(crate) fn into_parts(self) -> (gate::Pass<Shard>, QueuesPass)
+    pub(crate) fn into_parts(self) -> (ShardPass<S>, QueuesPass)
         ensures { result ≡ (self.inner, self.hints) }
     {
         let Pass { inner, hints } = self;
@@ -66,23 +75,22 @@ impl Pass {
     }
 }
 
-impl Service {
+impl<S: KeepsShard> Service<S> {
     ghost use Rattle.service.specs.Services.{IsPassOf, IsServedBy, IsServedOnBy, IsTried, IsTriedOn, settings_of};
 
     /// The gate and the queues, and the room that closing needs.
-    pub(crate) fn into_parts(self) -> (Gate<Shard>, Queues, Mutex<PassRoom>, Closed)
+    pub(crate) fn into_parts(self) -> (ShardGate<S>, Queues, Mutex<PassRoom<S>>)
         ensures gate { result.0 ≡ self.gate }
         ensures queues { result.1 ≡ self.queues }
-        ensures closed { result.3 ≡ self.closed }
+        ensures some_pass { 0 < (settings_of self).passes }
     {
         let Service {
             settings: _,
             gate,
             queues,
             handed_down,
-            closed,
         } = self;
-        (gate, queues, handed_down, closed)
+        (gate, queues, handed_down)
     }
 
     /// The settings with which the service was opened.
@@ -102,7 +110,7 @@ impl Service {
     /// `NoMemory` where a growth was refused.
     pub fn try_serve(
         &self,
-        pass: &mut Pass,
+        pass: &mut Pass<S>,
         request: ClientRequest,
     ) -> Result<Reply, (Refused, Request)>
         requires { IsPassOf pass.old self.now }
@@ -121,7 +129,7 @@ impl Service {
     pub fn serve<R: Wait>(
         &self,
         rt: &R,
-        pass: &mut Pass,
+        pass: &mut Pass<S>,
         request: ClientRequest,
     ) -> Result<Reply, (AllocError, Request)>
         requires { IsPassOf pass.old self.now }
@@ -135,7 +143,7 @@ impl Service {
     /// Serves a request on a shard, if no other pass is there and nothing refuses it.
     pub(crate) fn try_serve_on(
         &self,
-        pass: &mut Pass,
+        pass: &mut Pass<S>,
         refusal: Option<Refusal>,
         slot: usize,
         request: ClientRequest,
@@ -156,7 +164,7 @@ impl Service {
     pub(crate) fn serve_on<R: Wait>(
         &self,
         rt: &R,
-        pass: &mut Pass,
+        pass: &mut Pass<S>,
         refusal: Option<Refusal>,
         slot: usize,
         request: ClientRequest,

@@ -12,11 +12,12 @@ use service_model_types::answer::Reply;
 use service_model_types::request::{
     CompleteWorkflowTask, FailWorkflowTask, Hint, Operation, Request,
 };
+use shard_gate::KeepsShard;
 use std::alloc::AllocError;
 use std::sync::Wait;
 use wf_event_values::Moment;
 
-impl Service {
+impl<S: KeepsShard> Service<S> {
     ghost use Rattle.service.specs.Services.{IsPassOf, IsServedBy, IsServedOnBy, IsTried, IsTriedOn, settings_of};
 
     /// [`Service::start_task`] that never waits.
@@ -25,7 +26,7 @@ impl Service {
     /// As [`Service::try_serve`].
     pub fn try_start_task(
         &self,
-        pass: &mut Pass,
+        pass: &mut Pass<S>,
         hint: Hint,
         at: Moment,
     ) -> Result<Reply, (Refused, Request)>
@@ -47,7 +48,7 @@ impl Service {
     pub fn start_task<R: Wait>(
         &self,
         rt: &R,
-        pass: &mut Pass,
+        pass: &mut Pass<S>,
         hint: Hint,
         at: Moment,
     ) -> Result<Reply, (AllocError, Request)>
@@ -67,7 +68,7 @@ impl Service {
     /// As [`Service::try_serve`].
     pub fn try_complete_workflow_task(
         &self,
-        pass: &mut Pass,
+        pass: &mut Pass<S>,
         asked: CompleteWorkflowTask,
         at: Moment,
     ) -> Result<Reply, (Refused, Request)>
@@ -91,7 +92,7 @@ impl Service {
     pub fn complete_workflow_task<R: Wait>(
         &self,
         rt: &R,
-        pass: &mut Pass,
+        pass: &mut Pass<S>,
         asked: CompleteWorkflowTask,
         at: Moment,
     ) -> Result<Reply, (AllocError, Request)>
@@ -112,7 +113,7 @@ impl Service {
     /// As [`Service::try_serve`].
     pub fn try_fail_workflow_task(
         &self,
-        pass: &mut Pass,
+        pass: &mut Pass<S>,
         asked: FailWorkflowTask,
         at: Moment,
     ) -> Result<Reply, (Refused, Request)>
@@ -134,7 +135,7 @@ impl Service {
     pub fn fail_workflow_task<R: Wait>(
         &self,
         rt: &R,
-        pass: &mut Pass,
+        pass: &mut Pass<S>,
         asked: FailWorkflowTask,
         at: Moment,
     ) -> Result<Reply, (AllocError, Request)>

@@ -4,7 +4,7 @@ ghost use Rattle.std.specs.Prelude.{◌≡◌, ◌<◌, Some, None, MatchResult,
 ghost use Rattle.gate.specs.Passes.{Waited, number as number_of};
 ghost use Rattle.service_model_types.specs.Replies.{transfer_of};
 ghost use Rattle.service.specs.Asks.{to_acknowledge, to_deliver};
-ghost use Rattle.service.specs.Grounding.{SeenGrounds};
+ghost use Rattle.shard_gate.specs.Views.{SeenGrounds};
 ghost use Rattle.service.specs.TransferTurns.{Acknowledges, DeliveryKept, Delivers, TransferKept, TransferTurns, Transfers, goes_on};
 
 use crate::calls::request;
@@ -14,11 +14,12 @@ use service_model_types::answer::{Answer, Reply};
 use service_model_types::call::{Stop, TransferTurn};
 use service_model_types::request::{Acknowledge, Operation, Request};
 use service_model_types::transfer::Transfer;
+use shard_gate::KeepsShard;
 use std::alloc::AllocError;
 use std::sync::Wait;
 use wf_event_values::Moment;
 
-impl Service {
+impl<S: KeepsShard> Service<S> {
     ghost use Rattle.service.specs.Services.{IsPassOf, IsServedAtLast, hints_by, known_by, settings_of};
 
     /// Reads the first transfer that a shard issued for another one and that is not acknowledged,
@@ -34,7 +35,7 @@ impl Service {
     pub fn transfer_turn<R: Wait>(
         &self,
         rt: &R,
-        pass: &mut Pass,
+        pass: &mut Pass<S>,
         from: u16,
         to: u16,
         stop: Stop,
@@ -62,7 +63,7 @@ impl Service {
     fn transfer<R: Wait>(
         &self,
         rt: &R,
-        pass: &mut Pass,
+        pass: &mut Pass<S>,
         turn: TransferTurn,
     ) -> Result<Reply, AllocError>
         requires own { IsPassOf pass.old self.now }
@@ -92,7 +93,7 @@ impl Service {
     fn deliver<R: Wait>(
         &self,
         rt: &R,
-        pass: &mut Pass,
+        pass: &mut Pass<S>,
         turn: TransferTurn,
         transfer: Transfer,
     ) -> Result<Reply, AllocError>
@@ -124,7 +125,7 @@ impl Service {
     fn acknowledge<R: Wait>(
         &self,
         rt: &R,
-        pass: &mut Pass,
+        pass: &mut Pass<S>,
         turn: TransferTurn,
         number: u64,
     ) -> Result<(), AllocError>
@@ -152,7 +153,7 @@ impl Service {
     fn serve_there<R: Wait>(
         &self,
         rt: &R,
-        pass: &mut Pass,
+        pass: &mut Pass<S>,
         shard: u16,
         asked: Request,
     ) -> Result<Reply, AllocError>

@@ -10,11 +10,12 @@ use gate::Refused;
 use service_model_types::answer::Reply;
 use service_model_types::call::StepCall;
 use service_model_types::request::{Operation, Request};
+use shard_gate::KeepsShard;
 use std::alloc::AllocError;
 use std::sync::Wait;
 use wf_event_values::Moment;
 
-impl Service {
+impl<S: KeepsShard> Service<S> {
     ghost use Rattle.service.specs.Services.{IsPassOf, IsServedStep, IsServedOnBy, IsTriedStep, IsTriedOn, settings_of};
 
     /// [`Service::timer_turn`] that never waits.
@@ -23,7 +24,7 @@ impl Service {
     /// As [`Service::try_serve`].
     pub fn try_timer_turn(
         &self,
-        pass: &mut Pass,
+        pass: &mut Pass<S>,
         shard: u16,
         at: Moment,
     ) -> Result<Reply, (Refused, Request)>
@@ -46,7 +47,7 @@ impl Service {
     pub fn timer_turn<R: Wait>(
         &self,
         rt: &R,
-        pass: &mut Pass,
+        pass: &mut Pass<S>,
         shard: u16,
         at: Moment,
     ) -> Result<Reply, (AllocError, Request)>
@@ -66,7 +67,7 @@ impl Service {
     /// As [`Service::try_serve`], with the request of the step that the call makes.
     pub fn try_serve_step(
         &self,
-        pass: &mut Pass,
+        pass: &mut Pass<S>,
         call: StepCall,
     ) -> Result<Reply, (Refused, Request)>
         requires { IsPassOf pass.old self.now }
@@ -84,7 +85,7 @@ impl Service {
     pub fn serve_step<R: Wait>(
         &self,
         rt: &R,
-        pass: &mut Pass,
+        pass: &mut Pass<S>,
         call: StepCall,
     ) -> Result<Reply, (AllocError, Request)>
         requires { IsPassOf pass.old self.now }

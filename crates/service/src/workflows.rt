@@ -8,11 +8,12 @@ use crate::service::{Pass, Service};
 use gate::Refused;
 use service_model_types::answer::Reply;
 use service_model_types::request::{Operation, Request, RequestCancel, SignalWithStart, Terminate};
+use shard_gate::KeepsShard;
 use std::alloc::AllocError;
 use std::sync::Wait;
 use wf_event_values::Moment;
 
-impl Service {
+impl<S: KeepsShard> Service<S> {
     ghost use Rattle.service.specs.Services.{IsPassOf, IsServedBy, IsTried};
 
     /// [`Service::signal_with_start`] that never waits.
@@ -21,7 +22,7 @@ impl Service {
     /// As [`Service::try_serve`].
     pub fn try_signal_with_start(
         &self,
-        pass: &mut Pass,
+        pass: &mut Pass<S>,
         asked: SignalWithStart,
         at: Moment,
     ) -> Result<Reply, (Refused, Request)>
@@ -39,7 +40,7 @@ impl Service {
     pub fn signal_with_start<R: Wait>(
         &self,
         rt: &R,
-        pass: &mut Pass,
+        pass: &mut Pass<S>,
         asked: SignalWithStart,
         at: Moment,
     ) -> Result<Reply, (AllocError, Request)>
@@ -59,7 +60,7 @@ impl Service {
     /// As [`Service::try_serve`].
     pub fn try_request_cancel(
         &self,
-        pass: &mut Pass,
+        pass: &mut Pass<S>,
         asked: RequestCancel,
         at: Moment,
     ) -> Result<Reply, (Refused, Request)>
@@ -77,7 +78,7 @@ impl Service {
     pub fn request_cancel<R: Wait>(
         &self,
         rt: &R,
-        pass: &mut Pass,
+        pass: &mut Pass<S>,
         asked: RequestCancel,
         at: Moment,
     ) -> Result<Reply, (AllocError, Request)>
@@ -97,7 +98,7 @@ impl Service {
     /// As [`Service::try_serve`].
     pub fn try_terminate(
         &self,
-        pass: &mut Pass,
+        pass: &mut Pass<S>,
         asked: Terminate,
         at: Moment,
     ) -> Result<Reply, (Refused, Request)>
@@ -115,7 +116,7 @@ impl Service {
     pub fn terminate<R: Wait>(
         &self,
         rt: &R,
-        pass: &mut Pass,
+        pass: &mut Pass<S>,
         asked: Terminate,
         at: Moment,
     ) -> Result<Reply, (AllocError, Request)>

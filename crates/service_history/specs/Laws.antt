@@ -5,7 +5,7 @@ use Rattle.history.specs.Merged.{AreTicketed, IsMerged}
 use Rattle.service.specs.Contents.{setup_of}
 use Rattle.service.specs.Ends.{base_of, IsHistoryOf}
 use Rattle.service.specs.Services.{settings_of}
-use Rattle.service.specs.declared.service.Service.{Service}
+use Rattle.service.specs.Views.{Service}
 use Rattle.service_model.specs.Service.{Entry}
 use Rattle.service_model.specs.WholeRuns.{Whole, InOrder, IsWhole}
 

@@ -7,7 +7,6 @@ ghost use Rattle.service_tests.specs.Passes.{ComesBack};
 use crate::asked::{id, signal, start, taken, text, two_shards, waiting};
 use crate::passes::{open, take_pass};
 use crate::shown::shown;
-use service::{Pass, Service};
 use service_model_types::request::{
     ActivityText, CompleteWorkflowTask, FailActivity, FailWorkflowTask, Read, RequestCancel,
     SignalWithStart, TakenTask, Terminate,
@@ -19,6 +18,7 @@ use wf_command::Command;
 use wf_command::command::ScheduleActivityTask;
 use wf_event::payloads::PolicyFields;
 use wf_event_values::{Items, Moment, ReusePolicy, Span, TaskKind, Text};
+use workflow_service::{Pass, Service};
 
 /// The form in which a call is made.
 #[derive(Clone, Copy)]

@@ -8,13 +8,13 @@ use crate::calls::start_one;
 use crate::passes::{open, take_pass};
 use crate::shown::shown;
 use event_pieces::SharedEvents;
-use service::{Pass, Service};
 use service_model_types::answer::{Answer, Reply};
 use service_model_types::request::Read;
 use std::alloc::AllocGlobal;
 use std::process::Abort;
 use std::sync::Wait;
 use std::thread::{self, Threads};
+use workflow_service::{Pass, Service};
 
 /// How many signals each thread sends.
 const SIGNALS: u64 = 1000;

@@ -7,13 +7,13 @@ use crate::asked::{id, settings, signal, start};
 use crate::histories::count;
 use crate::passes::{close, give_back, open, take_pass};
 use crate::shown::shown;
-use service::{Pass, Service};
 use service_model_types::answer::{Answer, Reply};
 use service_model_types::request::{Read, Request};
 use std::alloc::AllocGlobal;
 use std::process::Abort;
 use step_record::Record;
 use wf_event_values::Moment;
+use workflow_service::{Pass, Service};
 
 /// The largest number that a service may have.
 const LAST_SERVICE: u64 = 281_474_976_710_655;

@@ -5,12 +5,12 @@ ghost use Rattle.gate.specs.Passes.{number};
 ghost use Rattle.service.specs.Services.{IsPassOf, known_by, settings_of};
 ghost use Rattle.service_tests.specs.Passes.{InOrder};
 
-use service::{Pass, Service};
 use service_model_types::request::Request;
 use service_model_types::settings::Settings;
 use std::alloc::AllocGlobal;
 use std::process::Abort;
 use step_record::Record;
+use workflow_service::{Pass, Service};
 
 /// A service, and its passes in the order of their numbers.
 pub(crate) fn open<R: Abort + AllocGlobal>(rt: &R, settings: &Settings) -> (Service, Vec<Pass>)

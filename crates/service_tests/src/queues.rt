@@ -8,13 +8,13 @@ use crate::calls::start_one;
 use crate::passes::{open, take_pass};
 use crate::shown::{polled, turned};
 use crate::turns::{assert_dispatch, assert_poll};
-use service::{Pass, Service};
 use service_model_types::call::Stop;
 use std::alloc::AllocGlobal;
 use std::process::Abort;
 use std::sync::Wait;
 use std::thread::{self, Threads};
 use wf_event_values::Moment;
+use workflow_service::{Pass, Service};
 
 /// How many workflows the two threads hand on and take.
 const COUNT: u64 = 300;

@@ -1,12 +1,12 @@
 //! Settings out of their ranges, which no service is opened by.
 
 use crate::asked::{id, settings};
-use service::Service;
 use service_model_types::limits::DEFAULT_CAPACITY;
 use service_model_types::settings::Settings;
 use std::alloc::AllocGlobal;
 use std::process::Abort;
 use wf_event_values::{Items, Refusal};
+use workflow_service::Service;
 
 /// The field that is out of its range.
 fn refused<R: Abort + AllocGlobal>(rt: &R, settings: &Settings) -> &'static str {

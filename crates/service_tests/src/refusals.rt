@@ -7,7 +7,6 @@ ghost use Rattle.service_tests.specs.Passes.{ComesBack};
 use crate::asked::{settings, taken, waiting};
 use crate::passes::{close, give_back, open, take_pass};
 use crate::shown::shown;
-use service::{Pass, Service};
 use service_model_types::client::{ClientRequest, is_clients};
 use service_model_types::request::{
     CompleteWorkflowTask, FailWorkflowTask, Operation, Request, TakenTask,
@@ -19,6 +18,7 @@ use step_record::Record;
 use wf_command::Command;
 use wf_command::command::RecordMarker;
 use wf_event_values::{Items, Moment, TaskKind, Text};
+use workflow_service::{Pass, Service};
 
 /// The first task of a shard's first run.
 fn task(shard: u16) -> TakenTask {

@@ -7,7 +7,6 @@ ghost use Rattle.service_tests.specs.Passes.{ComesBack};
 use crate::asked::{id, start, two_shards};
 use crate::passes::{close, give_back, open, open_from, take_pass};
 use crate::shown::{polled, shown};
-use service::{Pass, Service};
 use service_model_types::request::Request;
 use service_model_types::settings::Settings;
 use std::alloc::AllocGlobal;
@@ -15,6 +14,7 @@ use std::process::Abort;
 use std::sync::Wait;
 use step_record::Record;
 use wf_event_values::{Moment, Refusal};
+use workflow_service::{Pass, Service};
 
 /// Starts a workflow.
 fn assert_started<R: Abort + AllocGlobal>(rt: &R, service: &Service, pass: &mut Pass, name: &str)

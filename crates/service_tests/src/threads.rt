@@ -10,7 +10,6 @@ use crate::asked::{id, is_first_run, moment, settings, signal, start, two_shards
 use crate::calls::start_one;
 use crate::passes::{close, close_two, give_back, open, take_pass};
 use crate::shown::shown;
-use service::{Pass, Refused, Service};
 use service_model_types::answer::{Answer, Reply};
 use service_model_types::request::{Operation, Request};
 use std::alloc::AllocGlobal;
@@ -20,6 +19,7 @@ use std::thread;
 use std::thread::Threads;
 use step_record::Record;
 use wf_event_values::{Moment, Refusal};
+use workflow_service::{Pass, Refused, Service};
 
 /// The workflows that the four threads signal, and how many signals each thread sends.
 const WORKFLOWS: [&str; 5] = ["a", "b", "c", "d", "e"];

@@ -8,7 +8,6 @@ use crate::calls::start_one;
 use crate::passes::{open, take_pass};
 use crate::shown::shown;
 use event_pieces::SharedEvents;
-use service::{Pass, Service};
 use service_model_types::answer::Answer;
 use service_model_types::call::Stop;
 use service_model_types::request::{CompleteWorkflowTask, Read};
@@ -20,6 +19,7 @@ use wf_command::Command;
 use wf_command::command::SignalExternal;
 use wf_event::{Attributes, Event};
 use wf_event_values::{Items, Moment, TaskKind};
+use workflow_service::{Pass, Service};
 
 /// How many signals the workflow of the first shard sends.
 const COUNT: u64 = 50;

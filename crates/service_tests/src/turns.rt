@@ -6,12 +6,12 @@ ghost use Rattle.service.specs.Services.{IsPassOf};
 use crate::asked::{id, two_shards};
 use crate::passes::{open, take_pass};
 use crate::shown::{polled, shown, turned};
-use service::{Pass, Service};
 use service_model_types::call::Stop;
 use std::alloc::AllocGlobal;
 use std::process::Abort;
 use std::sync::Wait;
 use wf_event_values::Moment;
+use workflow_service::{Pass, Service};
 
 /// A dispatch turn on a shard comes to this.
 pub(crate) fn assert_dispatch<R: Abort + Wait>(

@@ -2,8 +2,8 @@
 
 ghost use Rattle.service_model.specs.Growth.{KeepsHistories, keeps-on, keeps-same};
 ghost use Rattle.service_model.specs.Service.{after, answer};
-ghost use Rattle.shard.specs.Grounding.{grounds};
-ghost use Rattle.shard.specs.GroundsOn.{grounds-on};
+ghost use Rattle.shard_gate.specs.Grounding.{grounds};
+ghost use Rattle.shard_gate.specs.GroundsOn.{grounds-on};
 ghost use Rattle.shard.specs.Standing.{StandsFor, IsReady, opened};
 
 use crate::prepare::prepare;

@@ -1,6 +1,5 @@
 //! What the phases ask, and what they must be answered.
 
-use service::Refused;
 use service_model_types::answer::{Answer, Reply};
 use service_model_types::request::{CompleteWorkflowTask, Hint, Request, Start, TakenTask};
 use std::alloc::Global;
@@ -8,6 +7,7 @@ use std::io::{self, ErrorKind};
 use wf_command::Command;
 use wf_command::command::StartTimer;
 use wf_event_values::{ConflictPolicy, Field, Id, Items, ReusePolicy, Span, TaskKind, Text};
+use workflow_service::Refused;
 
 /// The moment at which all timers are due, in milliseconds.
 pub(crate) const DUE: u64 = 1000;

@@ -4,13 +4,13 @@ ghost use Rattle.std.specs.Prelude.{IfOk};
 ghost use Rattle.service.specs.Services.{IsPassOf};
 
 use crate::calls::{DUE, answered, completion, first_task, start, unexpected};
-use service::{Pass, Service};
 use service_model_types::answer::Answer;
 use service_model_types::limits::DEFAULT_CAPACITY;
 use service_model_types::settings::{Settings, main_queue};
 use std::alloc::Global;
 use std::io;
 use wf_event_values::{Field, Moment};
+use workflow_service::{Pass, Service};
 
 /// A service with one shard, and its only pass.
 pub(crate) fn open(alloc: Global) -> io::Result<(Service, Pass)>

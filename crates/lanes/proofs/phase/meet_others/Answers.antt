@@ -6,7 +6,7 @@ use Rattle.lanes.specs.Lanes.{KeepsReplies, passes_of}
 use Rattle.lanes.proofs.MeetLemmas.{all-set, kept-first, kept-set, met-all, met-one}
 use Rattle.lanes.proofs.phase.meet_others.Goals as goal
 
-first-and-rest : (P : Lane → Type 0) (xs : List Lane) (x : Lane) (rest : List Lane) → xs ≡ x ∷ rest → All P xs → P x × All P rest
+first-and-rest : {A : Type 0} (P : A → Type 0) (xs : List A) (x : A) (rest : List A) → xs ≡ x ∷ rest → All P xs → P x × All P rest
 first-and-rest P xs x rest is all =
     let all' : All P (x ∷ rest) = subst (All P) is all in
     (all' 0 x (omega arith), λ k d below. all' (suc k) d (omega arith))
@@ -35,7 +35,7 @@ loop-other-preserved g c =
       own = c.meet.ensures.one;
       others = all-set (g.D.Door.admits c.args.door.now) ys i _ c.meet.ensures.other h.others;
       count = length-set ys i _ ∙ h.count;
-      met = met-one (g.D.Door.meets c.args.door.now) _ _ _ c.in-Some.rest.now ys i x _ (omega arith) h.count (h.rest i x (omega arith)) c.other-item.is (subst (λ (o : Lane). g.D.Door.meets c.args.door.now c.loop-other.first.pass o.pass c.meet.new.one c.meet.new.other) (sym c.other-item.is) c.meet.ensures.met) h.met;
+      met = met-one (g.D.Door.meets c.args.door.now) _ _ _ c.in-Some.rest.now ys i x _ (omega arith) h.count (h.rest i x (omega arith)) c.other-item.is (subst (λ (o : Lane g.row.S.Denot g.row.S-Plan.Denot). g.D.Door.meets c.args.door.now c.loop-other.first.pass o.pass c.meet.new.one c.meet.new.other) (sym c.other-item.is) c.meet.ensures.met) h.met;
       asked = h.asked;
       answered = h.answered;
       rest = λ k d from. get_or-set_other ys i k _ d (λ e. absurd (omega (arith, from, e))) ∙ h.rest k d (omega (arith, from));

@@ -12,6 +12,6 @@ invariant-loop-other g l = record {
   met : HasMet (g.D.Door.meets l.door) l.initial.first.pass (take l.other-index (passes_of l.initial.other-items)) (take l.other-index (passes_of l.other-items)) l.first.pass;
   asked : l.first.asked ≡ l.initial.first.asked;
   answered : l.first.answered ≡ l.initial.first.answered;
-  rest : (k : ℕ) (d : Lane) → l.other-index ≤ k → get_or l.other-items k d ≡ get_or l.initial.other-items k d;
+  rest : (k : ℕ) (d : Lane g.row.S.Denot g.row.S-Plan.Denot) → l.other-index ≤ k → get_or l.other-items k d ≡ get_or l.initial.other-items k d;
   kept : KeepsReplies l.initial.other-items l.other-items;
 }

@@ -2,7 +2,7 @@ use Rattle.std.proofs.Common.{◌≡◌, ◌++◌, ◌≤◌, length, map, vec_l
 use Rattle.service.proofs.close.handed_down.Given as goal
 
 abbrev pub invariant-loop-pass : goal.invariant-loop-pass
-invariant-loop-pass l = record {
+invariant-loop-pass g l = record {
   gives : l.all.items ≡ map (λ p. p.inner) l.yielded;
   gives_hints : l.all_hints.items ≡ map (λ p. p.hints) l.yielded;
   count : vec_len l.all ≡ length l.yielded;

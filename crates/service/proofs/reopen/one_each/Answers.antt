@@ -1,14 +1,14 @@
 use Rattle.std.proofs.Common.{◌≡◌, ◌<◌, ◌∙◌, length, map, ap, sym, arith}
 use Rattle.std.specs.List.{range_with_len}
 use Rattle.service.specs.Reopening.{record_at}
-use Rattle.service.proofs.ReopenLemmas.{each-record, given-count, one-more}
+use Rattle.service.proofs.ReopenLemmas.{each-record, records-count, one-more}
 use Rattle.service.proofs.reopen.one_each.Goals as goal
 
 pub returns-then-len-ne0 : goal.returns-then-len-ne0
 returns-then-len-ne0 c =
     let all = c.args.records.items in
     let some : 0 < length all = omega (arith, c.len.ensures, c.args.records.ok, c.if-len-ne0.true) in
-    sym (each-record all) ∙ ap (λ n. map (record_at all) (range_with_len 0 n)) (given-count c.args.settings.now all c.requires some)
+    sym (each-record all) ∙ ap (λ n. map (record_at all) (range_with_len 0 n)) (records-count c.args.settings.now all c.requires some)
 
 pub loop-preserved : goal.loop-preserved
 loop-preserved c =

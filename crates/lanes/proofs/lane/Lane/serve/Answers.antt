@@ -15,7 +15,7 @@ loop-call-init g c = record {
   working =
       let gives : into_iter_items c.into_iter-call-iterator.result ≡ c.replace-asked.result.items = c.into_iter-call-iterator.ensures.into_iter_gives.0 in
       let all : into_iter_items c.into_iter-call-iterator.result ≡ c.args.self.now.asked.items = gives ∙ ap (λ v. v.items) c.replace-asked.ensures.value in
-      let begun : Lane = record { pass = c.args.self.now.pass; asked = c.replace-asked.new.dest; answered = c.args.self.now.answered } in
+      let begun : Lane g.row.S.Denot g.row.S-Plan.Denot = record { pass = c.args.self.now.pass; asked = c.replace-asked.new.dest; answered = c.args.self.now.answered } in
       subst (λ rest. Working (g.D.Door.serves c.args.door.now) c.args.self.now rest begun) (sym all)
       (working-none (g.D.Door.serves c.args.door.now) c.args.self.now begun refl (ap (λ v. v.items) c.replace-asked.ensures.after ∙ c.new.ensures.items) refl);
 }

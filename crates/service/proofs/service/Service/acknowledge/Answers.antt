@@ -1,5 +1,5 @@
 use Rattle.std.proofs.Common.{subst, sym}
-use Rattle.service.specs.Grounding.{SeenGrounds}
+use Rattle.shard_gate.specs.Views.{SeenGrounds}
 use Rattle.service.specs.Services.{known_by}
 use Rattle.service.proofs.service.Service.acknowledge.Goals as goal
 

@@ -1,6 +1,6 @@
 use Rattle.std.proofs.Common.{◌∙◌, subst, sym}
 use Rattle.service.specs.Services.{IsServedAtLast, known_by}
-use Rattle.service.specs.Grounding.{SeenGrounds}
+use Rattle.shard_gate.specs.Views.{SeenGrounds}
 use Rattle.service.proofs.GroundLemmas.{delivery-grounds}
 use Rattle.service.proofs.TransferLemmas.{not-acknowledged}
 use Rattle.service.proofs.service.Service.deliver.Goals as goal

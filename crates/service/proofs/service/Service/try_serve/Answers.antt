@@ -5,7 +5,7 @@ use Rattle.service.proofs.ServedLemmas.{shard-below}
 use Rattle.service.proofs.service.Service.try_serve.Goals as goal
 
 pub try_serve_on-requires-clause-there : goal.try_serve_on-requires-clause-there
-try_serve_on-requires-clause-there c = λ none.
+try_serve_on-requires-clause-there g c = λ none.
     let x = c.args.self.now in
     let K = x.settings in
     let unrefused : refusal_of K c.args.request.operation ≡ None = ap (λ q. refusal_of K q.operation) (sym c.request.ensures) ∙ (sym c.refusal_of-refusal.ensures ∙ none) in

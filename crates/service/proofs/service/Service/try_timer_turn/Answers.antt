@@ -1,7 +1,10 @@
-use Rattle.std.proofs.Common.{◌<◌, ◌∙◌, sym, subst}
+use Rattle.std.proofs.Common.{◌<◌, ◌∙◌, ap, sym, subst}
+use Rattle.service.specs.Views.{Service}
 use Rattle.service.proofs.ServedLemmas.{named-below}
 use Rattle.service.proofs.service.Service.try_timer_turn.Goals as goal
 
 pub try_serve_on-requires-clause-there : goal.try_serve_on-requires-clause-there
-try_serve_on-requires-clause-there c = λ none.
-    subst (λ k. k < c.args.self.now.settings.shards) (sym c.from.ensures) (named-below c.args.self.now.settings c.args.shard (sym c.shard_refusal-refusal.ensures ∙ none))
+try_serve_on-requires-clause-there g c = λ none.
+    let K = c.self.inside.settings in
+    let below = named-below K c.args.shard (sym c.shard_refusal-refusal.ensures ∙ none) in
+    subst (λ n. c.from.result < n) (ap (λ (x : Service). x.settings.shards) c.self.view_is) (subst (λ k. k < K.shards) (sym c.from.ensures) below)

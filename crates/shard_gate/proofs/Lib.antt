@@ -1,0 +1,3 @@
+mod StepLemmas
+pub mod OpenLemmas
+mod CloseLemmas

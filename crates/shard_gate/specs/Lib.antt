@@ -1,0 +1,4 @@
+pub mod Views
+pub mod Opening
+pub mod Grounding
+pub mod GroundsOn

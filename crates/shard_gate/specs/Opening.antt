@@ -1,0 +1,25 @@
+-- MEANING: what shards are opened from: of each its setup and its record
+use Rattle.std.specs.Prelude.{List, ◌<◌, ◌^◌, flat_map, map}
+use Rattle.service_model_types.specs.declared.content.Content.{Content}
+use Rattle.service_model_types.specs.declared.content.Dispatch.{Dispatch}
+use Rattle.service_model_types.specs.declared.content.Setup.{Setup}
+use Rattle.service_model.specs.Service.{Entry, opening, replay}
+use Rattle.service_model.specs.Waiting.{waiting}
+
+-- the service's and the shard's numbers fit a run id, and there is a shard
+pub record IsSetup (s : Setup) : Type 0 where
+  pub service : s.service < 2 ^ 48
+  pub shard : s.shard < 2 ^ 12
+  pub some : 0 < s.shards
+
+-- the content with which each is opened
+abbrev pub opened_with : List (Setup × List Entry) → List Content
+opened_with given = map (λ (g : Setup × List Entry). opening g.0) given
+
+-- the record with which each is opened
+abbrev pub records_in : List (Setup × List Entry) → List (List Entry)
+records_in given = map (λ (g : Setup × List Entry). g.1) given
+
+-- the tasks that wait in the contents which the records leave, shard by shard
+abbrev pub waiting_in : List (Setup × List Entry) → List Dispatch
+waiting_in given = flat_map (λ (g : Setup × List Entry). waiting (replay g.0 g.1)) given

@@ -1,0 +1,161 @@
+//! How shards are opened, each as its record left it.
+
+ghost use Rattle.std.specs.Prelude.{◌≡◌, ◌≤◌, List, length, map, IfOk};
+ghost use Rattle.std.specs.List.{AllByRecursion};
+ghost use Rattle.gate.specs.Passes.{IsFresh, view as seen_by};
+ghost use Rattle.gate.specs.Records.{Each, KeepsAll, replay};
+ghost use Rattle.service_model_types.specs.declared.content.Setup.{Setup as TheSetup};
+ghost use Rattle.service_model.specs.Service.{Entry as TheEntry, opening, replay as replayed_by};
+ghost use Rattle.service_model.specs.Waiting.{waiting};
+ghost use Rattle.shard_gate.specs.Opening.{IsSetup, opened_with, records_in, waiting_in};
+ghost use Rattle.shard_gate.specs.Views.{IsPassOf, PassView, given as given_by, slots, starts_of};
+
+use crate::close::{Closed, GatePasses};
+use crate::keeps_shard::KeepsShard;
+use crate::shard_gate::{ShardGate, ShardPass};
+use gate::{Gate, replayed};
+use service_model_types::content::{Dispatch, Setup};
+use service_model_types::request::Request;
+use std::alloc::{AllocError, Global};
+use std::sync::Mutex;
+use step_record::Record;
+
+/// A gate that was opened, its passes, and the tasks that wait on its shards.
+#[derive(Drop)]
+pub struct Opened<S: KeepsShard> {
+    pub gate: ShardGate<S>,
+    /// Numbered from 0.
+    pub passes: Vec<ShardPass<S>>,
+    /// By shard, run and event.
+    pub waiting: Vec<Dispatch>,
+}
+
+/// A shard as its record left it, with that record, and the tasks that wait there.
+#[derive(Drop)]
+struct Reopened<S: KeepsShard> {
+    shard: S,
+    log: Record<Request>,
+    waiting: Vec<Dispatch>,
+}
+
+/// The shards with their records, and the tasks that wait on them.
+#[derive(Drop)]
+struct Laid<S: KeepsShard> {
+    objects: Vec<(S, Record<Request>)>,
+    waiting: Vec<Dispatch>,
+}
+
+/// One shard, as its record left it.
+fn reopen<S: KeepsShard>(
+    alloc: Global,
+    setup: Setup,
+    log: Record<Request>,
+) -> Result<Reopened<S>, AllocError>
+    requires { IsSetup setup }
+    ensures opening { IfOk result (λ r. S.opening r.shard ≡ opening setup) }
+    ensures log { IfOk result (λ r. r.log ≡ log) }
+    ensures stands { IfOk result (λ r. S.stands r.shard (replay S.after (S.opening r.shard) r.log)) }
+    ensures keeping { IfOk result (λ r. KeepsAll S.after S.keeps (S.opening r.shard) r.log) }
+    ensures waiting { IfOk result (λ r. r.waiting.items ≡ waiting (replayed_by setup log)) }
+{
+    let fresh = S::open(alloc, setup)?;
+    let (shard, log) = replayed(alloc, fresh, log)?;
+    let waiting = shard.waiting(alloc)?;
+    Ok(Reopened {
+        shard,
+        log,
+        waiting,
+    })
+}
+
+/// All shards, each as its record left it.
+fn lay<S: KeepsShard>(
+    alloc: Global,
+    given: Vec<(Setup, Record<Request>)>,
+) -> Result<Laid<S>, AllocError>
+    requires { AllByRecursion (λ (g : TheSetup × List TheEntry). IsSetup g.0) given.items }
+    ensures starts { IfOk result (λ l.
+        map (λ x. S.opening x.0) l.objects.items ≡ opened_with given.items) }
+    ensures records { IfOk result (λ l. map (λ x. x.1) l.objects.items ≡ records_in given.items) }
+    ensures standing { IfOk result (λ l. Each l.objects.items (λ k x.
+        S.stands x.0 (replay S.after (S.opening x.0) x.1))) }
+    ensures keeping { IfOk result (λ l. Each l.objects.items (λ k x.
+        KeepsAll S.after S.keeps (S.opening x.0) x.1)) }
+    ensures waiting { IfOk result (λ l. l.waiting.items ≡ waiting_in given.items) }
+{
+    let mut objects = Vec::new(alloc);
+    let mut all = Vec::new(alloc);
+    for (setup, log) in given {
+        let Reopened {
+            shard,
+            log,
+            mut waiting,
+        } = reopen(alloc, setup, log)?;
+        objects.push((shard, log))?;
+        all.append(&mut waiting)?;
+    }
+    Ok(Laid {
+        objects,
+        waiting: all,
+    })
+}
+
+/// The passes of a gate as those of its shards.
+fn as_shard_passes<S: KeepsShard>(
+    alloc: Global,
+    inner: Vec<gate::Pass<S>>,
+) -> Result<Vec<ShardPass<S>>, AllocError>
+    ensures tables { IfOk result (λ v. map (λ (p : PassView). p.table) v.items
+        ≡ map (λ p. p.seat.table_id) inner.items) }
+    ensures known { IfOk result (λ v. map (λ (p : PassView). p.known) v.items
+        ≡ map (λ p. seen_by p) inner.items) }
+{
+    let mut passes = Vec::with_capacity(alloc, inner.len())?;
+    for inner in inner {
+        passes.push(ShardPass { inner })?;
+    }
+    Ok(passes)
+}
+
+impl<S: KeepsShard> ShardGate<S> {
+    /// Opens a gate over 1 to 64 shards, each as its record left it, and gives 1 to 256 passes,
+    /// numbered from 0.
+    ///
+    /// # Errors
+    /// Where memory was refused.
+    pub fn open(
+        alloc: Global,
+        given: Vec<(Setup, Record<Request>)>,
+        passes: usize,
+    ) -> Result<Opened<S>, AllocError>
+        requires slots { (1 ≤ length given.items) × (length given.items ≤ 64) }
+        requires passes { (1 ≤ passes) × (passes ≤ 256) }
+        requires setups { AllByRecursion
+            (λ (g : TheSetup × List TheEntry). IsSetup g.0) given.items }
+        ensures slots { IfOk result (λ r. slots r.gate ≡ length given.items) }
+        ensures starts { IfOk result (λ r. starts_of r.gate ≡ opened_with given.items) }
+        ensures records { IfOk result (λ r. r.gate.origin.bases ≡ records_in given.items) }
+        ensures given { IfOk result (λ r. (given_by r.gate ≡ passes)
+            × (length r.passes.items ≡ passes)) }
+        ensures own { IfOk result (λ r. Each r.passes.items (λ k p. IsPassOf p r.gate)) }
+        ensures fresh { IfOk result (λ r. Each r.passes.items (λ k p. IsFresh k p.known)) }
+        ensures waiting { IfOk result (λ r. r.waiting.items ≡ waiting_in given.items) }
+    {
+        let Laid { objects, waiting } = lay(alloc, given)?;
+        let count = objects.len();
+        let (gate, inner) = Gate::open(alloc, objects, passes)?;
+        let passes = as_shard_passes(alloc, inner)?;
+        let room = GatePasses::new(alloc)?;
+        let closed = Closed::new(alloc, count)?;
+        let gate = ShardGate {
+            gate,
+            handed_down: Mutex::new(room),
+            closed,
+        };
+        Ok(Opened {
+            gate,
+            passes,
+            waiting,
+        })
+    }
+}

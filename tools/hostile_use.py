@@ -1,0 +1,93 @@
+#!/usr/bin/env python3
+"""Hostile use of the built programs for some minutes: a soak, lines that nobody means well with, each
+allocation refused, and drawn schedules.
+
+    tools/hostile_use.py
+
+`rt ci` leaves the programs where this looks for them, in crates/NAME/out/NAME. What is drawn is drawn
+anew each day. The status is 1 where a part found something. A part that can't be run here is left out,
+and one that doesn't end in its time is stopped; both are said, and neither is a fault of the programs:
+each part waits itself for a reply and fails where none comes. A longer run of each is made by hand.
+"""
+import collections
+import datetime
+import pathlib
+import shutil
+import signal
+import subprocess
+import sys
+import tempfile
+import os
+
+ROOT = pathlib.Path(__file__).resolve().parent.parent
+CALLS = ROOT / "crates/refused_allocations/out/refused_allocations"
+PROGRAM = ROOT / "crates/wfserve/out/wfserve"
+SOAK_SECONDS, SCHEDULES, REFUSED_SECONDS = 20, 300, 300
+# Twenty times what a part takes on a quiet machine, and more than it waits for a reply.
+LIMIT_SECONDS = 900
+
+Part = collections.namedtuple("Part", "title command programs compiles")
+
+
+def parts(today):
+    """What is run: with Python, from seeds and places that the day gives."""
+    day, seed = str(today.toordinal()), today.strftime("%Y%m%d")
+    refused = ["tools/refused_allocations.py", "--within", str(REFUSED_SECONDS), "--day", day]
+    schedules = ["tools/schedules.py", "--runs", str(SCHEDULES), "--seed", seed]
+    return [
+        Part(f"a soak of {SOAK_SECONDS} s", ["bench/soak.py", str(SOAK_SECONDS), seed], [PROGRAM], False),
+        Part("hostile lines", ["bench/hostile.py"], [PROGRAM], False),
+        Part("each allocation refused", [*refused, str(CALLS), str(PROGRAM)], [CALLS, PROGRAM], True),
+        Part(f"{SCHEDULES} schedules", [*schedules, str(PROGRAM)], [PROGRAM], True),
+    ]
+
+
+def has_compiler():
+    """Whether an allocator can be compiled here, as the parts that refuse memory or yield do it."""
+    if not shutil.which("cc"):
+        return False
+    with tempfile.TemporaryDirectory() as folder:
+        for source in ("refuse_nth.c", "yield_often.c"):
+            call = ["cc", "-O2", "-shared", "-fPIC", "-o", f"{folder}/tried.so", ROOT / "tools" / source]
+            if subprocess.run(call, capture_output=True, timeout=LIMIT_SECONDS).returncode:
+                return False
+    return True
+
+
+def why_not(part, compiles):
+    """Why a part can't be run here, or nothing."""
+    missing = [str(program.relative_to(ROOT)) for program in part.programs if not os.access(program, os.X_OK)]
+    if missing:
+        return f"{', '.join(missing)} is not built"
+    return "there is no C compiler for its allocator" if part.compiles and not compiles else None
+
+
+def found_by(part, limit):
+    """Runs a part, with all that it starts. Whether it found something."""
+    call = [sys.executable, *part.command]
+    with subprocess.Popen(call, cwd=ROOT, stdin=subprocess.DEVNULL, start_new_session=True) as run:
+        try:
+            status = run.wait(timeout=limit)
+        except subprocess.TimeoutExpired:
+            os.killpg(run.pid, signal.SIGKILL)
+            print(f"== {part.title}: stopped after {limit} s, which says nothing of the programs", flush=True)
+            return False
+    print(f"== {part.title}: {f'FOUND SOMETHING, status {status}' if status else 'nothing found'}", flush=True)
+    return status != 0
+
+
+def main():
+    compiles, found = has_compiler(), []
+    for part in parts(datetime.date.today()):
+        reason = why_not(part, compiles)
+        if reason:
+            print(f"== {part.title}: left out, since {reason}", flush=True)
+            continue
+        print(f"== {part.title}", flush=True)
+        if found_by(part, LIMIT_SECONDS):
+            found.append(part.title)
+    return 1 if found else 0
+
+
+if __name__ == "__main__":
+    sys.exit(main())
