@@ -53,7 +53,7 @@ fn close_transfer(setup: &Setup, run: RunId, event: &Event) -> Result<Option<Sen
 {
     match &event.attributes {
         Attributes::StartChildWorkflowExecutionInitiated(asked) => {
-            close_child(setup, run, event.id, asked)
+            close_child(setup, run, event.id, asked.get())
         }
         _ => Ok(None),
     }

@@ -20,7 +20,7 @@ fn task_dispatch(setup: &Setup, run: u64, event: &Event) -> Result<Option<Dispat
             (task.task_queue.clone()?, TaskKind::Workflow, task.attempt)
         }
         Attributes::ActivityTaskScheduled(activity) => {
-            (activity.task_queue.clone()?, TaskKind::Activity, 1)
+            (activity.get().task_queue.clone()?, TaskKind::Activity, 1)
         }
         _ => return Ok(None),
     };

@@ -94,10 +94,10 @@ fn request_transfer(setup: &Setup, run: RunId, event: &Event) -> Result<Option<S
 {
     match &event.attributes {
         Attributes::StartChildWorkflowExecutionInitiated(asked) => {
-            Ok(Some(start_child(setup, run, event.id, asked)?))
+            Ok(Some(start_child(setup, run, event.id, asked.get())?))
         }
         Attributes::SignalExternalWorkflowExecutionInitiated(asked) => {
-            Ok(Some(signal_external(setup, run, event.id, asked)?))
+            Ok(Some(signal_external(setup, run, event.id, asked.get())?))
         }
         Attributes::RequestCancelExternalWorkflowExecutionInitiated(asked) => {
             Ok(Some(cancel_external(setup, run, event.id, asked)?))

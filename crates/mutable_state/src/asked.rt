@@ -47,8 +47,10 @@ pub fn asked_id(attributes: &Attributes) -> Option<&Id>
     ensures { option_copied result ≡ asked_id attributes.now }
 {
     match attributes {
-        Attributes::StartChildWorkflowExecutionInitiated(asked) => Some(&asked.workflow_id),
-        Attributes::SignalExternalWorkflowExecutionInitiated(asked) => Some(&asked.workflow_id),
+        Attributes::StartChildWorkflowExecutionInitiated(asked) => Some(&asked.get().workflow_id),
+        Attributes::SignalExternalWorkflowExecutionInitiated(asked) => Some(
+            &asked.get().workflow_id,
+        ),
         Attributes::RequestCancelExternalWorkflowExecutionInitiated(asked) => {
             Some(&asked.workflow_id)
         }

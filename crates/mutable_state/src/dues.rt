@@ -100,6 +100,7 @@ pub fn activity_due(event: &Event, notes: &Notes, ordinal: u64) -> Option<Due>
     let Attributes::ActivityTaskScheduled(activity) = &event.attributes else {
         return None;
     };
+    let activity = activity.get();
     let close = due_after(
         event.at,
         activity.schedule_to_close,

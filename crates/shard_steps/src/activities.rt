@@ -26,6 +26,7 @@ pub fn attempt_task(
     if !waits(activity, waiting.attempt) {
         return Ok(None);
     }
+    let scheduled = scheduled.get();
     Ok(Some(ActivityTask {
         activity_id: scheduled.activity_id.clone()?,
         activity_type: scheduled.activity_type.clone()?,

@@ -27,6 +27,7 @@ pub fn verdict_of(activity: &Activity, ended: Ended, moment: Moment) -> Option<V
     let Attributes::ActivityTaskScheduled(scheduled) = &activity.scheduled.attributes else {
         return None;
     };
+    let scheduled = scheduled.get();
     Some(judged(
         &scheduled.retry,
         ended,

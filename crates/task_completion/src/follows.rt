@@ -3,10 +3,10 @@
 ghost use Rattle.std.specs.Prelude.{◌≡◌, IfOk, unwrap_or};
 ghost use Rattle.task_completion.specs.Judging.{continued_as_new};
 
-use std::alloc::AllocError;
+use std::alloc::{AllocError, Global};
 use wf_command::command::ContinueAsNew;
-use wf_event::Attributes;
 use wf_event::payloads::{WorkflowExecutionContinuedAsNew, WorkflowExecutionStarted};
+use wf_event::{Attributes, Boxed};
 use wf_event_values::{Id, RunId, Text};
 
 /// The queue of its workflow tasks.
@@ -31,6 +31,7 @@ pub fn type_after<'a>(command: &'a ContinueAsNew, started: &'a WorkflowExecution
 
 /// The closing event of a run that began like this, and is followed by that one.
 pub(crate) fn continued_as_new(
+    alloc: Global,
     command: &ContinueAsNew,
     started: &WorkflowExecutionStarted,
     next: RunId,
@@ -40,10 +41,11 @@ pub(crate) fn continued_as_new(
     let workflow_type = type_after(command, started).clone()?;
     let task_queue = queue_after(command, started).clone()?;
     let input = command.input.clone()?;
-    Ok(Attributes::WorkflowExecutionContinuedAsNew(WorkflowExecutionContinuedAsNew {
+    let fields = WorkflowExecutionContinuedAsNew {
         new_run: next,
         workflow_type,
         task_queue,
         input,
-    }))
+    };
+    Ok(Attributes::WorkflowExecutionContinuedAsNew(Boxed::new(alloc, fields)?))
 }

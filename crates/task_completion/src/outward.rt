@@ -4,13 +4,13 @@ ghost use Rattle.std.specs.Prelude.{◌≡◌, IfOk};
 ghost use Rattle.task_completion.specs.Outward.{child_asked, external_signal, external_cancel};
 
 use service_model_types::limits::used_task_timeout;
-use std::alloc::AllocError;
+use std::alloc::{AllocError, Global};
 use wf_command::command::{RequestCancelExternal, SignalExternal, StartChild};
-use wf_event::Attributes;
 use wf_event::payloads::{
     RequestCancelExternalWorkflowExecutionInitiated, SignalExternalWorkflowExecutionInitiated,
     StartChildWorkflowExecutionInitiated,
 };
+use wf_event::{Attributes, Boxed};
 
 /// How much is pending of what a run asked of other workflows.
 #[derive(Clone, Copy)]
@@ -21,10 +21,10 @@ pub struct Outward {
 }
 
 /// The event of a child that is to start.
-pub(crate) fn child_asked(command: &StartChild) -> Result<Attributes, AllocError>
+pub(crate) fn child_asked(alloc: Global, command: &StartChild) -> Result<Attributes, AllocError>
     ensures { IfOk result (λ a. a ≡ child_asked command.now) }
 {
-    Ok(Attributes::StartChildWorkflowExecutionInitiated(StartChildWorkflowExecutionInitiated {
+    let fields = StartChildWorkflowExecutionInitiated {
         workflow_id: command.workflow_id.clone()?,
         workflow_type: command.workflow_type.clone()?,
         task_queue: command.task_queue.clone()?,
@@ -33,24 +33,27 @@ pub(crate) fn child_asked(command: &StartChild) -> Result<Attributes, AllocError
         parent_close: command.parent_close,
         run_timeout: command.run_timeout,
         task_timeout: used_task_timeout(command.task_timeout),
-    }))
+    };
+    Ok(Attributes::StartChildWorkflowExecutionInitiated(Boxed::new(alloc, fields)?))
 }
 
 /// The event of a signal to another workflow.
-pub(crate) fn external_signal(command: &SignalExternal) -> Result<Attributes, AllocError>
+pub(crate) fn external_signal(
+    alloc: Global,
+    command: &SignalExternal,
+) -> Result<Attributes, AllocError>
     ensures { IfOk result (λ a. a ≡ external_signal command.now) }
 {
     let workflow_id = command.workflow_id.clone()?;
     let name = command.name.clone()?;
     let input = command.input.clone()?;
-    Ok(Attributes::SignalExternalWorkflowExecutionInitiated(
-        SignalExternalWorkflowExecutionInitiated {
-            workflow_id,
-            run: command.run,
-            name,
-            input,
-        },
-    ))
+    let fields = SignalExternalWorkflowExecutionInitiated {
+        workflow_id,
+        run: command.run,
+        name,
+        input,
+    };
+    Ok(Attributes::SignalExternalWorkflowExecutionInitiated(Boxed::new(alloc, fields)?))
 }
 
 /// The event of a request to another workflow to cancel.

@@ -6,17 +6,20 @@ ghost use Rattle.service_model.specs.Completion.{with_maximum};
 ghost use Rattle.task_completion.specs.Judging.{scheduled_by};
 
 use retry::maximum_of;
-use std::alloc::AllocError;
+use std::alloc::{AllocError, Global};
 use wf_command::command::ScheduleActivityTask;
 use wf_event::payloads::{ActivityTaskScheduled, PolicyFields};
-use wf_event::{Attributes, RetryPolicy};
+use wf_event::{Attributes, Boxed, RetryPolicy};
 
 /// The event of an activity whose policy is in range.
-pub(crate) fn scheduled(activity: &ScheduleActivityTask) -> Result<Attributes, AllocError>
+pub(crate) fn scheduled(
+    alloc: Global,
+    activity: &ScheduleActivityTask,
+) -> Result<Attributes, AllocError>
     requires { IsTrue (good_policy activity.now.retry) }
     ensures { IfOk result (λ attributes. attributes ≡ scheduled_by activity.now) }
 {
-    Ok(Attributes::ActivityTaskScheduled(ActivityTaskScheduled {
+    let fields = ActivityTaskScheduled {
         activity_id: activity.activity_id.clone()?,
         activity_type: activity.activity_type.clone()?,
         task_queue: activity.task_queue.clone()?,
@@ -26,7 +29,8 @@ pub(crate) fn scheduled(activity: &ScheduleActivityTask) -> Result<Attributes, A
         schedule_to_close: activity.schedule_to_close,
         heartbeat: activity.heartbeat,
         retry: retry(&activity.retry)?,
-    }))
+    };
+    Ok(Attributes::ActivityTaskScheduled(Boxed::new(alloc, fields)?))
 }
 
 /// The policy that the event has.

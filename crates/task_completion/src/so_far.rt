@@ -233,7 +233,7 @@ impl<'a> SoFar<'a> {
             return Ok(Err(Cause::PendingActivitiesLimitExceeded));
         }
         let event = self.next_event()?;
-        self.facts.push(scheduled(activity)?)?;
+        self.facts.push(scheduled(self.alloc, activity)?)?;
         self.activities
             .push(Used::new(event, Some(&activity.activity_id), false))?;
         Ok(Ok(()))
@@ -343,7 +343,7 @@ impl<'a> SoFar<'a> {
         if !self.setup.knows_queue(queue_after(command, self.started)) {
             return Ok(Err(Cause::BadContinueAsNewAttributes));
         }
-        let event = continued_as_new(command, self.started, self.next)?;
+        let event = continued_as_new(self.alloc, command, self.started, self.next)?;
         self.close(event)
     }
 
@@ -357,7 +357,7 @@ impl<'a> SoFar<'a> {
         if MOST_PENDING <= self.outward.children {
             return Ok(Err(Cause::PendingChildWorkflowsLimitExceeded));
         }
-        self.facts.push(child_asked(command)?)?;
+        self.facts.push(child_asked(self.alloc, command)?)?;
         self.outward.children += 1;
         Ok(Ok(()))
     }
@@ -369,7 +369,7 @@ impl<'a> SoFar<'a> {
         if MOST_PENDING <= self.outward.signals {
             return Ok(Err(Cause::PendingSignalsLimitExceeded));
         }
-        self.facts.push(external_signal(command)?)?;
+        self.facts.push(external_signal(self.alloc, command)?)?;
         self.outward.signals += 1;
         Ok(Ok(()))
     }
