@@ -5,7 +5,6 @@ ghost use Rattle.service.specs.Services.{IsPassOf};
 use case_files::{Case, Step, transcript};
 use script::LINE_LIMIT;
 use script_settings::settings_of;
-use workflow_service::{Pass, Service};
 use service_model_types::answer::Reply;
 use service_model_types::call::{Call, StartTask, StepCall};
 use service_model_types::request::Hint;
@@ -16,6 +15,7 @@ use std::sync::Wait;
 use wf_event_values::{Field, Moment, Refusal};
 use wire_replies::reply_text;
 use wire_requests::{Asked, read_line};
+use workflow_service::{Pass, Service};
 
 /// Which form of a call is made.
 #[derive(Clone, Copy)]
