@@ -1,3 +1,4 @@
+pub mod AlongLemmas
 pub mod BegunLemmas
 pub mod CourseLemmas
 pub mod FaultLemmas
@@ -8,6 +9,7 @@ pub mod PhaseLemmas
 pub mod PlaceLemmas
 pub mod PrintLemmas
 pub mod ReopenLemmas
+pub mod TraceLemmas
 pub mod ToldLemmas
 pub mod TurnLemmas
 pub mod WorkLemmas

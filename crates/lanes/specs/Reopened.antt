@@ -1,14 +1,20 @@
 -- MEANING: what lines over several lanes make of a service that was opened from records
-use Rattle.std.specs.Prelude.{◌≡◌, ◌⊎◌, ℕ, List, Bool, Option, Some, Err, length, slice_get}
+use Rattle.std.specs.Prelude.{◌≡◌, ◌⊎◌, ℕ, ◌<◌, List, Bool, Option, Some, Err, length, slice_get}
+use Rattle.std.specs.Io.KnownBytes.{Appends}
 use Rattle.wire_counted.specs.Failures.{Rose}
+use Rattle.wire_counted.specs.Written.{AppendsBeginning}
 use Rattle.wf_event_values.specs.declared.field.Field.{Field}
 use Rattle.wf_event_values.specs.declared.field.Field.TheVariants as field
 use Rattle.wf_event_values.specs.declared.refusal.Refusal.TheVariants as refusal
 use Rattle.wf_event_values.specs.Names.{field_name}
 use Rattle.service_model.specs.Service.{Entry}
+use Rattle.service_model_types.specs.declared.call.Call.{Call}
 use Rattle.service_model_types.specs.declared.settings.Settings.{Settings}
+use Rattle.service_model_types.specs.Replies.{Reply}
 use Rattle.gate.specs.Ends.{HasDone, IsEnd}
-use Rattle.gate.specs.Passes.{IsFresh, base}
+use Rattle.gate.specs.Passes.{IsFresh, base, seen, tickets as tickets_seen}
+use Rattle.gate.specs.Records.{Begins}
+use Rattle.service.specs.Ends.{IsHistoryOf}
 use Rattle.service.specs.Held.{HoldsAtOpening}
 use Rattle.service.specs.Ranges.{range_fault}
 use Rattle.service.specs.Reopening.{opens, record_at}
@@ -17,6 +23,7 @@ use Rattle.service.specs.Views.{Service}
 use Rattle.service.specs.Views.{Pass}
 use Rattle.script.specs.declared.fault.ScriptFault.{ScriptFault}
 use Rattle.script.specs.declared.fault.ScriptFault.TheVariants.{Memory, Read, Write, Setting, Records, QueueFull}
+use Rattle.script.specs.Output.{trace_if}
 use Rattle.lanes.specs.Endings as over
 use Rattle.lanes.specs.Meetings.{PassServed, PassesMet}
 
@@ -37,14 +44,32 @@ pub record AreRecordsAfter (K : Settings) (R : List (List Entry)) (ends : List P
   pub records : (s : ℕ) (log : List Entry) → slice_get logs s ≡ Some log → IsEnd (record_at R s) K.passes log
   pub passes : (s : ℕ) (log : List Entry) (k : ℕ) (p : Pass) → slice_get logs s ≡ Some log → slice_get ends k ≡ Some p → HasDone (record_at R s) (known_by p) s log
 
--- all lines of the input were served by a service that was opened from the records, and these are its records at the end
-pub record RanFrom (K : Settings) (R : List (List Entry)) (unread held unread' held' : Option (List ℕ)) (refused : Bool) (logs : List (List Entry)) : Type 0 where
+-- A call was served so by a service whose records at its end are these: what the pass then has seen of each shard begins that shard's record.
+-- So each reply is the sequential service's after the entries that stand before the call's own step in the record of the end.
+pub record ServedAlong (x : Service) (logs : List (List Entry)) (p p' : Pass) (call : Call) (r : Reply) : Type 0 where
+  pub served : PassServed x p p' call r
+  pub along : (shard : ℕ) → shard < (settings_of x).shards → Begins (seen (known_by p') shard) (record_at logs shard)
+
+-- The one history of all shards at the end: all steps since the opening, whichever lane made them, in the order of their tickets. Each shard's
+-- record is the one that was given and, behind it, the steps on that shard; what comes before a step grounds it; and the tickets that
+-- these passes have seen of a shard begin that shard's.
+pub record AreOneHistory (x : Service) (ends : List Pass) (logs : List (List Entry)) : Type 0 where
+  pub tickets : List (List ℕ)
+  pub history : IsHistoryOf x logs tickets
+  pub seen : (s : ℕ) (ts : List ℕ) (k : ℕ) (p : Pass) → slice_get tickets s ≡ Some ts → slice_get ends k ≡ Some p → Begins (tickets_seen (known_by p) s) ts
+
+-- all lines of the input were served by a service that was opened from the records, these are its records at the end, and behind the replies
+-- the steps of its one history were written, where they were asked for
+pub record RanFrom (K : Settings) (trace : Bool) (R : List (List Entry)) (unread held unread' held' : Option (List ℕ)) (refused : Bool) (logs : List (List Entry)) : Type 0 where
   pub service : Service
   pub passes : List Pass
   pub opened : IsOpenedFrom K R service passes
   pub ends : List Pass
-  pub ran : over.Ran (PassServed service) (PassesMet service) K passes unread held unread' held' refused ends
+  pub replied : Option (List ℕ)
+  pub ran : over.Ran (ServedAlong service logs) (PassesMet service) K passes unread held unread' replied refused ends
   pub records : AreRecordsAfter K R ends logs
+  pub one : AreOneHistory service ends logs
+  pub traced : Appends replied held' (trace_if trace one.history.run)
 
 -- the service was opened, and the script ended early
 pub record HaltedBehind (K : Settings) (R : List (List Entry)) (unread held unread' held' : Option (List ℕ)) : Type 0 where
@@ -53,9 +78,22 @@ pub record HaltedBehind (K : Settings) (R : List (List Entry)) (unread held unre
   pub opened : IsOpenedFrom K R service passes
   pub halted : over.Halted (PassServed service) (PassesMet service) K passes unread held unread' held'
 
+-- all lines were served, and behind the replies a beginning of the steps was written, where these were asked for
+pub record HaltedInTrace (K : Settings) (trace : Bool) (R : List (List Entry)) (unread held unread' held' : Option (List ℕ)) : Type 0 where
+  pub service : Service
+  pub passes : List Pass
+  pub opened : IsOpenedFrom K R service passes
+  pub refused : Bool
+  pub ends : List Pass
+  pub replied : Option (List ℕ)
+  pub logs : List (List Entry)
+  pub ran : over.Ran (ServedAlong service logs) (PassesMet service) K passes unread held unread' replied refused ends
+  pub one : AreOneHistory service ends logs
+  pub begun : AppendsBeginning replied held' (trace_if trace one.history.run)
+
 -- nothing was read and nothing written, or the service was opened
-abbrev pub HaltedFrom : Settings → List (List Entry) → (unread held unread' held' : Option (List ℕ)) → Type 0
-HaltedFrom K R unread held unread' held' = ((unread' ≡ unread) × (held' ≡ held)) ⊎ HaltedBehind K R unread held unread' held'
+abbrev pub HaltedFrom : Settings → Bool → List (List Entry) → (unread held unread' held' : Option (List ℕ)) → Type 0
+HaltedFrom K trace R unread held unread' held' = ((unread' ≡ unread) × (held' ≡ held)) ⊎ (HaltedBehind K R unread held unread' held' ⊎ HaltedInTrace K trace R unread held unread' held')
 
 -- a fault of the opening, by what refuses it, or of the reader, of the writer or of memory
 abbrev pub IsFaultFrom : Settings → List (List Entry) → ScriptFault → ℕ → ℕ → ℕ → ℕ → Type 0

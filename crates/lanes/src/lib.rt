@@ -2,7 +2,8 @@
 //!
 //! `run_lanes` reads lines up to a barrier or the end, lets every lane serve its own in their order, each
 //! in a thread of its own with its own pass, and then writes the replies in the order of the lines.
-//! `run_lanes_from` does so over a service that it opens from records, and gives the records of its end.
+//! `run_lanes_from` does so over a service that it opens from records, and gives the records of its end;
+//! where it is asked for, it writes the one history of all shards behind the last reply.
 #![tactic(auto)]
 
 mod door;

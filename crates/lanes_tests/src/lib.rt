@@ -1,5 +1,6 @@
 //! Lanes over threads: what no contract says of them, that they run at the same time, that they
-//! succeed, what is printed where a device fails, and what is served from records.
+//! succeed, what is printed where a device fails, what is served from records, and that the steps of
+//! all lanes stand in one list.
 #![tactic(auto)]
 
 #[cfg(test)]
@@ -12,3 +13,5 @@ mod limits;
 mod reopen;
 #[cfg(test)]
 mod serving;
+#[cfg(test)]
+mod trace;

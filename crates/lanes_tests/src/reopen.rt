@@ -75,6 +75,7 @@ fn served<R: AllocGlobal + Threads + Wait + Sync>(
         rt,
         rt.alloc(),
         settings,
+        false,
         records,
         &mut reader,
         &mut writer,

@@ -40,7 +40,7 @@ fn records_of<R: AllocGlobal + Wait>(
     }
     let mut reader = Counted::new(script);
     let mut writer = Counted::new(Vec::new(rt.alloc()));
-    match run_one::<Shard, _, _, _>(rt, rt.alloc(), settings, &mut reader, &mut writer) {
+    match run_one::<Shard, _, _, _>(rt, rt.alloc(), settings, false, &mut reader, &mut writer) {
         Ok(outcome) => Ok(outcome.records),
         Err(_) => Err(Fault::Memory),
     }

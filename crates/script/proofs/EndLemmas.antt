@@ -1,13 +1,16 @@
 -- From the last place that a script came to, to how it ended.
-use Rattle.std.proofs.Common.{◌≡◌, ℕ, List, [], ◌++◌, Option, Some, ◌≤◌, arith, inl, inr, sym, ap, ◌∙◌}
+use Rattle.std.proofs.Common.{◌≡◌, ℕ, List, [], ◌++◌, Bool, Option, Some, ◌≤◌, arith, inl, inr, sym, ap, ◌∙◌, subst}
 use Rattle.std.specs.Io.KnownBytes.{Appends, IsAtEnd}
 use Rattle.wire_counted.specs.Written.{AppendsBeginning}
-use Rattle.wire_counted.proofs.Known.{Appends-then, Consumes-none, beginning_behind, beginning_of_nothing}
+use Rattle.wire_counted.proofs.Known.{Appends-then, Consumes-none, beginning_behind, beginning_of_more, beginning_of_nothing}
 use Rattle.script.specs.Lines.{Line, all_lines, whole_lines}
 use Rattle.script.specs.Pending.{ended, left, last}
 use Rattle.script.specs.Cursor.{Cursor, at_opening, after_lines, lines_text}
 use Rattle.script.specs.World.{opening_world}
-use Rattle.script.specs.Output.{output, records_after, refuses}
+use Rattle.script.specs.Traced.{HasStepsAlone}
+use Rattle.gate.specs.Records.{on}
+use Rattle.service.specs.Reopening.{record_at}
+use Rattle.script.specs.Output.{replies_text, trace_if, world_after_lines}
 use Rattle.script.specs.Progress.{Progress, Stopped}
 use Rattle.script.specs.Endings.{Ran, Halted, IfRefused, IsDeviceFault, IsScriptFault, IsWriteFault}
 use Rattle.script.specs.declared.fault.ScriptFault.{ScriptFault}
@@ -15,55 +18,84 @@ use Rattle.script.specs.declared.fault.ScriptFault.TheVariants.{Memory, Read, Wr
 use Rattle.service_model.specs.Service.{Entry}
 use Rattle.service_model_types.specs.declared.settings.Settings.{Settings}
 use Rattle.script.proofs.LineLemmas.{ended-whole, ended-all}
-use Rattle.script.proofs.OutputLemmas.{lines_text-is, refused-is, world-is}
+use Rattle.script.proofs.OutputLemmas.{lines_text-is, refused-is, settings-is, world-is}
+use Rattle.script.proofs.RecordLaws.{records-tell-steps}
 use Rattle.script.proofs.Steps.{after_lines-append, lines_text-append}
 
--- the texts of the whole lines, and then of a last one, are the output
-whole_output : (K : Settings) (R : List (List Entry)) (text : List ℕ) → lines_text (at_opening K R) (ended (Some []) text) ≡ output K (opening_world K R) (whole_lines text)
-whole_output K R text = ap (lines_text (at_opening K R)) (ended-whole text) ∙ lines_text-is (at_opening K R) (whole_lines text)
+-- the texts of the whole lines, and then of a last one, are the replies
+whole_replies : (K : Settings) (R : List (List Entry)) (text : List ℕ) → lines_text (at_opening K R) (ended (Some []) text) ≡ replies_text K (opening_world K R) (whole_lines text)
+whole_replies K R text = ap (lines_text (at_opening K R)) (ended-whole text) ∙ lines_text-is (at_opening K R) (whole_lines text)
 
-all_output : (K : Settings) (R : List (List Entry)) (text : List ℕ) → lines_text (at_opening K R) (ended (Some []) text) ++ lines_text (after_lines (at_opening K R) (ended (Some []) text)) (last (left (Some []) text)) ≡ output K (opening_world K R) (all_lines text)
-all_output K R text =
+all_replies : (K : Settings) (R : List (List Entry)) (text : List ℕ) → lines_text (at_opening K R) (ended (Some []) text) ++ lines_text (after_lines (at_opening K R) (ended (Some []) text)) (last (left (Some []) text)) ≡ replies_text K (opening_world K R) (all_lines text)
+all_replies K R text =
     sym (lines_text-append (at_opening K R) (ended (Some []) text) (last (left (Some []) text)))
     ∙ ap (lines_text (at_opening K R)) (ended-all text) ∙ lines_text-is (at_opening K R) (all_lines text)
 
-all_refused : (K : Settings) (R : List (List Entry)) (text : List ℕ) → (after_lines (after_lines (at_opening K R) (ended (Some []) text)) (last (left (Some []) text))).refused ≡ refuses K (opening_world K R) (all_lines text)
-all_refused K R text =
-    ap (λ (c : Cursor). c.refused) (sym (after_lines-append (at_opening K R) (ended (Some []) text) (last (left (Some []) text))))
-    ∙ ap (λ ls. (after_lines (at_opening K R) ls).refused) (ended-all text) ∙ refused-is (at_opening K R) (all_lines text)
+-- where all lines lead
+all_after : (K : Settings) (R : List (List Entry)) (text : List ℕ) → after_lines (after_lines (at_opening K R) (ended (Some []) text)) (last (left (Some []) text)) ≡ after_lines (at_opening K R) (all_lines text)
+all_after K R text = sym (after_lines-append (at_opening K R) (ended (Some []) text) (last (left (Some []) text))) ∙ ap (after_lines (at_opening K R)) (ended-all text)
 
-all_recorded : (K : Settings) (R : List (List Entry)) (text : List ℕ) → (after_lines (after_lines (at_opening K R) (ended (Some []) text)) (last (left (Some []) text))).world.records ≡ records_after K (opening_world K R) (all_lines text)
-all_recorded K R text =
-    ap (λ (c : Cursor). c.world.records) (sym (after_lines-append (at_opening K R) (ended (Some []) text) (last (left (Some []) text))))
-    ∙ ap (λ ls. (after_lines (at_opening K R) ls).world.records) (ended-all text) ∙ ap (λ W. W.records) (world-is (at_opening K R) (all_lines text))
+-- a script that came to the end of its input and served the last line
+module _ (K : Settings) (R : List (List Entry)) (r w r1 : Option (List ℕ)) (c1 : Cursor) (p1 : Line) (w1 : Option (List ℕ)) (c2 : Cursor) (w2 : Option (List ℕ)) (a : Progress r (at_opening K R) (Some []) w r1 c1 p1 w1)
+    (cursor : c2 ≡ after_lines c1 (last p1)) (written : Appends w1 w2 (lines_text c1 (last p1))) where
+  came_to : c2 ≡ after_lines (at_opening K R) (all_lines a.text)
+  came_to =
+      let is : c2 ≡ after_lines (after_lines (at_opening K R) (ended (Some []) a.text)) (last (left (Some []) a.text)) = rw (← a.served.cursor_is, ← a.served.line_is) cursor in
+      is ∙ all_after K R a.text
 
-pub ran : (K : Settings) (R : List (List Entry)) (r w r1 : Option (List ℕ)) (c1 : Cursor) (p1 : Line) (w1 : Option (List ℕ)) (c2 : Cursor) (w2 : Option (List ℕ)) → Progress r (at_opening K R) (Some []) w r1 c1 p1 w1 → IsAtEnd r1
-    → c2 ≡ after_lines c1 (last p1) → Appends w1 w2 (lines_text c1 (last p1)) → Ran K (opening_world K R) r w r1 w2 c2.refused c2.world.records
-ran K R r w r1 c1 p1 w1 c2 w2 a end cursor written =
-    let first = lines_text (at_opening K R) (ended (Some []) a.text) in
-    let rest : Appends w1 w2 (lines_text (after_lines (at_opening K R) (ended (Some []) a.text)) (last (left (Some []) a.text))) = rw (← a.served.cursor_is, ← a.served.line_is) written in
-    let is : c2 ≡ after_lines (after_lines (at_opening K R) (ended (Some []) a.text)) (last (left (Some []) a.text)) = rw (← a.served.cursor_is, ← a.served.line_is) cursor in
-    record {
-      text = a.text;
-      read = a.read;
-      at_end = end;
-      written = rw (← all_output K R a.text) (Appends-then w w1 w2 first _ a.served.written rest);
-      refused_is = ap (λ (c : Cursor). c.refused) is ∙ all_refused K R a.text;
-      records_are = ap (λ (c : Cursor). c.world.records) is ∙ all_recorded K R a.text;
-    }
+  pub came_to_world : c2.world ≡ world_after_lines K (opening_world K R) (all_lines a.text)
+  came_to_world = ap (λ (c : Cursor). c.world) came_to ∙ world-is (at_opening K R) (all_lines a.text)
 
-pub broke : (K : Settings) (R : List (List Entry)) (r w r1 w1 : Option (List ℕ)) → Stopped r (at_opening K R) (Some []) w r1 w1 → Halted K (opening_world K R) r w r1 w1
-broke K R r w r1 w1 a = inl (record { text = a.text; read = a.read; begun = rw (← whole_output K R a.text) a.begun })
+  wrote_replies : Appends w w2 (replies_text K (opening_world K R) (all_lines a.text))
+  wrote_replies =
+      let first = lines_text (at_opening K R) (ended (Some []) a.text) in
+      let rest : Appends w1 w2 (lines_text (after_lines (at_opening K R) (ended (Some []) a.text)) (last (left (Some []) a.text))) = rw (← a.served.cursor_is, ← a.served.line_is) written in
+      rw (← all_replies K R a.text) (Appends-then w w1 w2 first _ a.served.written rest)
 
-pub broke_at_end : (K : Settings) (R : List (List Entry)) (r w r1 : Option (List ℕ)) (c1 : Cursor) (p1 : Line) (w1 w2 : Option (List ℕ)) → Progress r (at_opening K R) (Some []) w r1 c1 p1 w1 → IsAtEnd r1
-    → AppendsBeginning w1 w2 (lines_text c1 (last p1)) → Halted K (opening_world K R) r w r1 w2
-broke_at_end K R r w r1 c1 p1 w1 w2 a end begun =
+  -- the steps were written behind the replies, where they were asked for
+  pub ran : (trace : Bool) (w3 : Option (List ℕ)) → IsAtEnd r1 → Appends w2 w3 (trace_if trace c2.world.steps) → Ran K trace (opening_world K R) r w r1 w3 c2.refused c2.world.records
+  ran trace w3 end traced =
+      let lines = all_lines a.text in
+      let W = opening_world K R in
+      let steps : Appends w2 w3 (trace_if trace (world_after_lines K W lines).steps) = subst (λ X. Appends w2 w3 (trace_if trace X.steps)) came_to_world traced in
+      record {
+        text = a.text;
+        read = a.read;
+        at_end = end;
+        written = Appends-then w w2 w3 (replies_text K W lines) (trace_if trace (world_after_lines K W lines).steps) wrote_replies steps;
+        refused_is = ap (λ (c : Cursor). c.refused) came_to ∙ refused-is (at_opening K R) lines;
+        records_are = ap (λ X. X.records) came_to_world;
+      }
+
+  pub broke_in_trace : (trace : Bool) (w3 : Option (List ℕ)) → IsAtEnd r1 → AppendsBeginning w2 w3 (trace_if trace c2.world.steps) → Halted K trace (opening_world K R) r w r1 w3
+  broke_in_trace trace w3 end begun =
+      let lines = all_lines a.text in
+      let W = opening_world K R in
+      let steps : AppendsBeginning w2 w3 (trace_if trace (world_after_lines K W lines).steps) = subst (λ X. AppendsBeginning w2 w3 (trace_if trace X.steps)) came_to_world begun in
+      inr (record { text = a.text; read = a.read; at_end = end; begun = beginning_behind w w2 w3 (replies_text K W lines) (trace_if trace (world_after_lines K W lines).steps) wrote_replies steps })
+
+  -- without records there are no entries but the steps
+  pub steps_alone : R ≡ [] → HasStepsAlone c2.settings c2.world
+  steps_alone none =
+      let lines = all_lines a.text in
+      let W = world_after_lines K (opening_world K R) lines in
+      let there : HasStepsAlone K W = λ shard below. records-tell-steps K R lines shard below ∙ ap (λ logs. record_at logs shard ++ on shard W.steps) none in
+      let same : c2.settings ≡ K = ap (λ (c : Cursor). c.settings) came_to ∙ settings-is (at_opening K R) lines in
+      subst (λ k. HasStepsAlone k c2.world) (sym same) (subst (λ X. HasStepsAlone K X) (sym came_to_world) there)
+
+pub broke : (K : Settings) (R : List (List Entry)) (trace : Bool) (r w r1 w1 : Option (List ℕ)) → Stopped r (at_opening K R) (Some []) w r1 w1 → Halted K trace (opening_world K R) r w r1 w1
+broke K R trace r w r1 w1 a = inl (record { text = a.text; read = a.read; begun = rw (← whole_replies K R a.text) a.begun })
+
+pub broke_at_end : (K : Settings) (R : List (List Entry)) (trace : Bool) (r w r1 : Option (List ℕ)) (c1 : Cursor) (p1 : Line) (w1 w2 : Option (List ℕ)) → Progress r (at_opening K R) (Some []) w r1 c1 p1 w1 → IsAtEnd r1
+    → AppendsBeginning w1 w2 (lines_text c1 (last p1)) → Halted K trace (opening_world K R) r w r1 w2
+broke_at_end K R trace r w r1 c1 p1 w1 w2 a end begun =
     let first = lines_text (at_opening K R) (ended (Some []) a.text) in
     let rest : AppendsBeginning w1 w2 (lines_text (after_lines (at_opening K R) (ended (Some []) a.text)) (last (left (Some []) a.text))) = rw (← a.served.cursor_is, ← a.served.line_is) begun in
-    inr (record { text = a.text; read = a.read; at_end = end; begun = rw (← all_output K R a.text) (beginning_behind w w1 w2 first _ a.served.written rest) })
+    let replies : AppendsBeginning w w2 (replies_text K (opening_world K R) (all_lines a.text)) = rw (← all_replies K R a.text) (beginning_behind w w1 w2 first _ a.served.written rest) in
+    inr (record { text = a.text; read = a.read; at_end = end; begun = beginning_of_more w w2 (replies_text K (opening_world K R) (all_lines a.text)) (trace_if trace (world_after_lines K (opening_world K R) (all_lines a.text)).steps) replies })
 
-pub nothing_done : (K : Settings) (R : List (List Entry)) (r w : Option (List ℕ)) → Halted K (opening_world K R) r w r w
-nothing_done K R r w = inl (record { text = []; read = Consumes-none r; begun = beginning_of_nothing w _ })
+pub nothing_done : (K : Settings) (R : List (List Entry)) (trace : Bool) (r w : Option (List ℕ)) → Halted K trace (opening_world K R) r w r w
+nothing_done K R trace r w = inl (record { text = []; read = Consumes-none r; begun = beginning_of_nothing w _ })
 
 -- ---- whose fault it was
 

@@ -2,7 +2,8 @@ pub mod Steps
 pub mod LineLemmas
 pub mod PartLemmas
 pub mod OutputLemmas
-pub mod EndLemmas
+pub mod SortLemmas
+pub mod TicketLemmas
 pub mod OnePassLemmas
 pub mod QueueLemmas
 mod TransferLemmas
@@ -12,4 +13,5 @@ mod CloseLemmas
 mod OpeningLaws
 mod KeptLemmas
 mod RecordLaws
+pub mod EndLemmas
 mod RangeLemmas

@@ -2,6 +2,7 @@
 use Rattle.std.proofs.Common.{◌≡◌, ◌≢◌, ℕ, ◌+◌, ◌<◌, ◌≤◌, true, List, [], ◌∷◌, ◌++◌, length, refl, sym, ap, ◌∙◌, arith, zero, suc, Option, None, Some, slice_index_or, slice_set, subst, length-append, append-nil, append_assoc, ◌⊎◌, inl, inr}
 use Rattle.std.proofs.lemmas.Bool.Decides.{nat_tests}
 use Rattle.std.proofs.lemmas.List.FromFn.{get_or-map-range_with_len}
+use Rattle.std.proofs.lemmas.Option.{slice_get_within}
 use Rattle.std.specs.Prelude.{map, ◌==◌, if◌then◌else◌, Err}
 use Rattle.std.specs.List.{range_with_len}
 use Rattle.wf_event_values.specs.declared.refusal.Refusal.{Refusal}
@@ -19,8 +20,10 @@ use Rattle.service.specs.Views.{Service}
 use Rattle.service.specs.Contents.{setup_of}
 use Rattle.service.specs.Reopening.{record_at}
 use Rattle.service.specs.Services.{Answered, IsServedAtLast, IsServedOn}
+use Rattle.script.specs.Sorted.{steps_seen}
 use Rattle.script.specs.OnePass.{KnowsAll, content_seen, contents_seen, records_seen, world_seen}
-use Rattle.script.specs.World.{Came, World, content_at, recorded, stepped, unless}
+use Rattle.script.specs.World.{Came, World, content_at, entry_of, recorded, stepped, unless}
+use Rattle.script.proofs.TicketLemmas.{steps-more, steps-same, ticket-behind}
 
 -- all entries are of the one pass
 by-only : (es : List Entry) → FromGiven 1 es → by 0 es ≡ es
@@ -49,7 +52,7 @@ same-or-apart zero (suc n) = inr (λ h. omega (arith, h))
 same-or-apart (suc m) zero = inr (λ h. omega (arith, h))
 same-or-apart (suc m) (suc n) = elim (same-or-apart m n) [ inl h ↦ inl (ap suc h) | inr h ↦ inr (λ e. h (omega (arith, e))) ]
 
-past-front : (xs rest : List Entry) → past xs (xs ++ rest) ≡ rest
+pub past-front : (xs rest : List Entry) → past xs (xs ++ rest) ≡ rest
 past-front [] rest = refl
 past-front (x ∷ xs) rest = past-front xs rest
 
@@ -64,15 +67,17 @@ base-same v w s same = ap (λ o. slice_index_or o.bases s []) same.1
 pub all-own : (v : View Request Content) (s : ℕ) (log : List Entry) → KnowsAll v → FromGiven 1 (past (gate.base v s) log) → by (gate.number v) (past (gate.base v s) log) ≡ gate.mine v s → past (gate.base v s) log ≡ gate.mine v s
 all-own v s log h given own = sym (by-only (past (gate.base v s) log) given) ∙ ap (λ n. by n (past (gate.base v s) log)) (sym h.first) ∙ own
 
--- the shard of the step: what the pass did there was put behind the record at the opening
-based-own : (x : Service) (v w : View Request Content) (s : ℕ) (q : Request) (r : Reply) → KnowsAll v → IsServedOn x v w s q r → gate.seen w s ≡ gate.base v s ++ gate.mine w s
-based-own x v w s q r h done =
-    let es = gate.seen w s in
-    let more = past (gate.base v s) es in
+-- past the record at the opening all entries that it then sees are its own
+past-own : (x : Service) (v w : View Request Content) (s : ℕ) (q : Request) (r : Reply) → KnowsAll v → IsServedOn x v w s q r → past (gate.base v s) (gate.seen w s) ≡ gate.mine w s
+past-own x v w s q r h done =
+    let more = past (gate.base v s) (gate.seen w s) in
     let N : ℕ → Type 0 = λ n. FromGiven n more in
     let given : FromGiven 1 more = subst N h.one done.step.given in
-    split-past (gate.base v s) es done.step.based
-    ∙ ap (λ t. gate.base v s ++ t) (sym (by-only more given) ∙ ap (λ n. by n more) (sym h.first) ∙ done.step.own)
+    sym (by-only more given) ∙ ap (λ n. by n more) (sym h.first) ∙ done.step.own
+
+-- the shard of the step: what the pass did there was put behind the record at the opening
+based-own : (x : Service) (v w : View Request Content) (s : ℕ) (q : Request) (r : Reply) → KnowsAll v → IsServedOn x v w s q r → gate.seen w s ≡ gate.base v s ++ gate.mine w s
+based-own x v w s q r h done = split-past (gate.base v s) (gate.seen w s) done.step.based ∙ ap (λ t. gate.base v s ++ t) (past-own x v w s q r h done)
 
 -- after a step the pass has still seen its own steps alone
 alone-after : (x : Service) (v w : View Request Content) (s : ℕ) (q : Request) (r : Reply) → KnowsAll v → IsServedOn x v w s q r → (k : ℕ) → gate.seen w k ≡ gate.base w k ++ gate.mine w k
@@ -82,11 +87,21 @@ alone-after x v w s q r h done k = elim (same-or-apart k s) [
   | inr apart ↦ (done.step.others k apart).0 ∙ h.alone k ∙ ap (λ b. b ++ gate.mine v k) (sym (base-same v w k done.step.same)) ∙ ap (λ m. gate.base w k ++ m) (sym (done.step.others k apart).1)
 ]
 
+-- each of its steps has its ticket
+paired-after : (x : Service) (v w : View Request Content) (s : ℕ) (q : Request) (r : Reply) → KnowsAll v → IsServedOn x v w s q r → (k : ℕ) → length (gate.tickets w k) ≡ length (gate.mine w k)
+paired-after x v w s q r h done k = elim (same-or-apart k s) [
+  | inl same ↦ let P : ℕ → Type 0 = λ n. length (gate.tickets w n) ≡ length (gate.mine w n) in
+      subst P (sym same) (done.ticket.pairs ∙ ap length (past-own x v w s q r h done))
+  | inr apart ↦ ap length (done.ticket.others k apart) ∙ h.paired k ∙ ap length (sym (done.step.others k apart).1)
+]
+
 knows-served : (x : Service) (v w : View Request Content) (s : ℕ) (q : Request) (r : Reply) → KnowsAll v → IsServedOn x v w s q r → KnowsAll w
 knows-served x v w s q r h done = record {
   first = done.step.same.0 ∙ h.first;
   one = ap (λ o. o.passes) done.step.same.1 ∙ h.one;
   alone = alone-after x v w s q r h done;
+  paired = paired-after x v w s q r h done;
+  wide = ap (λ o. length o.starts) done.step.same.1 ∙ h.wide ∙ sym (ap (λ o. length o.bases) done.step.same.1);
 }
 
 -- so it has after it did nothing
@@ -95,21 +110,23 @@ knows-same v w h nothing = record {
   first = nothing.same.0 ∙ h.first;
   one = ap (λ o. o.passes) nothing.same.1 ∙ h.one;
   alone = λ s. nothing.sees s ∙ h.alone s ∙ ap (λ b. b ++ gate.mine v s) (sym (base-same v w s nothing.same)) ∙ ap (λ m. gate.base w s ++ m) (sym (nothing.has s));
+  paired = λ s. ap length (nothing.tickets s) ∙ h.paired s ∙ ap length (sym (nothing.has s));
+  wide = ap (λ o. length o.starts) nothing.same.1 ∙ h.wide ∙ sym (ap (λ o. length o.bases) nothing.same.1);
 }
 
 -- the step of a pass
-abbrev entry_of : View Request Content → Request → Entry
-entry_of v q = record { pass = gate.number v; request = q }
+abbrev entry_by : View Request Content → Request → Entry
+entry_by v q = record { pass = gate.number v; request = q }
 
 -- the step was put behind all that the pass had seen
-seen-after : (x : Service) (v w : View Request Content) (s : ℕ) (q : Request) (r : Reply) → KnowsAll v → IsServedOn x v w s q r → gate.seen w s ≡ gate.seen v s ++ entry_of v q ∷ []
+seen-after : (x : Service) (v w : View Request Content) (s : ℕ) (q : Request) (r : Reply) → KnowsAll v → IsServedOn x v w s q r → gate.seen w s ≡ gate.seen v s ++ entry_by v q ∷ []
 seen-after x v w s q r h done =
     based-own x v w s q r h done ∙ ap (λ t. gate.base v s ++ t) done.step.adds
-    ∙ sym (append_assoc (gate.base v s) (gate.mine v s) (entry_of v q ∷ [])) ∙ ap (λ t. t ++ entry_of v q ∷ []) (sym (h.alone s))
+    ∙ sym (append_assoc (gate.base v s) (gate.mine v s) (entry_by v q ∷ [])) ∙ ap (λ t. t ++ entry_by v q ∷ []) (sym (h.alone s))
 
 -- so it found just that
 front-is : (x : Service) (v w : View Request Content) (s : ℕ) (q : Request) (r : Reply) (h : KnowsAll v) (done : IsServedOn x v w s q r) → done.step.front ≡ gate.seen v s
-front-is x v w s q r h done = same-front (gate.seen v s) done.step.front (entry_of v q) done.step.extends (sym done.step.last ∙ seen-after x v w s q r h done)
+front-is x v w s q r h done = same-front (gate.seen v s) done.step.front (entry_by v q) done.step.extends (sym done.step.last ∙ seen-after x v w s q r h done)
 
 pub same-map : {X : Type 0} (f g : ℕ → X) (b m : ℕ) → ((k : ℕ) → b ≤ k → g k ≡ f k) → map g (range_with_len b m) ≡ map f (range_with_len b m)
 same-map f g b zero same = refl
@@ -127,7 +144,7 @@ map-set f g a (suc n) (suc s) y there here others =
 content-here : (K : Settings) (v : View Request Content) (s : ℕ) → s < K.shards → content_at K (contents_seen K v) s ≡ content_seen K v s
 content-here K v s below = get_or-map-range_with_len (content_seen K v) 0 K.shards s s (opening (setup_of K s)) below (omega arith)
 
-record-here : (K : Settings) (v : View Request Content) (s : ℕ) → s < K.shards → record_at (records_seen K v) s ≡ gate.seen v s
+pub record-here : (K : Settings) (v : View Request Content) (s : ℕ) → s < K.shards → record_at (records_seen K v) s ≡ gate.seen v s
 record-here K v s below = get_or-map-range_with_len (gate.seen v) 0 K.shards s s [] below (omega arith)
 
 -- the contents and the records are as they were where nothing was seen
@@ -162,6 +179,21 @@ records-served x v w s q r h below done =
     (ap (gate.seen w) (omega arith) ∙ here)
     (λ k apart. (done.step.others k (λ e. apart (e ∙ omega arith))).0)
 
+-- the shard of a step is there
+served-within : (x : Service) (v w : View Request Content) (s : ℕ) (q : Request) (r : Reply) → KnowsAll v → IsServedOn x v w s q r → s < gate.width v
+served-within x v w s q r h done = let low = slice_get_within (gate.starts v) s done.step.start done.step.opened in omega (arith, low, h.wide)
+
+-- the steps after a step: that one is the last
+steps-served : (x : Service) (v w : View Request Content) (s : ℕ) (q : Request) (r : Reply) → KnowsAll v → IsServedOn x v w s q r → steps_seen w ≡ steps_seen v ++ (s, entry_of q) ∷ []
+steps-served x v w s q r h done =
+    let stamp = done.ticket in
+    let pairs : length (gate.tickets w s) ≡ length (gate.mine w s) = paired-after x v w s q r h done s in
+    let behind = ticket-behind (gate.tickets v s) stamp.front (gate.tickets w s) stamp.ticket (gate.mine v s) (gate.mine w s) (entry_by v q) stamp.extends stamp.last (h.paired s) done.step.adds pairs in
+    let with_pass : ℕ → List (ℕ × Entry) = λ n. steps_seen v ++ (s, record { pass = n; request = q }) ∷ [] in
+    steps-more v w s stamp.ticket (entry_by v q) done.step.same (served-within x v w s q r h done) (h.paired s) done.step.adds behind
+    (λ k ne. (done.step.others k ne).1) stamp.others stamp.above
+    ∙ ap with_pass h.first
+
 -- the reply is the shard's at its content
 reply-served : (x : Service) (v w : View Request Content) (s : ℕ) (q : Request) (r : Reply) → KnowsAll v → s < x.settings.shards → IsServedOn x v w s q r →
     r ≡ answer (content_at x.settings (contents_seen x.settings v) s) q
@@ -175,17 +207,21 @@ reply-served x v w s q r h below done =
 abbrev pub came : Reply → World → Came
 came r W = record { reply = r; world = W }
 
--- the world of other contents and records
-abbrev world_of : List Content → List (List Entry) → List HintView → World
-world_of cs logs hs = record { contents = cs; waiting = map waiting_of hs; records = logs }
+-- the world of other contents, records and steps
+abbrev world_of : List Content → List (List Entry) → List (ℕ × Entry) → List HintView → World
+world_of cs logs steps hs = record { contents = cs; waiting = map waiting_of hs; records = logs; steps = steps }
 
 served-is : (x : Service) (v w : View Request Content) (hs : List HintView) (s : ℕ) (q : Request) (r : Reply) → KnowsAll v → s < x.settings.shards → IsServedOn x v w s q r →
     came r (world_seen x.settings w hs) ≡ stepped x.settings (world_seen x.settings v hs) s q
 served-is x v w hs s q r h below done =
     let K = x.settings in
+    let reply = answer (content_at K (contents_seen K v) s) q in
+    let contents = slice_set (contents_seen K v) s (after (content_at K (contents_seen K v) s) q) in
+    let logs = slice_set (records_seen K v) s (recorded (record_at (records_seen K v) s) q) in
     ap (λ t. came t (world_seen K w hs)) (reply-served x v w s q r h below done)
-    ∙ ap (λ cs. came (answer (content_at K (contents_seen K v) s) q) (world_of cs (records_seen K w) hs)) (contents-served x v w s q r h below done)
-    ∙ ap (λ logs. came (answer (content_at K (contents_seen K v) s) q) (world_of (slice_set (contents_seen K v) s (after (content_at K (contents_seen K v) s) q)) logs hs)) (records-served x v w s q r h below done)
+    ∙ ap (λ cs. came reply (world_of cs (records_seen K w) (steps_seen w) hs)) (contents-served x v w s q r h below done)
+    ∙ ap (λ rs. came reply (world_of contents rs (steps_seen w) hs)) (records-served x v w s q r h below done)
+    ∙ ap (λ steps. came reply (world_of contents logs steps hs)) (steps-served x v w s q r h done)
 
 -- a step that was served comes to what the world's does
 pub step-is : (x : Service) (v w : View Request Content) (hs : List HintView) (s : ℕ) (q : Request) (r : Reply) → KnowsAll v → s < x.settings.shards → IsServedAtLast x v w s q r →
@@ -193,8 +229,9 @@ pub step-is : (x : Service) (v w : View Request Content) (hs : List HintView) (s
 step-is x v w hs s q r h below done =
     let nothing = done.waited.nothing in
     served-is x done.met w hs s q r (knows-same v done.met h nothing) below done.served
-    ∙ ap (λ cs. stepped x.settings (world_of cs (records_seen x.settings done.met) hs) s q) (contents-same x.settings v done.met nothing)
-    ∙ ap (λ logs. stepped x.settings (world_of (contents_seen x.settings v) logs hs) s q) (records-same x.settings v done.met nothing)
+    ∙ ap (λ cs. stepped x.settings (world_of cs (records_seen x.settings done.met) (steps_seen done.met) hs) s q) (contents-same x.settings v done.met nothing)
+    ∙ ap (λ logs. stepped x.settings (world_of (contents_seen x.settings v) logs (steps_seen done.met) hs) s q) (records-same x.settings v done.met nothing)
+    ∙ ap (λ steps. stepped x.settings (world_of (contents_seen x.settings v) (records_seen x.settings v) steps hs) s q) (steps-same v done.met nothing.same nothing.has nothing.tickets)
 
 pub knows-step : (x : Service) (v w : View Request Content) (s : ℕ) (q : Request) (r : Reply) → KnowsAll v → IsServedAtLast x v w s q r → KnowsAll w
 knows-step x v w s q r h done = knows-served x done.met w s q r (knows-same v done.met h done.waited.nothing) done.served

@@ -3,6 +3,7 @@ use Rattle.std.proofs.Common.{◌≡◌, ◌≢◌, ℕ, ◌*◌, ◌<◌, Bool,
 use Rattle.std.specs.Prelude.{map, nat_lt, slice_get, if◌then◌else◌, Result, Ok, Err}
 use Rattle.std.specs.List.{range_with_len}
 use Rattle.std.proofs.lemmas.List.{ext_get_or, length-map, length-replicate, length-set}
+use Rattle.std.proofs.lemmas.List.FromFn.{length-map-range_with_len}
 use Rattle.std.proofs.lemmas.Option.{slice_get-get_or}
 use Rattle.std.proofs.Math.ListN.{get_or-map}
 use Rattle.wf_event_values.specs.declared.field.Field.{Field}
@@ -32,9 +33,11 @@ use Rattle.service.specs.Ranges.{range_fault}
 use Rattle.service.specs.Reopening.{are_records, content_from, contents_from, opens, record_at, records_fault, unless_fault, waiting_from}
 use Rattle.service.specs.Services.{IsPassOf, hints_by, known_by}
 use Rattle.shard_gate.proofs.OpenLemmas.{replay-same}
+use Rattle.script.specs.Sorted.{steps_seen}
 use Rattle.script.specs.OnePass.{IsOnePass, KnowsAll, KnowsQueues, content_seen, contents_seen, records_seen, world_seen}
 use Rattle.script.specs.World.{World, held_at_opening, opening_world}
 use Rattle.script.proofs.OnePassLemmas.{same-map}
+use Rattle.script.proofs.TicketLemmas.{steps-none}
 
 abbrev Lists : Type 0
 Lists = List (List Hint)
@@ -45,11 +48,13 @@ Lists = List (List Hint)
 fresh-seen : (x : Service) (p : Pass) (R : List (List Entry)) (s : ℕ) → IsPassOf p x → base_of x s ≡ record_at R s → gate.IsFresh 0 (known_by p) → gate.seen (known_by p) s ≡ record_at R s
 fresh-seen x p R s own is new = new.sees s ∙ ap (λ o. slice_index_or o.bases s []) own.own.1 ∙ is
 
-fresh-all : (x : Service) (p : Pass) → IsPassOf p x → x.settings.passes ≡ 1 → gate.IsFresh 0 (known_by p) → KnowsAll (known_by p)
-fresh-all x p own alone new = record {
+fresh-all : (x : Service) (p : Pass) → IsPassOf p x → x.settings.passes ≡ 1 → length x.gate.origin.bases ≡ x.settings.shards → gate.IsFresh 0 (known_by p) → KnowsAll (known_by p)
+fresh-all x p own alone wide new = record {
   first = new.named;
   one = ap (λ o. o.passes) own.own.1 ∙ own.opened.passes ∙ alone;
   alone = λ s. new.sees s ∙ sym (append-nil (gate.base (known_by p) s)) ∙ ap (λ m. gate.base (known_by p) s ++ m) (sym (new.has s));
+  paired = λ s. ap length (new.bare s) ∙ ap length (sym (new.has s));
+  wide = ap (λ o. length o.starts) own.own.1 ∙ ap length own.opened.starts ∙ length-map-range_with_len _ 0 x.settings.shards ∙ sym wide ∙ ap (λ o. length o.bases) (sym own.own.1);
 }
 
 contents-fresh : (x : Service) (p : Pass) (R : List (List Entry)) → IsPassOf p x → ((s : ℕ) → base_of x s ≡ record_at R s) → gate.IsFresh 0 (known_by p) → contents_seen x.settings (known_by p) ≡ contents_from x.settings R
@@ -160,8 +165,8 @@ waiting-fresh K p held count new =
 
 -- ---- both
 
-pub fresh-one : (x : Service) (p : Pass) (R : List (List Entry)) (passes : List Pass) → IsPassOf p x → x.settings.passes ≡ 1 → gate.IsFresh 0 (known_by p) → slice_get passes 0 ≡ Some p → HoldsAtOpening x.settings R passes → IsOnePass x p
-fresh-one x p R passes own alone new first h = record { own = own; all = fresh-all x p own alone new; queues = fresh-queues x p h.held own (fresh-at x.settings R passes p h alone first) }
+pub fresh-one : (x : Service) (p : Pass) (R : List (List Entry)) (passes : List Pass) → IsPassOf p x → x.settings.passes ≡ 1 → length x.gate.origin.bases ≡ x.settings.shards → gate.IsFresh 0 (known_by p) → slice_get passes 0 ≡ Some p → HoldsAtOpening x.settings R passes → IsOnePass x p
+fresh-one x p R passes own alone wide new first h = record { own = own; all = fresh-all x p own alone wide new; queues = fresh-queues x p h.held own (fresh-at x.settings R passes p h alone first) }
 
 pub world-fresh : (x : Service) (p : Pass) (R : List (List Entry)) (passes : List Pass) → IsPassOf p x → x.settings.passes ≡ 1 → ((s : ℕ) → base_of x s ≡ record_at R s) → gate.IsFresh 0 (known_by p) → slice_get passes 0 ≡ Some p → HoldsAtOpening x.settings R passes →
     world_seen x.settings (known_by p) (hints_by p) ≡ opening_world x.settings R
@@ -171,10 +176,12 @@ world-fresh x p R passes own alone is new first h =
     let knows = fresh-at K R passes p h alone first in
     let queues = fresh-queues x p h.held own knows in
     let held : map waiting_of (hints_by p) ≡ held_at_opening (opens K R) = waiting-fresh K p h.held (held-count K R h.held h.opened ∙ sym queues.count) knows ∙ sym (ap held_at_opening h.opened) in
-    let with_contents : List Content → World = λ cs. record { contents = cs; waiting = map waiting_of (hints_by p); records = records_seen K (known_by p) } in
-    let with_waiting : Lists → World = λ t. record { contents = contents_from K R; waiting = t; records = records_seen K (known_by p) } in
-    let with_records : List (List Entry) → World = λ logs. record { contents = contents_from K R; waiting = held_at_opening (opens K R); records = logs } in
-    ap with_contents (contents-fresh x p R own is new) ∙ ap with_waiting held ∙ ap with_records (records-fresh x p R own is new)
+    let world_of : List Content → Lists → List (List Entry) → List (ℕ × Entry) → World = λ cs t logs steps. record { contents = cs; waiting = t; records = logs; steps = steps } in
+    let with_contents : List Content → World = λ cs. world_of cs (map waiting_of (hints_by p)) (records_seen K (known_by p)) (steps_seen (known_by p)) in
+    let with_waiting : Lists → World = λ t. world_of (contents_from K R) t (records_seen K (known_by p)) (steps_seen (known_by p)) in
+    let with_records : List (List Entry) → World = λ logs. world_of (contents_from K R) (held_at_opening (opens K R)) logs (steps_seen (known_by p)) in
+    let with_steps : List (ℕ × Entry) → World = world_of (contents_from K R) (held_at_opening (opens K R)) (map (record_at R) (range_with_len 0 K.shards)) in
+    ap with_contents (contents-fresh x p R own is new) ∙ ap with_waiting held ∙ ap with_records (records-fresh x p R own is new) ∙ ap with_steps (steps-none (known_by p) new.bare)
 
 -- the queues hold what the opening world says
 pub opened-is : (K : Settings) (R : List (List Entry)) (passes : List Pass) → HoldsAtOpening K R passes → opens K R ≡ Ok (opening_world K R).waiting

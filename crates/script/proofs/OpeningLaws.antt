@@ -26,6 +26,6 @@ unfolding opening_world
 opens-empty K range =
     let none : List (List Hint) = replicate (2 * length K.queues) [] in
     let opened : opens K [] ≡ Ok none = opens-as K [] [] (Ok none) range refl (sym (none-waits K 0 K.shards)) refl in
-    let with_waiting : List (List Hint) → World = λ t. record { contents = opening_contents K; waiting = t; records = map (record_at []) (range_with_len 0 K.shards) } in
-    let with_records : List (List Entry) → World = λ logs. record { contents = opening_contents K; waiting = none; records = logs } in
+    let with_waiting : List (List Hint) → World = λ t. record { contents = opening_contents K; waiting = t; records = map (record_at []) (range_with_len 0 K.shards); steps = [] } in
+    let with_records : List (List Entry) → World = λ logs. record { contents = opening_contents K; waiting = none; records = logs; steps = [] } in
     ap with_waiting (ap held_at_opening opened) ∙ ap with_records (no-record 0 K.shards)

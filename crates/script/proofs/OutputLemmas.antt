@@ -28,3 +28,8 @@ pub world-is : (c : Cursor) (ls : List Line) → (after_lines c ls).world ≡ wo
 unfolding after_line
 world-is c [] = refl
 world-is c (l ∷ ls) = world-is (after_line c l) ls
+
+pub settings-is : (c : Cursor) (ls : List Line) → (after_lines c ls).settings ≡ c.settings
+unfolding after_line
+settings-is c [] = refl
+settings-is c (l ∷ ls) = settings-is (after_line c l) ls

@@ -1,5 +1,5 @@
 -- how the records of a service and the contents of its shards belong together
-use Rattle.std.proofs.Common.{◌≡◌, ℕ, ◌+◌, ◌<◌, ◌≤◌, zero, suc, Bool, true, false, List, [], ◌∷◌, ◌++◌, length, refl, sym, ap, ◌∙◌, arith, append_assoc, append-nil, slice_set, inl, inr}
+use Rattle.std.proofs.Common.{◌≡◌, ℕ, ◌+◌, ◌<◌, ◌≤◌, zero, suc, Bool, true, false, List, [], ◌∷◌, ◌++◌, length, refl, sym, ap, ◌∙◌, arith, append_assoc, append-nil, slice_set, subst, inl, inr}
 use Rattle.std.proofs.lemmas.Bool.Decides.{nat_tests}
 use Rattle.std.proofs.lemmas.List.{get_or-set_other, get_or-set_same, length-set, set_past}
 use Rattle.std.proofs.lemmas.List.FromFn.{get_or-map-range_with_len, length-map-range_with_len}
@@ -9,11 +9,12 @@ use Rattle.service_model_types.specs.declared.content.Content.{Content}
 use Rattle.service_model_types.specs.declared.request.Request.{Request}
 use Rattle.service_model_types.specs.declared.settings.Settings.{Settings}
 use Rattle.service_model.specs.Service.{Entry, after, opening, replay}
-use Rattle.gate.specs.Records.{Begins}
+use Rattle.gate.specs.Records.{Begins, on}
+use Rattle.gate.proofs.Runs.{on_else, on_here}
 use Rattle.service.specs.Contents.{setup_of}
 use Rattle.service.specs.Reopening.{content_from, contents_from, record_at}
-use Rattle.script.specs.RecordLaws.{RecordsGrow, RecordsTellContents}
-use Rattle.script.specs.World.{World, content_at, opening_world, recorded, stepped}
+use Rattle.script.specs.RecordLaws.{RecordsGrow, RecordsTellContents, RecordsTellSteps}
+use Rattle.script.specs.World.{World, content_at, entry_of, opening_world, recorded, stepped}
 use Rattle.script.proofs.KeptLemmas.{IsKept, lines-kept}
 use Rattle.script.proofs.OnePassLemmas.{map-set, same-or-apart}
 
@@ -123,3 +124,42 @@ pub records-grow : RecordsGrow
 records-grow K W lines shard =
     let log = record_at W.records shard in
     lines-kept K (GoesOn log shard) (grows-kept K log shard) W lines ([], sym (append-nil log))
+
+-- ---- steps
+
+-- each shard's record is the one at the opening and, behind it, its steps
+record IsStepped (K : Settings) (R : List (List Entry)) (W : World) : Type 0 where
+  pub many : length W.records ≡ K.shards
+  pub told : (shard : ℕ) → shard < K.shards → record_at W.records shard ≡ record_at R shard ++ on shard W.steps
+
+opening-stepped : (K : Settings) (R : List (List Entry)) → IsStepped K R (opening_world K R)
+unfolding opening_world
+opening-stepped K R = record {
+  many = length-map-range_with_len (record_at R) 0 K.shards;
+  told = λ shard below. get_or-map-range_with_len (record_at R) 0 K.shards shard shard [] below (omega arith) ∙ sym (append-nil (record_at R shard));
+}
+
+step-stepped : (K : Settings) (R : List (List Entry)) (W : World) (s : ℕ) (q : Request) → IsStepped K R W → IsStepped K R (stepped K W s q).world
+step-stepped K R W s q h = record {
+  many = length-set W.records s (recorded (record_at W.records s) q) ∙ h.many;
+  told = λ k below. elim (same-or-apart k s) [
+    | inl same ↦ let P : ℕ → Type 0 = λ j. record_at (slice_set W.records s (recorded (record_at W.records s) q)) j ≡ record_at R j ++ on j (W.steps ++ (s, entry_of q) ∷ []) in
+        subst P (sym same) (here (omega (arith, below, same)))
+    | inr apart ↦ get_or-set_other W.records s k (recorded (record_at W.records s) q) [] apart ∙ h.told k below ∙ ap (λ es. record_at R k ++ es) (sym (on_else k s (entry_of q) W.steps apart))
+  ];
+}
+  where
+    here : s < K.shards → record_at (slice_set W.records s (recorded (record_at W.records s) q)) s ≡ record_at R s ++ on s (W.steps ++ (s, entry_of q) ∷ [])
+    here below =
+        get_or-set_same W.records s (recorded (record_at W.records s) q) [] (omega (arith, below, h.many))
+        ∙ ap (λ log. log ++ entry_of q ∷ []) (h.told s below) ∙ append_assoc (record_at R s) (on s W.steps) (entry_of q ∷ [])
+        ∙ ap (λ es. record_at R s ++ es) (sym (on_here s (entry_of q) W.steps))
+
+stepped-kept : (K : Settings) (R : List (List Entry)) → IsKept K (IsStepped K R)
+stepped-kept K R = record {
+  step = step-stepped K R;
+  waiting = λ W slot hints h. record { many = h.many; told = h.told };
+}
+
+pub records-tell-steps : RecordsTellSteps
+records-tell-steps K R lines shard below = (lines-kept K (IsStepped K R) (stepped-kept K R) (opening_world K R) lines (opening-stepped K R)).told shard below

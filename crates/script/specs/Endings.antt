@@ -4,7 +4,7 @@ use Rattle.std.specs.Io.KnownBytes.{Appends, Consumes, IsAtEnd}
 use Rattle.wire_counted.specs.Failures.{Rose}
 use Rattle.wire_counted.specs.Written.{AppendsBeginning}
 use Rattle.script.specs.Lines.{all_lines, whole_lines}
-use Rattle.script.specs.Output.{output, records_after, refuses}
+use Rattle.script.specs.Output.{output, records_after, refuses, replies_text}
 use Rattle.script.specs.Serving.{IsOutOfRange}
 use Rattle.script.specs.World.{World}
 use Rattle.script.specs.declared.fault.ScriptFault.{ScriptFault}
@@ -14,34 +14,36 @@ use Rattle.wf_event_values.specs.declared.refusal.Refusal.TheVariants as refusal
 use Rattle.wf_event_values.specs.declared.field.Field.{Field}
 use Rattle.wf_event_values.specs.declared.field.Field.TheVariants as field
 use Rattle.wf_event_values.specs.Names.{field_name}
+use Rattle.record_text.specs.declared.fault.WriteFault.{WriteFault}
+use Rattle.record_text.specs.declared.fault.WriteFault.TheVariants as of_text
 use Rattle.service_model.specs.Service.{Entry}
 use Rattle.service_model_types.specs.declared.settings.Settings.{Settings}
 use Rattle.service.specs.Reopening.{opens}
 
 -- the input was read to its end, just its output was written, `refused` says whether a reply in it is a refusal, and the shards' records are those after its lines
-pub record Ran (K : Settings) (W : World) (unread held unread' held' : Option (List ℕ)) (refused : Bool) (records : List (List Entry)) : Type 0 where
+pub record Ran (K : Settings) (trace : Bool) (W : World) (unread held unread' held' : Option (List ℕ)) (refused : Bool) (records : List (List Entry)) : Type 0 where
   pub text : List ℕ
   pub read : Consumes unread unread' text
   pub at_end : IsAtEnd unread'
-  pub written : Appends held held' (output K W (all_lines text))
+  pub written : Appends held held' (output K trace W (all_lines text))
   pub refused_is : refused ≡ refuses K W (all_lines text)
   pub records_are : records ≡ records_after K W (all_lines text)
 
--- some input was read, and a beginning of the output of its whole lines was written
+-- some input was read, and a beginning of the replies to its whole lines was written
 pub record Broke (K : Settings) (W : World) (unread held unread' held' : Option (List ℕ)) : Type 0 where
   pub text : List ℕ
   pub read : Consumes unread unread' text
-  pub begun : AppendsBeginning held held' (output K W (whole_lines text))
+  pub begun : AppendsBeginning held held' (replies_text K W (whole_lines text))
 
 -- the input was read to its end, and a beginning of its output was written
-pub record BrokeAtEnd (K : Settings) (W : World) (unread held unread' held' : Option (List ℕ)) : Type 0 where
+pub record BrokeAtEnd (K : Settings) (trace : Bool) (W : World) (unread held unread' held' : Option (List ℕ)) : Type 0 where
   pub text : List ℕ
   pub read : Consumes unread unread' text
   pub at_end : IsAtEnd unread'
-  pub begun : AppendsBeginning held held' (output K W (all_lines text))
+  pub begun : AppendsBeginning held held' (output K trace W (all_lines text))
 
-abbrev pub Halted : Settings → World → (unread held unread' held' : Option (List ℕ)) → Type 0
-Halted K W unread held unread' held' = Broke K W unread held unread' held' ⊎ BrokeAtEnd K W unread held unread' held'
+abbrev pub Halted : Settings → Bool → World → (unread held unread' held' : Option (List ℕ)) → Type 0
+Halted K trace W unread held unread' held' = Broke K W unread held unread' held' ⊎ BrokeAtEnd K trace W unread held unread' held'
 
 -- a fault is of the writer or of memory, and of the writer only where its count of failed calls rose
 abbrev pub IsWriteFault : ScriptFault → ℕ → ℕ → Type 0
@@ -51,6 +53,11 @@ IsWriteFault (Write e) write write' = Rose write write'
 IsWriteFault (Setting name) write write' = ⊥
 IsWriteFault Records write write' = ⊥
 IsWriteFault QueueFull write write' = ⊥
+
+-- the fault of writing that this one is
+abbrev pub IsOfWriting : WriteFault → ScriptFault → Type 0
+IsOfWriting of_text.OutOfMemory fault = fault ≡ Memory
+IsOfWriting (of_text.Write e) fault = fault ≡ Write e
 
 -- a fault of the reader, of the writer or of memory, the first two only where that one's count of failed calls rose
 abbrev pub IsDeviceFault : ScriptFault → ℕ → ℕ → ℕ → ℕ → Type 0

@@ -3,7 +3,9 @@ pub mod Pending
 pub mod Asked
 pub mod World
 pub mod Serving
+pub mod Sorted
 pub mod OnePass
+pub mod Traced
 pub mod Output
 pub mod OpeningLaws
 pub mod RecordLaws

@@ -6,7 +6,7 @@ use Rattle.service_model_types.specs.declared.request.Request.{Request}
 use Rattle.service_model_types.specs.declared.settings.Settings.{Settings}
 use Rattle.service_model.specs.Service.{Entry, after, opening}
 use Rattle.gate.specs.declared.view.View.{View}
-use Rattle.gate.specs.Passes.{base, mine, number, passes, seen}
+use Rattle.gate.specs.Passes.{base, mine, number, passes, seen, starts, tickets, width}
 use Rattle.gate.specs.Records.{replay}
 use Rattle.matching.specs.declared.view.View.{View as HintView}
 use Rattle.matching.specs.Alone.{IsAlone, waiting_of}
@@ -15,6 +15,7 @@ use Rattle.service.specs.Views.{Service}
 use Rattle.service.specs.Views.{Pass}
 use Rattle.service.specs.Contents.{setup_of}
 use Rattle.service.specs.Services.{IsPassOf, hints_by, known_by, settings_of}
+use Rattle.script.specs.Sorted.{steps_seen}
 use Rattle.script.specs.World.{World}
 
 -- a shard's content after the record that was seen of it
@@ -29,15 +30,18 @@ contents_seen K v = map (content_seen K v) (range_with_len 0 K.shards)
 abbrev pub records_seen : Settings → View Request Content → List (List Entry)
 records_seen K v = map (seen v) (range_with_len 0 K.shards)
 
--- the world as the only pass knows it: in each queue wait the hints that it pushed and did not pop
+-- the world as the only pass knows it: in each queue wait the hints that it pushed and did not pop, and the steps are its own, in the order of their tickets
 abbrev pub world_seen : Settings → View Request Content → List HintView → World
-world_seen K v hs = record { contents = contents_seen K v; waiting = map waiting_of hs; records = records_seen K v }
+world_seen K v hs = record { contents = contents_seen K v; waiting = map waiting_of hs; records = records_seen K v; steps = steps_seen v }
 
 -- what the only pass knows of the shards: it has seen the records that they were opened with, and its own steps alone
 pub record KnowsAll (v : View Request Content) : Type 0 where
   pub first : number v ≡ 0
   pub one : passes v ≡ 1
   pub alone : (s : ℕ) → seen v s ≡ base v s ++ mine v s
+  -- each of its steps has its ticket
+  pub paired : (s : ℕ) → length (tickets v s) ≡ length (mine v s)
+  pub wide : length (starts v) ≡ width v
 
 -- what it knows of the queues: it is alone at each
 pub record KnowsQueues (K : Settings) (hs : List HintView) : Type 0 where

@@ -5,9 +5,9 @@ use Rattle.service.specs.Contents.{opening_contents}
 use Rattle.service.specs.Ranges.{range_fault}
 use Rattle.script.specs.World.{World, opening_world}
 
--- each shard is as at its opening, no hint waits, and no step is recorded
+-- each shard is as at its opening, no hint waits, no step is recorded, and none was made
 abbrev pub empty_world : Settings → World
-empty_world K = record { contents = opening_contents K; waiting = replicate (2 * length K.queues) []; records = replicate K.shards [] }
+empty_world K = record { contents = opening_contents K; waiting = replicate (2 * length K.queues) []; records = replicate K.shards []; steps = [] }
 
 -- where the settings are in their ranges, that is what a service without records is opened with
 abbrev pub OpensEmpty : Type 0

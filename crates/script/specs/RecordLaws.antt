@@ -1,8 +1,8 @@
 -- MEANING: how the records of a service and the contents of its shards belong together
-use Rattle.std.specs.Prelude.{◌≡◌, ℕ, List}
+use Rattle.std.specs.Prelude.{◌≡◌, ℕ, ◌++◌, ◌<◌, List}
 use Rattle.service_model.specs.Service.{Entry}
 use Rattle.service_model_types.specs.declared.settings.Settings.{Settings}
-use Rattle.gate.specs.Records.{Begins}
+use Rattle.gate.specs.Records.{Begins, on}
 use Rattle.service.specs.Reopening.{contents_from, record_at}
 use Rattle.script.specs.Lines.{Line}
 use Rattle.script.specs.Output.{records_after, world_after_lines}
@@ -16,3 +16,9 @@ RecordsTellContents = (K : Settings) (R : List (List Entry)) (lines : List Line)
 -- no entry of a record is ever changed or lost
 abbrev pub RecordsGrow : Type 0
 RecordsGrow = (K : Settings) (W : World) (lines : List Line) (shard : ℕ) → Begins (record_at W.records shard) (record_at (records_after K W lines) shard)
+
+-- after any lines a shard's record is the one with which it was opened and, behind it, the steps on that shard among all that were made, in their order
+abbrev pub RecordsTellSteps : Type 0
+RecordsTellSteps = (K : Settings) (R : List (List Entry)) (lines : List Line) (shard : ℕ) → shard < K.shards →
+    let W = world_after_lines K (opening_world K R) lines in
+    record_at W.records shard ≡ record_at R shard ++ on shard W.steps

@@ -1,4 +1,4 @@
--- MEANING: The sequential service as a whole: its shards, and the hints that wait in its task queues. A step is its shard's; a poll and a dispatch turn are made of steps and of what they take from a queue or put into it, a transfer turn of steps.
+-- MEANING: The sequential service as a whole: its shards, the hints that wait in its task queues, and the steps that were made. A step is its shard's; a poll and a dispatch turn are made of steps and of what they take from a queue or put into it, a transfer turn of steps.
 use Rattle.std.specs.Prelude.{ℕ, Bool, true, false, List, [], ◌∷◌, ◌++◌, length, nat_lt, if◌then◌else◌, map, slice_index_or, slice_set, Option, None, Some, Result, Ok, Err}
 use Rattle.std.specs.List.{range_with_len}
 use Rattle.wf_event_values.specs.declared.policies.TaskKind.{TaskKind}
@@ -35,6 +35,8 @@ pub record World : Type 0 where
   pub waiting : List (List Hint)
   -- the shards' records: what each was opened with, and the steps since, all of pass 0
   pub records : List (List Entry)
+  -- all steps since the opening, each with its shard, in the order in which they were made
+  pub steps : List (ℕ × Entry)
 
 -- what a call comes to: its reply, and the world that it leaves
 pub record Came : Type 0 where
@@ -52,15 +54,20 @@ opening_world K R = record {
   contents = contents_from K R;
   waiting = held_at_opening (opens K R);
   records = map (record_at R) (range_with_len 0 K.shards);
+  steps = [];
 }
 
 -- a shard's content
 abbrev pub content_at : Settings → List Content → ℕ → Content
 content_at K contents shard = slice_index_or contents shard (opening (setup_of K shard))
 
+-- a step of the one pass
+abbrev pub entry_of : Request → Entry
+entry_of q = record { pass = 0; request = q }
+
 -- a record with one step more
 abbrev pub recorded : List Entry → Request → List Entry
-recorded log q = log ++ record { pass = 0; request = q } ∷ []
+recorded log q = log ++ entry_of q ∷ []
 
 -- a step on a shard
 abbrev pub stepped : Settings → World → ℕ → Request → Came
@@ -71,6 +78,7 @@ stepped K W shard q =
       world = record W {
         contents = slice_set W.contents shard (after S q);
         records = slice_set W.records shard (recorded (record_at W.records shard) q);
+        steps = W.steps ++ (shard, entry_of q) ∷ [];
       };
     }
 

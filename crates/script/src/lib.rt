@@ -2,8 +2,9 @@
 //!
 //! `run_one` serves the lines of a reader one after another, and writes one reply line for each.
 //! What it prints is the definition `output`: the replies of the sequential service to the lines
-//! of the text, one after another, under the lines' numbers. `run_from` does the same from where
-//! records end, and both give the record of each shard.
+//! of the text, one after another, under the lines' numbers, and where it is asked for, behind the
+//! last one all steps that were made. `run_from` does the same from where records end, and both give
+//! the record of each shard.
 #![tactic(auto)]
 
 mod fault;
@@ -13,9 +14,11 @@ mod reading;
 mod run;
 mod script;
 mod serving;
+mod trace;
 
 pub use fault::ScriptFault;
 pub use line::{LINE_LIMIT, Line, cut};
 pub use reading::asked;
 pub use run::{CHUNK, Outcome, run_from, run_one};
 pub use serving::opening_fault;
+pub use trace::print_trace;

@@ -1,14 +1,20 @@
 -- MEANING: The command line, as clap's definitions read it.
-use Rattle.std.specs.Prelude.{◌≡◌, ℕ, ◌^◌, ◌<◌, List, codes, Some}
-use Rattle.std.specs.Option.{MatchOption}
+use Rattle.std.specs.Prelude.{◌≡◌, ℕ, ◌^◌, ◌<◌, Bool, false, List, codes, nat_eq, Some}
+use Rattle.std.specs.Cmp.Lexicographic.{pointwise}
+use Rattle.std.specs.Option.{MatchOption, option_map_or}
 use Rattle.std.specs.Str.Parse.{IsNumeral, digits_value, without_leading_plus}
 use Rattle.clap.specs.Words.{App, Kinds, Row, Rule, Text, fault_of, first_of, matches_of, new_app, new_rule, with_rule}
+use Rattle.clap.specs.declared.builder.action.ArgAction.TheVariants.{SetTrue}
 
 -- an option with a value
 unfoldable pub option_rule : Text → Rule
 option_rule name = record (new_rule name) { long = Some name }
 
--- wfserve [--shards N] [--passes P] [--service K] [--queues NAMES] [--capacity C] [--load DIR] [--save DIR] [FILE]
+-- an option without a value
+unfoldable pub flag_rule : Text → Rule
+flag_rule name = record (option_rule name) { action = Some SetTrue }
+
+-- wfserve [--shards N] [--passes P] [--service K] [--queues NAMES] [--capacity C] [--load DIR] [--save DIR] [--trace] [FILE]
 unfoldable pub wfserve : App
 wfserve =
     let command = new_app (codes "wfserve") in
@@ -19,6 +25,7 @@ wfserve =
     let command = with_rule command (option_rule (codes "capacity")) in
     let command = with_rule command (option_rule (codes "load")) in
     let command = with_rule command (option_rule (codes "save")) in
+    let command = with_rule command (flag_rule (codes "trace")) in
     with_rule command (new_rule (codes "FILE"))
 
 -- clap's matches of the words
@@ -44,3 +51,7 @@ IsSetTo default name rows number = MatchOption (first_of name rows) (number ≡ 
 -- a text was given to the option, and it writes no number
 abbrev pub HasNoNumber : Text → List Row → Type 0
 HasNoNumber name rows = MatchOption (first_of name rows) ⊥ (λ text. ¬ (IsNumber text))
+
+-- whether an option without a value was given: clap's value of it is `true` then
+abbrev pub is_set : Text → List Row → Bool
+is_set name rows = option_map_or (λ text. pointwise nat_eq text (codes "true")) (first_of name rows) false

@@ -1,12 +1,12 @@
 -- MEANING: What the words of a command line set.
-use Rattle.std.specs.Prelude.{◌≡◌, List, [], codes, Option, option_map}
+use Rattle.std.specs.Prelude.{◌≡◌, ◌≢◌, List, [], true, codes, Option, None, option_map}
 use Rattle.std.specs.Borrow.{Bor}
 use Rattle.clap.specs.Words.{HasKind, Row, Text, first_of}
-use Rattle.script_settings.specs.CommandLine.{HasNoNumber, IsSetTo, faults_in, matches_in}
+use Rattle.script_settings.specs.CommandLine.{HasNoNumber, IsSetTo, faults_in, is_set, matches_in}
 use Rattle.script_settings.specs.Queues.{AreSetTo, HasNoNames}
 use Rattle.script_settings.specs.declared.command_line.CommandLine.{CommandLine}
 use Rattle.script_settings.specs.declared.fault.Fault.{Fault}
-use Rattle.script_settings.specs.declared.fault.Fault.TheVariants.{Words, Number, Queues}
+use Rattle.script_settings.specs.declared.fault.Fault.TheVariants.{Words, Number, Queues, Trace}
 
 -- the text that was borrowed, if one was
 abbrev pub text_of : Option (Bor Text) → Option Text
@@ -23,21 +23,29 @@ pub record Sets (words : List Text) (c : CommandLine) : Type 0 where
   pub file : text_of c.file ≡ first_of (codes "FILE") (matches_in words)
   pub load : text_of c.load ≡ first_of (codes "load") (matches_in words)
   pub save : text_of c.save ≡ first_of (codes "save") (matches_in words)
+  pub trace : c.trace ≡ is_set (codes "trace") (matches_in words)
 
 -- the option's text writes no number
 abbrev pub IsFaultOf : Text → List Row → Fault → Type 0
 IsFaultOf name rows (Words e) = ⊥
 IsFaultOf name rows (Number option) = (option.now ≡ name) × HasNoNumber name rows
 IsFaultOf name rows Queues = ⊥
+IsFaultOf name rows Trace = ⊥
 
 -- the text of the queues has a part that is no name, or memory ran out
 abbrev pub IsQueuesFault : List Row → Fault → Type 0
 IsQueuesFault rows (Words e) = HasKind [] e
 IsQueuesFault rows (Number option) = ⊥
 IsQueuesFault rows Queues = HasNoNames rows
+IsQueuesFault rows Trace = ⊥
 
--- clap finds this fault in the words, memory aside, or it takes them and an option's text writes no number, or has a part that is no name
+-- the history was asked for, and a folder to open the service from was named
+abbrev pub HasTraceBesideLoad : List Row → Type 0
+HasTraceBesideLoad rows = (is_set (codes "trace") rows ≡ true) × (first_of (codes "load") rows ≢ None)
+
+-- clap finds this fault in the words, memory aside, or it takes them and an option's text writes no number, or has a part that is no name, or two options don't go together
 abbrev pub IsFaultIn : List Text → Fault → Type 0
 IsFaultIn words (Words e) = HasKind (faults_in words) e
 IsFaultIn words (Number option) = (faults_in words ≡ []) × HasNoNumber option.now (matches_in words)
 IsFaultIn words Queues = (faults_in words ≡ []) × HasNoNames (matches_in words)
+IsFaultIn words Trace = (faults_in words ≡ []) × HasTraceBesideLoad (matches_in words)

@@ -1,5 +1,7 @@
 //! What the words of the command line say.
 
+ghost use Rattle.std.specs.Prelude.{◌≡◌, true, None};
+
 use service_model_types::settings::Settings;
 
 /// What the words of the command line say.
@@ -12,4 +14,8 @@ pub struct CommandLine<'a> {
     pub load: Option<&'a str>,
     /// The folder that the records are saved in at the end.
     pub save: Option<&'a str>,
+    /// Whether the one history of all shards is printed behind the last reply. It begins with the
+    /// first step of each shard, so no records are loaded then.
+    pub trace: bool,
+    ghost fresh: { trace ≡ true → load ≡ None },
 }

@@ -15,4 +15,7 @@ pub enum Fault {
     /// A name among those given to `--queues` is empty, or longer than 255 bytes.
     #[error("--queues takes names of 1 to 255 bytes, separated by commas")]
     Queues,
+    /// Both `--trace` and `--load` were given.
+    #[error("--trace prints a history from its first step on, so it takes no --load")]
+    Trace,
 }

@@ -2,13 +2,13 @@
 
 ghost use Rattle.std.specs.Prelude.{◌≡◌, IfOk, IfErr, map};
 ghost use Rattle.clap.specs.Words.{found_of, rows_of, app_of, with_rule, FailsBy};
-ghost use Rattle.script_settings.specs.CommandLine.{option_rule, matches_in, faults_in, IsSetTo};
+ghost use Rattle.script_settings.specs.CommandLine.{flag_rule, option_rule, matches_in, faults_in, is_set, IsSetTo};
 ghost use Rattle.script_settings.specs.Settings.{Sets, IsFaultIn, IsFaultOf};
 
 use crate::command_line::CommandLine;
 use crate::fault::Fault;
 use crate::queues::queues;
-use clap::{Arg, ArgMatches, Command, Error};
+use clap::{Arg, ArgAction, ArgMatches, Command, Error};
 use service_model_types::limits::DEFAULT_CAPACITY;
 use service_model_types::settings::Settings;
 use std::alloc::{AllocError, Global};
@@ -30,6 +30,9 @@ const LOAD: &str = "The folder whose records are opened from: shard-00.rec, shar
 
 const SAVE: &str = "The folder that the records are saved in at the end; it may be the one loaded";
 
+const TRACE: &str =
+    "Prints all steps of all shards in one order behind the last reply; without --load";
+
 const FILE: &str = "The file whose lines are served; standard input by default";
 
 /// One more option with a value: what it is, its range and its default.
@@ -46,6 +49,21 @@ fn with_option<'a>(
     command.arg(Arg::new(alloc, name).long(name).help(help))
 }
 
+/// One more option without a value: what it is.
+#[tactic(auto, unfolding(crate::specs::CommandLine::option_rule, crate::specs::CommandLine::flag_rule))]
+fn with_flag<'a>(
+    alloc: Global,
+    command: Command<'a>,
+    name: &'a str,
+    help: &'a str,
+) -> Result<Command<'a>, AllocError>
+    ensures { IfOk result (λ r.
+        app_of r ≡ with_rule (app_of command.entry) (flag_rule name.entry.now)) }
+{
+    let flag = Arg::new(alloc, name).long(name).help(help);
+    command.arg(flag.action(ArgAction::SetTrue))
+}
+
 /// The words, matched with the command's options.
 fn matched<'a>(alloc: Global, words: &'a [&'a str]) -> Result<ArgMatches<'a>, Error>
     ensures rows { IfOk result (λ m.
@@ -60,6 +78,7 @@ fn matched<'a>(alloc: Global, words: &'a [&'a str]) -> Result<ArgMatches<'a>, Er
     let command = with_option(alloc, command, "capacity", CAPACITY)?;
     let command = with_option(alloc, command, "load", LOAD)?;
     let command = with_option(alloc, command, "save", SAVE)?;
+    let command = with_flag(alloc, command, "trace", TRACE)?;
     let command = command.arg(Arg::new(alloc, "FILE").help(FILE))?;
     command.try_get_matches_from(words)
 }
@@ -75,6 +94,16 @@ fn number(matches: &ArgMatches<'_>, name: &'static str, default: u64) -> Result<
     match text.parse::<u64>() {
         Ok(number) => Ok(number),
         Err(_) => Err(Fault::Number(name)),
+    }
+}
+
+/// Whether an option without a value was given.
+fn flag(matches: &ArgMatches<'_>, name: &'static str) -> bool
+    ensures { result ≡ is_set name.entry.now (rows_of (found_of matches.now)) }
+{
+    match matches.get_str(name) {
+        Some(text) => text == "true",
+        None => false,
     }
 }
 
@@ -101,10 +130,16 @@ pub fn settings_of<'a>(alloc: Global, words: &'a [&'a str]) -> Result<CommandLin
         queues,
         capacity,
     };
+    let load = matches.get_str("load");
+    let trace = flag(&matches, "trace");
+    if trace && load.is_some() {
+        return Err(Fault::Trace);
+    }
     Ok(CommandLine {
         settings,
         file: matches.get_str("FILE"),
-        load: matches.get_str("load"),
+        load,
         save: matches.get_str("save"),
+        trace,
     })
 }

@@ -23,7 +23,7 @@ fn printed<R: Abort + AllocGlobal + Wait>(rt: &R, script: &str) -> Result<String
     let mut reader = Counted::new(script.as_bytes());
     let mut writer = Counted::new(Vec::new(rt.alloc()));
     let settings: Settings = defaults(rt);
-    match run_one::<Shard, _, _, _>(rt, rt.alloc(), &settings, &mut reader, &mut writer) {
+    match run_one::<Shard, _, _, _>(rt, rt.alloc(), &settings, false, &mut reader, &mut writer) {
         Ok(outcome) if !outcome.refused => {}
         _ => panic!(rt; "a refusal, or a fault"),
     }

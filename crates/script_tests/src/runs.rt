@@ -60,6 +60,7 @@ pub(crate) fn served<R: AllocGlobal + Wait>(
         rt,
         rt.alloc(),
         settings,
+        false,
         records,
         &mut reader,
         &mut writer,

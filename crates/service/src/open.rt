@@ -57,6 +57,8 @@ impl<S: KeepsShard> Service<S> {
             → IsFresh k (known_by p)) }
         ensures records { IfOk result (λ r.
             (s : ℕ) → base_of r.0 s ≡ record_at records.items s) }
+        ensures width { IfOk result (λ r.
+            length r.0.gate.origin.bases ≡ settings.now.shards) }
         ensures held { IfOk result (λ r. HoldsAtOpening settings.now records.items r.1.items) }
         ensures settings { IfOk result (λ r. settings_of r.0 ≡ settings.now) }
         ensures count { IfOk result (λ r. length r.1.items ≡ settings.now.passes) }

@@ -1,9 +1,12 @@
-use Rattle.std.proofs.Common.{◌≡◌, ap, sym, ◌∙◌, subst, arith}
+use Rattle.std.proofs.Common.{◌≡◌, List, length, ap, sym, ◌∙◌, subst, arith}
+use Rattle.std.proofs.lemmas.List.{length-map}
 use Rattle.std.proofs.lemmas.Result.{err_from_is_err_and}
 use Rattle.std.specs.Prelude.{◌<◌, All, slice_get, Ok}
 use Rattle.gate.specs.Gated.{at}
 use Rattle.service_model_types.specs.declared.content.Dispatch.{Dispatch}
+use Rattle.service_model_types.specs.declared.content.Setup.{Setup}
 use Rattle.service_model_types.specs.declared.settings.Settings.{Settings}
+use Rattle.service_model.specs.Service.{Entry}
 use Rattle.service.specs.Contents.{opening_contents}
 use Rattle.service.specs.Reopening.{records_fault}
 use Rattle.service.specs.Services.{IsInRange}
@@ -63,6 +66,11 @@ returns-clause-records g c = λ s.
     let K = c.args.settings.now in
     let right = records-right K c.args.records.items (sym (c.in_ok-check_records.ensures ∙ ap (records_fault K) c.deref.ensures.value)) in
     ap (λ t. at t s) (c.in_ok-gate.ensures.records ∙ c.in_ok-given.ensures.records) ∙ base-is K c.args.records.items s right
+
+pub returns-clause-width : goal.returns-clause-width
+returns-clause-width g c =
+    let count = given-count c.args.settings.now c.in_ok-given.given.items c.in_ok-given.ensures.setups in
+    ap length c.in_ok-gate.ensures.records ∙ length-map c.in_ok-given.given.items (λ (y : Setup × List Entry). y.1) ∙ count
 
 pub open_queues-requires-clause-shards : goal.open_queues-requires-clause-shards
 open_queues-requires-clause-shards g c =
