@@ -1,8 +1,12 @@
 #!/usr/bin/env python3
 """Draws a workflow's history as one page: events down, time across.
 
-    ./serve FILE | tools/timeline.py > page.html      draws the last history among the replies
-    tools/timeline.py REPLIES > page.html             the same, of a file of replies
+    ./serve FILE | tools/timeline.py > page.html             draws the last history among the replies
+    tools/timeline.py REPLIES > page.html                    the same, of a file of replies
+    ./serve --trace FILE | tools/timeline.py > page.html     draws all steps of all shards
+
+Where steps follow the replies, as with --trace, they are drawn in place of a history: the shards side by side,
+the steps in the order of their tickets, and transfers as arrows.
 
 Workflow tasks, activities, timers and children are bars from the event that opened them to the one
 that ended them: light while they wait, dark while a worker has them. A ring marks an event that was
@@ -12,6 +16,8 @@ The page needs nothing beside itself. This script only reads replies; no proof c
 import html
 import json
 import sys
+
+import trace_picture
 
 ROW, LEFT, WIDTH, RIGHT, TOP = 22, 290, 700, 40, 46
 KINDS = {"task": "#4c6ef5", "activity": "#2b8a3e", "timer": "#e8590c", "child": "#9c36b5"}
@@ -41,20 +47,30 @@ ENDS = {
 SAID = ("name", "activity_id", "timer_id", "marker_name", "workflow_id", "cause", "reason", "retry", "attempt")
 
 
-class NoHistory(Exception):
-    """The replies hold no history."""
+class NothingToDraw(Exception):
+    """The lines are no replies, or hold neither a history nor steps."""
 
 
-def last_history(lines):
+def said_in(lines):
+    """The replies and the steps that the lines have."""
+    said = []
+    for number, line in enumerate(lines, 1):
+        try:
+            value = json.loads(line)
+        except ValueError:
+            value = None
+        if not isinstance(value, dict):
+            raise NothingToDraw(f"line {number} is no reply")
+        said.append(value)
+    return said
+
+
+def last_history(replies):
     """The last reply that answers a history."""
-    found = None
-    for line in lines:
-        reply = json.loads(line)
+    for reply in reversed(replies):
         if reply.get("ok") == "history":
-            found = reply
-    if found is None:
-        raise NoHistory("there is no history among these replies")
-    return found
+            return reply
+    raise NothingToDraw("there is neither a history nor a trace among these replies")
 
 
 def held_back(events):
@@ -219,11 +235,28 @@ def page(history):
     )
 
 
+def trace_page(steps):
+    """The page of a trace."""
+    return (
+        f"<!doctype html><html lang=en><meta charset=utf-8><title>All steps</title>"
+        f"<style>{STYLE}{trace_picture.STYLE}</style><h1>All steps of all shards</h1>"
+        f"<p>From the first one down. An arrow: a transfer is delivered; a light one: it is acknowledged.</p>"
+        f"{trace_picture.picture(steps)}</html>\n"
+    )
+
+
+def page_of(lines):
+    """The page of the trace among these lines, or else of the last history."""
+    said = said_in(lines)
+    steps = trace_picture.steps_in(said)
+    return trace_page(steps) if steps else page(last_history(said))
+
+
 def main():
     try:
         source = open(sys.argv[1], encoding="utf-8") if sys.argv[1:] else sys.stdin
-        sys.stdout.write(page(last_history(source)))
-    except (NoHistory, OSError, ValueError) as fault:
+        sys.stdout.write(page_of(source))
+    except (NothingToDraw, OSError, UnicodeDecodeError) as fault:
         sys.exit(f"timeline: {fault}")
 
 

@@ -6,8 +6,9 @@ history is an image, in which no script runs.
 
 from __future__ import annotations
 
-import importlib.util
+import importlib
 import pathlib
+import sys
 from typing import List
 
 from aiohttp import web
@@ -34,11 +35,8 @@ NOT_AN_END = {"ActivityTaskStarted", "ActivityTaskCancelRequested", "ChildWorkfl
 
 def load_timeline():
     """tools/timeline.py, which draws histories."""
-    path = HERE.parents[1] / "tools" / "timeline.py"
-    spec = importlib.util.spec_from_file_location("timeline", path)
-    module = importlib.util.module_from_spec(spec)
-    spec.loader.exec_module(module)
-    return module
+    sys.path.append(str(HERE.parents[1] / "tools"))
+    return importlib.import_module("timeline")
 
 
 def pending(events: List[dict]) -> List[dict]:

@@ -73,7 +73,7 @@ class Timeline(unittest.TestCase):
         self.assertIn("&lt;r&gt;", ran.stdout)
 
     def test_replies_without_a_history_are_a_fault(self):
-        for lines in (['{"line":1,"ok":"signaled"}'], [], ["no reply"]):
+        for lines in (['{"line":1,"ok":"signaled"}'], [], ["no reply"], ["7"]):
             with self.subTest(lines=lines):
                 ran = self.drawn(lines)
                 self.assertEqual((ran.returncode, ran.stdout), (1, ""))
