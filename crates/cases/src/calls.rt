@@ -100,8 +100,8 @@ fn asked(alloc: Global, settings: &Settings, line: &[u8]) -> Result<Option<Call>
 }
 
 /// The service that a case's command line opens, or nothing where the case can't be run by calls:
-/// its lines stand in a file or go to several lanes, it loads or saves records, its standard output
-/// gets full, or no service is opened.
+/// its lines stand in a file or go to several lanes, it loads or saves records, it prints the steps
+/// too, its standard output gets full, or no service is opened.
 fn opened_for(alloc: Global, case: &Case) -> Option<Opened> {
     if case.room().is_some() {
         return None;
@@ -110,7 +110,7 @@ fn opened_for(alloc: Global, case: &Case) -> Option<Opened> {
         return None;
     };
     let reads_no_file = line.file.is_none() && line.load.is_none() && line.save.is_none();
-    if !reads_no_file || line.settings.passes != 1 {
+    if !reads_no_file || line.trace || line.settings.passes != 1 {
         return None;
     }
     Opened::open(alloc, &line.settings).ok()
