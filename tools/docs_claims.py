@@ -19,7 +19,7 @@ NAMES = {
     "refusal": ("wf_event_values/specs/Names.antt", r'^refusal_name .* = codes "(\w+)"'),
     "cause": ("wf_event_values/specs/Names.antt", r'^cause_name .* = codes "(\w+)"'),
     "deadline": ("wf_event_values/specs/Names.antt", r'^class_name .* = codes "(\w+)"'),
-    "option": ("script_settings/src/words.rt", r'^ *let .* with_option\(alloc, command, "(\w+)"'),
+    "option": ("script_settings/src/words.rt", r'^ *let .* with_(?:option|flag)\(alloc, command, "(\w+)"'),
 }
 IN_A_ROW = ("operation", "command", "event")
 WAITING_CRATES = ("gate", "matching", "service", "script", "lanes")
