@@ -2,6 +2,7 @@
 
 use crate::serving::open;
 use lanes::{Door, run_lanes};
+use service::{KeepsShard, Pass};
 use service_model_types::answer::{Answer, Reply};
 use service_model_types::call::Call;
 use std::alloc::{AllocError, AllocGlobal};
@@ -11,7 +12,6 @@ use std::sync::atomic::{AtomicU64, Ordering};
 use std::thread;
 use std::thread::Threads;
 use wire_counted::Counted;
-use workflow_service::{Pass, Shard};
 
 /// How often a held call looks whether the other was answered.
 const TURNS: u64 = 10_000_000;
@@ -55,7 +55,7 @@ fn shard_of(call: &Call) -> u16 {
     }
 }
 
-impl Door<Shard> for HoldingDoor {
+impl<S: KeepsShard> Door<S> for HoldingDoor {
     ghost use Rattle.std.specs.Prelude.{⊤};
 
     ghost admits = { λ d p. ⊤ };
@@ -64,7 +64,7 @@ impl Door<Shard> for HoldingDoor {
 
     ghost meets = { λ d p q p' q'. ⊤ };
 
-    fn call<R: Wait>(&self, _rt: &R, _pass: &mut Pass, call: Call) -> Result<Reply, AllocError> {
+    fn call<R: Wait>(&self, _rt: &R, _pass: &mut Pass<S>, call: Call) -> Result<Reply, AllocError> {
         let shard = shard_of(&call);
         if shard == self.held {
             self.hold();
@@ -74,7 +74,7 @@ impl Door<Shard> for HoldingDoor {
         Ok(Ok(Answer::Dispatched(u64::from(shard))))
     }
 
-    fn meet(&self, _one: &mut Pass, _other: &mut Pass) {}
+    fn meet(&self, _one: &mut Pass<S>, _other: &mut Pass<S>) {}
 }
 
 /// Both calls are answered while the one on this shard is held, and printed in the order of the lines.
