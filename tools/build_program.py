@@ -92,14 +92,27 @@ def link(name):
     return None if program.exists() else run.stdout
 
 
-def main():
-    name = sys.argv[1]
+def refusal(words, below):
+    """Why nothing can be built, if so."""
+    if len(words) != 1 or words[0] not in below:
+        return "usage: tools/build_program.py NAME, which is a program of crates.txt"
+    if shutil.which("rt") is None:
+        return "build: there is no rt here, the command of the Rattle toolchain"
+    return None
+
+
+def main(words):
     lines, below = lines_of_crates()
+    refused = refusal(words, below)
+    if refused:
+        print(refused, file=sys.stderr)
+        return 2
+    name = words[0]
     names = needed(name, below, [])
     copy(names, lines)
     print(
         f"build: proving {name} and the {len(names) - 1} crates below it, {at_once()} at a time;"
-        " the first time that takes about 10 minutes on four cores",
+        " the first time that takes about 20 minutes on four cores",
         file=sys.stderr,
     )
     failure = prove(names) or link(name)
@@ -110,4 +123,4 @@ def main():
 
 
 if __name__ == "__main__":
-    sys.exit(main())
+    sys.exit(main(sys.argv[1:]))

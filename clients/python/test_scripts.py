@@ -1,4 +1,4 @@
-"""tools/timeline.py, ./serve and ./try: what they draw, build and hand on. No proof is run: the toolchain and the
+"""tools/timeline.py, ./serve, ./serve-http and ./try: what they draw, build and hand on. No proof is run: the toolchain and the
 build are stood in for by scripts that write down how they were called."""
 
 import json
@@ -94,7 +94,7 @@ class InAFolder(unittest.TestCase):
         self.top = pathlib.Path(folder.name)
         for name in ("tools", "bin", "crates/wfserve/src", "out/build/crates/wfserve/out"):
             (self.top / name).mkdir(parents=True)
-        for name in ("serve", "try"):
+        for name in ("serve", "serve-http", "try"):
             shutil.copy(ROOT / name, self.top / name)
         (self.top / "crates.txt").write_text("wfserve:\n")
         self.source = self.top / "crates/wfserve/src/main.rt"
@@ -146,6 +146,52 @@ class Serve(InAFolder):
         self.assertEqual((ran.returncode, ran.stdout), (3, ""))
 
 
+class ServeHttp(Serve):
+    """The same build, behind a Python that has aiohttp and says how the server was called."""
+
+    # As the program: an empty script is served with status 0, and a call for help is refused.
+    SAYS = '[ $# -eq 0 ] || exit 2; cat'
+
+    def setUp(self):
+        super().setUp()
+        self.script(self.top / "bin/python3", f"""
+            case "$1" in
+            -c) exit 0 ;;
+            */server.py) shift; echo "server $*" ;;
+            *) exec {sys.executable} "$@" ;;
+            esac""")
+
+    def serve(self, *words, program=None):
+        named = {"WFSERVE": program} if program else {}
+        path = f"{self.top / 'bin'}:{os.environ['PATH']}"
+        kept = {name: value for name, value in os.environ.items() if name != "WFSERVE"}
+        return run([self.top / "serve-http", *words], cwd="/", env={**kept, "PATH": path, **named})
+
+    def test_it_builds_what_is_missing_and_hands_on_all(self):
+        for said in ("building\n", ""):
+            ran = self.serve("--log", "a log")
+            self.assertEqual((ran.returncode, ran.stderr), (0, said))
+            self.assertEqual(ran.stdout, f"server --program {self.program.resolve()} --log a log\n")
+
+    def test_another_program_and_a_call_for_help_build_nothing(self):
+        self.assertEqual(self.serve("--port", "0", program="other").stdout, "server --program other --port 0\n")
+        self.assertEqual(self.serve("--help").stdout, "server --program wfserve --help\n")
+        self.assertFalse(self.program.exists())
+
+
+class Build(unittest.TestCase):
+    def built(self, *words, path):
+        return run([sys.executable, ROOT / "tools/build_program.py", *words], env={**os.environ, "PATH": path})
+
+    def test_a_program_has_to_be_named_and_the_toolchain_has_to_be_there(self):
+        for words in ([], ["no_such_crate"], ["wfserve", "cases"]):
+            ran = self.built(*words, path=os.environ["PATH"])
+            self.assertEqual((ran.returncode, ran.stdout), (2, ""))
+            self.assertIn("usage", ran.stderr)
+        ran = self.built("wfserve", path="/nowhere")
+        self.assertEqual((ran.returncode, ran.stderr), (2, "build: there is no rt here, the command of the Rattle toolchain\n"))
+
+
 class Try(InAFolder):
     def tried(self, words, status=0):
         self.script(self.top / "bin/rt", f'pwd; echo "rt $*"; cat; echo compiled >&2; exit {status}')
@@ -167,11 +213,17 @@ class Try(InAFolder):
         self.assertEqual(ran.returncode, 2)
         self.assertIn("compiled\n", ran.stderr)
 
-    def test_a_file_has_to_be_named(self):
-        ran = self.tried([])
-        self.assertEqual((ran.returncode, ran.stdout), (2, ""))
-        self.assertIn("usage", ran.stderr)
-        self.assertNotEqual(self.tried(["no such file"]).returncode, 0)
+    def test_a_file_has_to_be_named_first(self):
+        for words in ([], ["--queues", "orders", "lines"]):
+            ran = self.tried(words)
+            self.assertEqual((ran.returncode, ran.stdout), (2, ""))
+            self.assertIn("usage", ran.stderr)
+
+    def test_what_is_no_file_is_refused_before_anything_is_compiled(self):
+        for word in ("no such file", "tools"):
+            ran = self.tried([word])
+            self.assertEqual((ran.returncode, ran.stdout), (2, ""))
+            self.assertEqual(ran.stderr, f"try: {word}: no file that can be read\n")
 
 
 if __name__ == "__main__":
