@@ -38,6 +38,10 @@ class OtherSettings(LogFault):
     """The log is of a service with other settings."""
 
 
+class RefusedSettings(LogFault):
+    """The program serves no service with these settings, so no log is begun with them."""
+
+
 @dataclass(frozen=True)
 class Settings:
     """What a service is opened with. The log's first line has it."""
@@ -206,12 +210,20 @@ class DurableService(Calls):
         """The log's settings, and how often it was compacted; a new log gets the settings that are wanted."""
         if len(self._log) == 0:
             settings = wanted or Settings()
+            self._check(settings)
             self._log.append([settings.header()])
             return settings, 0
         found, generation = read_header(next(self._log.lines()), self._log.path)
         if wanted is not None:
             check_settings(found, wanted, self._log.path)
         return found, generation
+
+    def _check(self, settings: Settings) -> None:
+        """Has the program serve an empty script: a log can't change the settings that it was begun with."""
+        command = [*self._command, *settings.options()]
+        ran = subprocess.run(command, stdin=subprocess.DEVNULL, stdout=subprocess.DEVNULL)
+        if ran.returncode:
+            raise RefusedSettings(f"the program refuses {' '.join(settings.options())}: status {ran.returncode}")
 
     def _replay(self, replayed: Callable[[dict, dict], None]) -> int:
         """Gives the program the lines of the log, and takes its replies. How many there are."""

@@ -31,6 +31,8 @@ class Server:
         line = self.process.stdout.readline()
         found = re.fullmatch(r"serving (http://(.*):(\d+)/)\n", line)
         if found is None:
+            self.process.kill()
+            self.process.communicate()
             raise AssertionError(f"the server did not start: {line}{self.said.read_text()}")
         self.url, self.host, self.port = found[1], found[2], int(found[3])
 

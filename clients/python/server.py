@@ -164,13 +164,21 @@ def guard_of(said: argparse.Namespace) -> Guard:
     return Guard(token, [LOCAL, "localhost"] if said.host == LOCAL else None)
 
 
+def port(text: str) -> int:
+    """The port that a text names."""
+    number = int(text)
+    if not 0 <= number < 1 << 16:
+        raise argparse.ArgumentTypeError(f"{text} is no port")
+    return number
+
+
 def words_of(words: List[str]) -> argparse.Namespace:
     parser = argparse.ArgumentParser(prog="serve-http", description="A server of workflows, and a page that shows them.")
     add = parser.add_argument
     add("--program", required=True, help="wfserve")
     add("--log", help="the file that keeps the service; without it nothing is kept")
     add("--host", default=LOCAL, help=f"the address to listen on, {LOCAL} by default; another one needs a token")
-    add("--port", type=int, default=7233, help="the port, 7233 by default; 0 takes a free one")
+    add("--port", type=port, default=7233, help="the port, 7233 by default; 0 takes a free one")
     add("--token-file", help="a file with the token that every request has to bear")
     add("--queue-limit", type=int, default=1_000, help="how many calls may wait, 1,000 by default")
     add("--shards", type=int, help="how many shards a new log's service has, 1 by default")

@@ -9,7 +9,7 @@ import threading
 import time
 import unittest
 
-from durable import DurableService, OtherSettings, Settings
+from durable import DurableService, OtherSettings, RefusedSettings, Settings
 from line_log import LogDamaged, LogInUse
 from programs import BUILT, COUNTING, needs_program
 from wfserve import Clock, Ended, Refused
@@ -108,6 +108,14 @@ class Counted(Durable):
                 self.open(settings)
         self.assertEqual(self.log.read_bytes(), data)
 
+    def test_settings_that_the_program_refuses_begin_no_log(self):
+        self.program = [*COUNTING[:3], "import sys; sys.exit(2 if '65' in sys.argv else 0)"]
+        with self.assertRaisesRegex(RefusedSettings, "--shards 65 .*: status 2"):
+            self.open(Settings(shards=65))
+        self.assertEqual(self.log.read_bytes(), b"")
+        self.open(Settings(shards=64)).close()
+        self.assertIn(b'"shards":64', self.log.read_bytes())
+
     def test_a_damaged_log_is_refused_and_left(self):
         with self.open() as service:
             service.signal("w", "a")
@@ -144,7 +152,12 @@ class Counted(Durable):
         self.assertEqual(service.lines, 1_600)
 
     def test_a_program_that_ends_is_told_and_its_log_opens_again(self):
-        self.program = [sys.executable, "-S", "-c", "input(); print('{\"line\":1,\"ok\":\"signaled\"}'); input()"]
+        self.program = [sys.executable, "-S", "-c", """
+import sys
+if sys.stdin.readline():
+    print('{"line":1,"ok":"signaled"}', flush=True)
+    sys.stdin.readline()
+"""]
         service = self.open()
         service.signal("w", "a")
         for _ in range(2):

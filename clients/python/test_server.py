@@ -122,12 +122,20 @@ class Guarded(WithAServer):
 
     def test_a_program_that_ends_ends_the_server(self):
         path = self.folder / "ends"
-        path.write_text("#!/bin/sh\nread line\nexit 3\n", encoding="utf-8")
+        path.write_text("#!/bin/sh\nread line || exit 0\nexit 3\n", encoding="utf-8")
         path.chmod(0o755)
         server = self.serve(program=str(path))
         self.assertEqual(server.process.wait(timeout=20), 2)
         self.assertIn("the program ended with status 3", server.said.read_text())
         server.stop()
+
+    def test_settings_that_the_program_refuses_are_said_and_nothing_is_served(self):
+        path = self.folder / "refuses"
+        path.write_text("#!/bin/sh\necho 'refuses: no such shards' >&2\nexit 2\n", encoding="utf-8")
+        path.chmod(0o755)
+        with self.assertRaisesRegex(AssertionError, "(?s)no such shards.*refuses --shards 65 .*: status 2"):
+            self.serve("--shards", "65", program=str(path))
+        self.assertEqual(self.log.read_bytes(), b"")
 
     def test_nothing_is_logged_for_pages_that_show_nothing_new(self):
         server = self.serve(program=self.double())
