@@ -40,13 +40,27 @@ def needed(name, below, found):
     return found
 
 
+def leave_program(folder):
+    """Removes a crate that an earlier build needed, but for the program that it linked."""
+    out = folder / "out"
+    program = out / folder.name
+    if not program.is_file():
+        shutil.rmtree(folder)
+        return
+    for path in [*out.iterdir(), *folder.iterdir()]:
+        if path.is_dir() and path != out:
+            shutil.rmtree(path)
+        elif path.is_file() and path != program:
+            path.unlink()
+
+
 def copy(names, lines):
     """Copies the crates' sources. What an earlier build kept in out/ folders stays."""
     kept = BUILD / "crates"
     kept.mkdir(parents=True, exist_ok=True)
     for folder in kept.iterdir():
         if folder.name not in names:
-            shutil.rmtree(folder)
+            leave_program(folder)
     for name in names:
         for part in PARTS:
             shutil.rmtree(kept / name / part, ignore_errors=True)

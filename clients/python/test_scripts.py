@@ -16,6 +16,7 @@ from programs import ROOT
 from stored_cases import cases_of
 
 sys.path.append(str(ROOT / "tools"))
+import build_program
 import timeline
 
 
@@ -190,6 +191,19 @@ class Build(unittest.TestCase):
             self.assertIn("usage", ran.stderr)
         ran = self.built("wfserve", path="/nowhere")
         self.assertEqual((ran.returncode, ran.stderr), (2, "build: there is no rt here, the command of the Rattle toolchain\n"))
+
+
+    def test_a_second_program_leaves_the_first(self):
+        with tempfile.TemporaryDirectory() as made:
+            crates = pathlib.Path(made)
+            for path in ("a/src/main.rt", "a/out/a", "a/out/kept", "a/out/rlib/b", "b/src/lib.rt", "b/out/kept"):
+                (crates / path).parent.mkdir(parents=True, exist_ok=True)
+                (crates / path).write_text("")
+            for folder in crates.iterdir():
+                build_program.leave_program(folder)
+            left = [path.relative_to(crates).as_posix() for path in crates.rglob("*") if path.is_file()]
+            self.assertEqual(left, ["a/out/a"])
+            self.assertFalse((crates / "a/src").exists() or (crates / "b").exists())
 
 
 class Try(InAFolder):
