@@ -71,5 +71,7 @@ def main(program, folder):
 
 
 if __name__ == "__main__":
+    if len(sys.argv) not in (2, 3):
+        sys.exit("usage: tools/calls_a_second.py PROGRAM [FOLDER]")
     with tempfile.TemporaryDirectory(dir=sys.argv[2] if sys.argv[2:] else None) as made:
         main(sys.argv[1], pathlib.Path(made))

@@ -238,11 +238,14 @@ def refuse_all(subjects, within, day):
 
 def main():
     parser = argparse.ArgumentParser(description=__doc__.split("\n")[0])
-    parser.add_argument("--within", type=int)
-    parser.add_argument("--day", type=int, default=0)
-    parser.add_argument("calls", type=pathlib.Path)
-    parser.add_argument("program", type=pathlib.Path)
+    parser.add_argument("--within", type=int, help="how many seconds it may take; without it all are refused")
+    parser.add_argument("--day", type=int, default=0, help="a number that says which are refused where not all are")
+    parser.add_argument("calls", type=pathlib.Path, help="the built program refused_allocations")
+    parser.add_argument("program", type=pathlib.Path, help="the built wfserve")
     told = parser.parse_args()
+    for program in (told.calls, told.program):
+        if not program.is_file():
+            parser.error(f"no such program: {program}")
     with tempfile.TemporaryDirectory() as folder:
         allocator = pathlib.Path(folder, "refuse_nth.so")
         source = ROOT / "tools" / "refuse_nth.c"

@@ -142,10 +142,12 @@ def attempt(program, allocator, seed):
 
 def main():
     parser = argparse.ArgumentParser(description=__doc__.split("\n")[0])
-    parser.add_argument("--runs", type=int, default=10_000)
-    parser.add_argument("--seed", type=int, default=0)
-    parser.add_argument("program", type=pathlib.Path)
+    parser.add_argument("--runs", type=int, default=10_000, help="how many schedules, 10,000 by default")
+    parser.add_argument("--seed", type=int, default=0, help="that of the first, 0 by default; each further has one more")
+    parser.add_argument("program", type=pathlib.Path, help="the built wfserve")
     told = parser.parse_args()
+    if told.runs < 1 or not told.program.is_file():
+        parser.error("it takes a run or more, and a program that is there")
     program, seeds = told.program.resolve(), range(told.seed, told.seed + told.runs)
     wrong, turns = 0, 0
     with tempfile.TemporaryDirectory() as folder:

@@ -39,6 +39,8 @@ class HttpService(Calls):
 
     def __init__(self, url: str, token: Optional[str] = None, wait: int = 0, timeout: float = 60):
         parts = urllib.parse.urlsplit(url)
+        if parts.scheme != "http" or not parts.hostname:
+            raise ValueError(f"{url} is no address as http://127.0.0.1:7233")
         self._host, self._port = parts.hostname, parts.port
         self._headers = {"Content-Type": "application/json"}
         if token:

@@ -21,5 +21,7 @@ async def order(ctx, card):
 
 
 if __name__ == "__main__":
+    if len(sys.argv) != 3:
+        sys.exit("usage: python3 survive.py PROGRAM LOG")
     program, log = sys.argv[1:]
     print(run([program], log, order, [charge], "order-17", "card 42"))

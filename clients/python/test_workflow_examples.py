@@ -56,6 +56,21 @@ class Stored(unittest.TestCase):
             status = workflows_main(["replay", *words])
         return status, said.getvalue()
 
+    def test_a_workflow_is_named_by_its_module_and_its_name(self):
+        for named in ("examples.order", "examples.order:", ":order"):
+            said = io.StringIO()
+            with contextlib.redirect_stderr(said), self.assertRaises(SystemExit) as ended:
+                workflows_main(["replay", "a file", named])
+            self.assertEqual(ended.exception.code, 2)
+            self.assertIn(f"{named} is no MODULE:WORKFLOW", said.getvalue())
+
+    def test_a_server_that_is_not_there_is_said(self):
+        for url, wrong in {"http://127.0.0.1:1": "CallLost", "https://127.0.0.1:1": "no address as"}.items():
+            said = io.StringIO()
+            with contextlib.redirect_stderr(said):
+                self.assertEqual(workflows_main(["start", url, "examples.order:order", "w"]), 2)
+            self.assertRegex(said.getvalue(), f"^workflows: .*{wrong}")
+
     def test_each_examples_code_agrees_with_its_histories(self):
         for name, workflow in WORKFLOWS.items():
             file = str(store.HISTORIES / f"{name}.jsonl")

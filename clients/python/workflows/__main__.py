@@ -16,8 +16,8 @@ import pathlib
 import sys
 import threading
 
-from http_calls import HttpService, NotServed
-from wfserve import Refused
+from http_calls import HttpService
+from wfserve import Refused, Unavailable
 
 from .definitions import type_of
 from .errors import NonDeterminism
@@ -104,27 +104,35 @@ def token_of(said):
     return pathlib.Path(said.token_file).read_text(encoding="utf-8").strip() if said.token_file else None
 
 
+def named(text):
+    """MODULE:WORKFLOW, as it was written."""
+    module, _, name = text.partition(":")
+    if not module or not name:
+        raise argparse.ArgumentTypeError(f"{text} is no MODULE:WORKFLOW")
+    return text
+
+
 def words_of(words):
     parser = argparse.ArgumentParser(prog="python3 -m workflows")
     commands = parser.add_subparsers(required=True)
     checking = commands.add_parser("replay", help="check code against stored histories")
     checking.add_argument("file", help="replies, a line each; histories among them are replayed")
-    checking.add_argument("workflow", help="module:workflow")
+    checking.add_argument("workflow", type=named, help="MODULE:WORKFLOW")
     checking.set_defaults(does=checked)
     working = commands.add_parser("work", help="work for a server")
-    working.add_argument("url")
+    working.add_argument("url", help="the server's address, as http://127.0.0.1:7233")
     working.add_argument("module", help="a module with WORKFLOWS and ACTIVITIES")
     working.add_argument("--threads", type=int, default=2, help="for workflow tasks, and as many for activities")
     working.set_defaults(does=work)
     starting = commands.add_parser("start", help="start a workflow")
-    starting.add_argument("url")
-    starting.add_argument("workflow", help="module:workflow")
+    starting.add_argument("url", help="the server's address, as http://127.0.0.1:7233")
+    starting.add_argument("workflow", type=named, help="MODULE:WORKFLOW")
     starting.add_argument("id", help="the workflow ID; a second start of it is none")
-    starting.add_argument("argument", nargs="*", help="JSON")
+    starting.add_argument("argument", nargs="*", help="an argument of the workflow, as JSON")
     starting.set_defaults(does=start)
     for command in (working, starting):
-        command.add_argument("--queue", default="main")
-        command.add_argument("--token-file")
+        command.add_argument("--queue", default="main", help="the task queue, main by default")
+        command.add_argument("--token-file", help="a file with the server's token, where it wants one")
     return parser.parse_args(words)
 
 
@@ -133,7 +141,7 @@ def main(words):
     sys.path.insert(0, "")
     try:
         return said.does(said)
-    except (OSError, ValueError, ImportError, AttributeError, KeyError, Refused, NotServed) as fault:
+    except (OSError, ValueError, ImportError, AttributeError, KeyError, Refused, Unavailable) as fault:
         print(f"workflows: {type(fault).__name__}: {fault}", file=sys.stderr)
         return 2
 
