@@ -11,7 +11,6 @@ the same records. The memory that was held is printed beside the bytes of the re
 """
 import collections
 import json
-import os
 import pathlib
 import random
 import resource
@@ -21,7 +20,6 @@ import tempfile
 import threading
 import time
 
-import first_path
 import records
 
 LANES, SHARDS, QUEUES = 8, 16, 4
