@@ -4,12 +4,14 @@
     tools/schedules.py [--runs N] [--seed S] PROGRAM
 
 PROGRAM is the built `wfserve` (tools/build_program.py builds it). Each run serves drawn lines with
-three lanes, where threads give the processor away at drawn places (tools/yield_often.c), and saves the
-records. Then:
+three lanes, where threads give the processor away at drawn places (tools/yield_often.c), prints all
+steps in the order of their tickets (`--trace`) and saves the records. Then:
 
-- each record has the lines of each lane for that shard, once and in their order, and nothing else;
-- the one-lane program, given the records' requests as lines in the order of the records, answers each
-  of them as its lane was answered, histories among them;
+- the steps are the lines of each lane, once and in their order, and nothing else, and their tickets
+  count from 1;
+- each record has just the steps on its shard, in their order;
+- the one-lane program, given the lines in the order of the steps, answers each of them as its lane was
+  answered, histories among them, and prints the same steps;
 - opened from the records it answers every history as at the end of that.
 
 Any other end fails the run, and its seed is printed.
@@ -81,7 +83,7 @@ def texts(lines):
 
 
 def served(program, words, lines, allocator=None, seed=0):
-    """The replies to the lines, without their numbers."""
+    """The replies to the lines, without their numbers, and the steps that are printed behind them."""
     environment = {"LD_PRELOAD": str(allocator), "YIELD_SEED": str(seed)} if allocator else {}
     done = subprocess.run(
         [str(program), *SETTINGS, *words],
@@ -89,29 +91,43 @@ def served(program, words, lines, allocator=None, seed=0):
     )
     if done.returncode not in (0, 1) or done.stderr:
         raise ValueError(f"status {done.returncode}: {done.stderr.decode()}")
-    replies = [json.loads(line) for line in done.stdout.splitlines()]
-    if len(replies) != len(lines):
-        raise ValueError(f"{len(replies)} replies to {len(lines)} lines")
+    said = [json.loads(line) for line in done.stdout.splitlines()]
+    replies, steps = said[: len(lines)], said[len(lines) :]
+    if [reply.get("line") for reply in replies] != list(range(1, len(lines) + 1)):
+        raise ValueError(f"{len(said)} lines are printed, and not first a reply to each of {len(lines)}")
     for reply in replies:
         del reply["line"]
-    return replies
+    return replies, steps
 
 
-def in_order_of_records(lines, replies, records):
-    """The lines and replies in the order in which the records have them."""
+def in_order_of_steps(lines, replies, steps):
+    """The lines and replies in the order in which the steps were made."""
     waiting = collections.defaultdict(collections.deque)
     for line, reply in zip(lines, replies):
-        waiting[home(line), line["lane"]].append((line, reply))
+        waiting[line["lane"]].append((line, reply))
     ordered = []
-    for shard, entries in enumerate(records):
-        for entry in entries:
-            own = waiting[shard, entry["pass"]]
-            if not own or not is_asked(own[0][0], entry["request"]):
-                raise ValueError(f"shard {shard}: {entry} is not what lane {entry['pass']} asked next")
-            ordered.append(own.popleft())
+    for ticket, step in enumerate(steps, 1):
+        own = waiting[step["pass"]]
+        if step["ticket"] != ticket:
+            raise ValueError(f"{step} is the step number {ticket}")
+        if not own or home(own[0][0]) != step["shard"] or not is_asked(own[0][0], step["request"]):
+            raise ValueError(f"{step} is not what its lane asked next")
+        ordered.append(own.popleft())
     if any(waiting.values()):
-        raise ValueError("a line that was answered is in no record")
+        raise ValueError("a line that was answered is no step")
     return ordered
+
+
+def check_records(records, steps):
+    """Each shard's record has the steps on it, in their order, and nothing else."""
+    for shard, entries in enumerate(records):
+        if entries != [{key: step[key] for key in ("pass", "request")} for step in steps if step["shard"] == shard]:
+            raise ValueError(f"the record of shard {shard} has not just the steps on it")
+
+
+def asked(steps):
+    """Of each step its shard and its request."""
+    return [(step["shard"], step["request"]) for step in steps]
 
 
 def attempt(program, allocator, seed):
@@ -120,19 +136,22 @@ def attempt(program, allocator, seed):
     lines = [drawn(source) for _ in range(LINES)]
     with tempfile.TemporaryDirectory() as folder:
         try:
-            words = ["--passes", str(LANES), "--save", folder]
-            replies = served(program, words, lines, allocator, seed)
+            words = ["--passes", str(LANES), "--trace", "--save", folder]
+            replies, steps = served(program, words, lines, allocator, seed)
             records = [
                 [json.loads(line) for line in pathlib.Path(folder, f"shard-{shard:02}.rec").open()]
                 for shard in range(SHARDS)
             ]
-            ordered = in_order_of_records(lines, replies, records)
+            check_records(records, steps)
+            ordered = in_order_of_steps(lines, replies, steps)
             reads = [{"op": "history", "workflow_id": name} for name in NAMES]
             alone = [{**line, "lane": 0} for line, _ in ordered] + reads
-            again = served(program, [], alone)
+            again, same = served(program, ["--trace"], alone)
             if again[: len(ordered)] != [reply for _, reply in ordered]:
                 return "the one-lane program answers otherwise", None
-            if served(program, ["--load", folder], reads) != again[len(ordered) :]:
+            if asked(same[: len(ordered)]) != asked(steps):
+                return "the one-lane program makes other steps", None
+            if served(program, ["--load", folder], reads)[0] != again[len(ordered) :]:
                 return "opened from the records it answers otherwise", None
         except (ValueError, subprocess.TimeoutExpired) as fault:
             return str(fault), None
