@@ -89,8 +89,10 @@ def served(program, words, lines, allocator=None, seed=0):
         [str(program), *SETTINGS, *words],
         input=texts(lines), capture_output=True, env=environment, timeout=RUN_SECONDS,
     )
-    if done.returncode not in (0, 1) or done.stderr:
-        raise ValueError(f"status {done.returncode}: {done.stderr.decode()}")
+    # On a machine that is busy, it says how many steps were restored.
+    errors = [line for line in done.stderr.decode().splitlines() if not line.endswith(" steps restored")]
+    if done.returncode not in (0, 1) or errors:
+        raise ValueError(f"status {done.returncode}: {errors}")
     said = [json.loads(line) for line in done.stdout.splitlines()]
     replies, steps = said[: len(lines)], said[len(lines) :]
     if [reply.get("line") for reply in replies] != list(range(1, len(lines) + 1)):
