@@ -321,7 +321,8 @@ class Workflows(unittest.TestCase):
         begun = time.monotonic()
         self.start(year)
         self.assertEqual(self.ended(), ("Completed", days(364)))
-        self.assertLess(time.monotonic() - begun, 5)
+        # A year would take a year; a busy machine takes some seconds.
+        self.assertLess(time.monotonic() - begun, 300)
 
     def test_a_run_continues_as_new(self):
         self.start(counted, 3)
