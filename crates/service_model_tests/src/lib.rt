@@ -5,6 +5,8 @@
 #[cfg(test)]
 mod alone;
 #[cfg(test)]
+mod by_rule;
+#[cfg(test)]
 mod carried;
 #[cfg(test)]
 mod commands;
@@ -18,6 +20,8 @@ mod draws;
 mod known;
 #[cfg(test)]
 mod names;
+#[cfg(test)]
+mod numbered;
 #[cfg(test)]
 mod requests;
 #[cfg(test)]
