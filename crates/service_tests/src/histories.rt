@@ -1,19 +1,23 @@
-//! Histories that are read while they grow.
+//! Histories that are read while they grow, and the record of what made them grow.
 
-ghost use Rattle.service.specs.Services.{IsPassOf};
+ghost use Rattle.std.specs.Prelude.{◌≡◌};
+ghost use Rattle.gate.specs.Passes.{number};
+ghost use Rattle.service.specs.Services.{IsPassOf, known_by};
+ghost use Rattle.service_tests.specs.Passes.{ComesBack};
 ghost use Rattle.std.specs.Thread.{IsSync};
 
 use crate::asked::{id, moment, settings, signal};
 use crate::calls::start_one;
-use crate::passes::{open, take_pass};
+use crate::passes::{close, give_back, open, take_pass};
 use crate::shown::shown;
 use event_pieces::SharedEvents;
 use service_model_types::answer::{Answer, Reply};
-use service_model_types::request::Read;
+use service_model_types::request::{Operation, Read, Request};
 use std::alloc::AllocGlobal;
 use std::process::Abort;
 use std::sync::Wait;
 use std::thread::{self, Threads};
+use step_record::Record;
 use workflow_service::{Pass, Service};
 
 /// How many signals each thread sends.
@@ -28,7 +32,7 @@ const READS: u64 = 100_000_000;
 /// What is answered to a read of `a`.
 fn read<R: Abort + AllocGlobal + Wait>(rt: &R, service: &Service, pass: &mut Pass, at: u64) -> Reply
     requires { IsPassOf pass.old service.now }
-    ensures { IsPassOf pass.new service.now }
+    ensures { ComesBack service.now pass.old pass.new }
 {
     let asked = Read {
         workflow_id: id(rt, "a"),
@@ -75,18 +79,21 @@ fn begins(others: &SharedEvents, events: &SharedEvents) -> bool {
 }
 
 /// Signals `a` at rising moments.
-fn signal_often<R: Abort + AllocGlobal + Wait>(rt: &R, service: &Service, mut pass: Pass)
+fn signal_often<R: Abort + AllocGlobal + Wait>(rt: &R, service: &Service, mut pass: Pass) -> Pass
     requires { IsPassOf pass service.now }
+    ensures { ComesBack service.now pass result }
 {
     for at in 0..SIGNALS {
         let came = service.signal(rt, &mut pass, signal(rt, "a"), moment(rt, at));
         assert_eq!(rt; shown(came), "signaled");
     }
+    pass
 }
 
 /// Reads `a` until all signals are there. Each read begins the next, and the first one stays as it was.
-fn read_often<R: Abort + AllocGlobal + Wait>(rt: &R, service: &Service, mut pass: Pass)
+fn read_often<R: Abort + AllocGlobal + Wait>(rt: &R, service: &Service, mut pass: Pass) -> Pass
     requires { IsPassOf pass service.now }
+    ensures { ComesBack service.now pass result }
 {
     let first = read(rt, service, &mut pass, 0);
     let early = count(events(rt, &first));
@@ -96,7 +103,7 @@ fn read_often<R: Abort + AllocGlobal + Wait>(rt: &R, service: &Service, mut pass
         assert!(rt; begins(events(rt, &last), events(rt, &next)));
         if count(events(rt, &next)) == ALL {
             assert_eq!(rt; count(events(rt, &first)), early);
-            return;
+            return pass;
         }
         last = next;
         thread::yield_now();
@@ -110,18 +117,22 @@ fn signal_both<R: Abort + AllocGlobal + Wait + Threads + Sync>(
     service: &Service,
     one: Pass,
     two: Pass,
-)
+) -> (Pass, Pass)
     requires { IsPassOf one service.now × IsPassOf two service.now }
+    ensures one { ComesBack service.now one result.0 }
+    ensures two { ComesBack service.now two result.1 }
 {
-    let ((), ()) = thread::join(
+    thread::join(
         rt,
-        move || -> ()
+        move || -> Pass
             requires { IsSync R.row × IsPassOf one service.now }
+            ensures { ComesBack service.entry.now one result }
         { signal_often(rt, service, one) },
-        move || -> ()
+        move || -> Pass
             requires { IsSync R.row × IsPassOf two service.now }
+            ensures { ComesBack service.entry.now two result }
         { signal_often(rt, service, two) },
-    );
+    )
 }
 
 /// Two threads signal while a third one reads.
@@ -130,20 +141,26 @@ fn signal_and_read<R: Abort + AllocGlobal + Wait + Threads + Sync>(
     service: &Service,
     signals: (Pass, Pass),
     reads: Pass,
-)
+) -> ((Pass, Pass), Pass)
     requires signals { IsPassOf signals.0 service.now × IsPassOf signals.1 service.now }
     requires reads { IsPassOf reads service.now }
+    ensures signals { ComesBack service.now signals.0 result.0.0
+        × ComesBack service.now signals.1 result.0.1 }
+    ensures reads { ComesBack service.now reads result.1 }
 {
-    let ((), ()) = thread::join(
+    thread::join(
         rt,
-        move || -> ()
+        move || -> (Pass, Pass)
             requires { IsSync R.row × IsPassOf signals.0 service.now
                 × IsPassOf signals.1 service.now }
+            ensures { ComesBack service.entry.now signals.0 result.0
+                × ComesBack service.entry.now signals.1 result.1 }
         { signal_both(rt, service, signals.0, signals.1) },
-        move || -> ()
+        move || -> Pass
             requires { IsSync R.row × IsPassOf reads service.now }
+            ensures { ComesBack service.entry.now reads result }
         { read_often(rt, service, reads) },
-    );
+    )
 }
 
 /// Four threads signal, and a fifth one reads meanwhile.
@@ -153,21 +170,55 @@ fn write_and_read<R: Abort + AllocGlobal + Wait + Threads + Sync>(
     one: (Pass, Pass),
     two: (Pass, Pass),
     reads: Pass,
-)
+) -> ((Pass, Pass), ((Pass, Pass), Pass))
     requires one { IsPassOf one.0 service.now × IsPassOf one.1 service.now }
     requires two { IsPassOf two.0 service.now × IsPassOf two.1 service.now }
     requires reads { IsPassOf reads service.now }
+    ensures one { ComesBack service.now one.0 result.0.0
+        × ComesBack service.now one.1 result.0.1 }
+    ensures two { ComesBack service.now two.0 result.1.0.0
+        × ComesBack service.now two.1 result.1.0.1 }
+    ensures reads { ComesBack service.now reads result.1.1 }
 {
-    let ((), ()) = thread::join(
+    thread::join(
         rt,
-        move || -> ()
+        move || -> (Pass, Pass)
             requires { IsSync R.row × IsPassOf one.0 service.now × IsPassOf one.1 service.now }
+            ensures { ComesBack service.entry.now one.0 result.0
+                × ComesBack service.entry.now one.1 result.1 }
         { signal_both(rt, service, one.0, one.1) },
-        move || -> ()
+        move || -> ((Pass, Pass), Pass)
             requires { IsSync R.row × IsPassOf two.0 service.now × IsPassOf two.1 service.now
                 × IsPassOf reads service.now }
+            ensures { ComesBack service.entry.now two.0 result.0.0
+                × ComesBack service.entry.now two.1 result.0.1
+                × ComesBack service.entry.now reads result.1 }
         { signal_and_read(rt, service, two, reads) },
-    );
+    )
+}
+
+/// How many signals of a pass the record has, if their moments rise by one from 0, and else none.
+fn count_signals(record: &Record<Request>, pass: u8) -> u64 {
+    let mut next: u64 = 0;
+    for entry in record.as_slice() {
+        if entry.pass == pass && matches!(entry.request.operation, Operation::Signal(_)) {
+            if entry.request.at.millis() != next {
+                return 0;
+            }
+            next = next.saturating_add(1);
+        }
+    }
+    next
+}
+
+/// Of each of the four passes the record has all signals, in the order in which it sent them.
+fn assert_in_order<R: Abort>(rt: &R, records: &[Record<Request>]) {
+    let Some(record) = records.first() else {
+        panic!(rt; "no record")
+    };
+    for pass in 0..4 {
+        assert_eq!(rt; count_signals(record, pass), SIGNALS, "{pass}");
+    }
 }
 
 #[test]
@@ -179,5 +230,11 @@ fn a_history_is_read_while_four_threads_write_it(rt: HostRuntime) {
     let b = take_pass(&service, &mut passes);
     let mut a = take_pass(&service, &mut passes);
     start_one(&rt, &service, &mut a, "a");
-    write_and_read(&rt, &service, (a, b), (c, d), reads);
+    let ((a, b), ((c, d), reads)) = write_and_read(&rt, &service, (a, b), (c, d), reads);
+    give_back(&rt, &service, &mut passes, a);
+    give_back(&rt, &service, &mut passes, b);
+    give_back(&rt, &service, &mut passes, c);
+    give_back(&rt, &service, &mut passes, d);
+    give_back(&rt, &service, &mut passes, reads);
+    assert_in_order(&rt, &close(service, passes));
 }
