@@ -25,6 +25,8 @@ mod shown;
 #[cfg(test)]
 mod threads;
 #[cfg(test)]
+mod timers;
+#[cfg(test)]
 mod transfers;
 #[cfg(test)]
 mod turns;
