@@ -2,7 +2,7 @@
 
 use crate::Outcome;
 use gate::Object;
-use gate_tests::Counter;
+use gate_counter::Counter;
 use std::alloc::{AllocError, Global};
 use std::rt::Clock;
 use std::sync::{Mutex, Wait};

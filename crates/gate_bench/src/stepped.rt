@@ -7,7 +7,7 @@ ghost use Rattle.gate_bench.specs.Lanes.{lane_count};
 
 use crate::{Lanes, Outcome};
 use gate::{Gate, Pass};
-use gate_tests::Counter;
+use gate_counter::Counter;
 use std::alloc::{AllocError, Global};
 use std::rt::Clock;
 use std::sync::Wait;

@@ -3,8 +3,8 @@ ghost use Rattle.gate.specs.Gates.{slots, given, IsPassOf};
 ghost use Rattle.gate.specs.Passes.{view, number};
 ghost use Rattle.std.specs.Thread.{IsSync};
 
-use crate::Counter;
 use gate::{ClosedSlot, Gate, Pass, Refused, replayed};
+use gate_counter::Counter;
 use std::alloc::{AllocError, Global};
 use std::rt::Clock;
 use std::sync::{Barrier, Wait};
