@@ -9,6 +9,8 @@ mod decisions;
 #[cfg(test)]
 mod devices;
 #[cfg(test)]
+mod drawn_lines;
+#[cfg(test)]
 mod lines;
 #[cfg(test)]
 mod retries;

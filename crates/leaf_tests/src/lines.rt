@@ -31,7 +31,7 @@ const OTHERS: [&str; 5] = [
 ];
 
 /// Whether a line is read as an object whose texts are slices of it.
-fn is_read(alloc: Global, line: &str, scratch: &mut Scratch) -> bool {
+pub(crate) fn is_read(alloc: Global, line: &str, scratch: &mut Scratch) -> bool {
     match borrowed_value(alloc, line, scratch) {
         Ok(value) => value.has_members(),
         Err(_) => false,
