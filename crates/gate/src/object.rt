@@ -67,8 +67,10 @@ pub trait Object: Drop {
         ensures opening { opening self.new ≡ opening self.old }
         ensures stands { (c : Self.Content) (q : Self.Request)
             → ready self.old c q plan → stands self.new (after c q) }
-        ensures reply { (c : Self.Content) (q : Self.Request) → ready self.old c q plan → result ≡ answer c q }
-        ensures keeps { (c : Self.Content) (q : Self.Request) → ready self.old c q plan → keeps c (after c q) };
+        ensures reply { (c : Self.Content) (q : Self.Request)
+            → ready self.old c q plan → result ≡ answer c q }
+        ensures keeps { (c : Self.Content) (q : Self.Request)
+            → ready self.old c q plan → keeps c (after c q) };
 
     // A content keeps all of itself.
     ghost keeps_same: { (c : Self.Content) → keeps c c };

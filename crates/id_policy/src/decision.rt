@@ -40,9 +40,11 @@ pub fn decide(
     request_id: Option<&Id>,
 ) -> Decision
     ensures value { let run = option_copied latest.entry in
-        says result ≡ decide (status_of run) (bears run (option_copied request_id.entry)) reuse conflict }
+        says result
+        ≡ decide (status_of run) (bears run (option_copied request_id.entry)) reuse conflict }
     // An ID has at most one open run.
-    ensures one_open { says result ≡ NewRun → status_of (option_copied latest.entry) ≢ Some Running }
+    ensures one_open { says result ≡ NewRun
+        → status_of (option_copied latest.entry) ≢ Some Running }
 {
     let Some(latest) = latest else {
         return Decision::New;

@@ -36,7 +36,8 @@ impl Queues {
         ensures own { IsPassOf pass.new self.now }
         ensures count { length (known_by pass.new) ≡ length (known_by pass.old) }
         ensures taken { (s : ℕ) → s < length (known_by pass.old)
-            → at (known_by pass.new) s ≡ taken_in (at (known_by pass.old) s) (at (known_by other) s) }
+            → at (known_by pass.new) s
+            ≡ taken_in (at (known_by pass.old) s) (at (known_by other) s) }
     {
         let mut slot = 0;
         for each in other.into_passes() {

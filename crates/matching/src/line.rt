@@ -28,7 +28,8 @@ pub(crate) struct Line {
     pub(crate) table: Board,
     pub(crate) cap: usize,
     pub(crate) one_lap: u64,
-    ghost sized: { (table.shared.table_id.words ≡ cap + 48) × (table.shared.table_id.slots ≡ cap) × Laps cap one_lap },
+    ghost sized: { (table.shared.table_id.words ≡ cap + 48)
+        × (table.shared.table_id.slots ≡ cap) × Laps cap one_lap },
 }
 
 impl Drop for Line {

@@ -29,7 +29,8 @@ impl Line {
         requires passes { ((view first.old).kind ≡ Pass) × ((view second.old).kind ≡ Pass) }
         requires quiet { IsQuiet (view first.old) × IsQuiet (view second.old) }
         ensures own { IsSamePass first.old first.new × IsSamePass second.old second.new }
-        ensures agree { Agree (view first.old) (view second.old) (view first.new) (view second.new) }
+        ensures agree { Agree (view first.old) (view second.old)
+            (view first.new) (view second.new) }
     {
         let shared = &self.table.shared;
         // The second pass hears what the first has seen, and compares: then it has seen the longer.

@@ -1,4 +1,4 @@
-//! Timer turns, and calls of any kind.
+//! Timer turns, and calls of one step, whichever it is.
 
 ghost use Rattle.service.specs.Asks.{to_turn_timers};
 ghost use Rattle.service.specs.Contents.{shard_refusal};
@@ -78,7 +78,7 @@ impl<S: KeepsShard> Service<S> {
         self.try_serve_on(pass, refusal, slot, call.into_client())
     }
 
-    /// Serves a call of any kind. It may wait for ever.
+    /// Serves a call of one step, whichever it is. It may wait for ever.
     ///
     /// # Errors
     /// As [`Service::serve`], with the request of the step that the call makes.

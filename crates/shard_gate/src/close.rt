@@ -104,13 +104,15 @@ impl<S: KeepsShard> ShardGate<S> {
     /// that were given, so none is on a shard. By the tickets all steps since the opening stand in one
     /// list, in which what comes before each step grounds it. It takes no memory.
     pub fn close(self, passes: Vec<ShardPass<S>>) -> Closed
-        requires own { (k : ℕ) (p : PassView) → slice_get passes.items k ≡ Some p → IsPassOf p self }
+        requires own { (k : ℕ) (p : PassView)
+            → slice_get passes.items k ≡ Some p → IsPassOf p self }
         requires count { length passes.items ≡ given self }
         requires all { (n : ℕ) → n < given self
             → (k : ℕ) × (p : PassView) × (slice_get passes.items k ≡ Some p)
             × (number p.known ≡ n) }
         ensures count { length result.records.items ≡ slots self }
-        ensures records { Each result.records.items (λ k log. IsEnd (base_of self k) (given self) log) }
+        ensures records { Each result.records.items
+            (λ k log. IsEnd (base_of self k) (given self) log) }
         ensures passes { (k : ℕ) (log : _) (j : ℕ) (p : PassView)
             → slice_get result.records.items k ≡ Some log
             → slice_get passes.items j ≡ Some p

@@ -54,7 +54,8 @@ fn reopen<S: KeepsShard>(
     requires { IsSetup setup }
     ensures opening { IfOk result (λ r. S.opening r.shard ≡ opening setup) }
     ensures log { IfOk result (λ r. r.log ≡ log) }
-    ensures stands { IfOk result (λ r. S.stands r.shard (replay S.after (S.opening r.shard) r.log)) }
+    ensures stands { IfOk result (λ r.
+        S.stands r.shard (replay S.after (S.opening r.shard) r.log)) }
     ensures keeping { IfOk result (λ r. KeepsAll S.after S.keeps (S.opening r.shard) r.log) }
     ensures waiting { IfOk result (λ r. r.waiting.items ≡ waiting (replayed_by setup log)) }
 {

@@ -89,7 +89,8 @@ impl<S: KeepsShard> ShardGate<S> {
     /// The gate, and the room that closing needs.
     pub(crate) fn into_parts(self) -> (Gate<S>, Mutex<GatePasses<S>>, Closed)
         ensures table { result.0.board.shared.table_id ≡ self.table }
-        ensures origin { origin_of (λ y. S.opening y.0) (λ y. y.1) (opened result.0) (given_by result.0)
+        ensures origin { origin_of
+            (λ y. S.opening y.0) (λ y. y.1) (opened result.0) (given_by result.0)
             ≡ self.origin }
         ensures few { given_by result.0 ≤ 256 }
         ensures empty { (length result.2.records.items ≡ 0) × (length result.2.tickets.items ≡ 0) }

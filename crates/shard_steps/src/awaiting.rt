@@ -48,7 +48,8 @@ fn still_waiting<T: KeepsRun>(
 ) -> Result<Option<Dispatch>, AllocError>
     requires phase { phase_in task.now.phase ≡ run.now.state.task }
     requires numbers { numbers_in task.now ≡ last_task run.now.state }
-    ensures { IfOk result (λ found. found ≡ still_waiting setup.now ordinal run.now.state dispatch) }
+    ensures { IfOk result (λ found.
+        found ≡ still_waiting setup.now ordinal run.now.state dispatch) }
 {
     match dispatch.hint.kind {
         TaskKind::Workflow => {

@@ -1,7 +1,8 @@
-//! What a step of one run adds and answers.
+//! What a step of one run adds and answers, and what the steps of a shard issue.
 //!
 //! Given a run, these functions decide what a request or a deadline does to it, and make the facts
-//! and texts of that. Which run a request names, and where it is kept, only `shard` knows.
+//! and texts of that. Which run a request names, `shard` says, and where it is kept, `shard_store`.
+//! The dispatches and the transfers that steps issue are kept here, and know runs by their places.
 #![tactic(auto)]
 
 mod activities;

@@ -103,7 +103,9 @@ impl FieldValue for TaskToken {
 
 /// The elements of an array; a value of another kind is an invalid argument.
 pub fn array<V: Tree>(field: Field, value: &V) -> Result<&[V], Refusal>
-    ensures { MatchResult result (λ elements. array_of field (V.stands_for value.now) ≡ Ok (map V.stands_for elements.now))
+    ensures { MatchResult result
+        (λ elements. array_of field (V.stands_for value.now)
+        ≡ Ok (map V.stands_for elements.now))
         (λ e. array_of field (V.stands_for value.now) ≡ Err e) }
 {
     match value.values() {
@@ -115,7 +117,8 @@ pub fn array<V: Tree>(field: Field, value: &V) -> Result<&[V], Refusal>
 /// The elements of an array; a longer array than that, or a value of another kind, is an invalid argument.
 pub fn elements<V: Tree>(field: Field, most: usize, value: &V) -> Result<&[V], Refusal>
     ensures { MatchResult result
-        (λ elements. elements_of most field (V.stands_for value.now) ≡ Ok (map V.stands_for elements.now))
+        (λ elements. elements_of most field (V.stands_for value.now)
+        ≡ Ok (map V.stands_for elements.now))
         (λ e. elements_of most field (V.stands_for value.now) ≡ Err e) }
 {
     let elements = array(field, value)?;

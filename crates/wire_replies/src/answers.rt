@@ -80,7 +80,8 @@ fn put_history(page: &mut Page, line: u64, history: &History) -> Result<(), Allo
 
 fn put_description(page: &mut Page, line: u64, description: &Description) -> Result<(), AllocError>
     ensures { OnOk result (sheet_of page.new
-        ≡ add_members (description_members description.now (line_member line)) (sheet_of page.old)) }
+        ≡ add_members
+        (description_members description.now (line_member line)) (sheet_of page.old)) }
 {
     page.number("activities", description.activities)?;
     page.number("cancels", description.cancels)?;
