@@ -1,6 +1,8 @@
 pub mod ListLemmas
 pub mod LatestLemmas
 pub mod DispatchLemmas
+pub mod ThereLemmas
+pub mod GrowthLemmas
 pub mod WaitLemmas
 mod OrderLemmas
 mod TransferLemmas

@@ -59,4 +59,4 @@ ready-stands v w S q plan ready did = stands-after v w S (moment_of S q.at) (out
 -- and that content keeps of the one before what every content does
 pub ready-keeps : {T : Type 0} (v w : ShardView) (S : Content) (q : Request) (plan : Plan T) → IsReady v S q plan → state w ≡ state_after plan (state v) → KeepsHistories S (after S q)
 unfolding after
-ready-keeps v w S q plan ready did = keeps-after v w S (moment_of S q.at) (outcome S (moment_of S q.at) q.operation) plan ready.stands ready.fits did
+ready-keeps v w S q plan ready did = keeps-after v S (moment_of S q.at) (outcome S (moment_of S q.at) q.operation) plan ready.stands ready.fits

@@ -13,6 +13,7 @@ use Rattle.service_model_types.specs.declared.transfer.TransferContent.TheVarian
 use Rattle.service_model.specs.Deliveries.{is_new}
 use Rattle.service_model.specs.IdPolicy.{decide}
 use Rattle.service_model.specs.Outcome.{Runs, latest_run, run_at, run_id}
+use Rattle.service_model.proofs.ThereLemmas.{closed-status}
 use Rattle.service_model.specs.RunState.{RunState, id_of, is_open, is_open_status}
 use Rattle.shard_steps.specs.Kept.{IsNoted}
 use Rattle.shard_steps.specs.Starts.{first_facts}
@@ -44,7 +45,7 @@ child-free R c is = by_latest (latest_run R.states c.workflow_id) is
 
     by_latest : (o : Option ℕ) → is_new (decide (option_map (λ n. (run_at R n).status) o) false c.reuse Fail) ≡ true → IfSome o (λ n. is_open (run_at R n) ≡ false)
     by_latest None h = tt
-    by_latest (Some n) h = by_status (run_at R n).status h
+    by_latest (Some n) h = closed-status (run_at R n) (by_status (run_at R n).status h)
 
 -- where a child's run begins so, it is told that it started
 pub child-fits : {T : Type 0} (v old : ShardView) (at : ℕ) (t : Transfer) (c : StartChildTransfer) (b : Beginning) (n : NewRun T) (to : ℕ) (run : Run) → state v ≡ state old → IsNoted v.changed → CountsAccepted old t.from → b ≡ child_beginning c → IsMade v at n b → is_free_for (runs_in old) c ≡ true → to ≡ c.parent_run.shard → run ≡ run_id old.setup (length v.runs + 1) →

@@ -1,6 +1,6 @@
 -- events that transfers bring may come
 use Rattle.std.proofs.Common.{◌≡◌, ℕ, Bool, true, false, cond, ◌==◌, ◌||◌, List, [], ◌∷◌, refl, sym, ap, ◌∙◌, subst, Some, None}
-use Rattle.std.specs.Prelude.{find, option_and_then, unwrap_or}
+use Rattle.std.specs.Prelude.{◌&&◌, find, option_and_then, unwrap_or}
 use Rattle.wf_event.specs.declared.attributes.Attributes.{Attributes}
 use Rattle.wf_event.specs.declared.attributes.Attributes.TheVariants.{ChildWorkflowExecutionStarted, StartChildWorkflowExecutionFailed, WorkflowExecutionCancelRequested, WorkflowExecutionSignaled}
 use Rattle.wf_event.specs.declared.event.Event.{Event}
@@ -21,7 +21,7 @@ use Rattle.service_model.specs.Deliveries.{asked_id, child_closed_event, externa
 use Rattle.service_model.specs.Journal.{plain}
 use Rattle.service_model.specs.Outcome.{is_no_task, outside, schedule_task}
 use Rattle.service_model.specs.Pending.{Task, NoTask, IsScheduled, IsStarted, task_of}
-use Rattle.service_model.specs.RunState.{RunState, is_open, is_open_status, pending}
+use Rattle.service_model.specs.RunState.{RunState, is_open, is_open_status, is_there, pending}
 use Rattle.service_model.specs.Signals.{was_signaled}
 use Rattle.mutable_state.specs.Steps.{FitStep, FitsEvent, FitsRole, IsFirst, MaySettle, has_id, task_after, with_event}
 use Rattle.shard_deliveries.specs.Accepting.{IsFromOutside}
@@ -45,7 +45,7 @@ unfolding role opens settles closing_status
 outside-fits at s a h = by_task s.task refl
   where
     opened : is_open (with_event at None a s) ≡ true
-    opened = ap (λ o. is_open_status (unwrap_or o s.status)) h.stays ∙ h.opened
+    opened = ap (λ o. is_there s && is_open_status (unwrap_or o s.status)) h.stays ∙ h.opened
 
     task-stays : task_after a s.task ≡ s.task
     task-stays = ap (λ r. cond (is_closing_role r) NoTask (unwrap_or (task_of r) s.task)) h.outside

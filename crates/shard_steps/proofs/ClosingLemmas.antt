@@ -1,5 +1,5 @@
 -- a step with a closing event closes its run, and so does a completion that continues as new
-use Rattle.std.proofs.Common.{◌≡◌, ℕ, Bool, true, false, ◌||◌, List, [], ◌∷◌, ◌++◌, refl, sym, ap, ◌∙◌, Option, Some, None, cond}
+use Rattle.std.proofs.Common.{◌≡◌, ℕ, Bool, true, false, ◌&&◌, ◌||◌, List, [], ◌∷◌, ◌++◌, refl, sym, ap, ◌∙◌, Option, Some, None, cond}
 use Rattle.std.specs.Prelude.{map, unwrap_or, not, Result, Ok, Err}
 use Rattle.std.specs.List.{list_any}
 use Rattle.wf_event.specs.declared.attributes.Attributes.{Attributes}
@@ -17,7 +17,8 @@ use Rattle.service_model_types.specs.declared.content.Setup.{Setup}
 use Rattle.service_model.specs.Completion.{Judged, after_check, completed_task, fault_if, gives, go_on, is_some_held, judge, judge_all, judge_fields_good}
 use Rattle.service_model.specs.Journal.{plain, latest, first_some}
 use Rattle.service_model_types.specs.Routing.{knows_queue}
-use Rattle.service_model.specs.RunState.{RunState, is_open, is_open_status, queue_of, type_of}
+use Rattle.service_model.proofs.ThereLemmas.{closed-status}
+use Rattle.service_model.specs.RunState.{RunState, is_open, is_open_status, is_there, queue_of, type_of}
 use Rattle.service_model.specs.Tasks.{continue_part, is_started_task}
 use Rattle.mutable_state.specs.Steps.{FitStep, after_step, all_written, step_ended, with_event, with_facts}
 
@@ -47,14 +48,18 @@ status-stays _ s h = h
 
 with-closed : (at : ℕ) (F : List Attributes) (s : RunState) → is_open s ≡ false → is_open (with_facts at (map plain F) s) ≡ false
 with-closed at [] s h = h
-with-closed at (a ∷ F) s h = with-closed at F (with_event at None a s) (status-stays a s.status h)
+with-closed at (a ∷ F) s h = with-closed at F (with_event at None a s) (by_there (is_there s) h)
+  where
+    by_there : (b : Bool) → (b && is_open_status s.status) ≡ false → (b && is_open_status (unwrap_or (closing_status a) s.status)) ≡ false
+    by_there true over = status-stays a s.status over
+    by_there false over = refl
 
 with-closing : (at : ℕ) (F : List Attributes) (s : RunState) → closes F ≡ true → is_open (with_facts at (map plain F) s) ≡ false
 with-closing at [] s h = absurd (cc)
 with-closing at (a ∷ F) s h = by_test (is_closing_role (role a)) refl (with-closing at F (with_event at None a s)) h
   where
     by_test : (b : Bool) → is_closing_role (role a) ≡ b → (closes F ≡ true → is_open (with_facts at (map plain F) (with_event at None a s)) ≡ false) → (b || closes F) ≡ true → is_open (with_facts at (map plain F) (with_event at None a s)) ≡ false
-    by_test true is later g = with-closed at F (with_event at None a s) (status-closed a s.status is)
+    by_test true is later g = let t = with_event at None a s in with-closed at F t (closed-status t (status-closed a s.status is))
     by_test false is later g = later g
 
 -- the run has closed behind the step

@@ -17,7 +17,8 @@ use Rattle.service_model.specs.IdPolicy.{decide, New, Same, Refused, TerminateTh
 use Rattle.service_model.specs.Journal.{plain}
 use Rattle.service_model.specs.Outcome.{Runs, made_by, outside, is_no_task, schedule_task, run_at}
 use Rattle.service_model.specs.Pending.{Task, NoTask, IsScheduled, IsStarted}
-use Rattle.service_model.specs.RunState.{RunState, is_open, is_open_status}
+use Rattle.service_model.proofs.ThereLemmas.{there-open, closed-status}
+use Rattle.service_model.specs.RunState.{RunState, is_open, is_open_status, is_there}
 use Rattle.service_model.specs.Signals.{was_signaled, signal_fact}
 use Rattle.service_model.specs.Starts.{decision, start_request, first_task}
 use Rattle.mutable_state.specs.Steps.{IsFirst, FitsEvent, FitStep}
@@ -49,9 +50,9 @@ decides-fail R q n fail e =
     by_test false TimedOut e = on_closed-ends q.reuse TimedOut e
 
 -- only an open run is terminated
-pub decides-open : (R : Runs) (q : Start) (n : ℕ) → decision R q (Some n) ≡ TerminateThenNew → is_open (run_at R n) ≡ true
+pub decides-open : (R : Runs) (q : Start) (n : ℕ) → is_there (run_at R n) ≡ true → decision R q (Some n) ≡ TerminateThenNew → is_open (run_at R n) ≡ true
 unfolding decide
-decides-open R q n e = by_test (is_same_request q.request_id (start_request (run_at R n))) (run_at R n).status e
+decides-open R q n there e = there-open (run_at R n) there ∙ by_test (is_same_request q.request_id (start_request (run_at R n))) (run_at R n).status e
   where
     by_test : (b : Bool) (s : Status) → cond b Same (on_status q.reuse q.conflict s) ≡ TerminateThenNew → is_open_status s ≡ true
     by_test true s e = absurd (cc)
@@ -71,7 +72,7 @@ opens-anew TerminateExisting e = absurd (cc)
 -- a new run follows only one that has closed
 pub decides-new : (R : Runs) (q : Start) (n : ℕ) → decision R q (Some n) ≡ New → is_open (run_at R n) ≡ false
 unfolding decide
-decides-new R q n e = by_test (is_same_request q.request_id (start_request (run_at R n))) (run_at R n).status e
+decides-new R q n e = closed-status (run_at R n) (by_test (is_same_request q.request_id (start_request (run_at R n))) (run_at R n).status e)
   where
     by_test : (b : Bool) (s : Status) → cond b Same (on_status q.reuse q.conflict s) ≡ New → is_open_status s ≡ false
     by_test true s e = absurd (cc)

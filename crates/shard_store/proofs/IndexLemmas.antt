@@ -1,19 +1,23 @@
 -- the latest run of a workflow ID, as runs are added and grow
 use Rattle.std.proofs.Common.{◌≡◌, ℕ, ◌+◌, ◌-◌, ◌<◌, ◌≤◌, Bool, true, false, subst, List, [], ◌∷◌, ◌++◌, length, refl, sym, ap, ◌∙◌, arith, zero, suc, slice_index_or, slice_set, cond, Option, Some, None, IfSome}
 use Rattle.std.proofs.lemmas.List.{length-map}
-use Rattle.std.specs.Prelude.{bytes_eq, option_map, IfSome}
+use Rattle.std.specs.Prelude.{◌&&◌, bytes_eq, is_some, option_map, unwrap_or}
 use Rattle.std.specs.List.{enumerate_from}
 use Rattle.service_model.specs.Journal.{latest, first_some}
-use Rattle.service_model.specs.RunState.{RunState, no_run, id_of}
+use Rattle.service_model.specs.RunState.{Beginning, RunState, no_run, id_of, is_there}
 use Rattle.service_model.specs.Outcome.{Runs, latest_run, run_at}
 use Rattle.service_model.proofs.ListLemmas.{map-push}
 use Rattle.mutable_state.specs.View.{RunView}
 use Rattle.shard_store.specs.Fitting.{state_at}
 use Rattle.shard_store.specs.View.{IsIndexed, ordinal_of, states}
 
+-- whether a run is there and has this workflow ID, by how it began
+abbrev pub bears : List ℕ → RunState → Bool
+bears id s = is_there s && bytes_eq (id_of s) id
+
 -- the same, where the ordinals count from k
 unfoldable pub latest_from : ℕ → List ℕ → List RunState → Option ℕ
-latest_from k id runs = latest (λ (p : ℕ × RunState). cond (bytes_eq (id_of p.1) id) (Some p.0) None) (enumerate_from k runs)
+latest_from k id runs = latest (λ (p : ℕ × RunState). cond (bears id p.1) (Some p.0) None) (enumerate_from k runs)
 
 first_some_cond : (b : Bool) (k : ℕ) (o : Option ℕ) → first_some (cond b (Some k) None) o ≡ cond b (Some k) o
 first_some_cond true k o = refl
@@ -24,18 +28,18 @@ first_some_assoc None b c = refl
 first_some_assoc (Some n) b c = refl
 
 latest_from-append : (k : ℕ) (id : List ℕ) (runs : List RunState) (run : RunState) →
-    latest_from k id (runs ++ run ∷ []) ≡ first_some (cond (bytes_eq (id_of run) id) (Some (length runs + k)) None) (latest_from k id runs)
+    latest_from k id (runs ++ run ∷ []) ≡ first_some (cond (bears id run) (Some (length runs + k)) None) (latest_from k id runs)
 unfolding latest_from
-latest_from-append k id [] run = only (bytes_eq (id_of run) id) k (0 + k) (omega arith)
+latest_from-append k id [] run = only (bears id run) k (0 + k) (omega arith)
   where
     only : (b : Bool) (m n : ℕ) → n ≡ m → cond b (Some m) None ≡ first_some (cond b (Some n) None) None
     only true m n e = ap Some (sym e)
     only false m n e = refl
 latest_from-append k id (r ∷ runs) run =
     let count : length runs + (k + 1) ≡ length (r ∷ runs) + k = omega arith in
-    let here : Option ℕ = cond (bytes_eq (id_of r) id) (Some k) None in
-    ap (λ o. first_some o here) (latest_from-append (k + 1) id runs run ∙ ap (λ n. first_some (cond (bytes_eq (id_of run) id) (Some n) None) (latest_from (k + 1) id runs)) count)
-    ∙ first_some_assoc (cond (bytes_eq (id_of run) id) (Some (length (r ∷ runs) + k)) None) (latest_from (k + 1) id runs) here
+    let here : Option ℕ = cond (bears id r) (Some k) None in
+    ap (λ o. first_some o here) (latest_from-append (k + 1) id runs run ∙ ap (λ n. first_some (cond (bears id run) (Some n) None) (latest_from (k + 1) id runs)) count)
+    ∙ first_some_assoc (cond (bears id run) (Some (length (r ∷ runs) + k)) None) (latest_from (k + 1) id runs) here
 
 pub length-states : (runs : List RunView) → length (states runs) ≡ length runs
 length-states runs = length-map runs (λ (r : RunView). r.state)
@@ -60,24 +64,29 @@ states-same (r ∷ runs) zero was now there is same = ap (λ s. s ∷ states run
 states-same (r ∷ runs) (suc n) was now there is same = ap (λ t. r.state ∷ t) (states-same runs n was now (omega arith) is same)
 
 -- a new run is the latest of its workflow ID
-pub latest_run-push : (id : List ℕ) (runs : List RunView) (run : RunView) (key : List ℕ) → id_of run.state ≡ key →
+pub latest_run-push : (id : List ℕ) (runs : List RunView) (run : RunView) (key : List ℕ) → is_there run.state ≡ true → id_of run.state ≡ key →
     latest_run (states (runs ++ run ∷ [])) id ≡ cond (bytes_eq key id) (Some (length runs + 1)) (latest_run (states runs) id)
 unfolding latest_run latest_from
-latest_run-push id runs run key named =
-    let all : latest_run (states runs ++ run.state ∷ []) id ≡ first_some (cond (bytes_eq (id_of run.state) id) (Some (length (states runs) + 1)) None) (latest_run (states runs) id) = latest_from-append 1 id (states runs) run.state in
+latest_run-push id runs run key there named =
+    let all : latest_run (states runs ++ run.state ∷ []) id ≡ first_some (cond (bears id run.state) (Some (length (states runs) + 1)) None) (latest_run (states runs) id) = latest_from-append 1 id (states runs) run.state in
     ap (λ t. latest_run t id) (states-push runs run) ∙ all
-    ∙ first_some_cond (bytes_eq (id_of run.state) id) (length (states runs) + 1) (latest_run (states runs) id)
-    ∙ ap (λ n. cond (bytes_eq (id_of run.state) id) (Some (n + 1)) (latest_run (states runs) id)) (length-states runs)
+    ∙ first_some_cond (bears id run.state) (length (states runs) + 1) (latest_run (states runs) id)
+    ∙ ap (λ n. cond (bears id run.state) (Some (n + 1)) (latest_run (states runs) id)) (length-states runs)
+    ∙ ap (λ b. cond (b && bytes_eq (id_of run.state) id) (Some (length runs + 1)) (latest_run (states runs) id)) there
     ∙ ap (λ w. cond (bytes_eq w id) (Some (length runs + 1)) (latest_run (states runs) id)) named
 
-latest_from-set : (k : ℕ) (id : List ℕ) (runs : List RunState) (n : ℕ) (run : RunState) → id_of run ≡ id_of (slice_index_or runs n no_run) → latest_from k id (slice_set runs n run) ≡ latest_from k id runs
+-- the same by how the run began
+abbrev bears_by : List ℕ → Option Beginning → Bool
+bears_by id o = is_some o && bytes_eq (unwrap_or (option_map (λ (b : Beginning). b.attributes.workflow_id) o) []) id
+
+latest_from-set : (k : ℕ) (id : List ℕ) (runs : List RunState) (n : ℕ) (run : RunState) → run.beginning ≡ (slice_index_or runs n no_run).beginning → latest_from k id (slice_set runs n run) ≡ latest_from k id runs
 unfolding latest_from
 latest_from-set k id [] n run same = refl
-latest_from-set k id (r ∷ runs) zero run same = ap (λ w. first_some (latest_from (k + 1) id runs) (cond (bytes_eq w id) (Some k) None)) same
-latest_from-set k id (r ∷ runs) (suc n) run same = ap (λ o. first_some o (cond (bytes_eq (id_of r) id) (Some k) None)) (latest_from-set (k + 1) id runs n run same)
+latest_from-set k id (r ∷ runs) zero run same = ap (λ o. first_some (latest_from (k + 1) id runs) (cond (bears_by id o) (Some k) None)) same
+latest_from-set k id (r ∷ runs) (suc n) run same = ap (λ o. first_some o (cond (bears id r) (Some k) None)) (latest_from-set (k + 1) id runs n run same)
 
--- a run that keeps its workflow ID changes no latest run
-pub latest_run-set : (id : List ℕ) (runs : List RunState) (n : ℕ) (run : RunState) → id_of run ≡ id_of (slice_index_or runs n no_run) → latest_run (slice_set runs n run) id ≡ latest_run runs id
+-- a run that began as it did changes no latest run
+pub latest_run-set : (id : List ℕ) (runs : List RunState) (n : ℕ) (run : RunState) → run.beginning ≡ (slice_index_or runs n no_run).beginning → latest_run (slice_set runs n run) id ≡ latest_run runs id
 unfolding latest_run latest_from
 latest_run-set id runs n run same = latest_from-set 1 id runs n run same
 
@@ -89,7 +98,7 @@ within_more k top false None h below = tt
 latest_from-within : (k top : ℕ) (id : List ℕ) (runs : List RunState) → k + length runs ≤ top → IfSome (latest_from k id runs) (λ n. (k ≤ n) × (n < top))
 unfolding latest_from
 latest_from-within k top id [] h = tt
-latest_from-within k top id (r ∷ runs) h = within_more k top (bytes_eq (id_of r) id) (latest_from (k + 1) id runs) (omega arith) (latest_from-within (k + 1) top id runs (omega arith))
+latest_from-within k top id (r ∷ runs) h = within_more k top (bears id r) (latest_from (k + 1) id runs) (omega arith) (latest_from-within (k + 1) top id runs (omega arith))
 
 to_range : (top : ℕ) (o : Option ℕ) → IfSome o (λ n. (1 ≤ n) × (n < top + 1)) → IfSome o (λ n. (1 ≤ n) × (n ≤ top))
 to_range top None h = tt

@@ -1,38 +1,67 @@
 -- what a step leaves of the histories that were there
-use Rattle.std.proofs.Common.{◌≡◌, ℕ, ap, sym, ◌∙◌, subst, List}
-use Rattle.std.specs.Prelude.{slice_get}
+use Rattle.std.proofs.Common.{◌≡◌, ℕ, ◌+◌, ◌-◌, ◌++◌, [], false, ap, append-nil, arith, refl, sym, ◌∙◌, subst, List, Option, Some, None, slice_index_or}
+use Rattle.std.specs.Prelude.{map, slice_get}
 use Rattle.service_model_types.specs.declared.content.Content.{Content}
-use Rattle.service_model.specs.Outcome.{Outcome}
-use Rattle.service_model.specs.GroundGrowth.{outcome-accepted, outcome-issued}
-use Rattle.service_model.specs.Growth.{KeepsHistories}
-use Rattle.service_model.specs.RunState.{RunState, state_of}
-use Rattle.service_model.specs.Service.{content_after}
-use Rattle.service_model.proofs.ListLemmas.{get-map, map-get}
-use Rattle.shard_store.specs.View.{ShardView, state, states}
-use Rattle.shard_store.specs.Fitting.{FitsStep, state_after, runs_added, runs_created}
-use Rattle.shard_store.specs.Open.{IsOneOpen}
+use Rattle.service_model_types.specs.declared.journal.Fact.{Fact}
+use Rattle.service_model.specs.Growth.{HasOneOpen, KeepsHistories}
+use Rattle.service_model.specs.Journal.{Journal}
+use Rattle.service_model.specs.Outcome.{Outcome, Added}
+use Rattle.service_model.specs.RunState.{RunState, beginning, id_of, is_open, state_of}
+use Rattle.service_model.specs.Service.{content_after, entries, with_added}
+use Rattle.service_model.proofs.GrowthLemmas.{IsFree, MayAdd, MayBecome, MayMake, keeps-step}
+use Rattle.service_model.proofs.ListLemmas.{map-get}
+use Rattle.mutable_state.specs.declared.change.Change.{Change as MoreFacts}
+use Rattle.mutable_state.specs.Steps.{FitStep}
+use Rattle.mutable_state.proofs.GrowthLemmas.{beginning-stays, step-begins}
+use Rattle.shard_steps.specs.Starts.{first_facts}
+use Rattle.shard_store.specs.View.{ShardView, states}
+use Rattle.shard_store.specs.Fitting.{FitsAdded, FitsChange, FitsCreated, FitsStep, IsFreeFor, runs_added, state_at}
+use Rattle.shard_store.specs.Open.{HasClosed, IsOneOpen}
 use Rattle.shard_store.specs.Standing.{StandsFor}
+use Rattle.shard_store.specs.declared.plan.Change.{Change}
+use Rattle.shard_store.specs.declared.plan.MoreOf.{MoreOf}
+use Rattle.shard_store.specs.declared.plan.NewRun.{NewRun}
 use Rattle.shard_store.specs.declared.plan.Plan.{Plan}
-use Rattle.shard_store.proofs.OpenLemmas.{of-journals, to-journals, one-open-after}
-use Rattle.shard_store.proofs.StepLemmas.{grows-after, stands-after, stays-after}
+use Rattle.shard_store.proofs.OpenLemmas.{of-journals}
+use Rattle.shard_store.proofs.StepLemmas.{AddedTo, DoneRuns, added-done, added-stands, created-stands, no-facts}
 
--- each run that was there shows first what it showed before
-pub keeps-after : {T : Type 0} (v w : ShardView) (S : Content) (m : ℕ) (o : Outcome) (plan : Plan T) → StandsFor v S → FitsStep v plan m o → state w ≡ state_after plan (state v) → KeepsHistories S (content_after S m o)
-keeps-after v w S m o plan stands fits did =
-    let grown = grows-after v m plan o w fits.change did in
-    let before = ap (λ s. s.runs) stands.says in
-    let later = ap (λ s. s.runs) (stands-after v w S m o plan stands fits did).says in
-    record {
-      runs = λ n J there.
-          let (t, more, found, is) = grown.runs n (state_of J) (ap (λ l. slice_get l n) before ∙ map-get state_of S.runs n J there) in
-          let (K, at, same) = get-map state_of (content_after S m o).runs n t (ap (λ l. slice_get l n) (sym later) ∙ found) in
-          (K, more, at, ap (λ s. s.shown) (sym same) ∙ is);
-      closed = λ n J there over. stays-after v S m o plan n J stands fits there over;
-      one = λ h.
-          let P : List RunState → Type 0 = λ l. IsOneOpen l in
-          let were : IsOneOpen (states v.runs) = subst P (sym before) (of-journals S h) in
-          let did_runs : states w.runs ≡ runs_created plan.change.created (runs_added plan.change.added (states v.runs)) = ap (λ s. s.runs) did in
-          to-journals (content_after S m o) (subst P later (subst P (sym did_runs) (one-open-after v m plan.change o fits.change were)));
-      issued = λ to. outcome-issued S m o to;
-      accepted = λ from. outcome-accepted S m o from;
-    }
+-- what a step adds to an older run may be added
+added-may : (S : Content) (v : ShardView) (moment : ℕ) (m : Option MoreOf) (o : Option Added) → StandsFor v S → FitsAdded v moment m o → MayAdd S moment o
+added-may S v moment None o h none = subst (MayAdd S moment) (sym none) tt
+added-may S v moment (Some m) o h (facts, added, fits) =
+    let i = m.index in
+    let s = state_at (states v.runs) i in
+    let J = slice_index_or S.runs i [] in
+    let more = entries (S.steps + 1) moment 0 facts in
+    let stands = added-stands S v moment m facts h fits in
+    let may : FitStep moment s facts = subst (λ (c : MoreFacts). FitStep c.moment s c.facts) fits.change fits.has_room.fits in
+    let begins = step-begins moment facts s in
+    let P : ℕ → Type 0 = λ k. MayBecome (slice_index_or S.runs k []) (slice_index_or S.runs k [] ++ more) in
+    let place : m.index + 1 - 1 ≡ i = omega arith in
+    subst (MayAdd S moment) (sym added) (subst P (sym place) (record {
+      shows = (begins.more, ap (λ t. t.shown) stands.behind.says ∙ begins.is ∙ ap (λ t. t.shown ++ begins.more) (sym stands.before));
+      closed = λ over. ap (λ fs. J ++ entries (S.steps + 1) moment 0 fs) (no-facts moment s facts (ap is_open (sym stands.before) ∙ over) may) ∙ append-nil J;
+      began = ap (λ t. t.beginning) stands.behind.says ∙ beginning-stays moment facts s ∙ ap (λ t. t.beginning) (sym stands.before);
+    }))
+
+-- and a run that it makes may be made
+created-may : {T : Type 0} (S : Content) (v : ShardView) (moment : ℕ) (c : Change T) (n : Option (NewRun T)) (o : Outcome) → StandsFor v S → FitsChange v moment c o → c.created ≡ n → FitsCreated v moment n o.created →
+    MayMake S moment (with_added (S.steps + 1) moment o.added S.runs) o.created
+created-may S v moment c None o h fits is none = subst (MayMake S moment (with_added (S.steps + 1) moment o.added S.runs)) (sym none) tt
+created-may S v moment c (Some n) o h fits is (b, created, made) =
+    let runs = with_added (S.steps + 1) moment o.added S.runs in
+    let X = entries (S.steps + 1) moment 0 (first_facts b) in
+    let begun : state_of X ≡ n.run.state = (created-stands S v moment n b made).says ∙ sym made.made in
+    let done : DoneRuns S runs (runs_added c.added (states v.runs)) = added-done S v moment c.added o.added h fits.added in
+    let before : map state_of S.runs ≡ states v.runs = sym (ap (λ s. s.runs) h.says) in
+    let free : HasOneOpen S → HasClosed (runs_added c.added (states v.runs)) (id_of n.run.state) = λ one.
+    let all = fits.free (subst (λ l. IsOneOpen l) before (of-journals S one)) in
+    subst (λ k. IsFreeFor k (runs_added c.added (states v.runs))) is all in
+    subst (MayMake S moment runs) (sym created) (λ one. record {
+      each = λ k J at same. (free one).each k (state_of J) (ap (λ l. slice_get l k) (sym done.says) ∙ map-get state_of runs k J at) (same ∙ ap id_of begun);
+    })
+
+-- each run that was there shows first what it showed before, and has not changed where it had closed
+pub keeps-after : {T : Type 0} (v : ShardView) (S : Content) (m : ℕ) (o : Outcome) (plan : Plan T) → StandsFor v S → FitsStep v plan m o → KeepsHistories S (content_after S m o)
+keeps-after v S m o plan stands fits =
+    keeps-step S m o (added-may S v m plan.change.added o.added stands fits.change.added) (created-may S v m plan.change plan.change.created o stands fits.change refl fits.change.created)

@@ -1,6 +1,6 @@
 -- a workflow ID has at most one open run: of two runs of one ID the earlier has closed
 use Rattle.std.proofs.Common.{◌≡◌, ℕ, ◌+◌, ◌-◌, ◌<◌, ◌≤◌, ◌⊎◌, inl, inr, ⊎_elim, Bool, true, false, cond, List, [], ◌∷◌, ◌++◌, length, refl, sym, ap, ◌∙◌, arith, Option, Some, None, zero, suc, slice_set, IfSome}
-use Rattle.std.specs.Prelude.{map, slice_get, bytes_eq, unwrap_or, option_map}
+use Rattle.std.specs.Prelude.{◌&&◌, map, slice_get, bytes_eq, unwrap_or, option_map}
 use Rattle.std.proofs.lemmas.Slice.Eq.{bytes_eq-Decides}
 use Rattle.std.proofs.lemmas.Bool.Decides.{not_from_Decides}
 use Rattle.service_model_types.specs.declared.content.Content.{Content}
@@ -8,9 +8,9 @@ use Rattle.service_model_types.specs.declared.journal.Fact.{Fact}
 use Rattle.service_model.specs.Growth.{HasOneOpen}
 use Rattle.service_model.specs.Journal.{first_some}
 use Rattle.service_model.specs.Outcome.{Outcome, Added, latest_run}
-use Rattle.service_model.specs.RunState.{RunState, Beginning, id_of, is_open, state_of}
+use Rattle.service_model.specs.RunState.{RunState, Beginning, id_of, is_open, is_open_status, is_there, state_of}
 use Rattle.service_model.proofs.ListLemmas.{get-map, map-get}
-use Rattle.service_model.specs.Tasks.{is_started_task}
+use Rattle.service_model.proofs.ThereLemmas.{open-there}
 use Rattle.mutable_state.specs.Steps.{after_step, all_written, FitStep}
 use Rattle.mutable_state.proofs.GrowthLemmas.{beginning-stays}
 use Rattle.shard_steps.proofs.DispatchLemmas.{get-at}
@@ -20,7 +20,7 @@ use Rattle.shard_store.specs.Open.{HasClosed, IsOneOpen}
 use Rattle.shard_store.specs.declared.plan.Change.{Change}
 use Rattle.shard_store.specs.declared.plan.MoreOf.{MoreOf}
 use Rattle.shard_store.specs.declared.plan.NewRun.{NewRun}
-use Rattle.shard_store.proofs.IndexLemmas.{latest_from}
+use Rattle.shard_store.proofs.IndexLemmas.{bears, latest_from}
 use Rattle.shard_store.proofs.StepLemmas.{no-facts}
 
 same-some : {A : Type 0} (x y : A) → Some x ≡ Some y → x ≡ y
@@ -51,55 +51,67 @@ state-there [] n s is = absurd (cc)
 state-there (r ∷ runs) zero s is = same-some r s is
 state-there (r ∷ runs) (suc n) s is = state-there runs n s is
 
+-- a run that bears an ID is there, and has it
+bears-is : (id : List ℕ) (s : RunState) → bears id s ≡ true → (is_there s ≡ true) × (id_of s ≡ id)
+bears-is id s h = by_test (is_there s) h
+  where
+    by_test : (b : Bool) → (b && bytes_eq (id_of s) id) ≡ true → (b ≡ true) × (id_of s ≡ id)
+    by_test true h = (refl, (bytes_eq-Decides (id_of s) id).0 h)
+    by_test false h = absurd (cc)
+
+bears-not : (id : List ℕ) (s : RunState) → bears id s ≡ false → is_there s ≡ true → id_of s ≡ id → ⊥
+bears-not id s h there same = not_from_Decides (bytes_eq (id_of s) id) (bytes_eq-Decides (id_of s) id) (ap (λ b. b && bytes_eq (id_of s) id) (sym there) ∙ h) same
+
 -- the run of this ID that has the largest ordinal, where these count from k
 record IsLatest (k : ℕ) (id : List ℕ) (runs : List RunState) (o : Option ℕ) : Type 0 where
-  none : o ≡ None → (m : ℕ) (s : RunState) → slice_get runs m ≡ Some s → id_of s ≡ id → ⊥
-  some : (x : ℕ) → o ≡ Some x → (i : ℕ) × (t : RunState) × (x ≡ k + i) × (slice_get runs i ≡ Some t) × (id_of t ≡ id) × ((m : ℕ) (s : RunState) → slice_get runs m ≡ Some s → id_of s ≡ id → m ≤ i)
+  none : o ≡ None → (m : ℕ) (s : RunState) → slice_get runs m ≡ Some s → is_there s ≡ true → id_of s ≡ id → ⊥
+  some : (x : ℕ) → o ≡ Some x → (i : ℕ) × (t : RunState) × (x ≡ k + i) × (slice_get runs i ≡ Some t) × (is_there t ≡ true) × (id_of t ≡ id)
+      × ((m : ℕ) (s : RunState) → slice_get runs m ≡ Some s → is_there s ≡ true → id_of s ≡ id → m ≤ i)
 
 is-latest : (k : ℕ) (id : List ℕ) (runs : List RunState) → IsLatest k id runs (latest_from k id runs)
 unfolding latest_from
-is-latest k id [] = record { none = λ e m s is same. absurd (cc); some = λ x e. absurd (cc) }
-is-latest k id (r ∷ runs) = by_rest (latest_from (k + 1) id runs) (is-latest (k + 1) id runs) (bytes_eq (id_of r) id) refl
+is-latest k id [] = record { none = λ e m s is there same. absurd (cc); some = λ x e. absurd (cc) }
+is-latest k id (r ∷ runs) = by_rest (latest_from (k + 1) id runs) (is-latest (k + 1) id runs) (bears id r) refl
   where
-    by_rest : (o : Option ℕ) → IsLatest (k + 1) id runs o → (b : Bool) → bytes_eq (id_of r) id ≡ b → IsLatest k id (r ∷ runs) (first_some o (cond b (Some k) None))
+    by_rest : (o : Option ℕ) → IsLatest (k + 1) id runs o → (b : Bool) → bears id r ≡ b → IsLatest k id (r ∷ runs) (first_some o (cond b (Some k) None))
     by_rest (Some y) h b here = record {
       none = λ e. absurd (cc);
-      some = λ x e. let (i, t, place, at, same, all) = h.some y refl in (i + 1, t, (let xy = same-some y x e in omega (arith, place, xy)), next i t at, same, more i all);
+      some = λ x e. let (i, t, place, at, there, same, all) = h.some y refl in (i + 1, t, (let xy = same-some y x e in omega (arith, place, xy)), next i t at, there, same, more i all);
     }
       where
         next : (i : ℕ) (t : RunState) → slice_get runs i ≡ Some t → slice_get (r ∷ runs) (i + 1) ≡ Some t
         next i t at = ap (λ n. slice_get (r ∷ runs) n) (let e : i + 1 ≡ suc i = omega arith in e) ∙ at
 
-        more : (i : ℕ) → ((m : ℕ) (s : RunState) → slice_get runs m ≡ Some s → id_of s ≡ id → m ≤ i) → (m : ℕ) (s : RunState) → slice_get (r ∷ runs) m ≡ Some s → id_of s ≡ id → m ≤ i + 1
-        more i all zero s is same = omega arith
-        more i all (suc m) s is same = let l = all m s is same in omega (arith, l)
+        more : (i : ℕ) → ((m : ℕ) (s : RunState) → slice_get runs m ≡ Some s → is_there s ≡ true → id_of s ≡ id → m ≤ i) → (m : ℕ) (s : RunState) → slice_get (r ∷ runs) m ≡ Some s → is_there s ≡ true → id_of s ≡ id → m ≤ i + 1
+        more i all zero s is there same = omega arith
+        more i all (suc m) s is there same = let l = all m s is there same in omega (arith, l)
     by_rest None h true here = record {
       none = λ e. absurd (cc);
-      some = λ x e. (0, r, (let xk = same-some k x e in omega (arith, xk)), refl, (bytes_eq-Decides (id_of r) id).0 here, only);
+      some = λ x e. (0, r, (let xk = same-some k x e in omega (arith, xk)), refl, (bears-is id r here).0, (bears-is id r here).1, only);
     }
       where
-        only : (m : ℕ) (s : RunState) → slice_get (r ∷ runs) m ≡ Some s → id_of s ≡ id → m ≤ 0
-        only zero s is same = omega arith
-        only (suc m) s is same = absurd (h.none refl m s is same)
+        only : (m : ℕ) (s : RunState) → slice_get (r ∷ runs) m ≡ Some s → is_there s ≡ true → id_of s ≡ id → m ≤ 0
+        only zero s is there same = omega arith
+        only (suc m) s is there same = absurd (h.none refl m s is there same)
     by_rest None h false here = record { none = λ e. nowhere; some = λ x e. absurd (cc) }
       where
-        nowhere : (m : ℕ) (s : RunState) → slice_get (r ∷ runs) m ≡ Some s → id_of s ≡ id → ⊥
-        nowhere zero s is same = not_from_Decides (bytes_eq (id_of r) id) (bytes_eq-Decides (id_of r) id) here (ap id_of (same-some r s is) ∙ same)
-        nowhere (suc m) s is same = h.none refl m s is same
+        nowhere : (m : ℕ) (s : RunState) → slice_get (r ∷ runs) m ≡ Some s → is_there s ≡ true → id_of s ≡ id → ⊥
+        nowhere zero s is there same = let e = same-some r s is in bears-not id r here (ap is_there e ∙ there) (ap id_of e ∙ same)
+        nowhere (suc m) s is there same = h.none refl m s is there same
 
 -- where the latest run of an ID has closed, all of its runs have
-all-closed : (runs : List RunState) (id : List ℕ) (m : ℕ) (s : RunState) → IsOneOpen runs → IsFree runs id → slice_get runs m ≡ Some s → id_of s ≡ id → is_open s ≡ false
+all-closed : (runs : List RunState) (id : List ℕ) (m : ℕ) (s : RunState) → IsOneOpen runs → IsFree runs id → slice_get runs m ≡ Some s → is_there s ≡ true → id_of s ≡ id → is_open s ≡ false
 unfolding latest_run latest_from
-all-closed runs id m s one free there same = by_latest (latest_from 1 id runs) (is-latest 1 id runs) free
+all-closed runs id m s one free there begun same = by_latest (latest_from 1 id runs) (is-latest 1 id runs) free
   where
     by_latest : (o : Option ℕ) → IsLatest 1 id runs o → IfSome o (λ n. is_open (state_at runs (n - 1)) ≡ false) → is_open s ≡ false
-    by_latest None h closed = absurd (h.none refl m s there same)
+    by_latest None h closed = absurd (h.none refl m s there begun same)
     by_latest (Some x) h closed =
-        let (i, t, place, at, named, all) = h.some x refl in
+        let (i, t, place, at, is_t, named, all) = h.some x refl in
         let over : is_open t ≡ false = ap is_open (sym (state-there runs i t at) ∙ ap (state_at runs) (let e : i ≡ x - 1 = omega (arith, place) in e)) ∙ closed in
         ⊎_elim (λ (e : m ≡ i). ap is_open (same-some s t (sym there ∙ ap (λ n. slice_get runs n) e ∙ at)) ∙ over)
-        (λ (l : m < i). one.earlier m i s t l there at (same ∙ sym named))
-        (at_or_below m i (all m s there same))
+        (λ (l : m < i). one.earlier m i s t l there at is_t (same ∙ sym named))
+        (at_or_below m i (all m s there begun same))
       where
         at_or_below : (a b : ℕ) → a ≤ b → (a ≡ b) ⊎ (a < b)
         at_or_below zero zero l = inl refl
@@ -107,14 +119,29 @@ all-closed runs id m s one free there same = by_latest (latest_from 1 id runs) (
         at_or_below (suc a) zero l = absurd (omega (arith, l))
         at_or_below (suc a) (suc b) l = ⊎_elim (λ e. inl (ap suc e)) (λ h. inr (omega (arith, h))) (at_or_below a b (omega (arith, l)))
 
-pub free-closed : (runs : List RunState) (id : List ℕ) → IsFree runs id → IsOneOpen runs → HasClosed runs id
-free-closed runs id free one = record { each = λ m s there same. all-closed runs id m s one free there same }
+-- a run that isn't there is not open
+if-there : (s : RunState) → (is_there s ≡ true → is_open s ≡ false) → is_open s ≡ false
+if-there s h = by_test (is_there s) refl
+  where
+    by_test : (b : Bool) → is_there s ≡ b → is_open s ≡ false
+    by_test true e = h e
+    by_test false e = ap (λ b. b && is_open_status s.status) e
 
--- the latest run of an ID has this ID
+pub free-closed : (runs : List RunState) (id : List ℕ) → IsFree runs id → IsOneOpen runs → HasClosed runs id
+free-closed runs id free one = record { each = λ m s there same. if-there s (λ begun. all-closed runs id m s one free there begun same) }
+
+-- the latest run of an ID is there, and has this ID
+pub latest-there : (runs : List RunState) (id : List ℕ) (n : ℕ) → latest_run runs id ≡ Some n → is_there (state_at runs (n - 1)) ≡ true
+unfolding latest_run latest_from
+latest-there runs id n is =
+    let (i, t, place, at, there, named, all) = (is-latest 1 id runs).some n is in
+    let here : i ≡ n - 1 = omega (arith, place) in
+    ap is_there (ap (state_at runs) (sym here) ∙ state-there runs i t at) ∙ there
+
 pub latest-named : (runs : List RunState) (id : List ℕ) (n : ℕ) → latest_run runs id ≡ Some n → id_of (state_at runs (n - 1)) ≡ id
 unfolding latest_run latest_from
 latest-named runs id n is =
-    let (i, t, place, at, named, all) = (is-latest 1 id runs).some n is in
+    let (i, t, place, at, there, named, all) = (is-latest 1 id runs).some n is in
     let here : i ≡ n - 1 = omega (arith, place) in
     ap id_of (ap (state_at runs) (sym here) ∙ state-there runs i t at) ∙ named
 
@@ -140,69 +167,16 @@ closed-alone runs i x low opened over one = record {
       let named : id_of t ≡ id_of (state_at runs i) = ap id_of (sym is) ∙ same in
       let here : slice_get runs i ≡ Some (state_at runs i) = get-at runs i low in
       ap is_open is ∙ ⊎_elim
-      (λ (l : m < i). one.earlier m i t (state_at runs i) l there here named)
-      (λ (l : i < m). absurd (let clash = sym opened ∙ one.earlier i m (state_at runs i) t l here there (sym named) in cc)) apart)
+      (λ (l : m < i). one.earlier m i t (state_at runs i) l there here (open-there (state_at runs i) opened) named)
+      (λ (l : i < m). if-there t (λ begun. absurd (let clash = sym opened ∙ one.earlier i m (state_at runs i) t l here there begun (sym named) in cc))) apart)
       (which m i);
 }
-
--- a closed run stays closed, and each run keeps its ID
-stays-closed : (at : ℕ) (facts : List Fact) (s : RunState) → FitStep at s facts → is_open s ≡ false → is_open (after_step at facts s) ≡ false
-stays-closed at facts s fits over = ap (λ fs. is_open (after_step at fs s)) (no-facts at s facts over fits) ∙ by_task (is_started_task s.task)
-  where
-    by_task : (g : Bool) → is_open (cond g s (all_written s)) ≡ false
-    by_task true = over
-    by_task false = over
-
-keeps-id : (at : ℕ) (facts : List Fact) (s : RunState) → id_of (after_step at facts s) ≡ id_of s
-keeps-id at facts s = ap (λ (o : Option Beginning). unwrap_or (option_map (λ (b : Beginning). b.attributes.workflow_id) o) []) (beginning-stays at facts s)
-
-kept : (old : List RunState) (i : ℕ) (x : RunState) (n : ℕ) (t t' : RunState) → id_of x ≡ id_of (state_at old i) → slice_get old n ≡ Some t' → ((n ≡ i) × (t ≡ x)) ⊎ (t ≡ t') → id_of t ≡ id_of t'
-kept old i x n t t' same there how = ⊎_elim (λ (e : (n ≡ i) × (t ≡ x)). ap id_of e.1 ∙ same ∙ ap id_of (ap (state_at old) (sym e.0) ∙ state-there old n t' there)) (λ (e : t ≡ t'). ap id_of e) how
-
-one-open-added : (v : ShardView) (at : ℕ) (m : Option MoreOf) (o : Option Added) → FitsAdded v at m o → IsOneOpen (states v.runs) → IsOneOpen (runs_added m (states v.runs))
-one-open-added v at None o fits one = one
-one-open-added v at (Some more) o (facts, added, fits) one =
-    let i = more.index in
-    let old = states v.runs in
-    let x = grown more old in
-    let c = more.plan.change in
-    record {
-      earlier = λ m n s t l at_m at_n same.
-          let (s', there_m, how_m) = get-set old i x s m at_m in
-          let (t', there_n, how_n) = get-set old i x t n at_n in
-          let id_s : id_of s ≡ id_of s' = kept old i x m s s' (keeps-id c.moment c.facts (state_at old i)) there_m how_m in
-          let id_t : id_of t ≡ id_of t' = kept old i x n t t' (keeps-id c.moment c.facts (state_at old i)) there_n how_n in
-          let over : is_open s' ≡ false = one.earlier m n s' t' l there_m there_n (sym id_s ∙ same ∙ id_t) in
-          ⊎_elim (λ (e : (m ≡ i) × (s ≡ x)).
-          let here : state_at old i ≡ s' = ap (state_at old) (sym e.0) ∙ state-there old m s' there_m in
-          ap is_open e.1 ∙ stays-closed c.moment c.facts (state_at old i) fits.has_room.fits (ap is_open here ∙ over))
-          (λ (e : s ≡ s'). ap is_open e ∙ over) how_m;
-    }
-
-one-open-created : {T : Type 0} (n : Option (NewRun T)) (runs : List RunState) → IsFreeFor n runs → IsOneOpen runs → IsOneOpen (runs_created n runs)
-one-open-created None runs free one = one
-one-open-created (Some new) runs free one = record {
-  earlier = λ m n s t l at_m at_n same. ⊎_elim
-      (λ (e : slice_get runs n ≡ Some t). one.earlier m n s t l (still m s at_m (let b = get-below runs n t e in omega (arith, b, l))) e same)
-      (λ (e : (n ≡ length runs) × (t ≡ new.run.state)). free.each m s (still m s at_m (omega (arith, e.0, l))) (same ∙ ap id_of e.1))
-      (get-pushed runs new.run.state t n at_n);
-}
-  where
-    still : (m : ℕ) (s : RunState) → slice_get (runs ++ new.run.state ∷ []) m ≡ Some s → m < length runs → slice_get runs m ≡ Some s
-    still m s is below = ⊎_elim (λ e. e) (λ e. absurd (omega (arith, below, e.0))) (get-pushed runs new.run.state s m is)
-
--- a step leaves at most one open run of each ID
-pub one-open-after : {T : Type 0} (v : ShardView) (at : ℕ) (c : Change T) (o : Outcome) → FitsChange v at c o → IsOneOpen (states v.runs) → IsOneOpen (runs_created c.created (runs_added c.added (states v.runs)))
-one-open-after v at c o fits one = one-open-created c.created (runs_added c.added (states v.runs)) (fits.free one) (one-open-added v at c.added o.added fits.added one)
 
 -- the same, of the journals
 pub of-journals : (S : Content) → HasOneOpen S → IsOneOpen (map state_of S.runs)
 of-journals S one = record {
-  earlier = λ m n s t l at_m at_n same.
+  earlier = λ m n s t l at_m at_n is_t same.
       let (J, there_m, is_m) = get-map state_of S.runs m s at_m in
       let (K, there_n, is_n) = get-map state_of S.runs n t at_n in
-      ap is_open is_m ∙ one.earlier m n J K l there_m there_n (ap id_of (sym is_m) ∙ same ∙ ap id_of is_n);
+      ap is_open is_m ∙ one.earlier m n J K l there_m there_n (ap is_there (sym is_n) ∙ is_t) (ap id_of (sym is_m) ∙ same ∙ ap id_of is_n);
 }
-
-pub to-journals : (S : Content) → IsOneOpen (map state_of S.runs) → HasOneOpen S
-to-journals S one = record { earlier = λ m n J K l at_m at_n same. one.earlier m n (state_of J) (state_of K) l (map-get state_of S.runs m J at_m) (map-get state_of S.runs n K at_n) same }

@@ -1,7 +1,7 @@
 -- a shard that did what was planned stands for the next content
-use Rattle.std.proofs.Common.{◌≡◌, ℕ, ◌+◌, ◌-◌, ◌<◌, ◌≤◌, false, List, [], ◌∷◌, ◌++◌, length, refl, sym, ap, ◌∙◌, arith, Option, Some, None, zero, suc, slice_index_or, slice_set, subst, append-nil, append_assoc, length-append, length-set}
+use Rattle.std.proofs.Common.{◌≡◌, ℕ, ◌+◌, ◌-◌, ◌<◌, ◌≤◌, false, true, List, [], ◌∷◌, ◌++◌, length, refl, sym, ap, ◌∙◌, arith, Option, Some, None, zero, suc, slice_index_or, slice_set, subst, append-nil, append_assoc, length-append, length-set}
 use Rattle.std.proofs.lemmas.List.{drop-append-le, drop-drop, length-drop, length-map}
-use Rattle.std.specs.Prelude.{drop, filter_map, map, option_and_then, option_to_list, slice_get, unwrap_or, option_map}
+use Rattle.std.specs.Prelude.{drop, filter_map, is_some, map, option_and_then, option_to_list, slice_get, unwrap_or, option_map}
 use Rattle.std.specs.List.{AllByRecursion}
 use Rattle.wf_event.specs.declared.event.Event.{Event}
 use Rattle.wf_event.specs.declared.payloads.WorkflowExecutionStarted.{WorkflowExecutionStarted as StartedAttributes}
@@ -13,7 +13,7 @@ use Rattle.service_model_types.specs.declared.journal.Fact.{Fact}
 use Rattle.service_model_types.specs.declared.journal.Fact.TheVariants.{Event as an_event, Note as a_note}
 use Rattle.service_model_types.specs.declared.transfer.Sent.{Sent}
 use Rattle.service_model.specs.Journal.{Journal}
-use Rattle.service_model.specs.RunState.{RunState, Beginning, state_of, no_run, id_of, is_open}
+use Rattle.service_model.specs.RunState.{RunState, Beginning, state_of, no_run, id_of, is_open, is_there}
 use Rattle.service_model.specs.Outcome.{Outcome, Added, Counting, CountsNothing, AcceptsFrom, AcknowledgesTo, CountsDispatch}
 use Rattle.service_model.specs.Issued.{dispatches_of, ready_dispatch, task_dispatch, transfers_of}
 use Rattle.service_model.specs.Service.{dispatched_for, dispatched_new, entries, one_more_acknowledged, sent_for, with_added, with_all_sent, with_created, with_count, content_after}
@@ -73,11 +73,11 @@ runs_of_step : Content → ℕ → Outcome → List Journal
 runs_of_step S moment o = with_created (S.steps + 1) moment o.created (with_added (S.steps + 1) moment o.added S.runs)
 
 -- the journal that a step adds to, before and after
-record AddedTo (S : Content) (v : ShardView) (moment : ℕ) (m : MoreOf) (facts : List Fact) (J K : Journal) : Type 0 where
-  before : state_of J ≡ state_at (states v.runs) m.index
-  behind : Stands (S.steps + 1) K (after_step moment facts (state_at (states v.runs) m.index))
+pub record AddedTo (S : Content) (v : ShardView) (moment : ℕ) (m : MoreOf) (facts : List Fact) (J K : Journal) : Type 0 where
+  pub before : state_of J ≡ state_at (states v.runs) m.index
+  pub behind : Stands (S.steps + 1) K (after_step moment facts (state_at (states v.runs) m.index))
 
-added-stands : (S : Content) (v : ShardView) (moment : ℕ) (m : MoreOf) (facts : List Fact) → StandsFor v S → FitsMore v moment m facts →
+pub added-stands : (S : Content) (v : ShardView) (moment : ℕ) (m : MoreOf) (facts : List Fact) → StandsFor v S → FitsMore v moment m facts →
     AddedTo S v moment m facts (slice_index_or S.runs m.index []) (slice_index_or S.runs m.index [] ++ entries (S.steps + 1) moment 0 facts)
 added-stands S v moment m facts h fits =
     let J = slice_index_or S.runs m.index [] in
@@ -97,11 +97,11 @@ added-is S moment m facts o is =
     let place : m.index + 1 - 1 ≡ m.index = omega arith in
     ap (λ a. with_added (S.steps + 1) moment a S.runs) is ∙ ap (λ k. slice_set S.runs k (slice_index_or S.runs k [] ++ entries (S.steps + 1) moment 0 facts)) place
 
-record DoneRuns (S : Content) (Js : List Journal) (runs : List RunState) : Type 0 where
-  says : map state_of Js ≡ runs
-  formed : AllByRecursion (IsFormed (S.steps + 1)) Js
+pub record DoneRuns (S : Content) (Js : List Journal) (runs : List RunState) : Type 0 where
+  pub says : map state_of Js ≡ runs
+  pub formed : AllByRecursion (IsFormed (S.steps + 1)) Js
 
-added-done : (S : Content) (v : ShardView) (moment : ℕ) (m : Option MoreOf) (o : Option Added) → StandsFor v S → FitsAdded v moment m o → DoneRuns S (with_added (S.steps + 1) moment o S.runs) (runs_added m (states v.runs))
+pub added-done : (S : Content) (v : ShardView) (moment : ℕ) (m : Option MoreOf) (o : Option Added) → StandsFor v S → FitsAdded v moment m o → DoneRuns S (with_added (S.steps + 1) moment o S.runs) (runs_added m (states v.runs))
 added-done S v moment None o h none =
     let is : with_added (S.steps + 1) moment o S.runs ≡ S.runs = ap (λ a. with_added (S.steps + 1) moment a S.runs) none in
     let P : List Journal → Type 0 = λ Js. AllByRecursion (IsFormed (S.steps + 1)) Js in
@@ -119,7 +119,7 @@ added-done S v moment (Some m) o h (facts, added, fits) =
       formed = subst P (sym is) (all-set (IsFormed (S.steps + 1)) S.runs n K (all-later S.steps S.runs h.formed) stands.formed);
     }
 
-created-stands : {T : Type 0} (S : Content) (v : ShardView) (moment : ℕ) (n : NewRun T) (b : NewBeginning) → IsMade v moment n b → Stands (S.steps + 1) (entries (S.steps + 1) moment 0 (first_facts b)) (new_run moment b)
+pub created-stands : {T : Type 0} (S : Content) (v : ShardView) (moment : ℕ) (n : NewRun T) (b : NewBeginning) → IsMade v moment n b → Stands (S.steps + 1) (entries (S.steps + 1) moment 0 (first_facts b)) (new_run moment b)
 created-stands S v moment n b made = stands-begun S.steps moment b.request_id b.started b.facts (made.begins.fits IsLater)
 
 created-done : {T : Type 0} (S : Content) (v : ShardView) (moment : ℕ) (n : Option (NewRun T)) (o : Option (List Fact)) (Js : List Journal) (runs : List RunState) → DoneRuns S Js runs → FitsCreated v moment n o → DoneRuns S (with_created (S.steps + 1) moment o Js) (runs_created n runs)
@@ -384,6 +384,10 @@ stands-after v w S m o plan stands fits did =
 pub id-of-begun : (at : ℕ) (more : List Fact) (request : Option (List ℕ)) (a : StartedAttributes) → id_of (after_step at more (begun at request a)) ≡ a.workflow_id
 id-of-begun at more request a = ap (λ (o : Option Beginning). unwrap_or (option_map (λ (b : Beginning). b.attributes.workflow_id) o) []) (beginning-stays at more (begun at request a))
 
+-- and is there
+pub there-begun : (at : ℕ) (more : List Fact) (request : Option (List ℕ)) (a : StartedAttributes) → is_there (after_step at more (begun at request a)) ≡ true
+there-begun at more request a = ap (λ (o : Option Beginning). is_some o) (beginning-stays at more (begun at request a))
+
 grows-same : (n : ℕ) (runs : List RunState) (s : RunState) → slice_get runs n ≡ Some s → (t : RunState) × (more : List Event) × (slice_get runs n ≡ Some t) × (t.shown ≡ s.shown ++ more)
 grows-same n runs s h = (s, [], h, sym (append-nil s.shown))
 
@@ -434,46 +438,3 @@ pub no-facts : (at : ℕ) (s : RunState) (fs : List Fact) → is_open s ≡ fals
 no-facts at s [] over fits = refl
 no-facts at s (an_event f ∷ fs) over fits = absurd (cc (over, fits.0.open_run))
 no-facts at s (a_note n ∷ fs) over fits = absurd (cc (over, fits.0.open_run))
-
-get-index : (Js : List Journal) (n : ℕ) (J : Journal) → slice_get Js n ≡ Some J → slice_index_or Js n [] ≡ J
-get-index [] n J is = absurd (cc)
-get-index (K ∷ Js) zero J is = cc
-get-index (K ∷ Js) (suc n) J is = get-index Js n J is
-
-still-pushed : (Js : List Journal) (n : ℕ) (J K : Journal) → slice_get Js n ≡ Some J → slice_get (Js ++ K ∷ []) n ≡ Some J
-still-pushed [] n J K is = absurd (cc)
-still-pushed (L ∷ Js) zero J K is = is
-still-pushed (L ∷ Js) (suc n) J K is = still-pushed Js n J K is
-
-still-set : (Js : List Journal) (n i : ℕ) (J K : Journal) → slice_get Js n ≡ Some J → (n ≡ i → K ≡ J) → slice_get (slice_set Js i K) n ≡ Some J
-still-set [] n i J K is same = absurd (cc)
-still-set (L ∷ Js) zero zero J K is same = ap (λ x. Some x) (same refl)
-still-set (L ∷ Js) zero (suc i) J K is same = is
-still-set (L ∷ Js) (suc n) zero J K is same = is
-still-set (L ∷ Js) (suc n) (suc i) J K is same = still-set Js n i J K is (λ e. same (ap suc e))
-
-stays-added : (S : Content) (v : ShardView) (moment : ℕ) (m : Option MoreOf) (o : Option Added) (n : ℕ) (J : Journal) → StandsFor v S → FitsAdded v moment m o
-    → slice_get S.runs n ≡ Some J → is_open (state_of J) ≡ false → slice_get (with_added (S.steps + 1) moment o S.runs) n ≡ Some J
-stays-added S v moment None o n J h none there over = ap (λ a. slice_get (with_added (S.steps + 1) moment a S.runs) n) none ∙ there
-stays-added S v moment (Some m) o n J h (facts, added, fits) there over =
-    let i = m.index in
-    let K = slice_index_or S.runs i [] ++ entries (S.steps + 1) moment 0 facts in
-    let may : FitStep moment (state_at (states v.runs) i) facts = subst (λ (c : MoreFacts). FitStep c.moment (state_at (states v.runs) i) c.facts) fits.change fits.has_room.fits in
-    let same : n ≡ i → K ≡ J = λ e.
-    let at_i : slice_index_or S.runs i [] ≡ J = ap (λ k. slice_index_or S.runs k []) (sym e) ∙ get-index S.runs n J there in
-    let here : state_at (states v.runs) i ≡ state_of J = ap (λ s. state_at s.runs i) h.says ∙ state-at S.runs i ∙ ap state_of at_i in
-    let none : facts ≡ [] = no-facts moment (state_at (states v.runs) i) facts (ap is_open here ∙ over) may in
-    ap (λ fs. slice_index_or S.runs i [] ++ entries (S.steps + 1) moment 0 fs) none ∙ append-nil (slice_index_or S.runs i []) ∙ at_i in
-    ap (λ Js. slice_get Js n) (added-is S moment m facts o added) ∙ still-set S.runs n i J K there same
-
-still-created : (step moment : ℕ) (o : Option (List Fact)) (Js : List Journal) (n : ℕ) (J : Journal) → slice_get Js n ≡ Some J → slice_get (with_created step moment o Js) n ≡ Some J
-still-created step moment None Js n J there = there
-still-created step moment (Some facts) Js n J there = still-pushed Js n J (entries step moment 0 facts) there
-
--- a run that had closed is as it was
-pub stays-after : {T : Type 0} (v : ShardView) (S : Content) (m : ℕ) (o : Outcome) (plan : Plan T) (n : ℕ) (J : Journal) → StandsFor v S → FitsStep v plan m o
-    → slice_get S.runs n ≡ Some J → is_open (state_of J) ≡ false → slice_get (content_after S m o).runs n ≡ Some J
-stays-after v S m o plan n J stands fits there over =
-    let added = with_added (S.steps + 1) m o.added S.runs in
-    ap (λ Js. slice_get Js n) (counted_alone o.counting _).runs
-    ∙ still-created (S.steps + 1) m o.created added n J (stays-added S v m plan.change.added o.added n J stands fits.change.added there over)

@@ -1,5 +1,5 @@
 -- PROOF: a plan that was made for a step on a shard as it is
-use Rattle.std.specs.Prelude.{◌≡◌, ℕ, ◌+◌, ◌-◌, ◌<◌, ◌≤◌, ◌^◌, false, IfSome, ◌∷◌, ◌++◌, [], List, Option, None, Some, length, slice_index_or, slice_set}
+use Rattle.std.specs.Prelude.{◌≡◌, ℕ, ◌+◌, ◌-◌, ◌<◌, ◌≤◌, ◌^◌, true, false, IfSome, ◌∷◌, ◌++◌, [], List, Option, None, Some, length, slice_index_or, slice_set}
 use Rattle.std.specs.Prelude.{string_bytes}
 use Rattle.service_model_types.specs.declared.content.Dispatch.{Dispatch}
 use Rattle.service_model_types.specs.declared.content.Outgoing.{Outgoing}
@@ -7,7 +7,7 @@ use Rattle.service_model_types.specs.declared.journal.Fact.{Fact}
 use Rattle.service_model_types.specs.declared.transfer.Sent.{Sent}
 use Rattle.service_model.specs.Counts.{outgoing_to}
 use Rattle.service_model.specs.Deliveries.{accepted_from}
-use Rattle.service_model.specs.RunState.{RunState, no_run, id_of, is_open}
+use Rattle.service_model.specs.RunState.{RunState, no_run, id_of, is_open, is_there}
 use Rattle.service_model.specs.Issued.{dispatches_of, transfers_of}
 use Rattle.service_model.specs.Outcome.{Outcome, Added, Counting, CountsNothing, AcceptsFrom, AcknowledgesTo, CountsDispatch, latest_run}
 use Rattle.service_model.specs.Service.{one_more_acknowledged, with_all_sent}
@@ -47,6 +47,7 @@ pub record HasPlace {T : Type 0} (v : ShardView) (n : NewRun T) : Type 0 where
   pub room : 0 < v.room
   pub noted : v.changed.made ≡ None
   pub few : length v.runs + 1 < 2 ^ 60
+  pub there : is_there n.run.state ≡ true
   pub named : id_of n.run.state ≡ string_bytes n.key
 
 -- the run in the plan is one that may begin so, and there is room for it

@@ -93,7 +93,12 @@ impl<T: KeepsRun> Store<T> {
         if n < 1 || n > self.runs.len() {
             return None;
         }
-        Some(n - 1)
+        let index = n - 1;
+        if self.run(index).is_there() {
+            Some(index)
+        } else {
+            None
+        }
     }
 
     /// The run id of the run at a place, or of the next run.

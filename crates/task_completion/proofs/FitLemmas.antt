@@ -24,7 +24,7 @@ use Rattle.service_model_types.specs.declared.journal.Fact.{Fact}
 use Rattle.service_model_types.specs.declared.journal.NewEvent.{NewEvent}
 use Rattle.service_model.specs.Journal.{plain}
 use Rattle.service_model.specs.Pending.{NoTask, IsStarted, task_of, is_opening, is_settling, is_settled}
-use Rattle.service_model.specs.RunState.{RunState, signal_request_by, used, pending, held_attributes, is_open, is_open_status, queue_of, type_of, last_task}
+use Rattle.service_model.specs.RunState.{RunState, signal_request_by, used, pending, held_attributes, is_open, is_open_status, is_there, queue_of, type_of, last_task}
 use Rattle.service_model.specs.Signals.{was_signaled}
 use Rattle.service_model.specs.Outcome.{schedule_task}
 use Rattle.service_model_types.specs.Routing.{knows_queue}
@@ -125,7 +125,7 @@ now-more at s F a t g now is comes =
     record {
       so_far = so-far-more s F a now.so_far comes;
       still_open = any-push (λ x. is_closing_role (role x)) F a ∙ ap (λ b. b || is_closing_role (role a)) now.still_open ∙ is.stays;
-      open_run = ap (λ o. is_open_status (unwrap_or o t.status)) is.status ∙ now.open_run;
+      open_run = ap (λ o. is_there t && is_open_status (unwrap_or o t.status)) is.status ∙ now.open_run;
       none = ap (λ b. cond b NoTask (unwrap_or (task_of (role a)) t.task)) is.stays ∙ ap (λ o. unwrap_or o t.task) is.turns ∙ now.none;
       shown = let old = now.shown in omega (arith, shown, old, push);
       used_ids = λ c.

@@ -4,14 +4,14 @@ use Rattle.id_policy.specs.Decisions.{says}
 use Rattle.shard_store.specs.View.{ordinal_of, runs_in, states}
 use Rattle.shard_store.specs.Fitting.{state_at}
 use Rattle.shard_steps.proofs.StartLemmas.{decides-new, decides-open}
-use Rattle.shard_store.proofs.OpenLemmas.{latest-named}
+use Rattle.shard_store.proofs.OpenLemmas.{latest-named, latest-there}
 use Rattle.shard.proofs.starts.prepare_decided_by.Goals as goal
 
 pub prepare_replaced-requires-clause-named : goal.prepare_replaced-requires-clause-named
 prepare_replaced-requires-clause-named g c = latest-named (states c.args.store.now.runs) c.args.request.now.workflow_id (ordinal_of c.args.index) c.requires.latest
 
 pub prepare_replaced-requires-clause-open : goal.prepare_replaced-requires-clause-open
-prepare_replaced-requires-clause-open g c = decides-open (runs_in c.args.store.now) c.args.request.now (ordinal_of c.args.index) (sym c.decision_by.ensures ∙ ap says c.in-TerminateThenNew.is)
+prepare_replaced-requires-clause-open g c = decides-open (runs_in c.args.store.now) c.args.request.now (ordinal_of c.args.index) (latest-there (states c.args.store.now.runs) c.args.request.now.workflow_id (ordinal_of c.args.index) c.requires.latest) (sym c.decision_by.ensures ∙ ap says c.in-TerminateThenNew.is)
 
 pub prepare_started-requires : goal.prepare_started-requires
 prepare_started-requires g c =

@@ -1,4 +1,4 @@
-use Rattle.std.proofs.Common.{◌≡◌, ℕ, ◌≤◌, ◌∙◌, ◌&&◌, true, false, sym, ap, subst, arith, length, nat_le, List}
+use Rattle.std.proofs.Common.{◌≡◌, ℕ, Bool, ◌≤◌, ◌∙◌, ◌&&◌, true, false, sym, ap, subst, arith, length, nat_le, List}
 use Rattle.std.proofs.lemmas.Bool.Decides.{nat_tests}
 use Rattle.std.specs.Prelude.{is_some}
 use Rattle.service_model_types.specs.declared.journal.Fact.{Fact}
@@ -6,24 +6,31 @@ use Rattle.wf_event_values.specs.Run.{Run}
 use Rattle.service_model_types.specs.declared.answer.Answer.{Answer}
 use Rattle.service_model_types.specs.declared.answer.Answer.TheVariants.{Fired}
 use Rattle.service_model.specs.Outcome.{Outcome, adds, run_at, run_id}
-use Rattle.service_model.specs.RunState.{RunState}
+use Rattle.service_model.specs.RunState.{RunState, is_there}
 use Rattle.service_model.specs.TimerTurns.{fire}
 use Rattle.mutable_state.specs.Steps.{FitStep}
 use Rattle.timeouts.specs.Slots.{run_due}
+use Rattle.timeouts.proofs.ClassLemmas.{due-open}
+use Rattle.service_model.proofs.ThereLemmas.{open-there}
 use Rattle.shard_store.specs.Fitting.{FitsStep}
 use Rattle.shard_store.specs.View.{ordinal_of, run_in, runs_in, states}
 use Rattle.shard_steps.proofs.TurnLemmas.{fire-fits}
 use Rattle.shard.proofs.turns.prepare_fired.Goals as goal
 
--- an ordinal in range is that of a run
-has-run : (n count : ℕ) → 1 ≤ n → n ≤ count → (nat_le 1 n && nat_le n count) ≡ true
-has-run n count low high = grind (arith, nat_tests)
+-- an ordinal in range is that of a run, where that run is there
+has-run : (n count : ℕ) (b : Bool) → 1 ≤ n → n ≤ count → b ≡ true → (nat_le 1 n && nat_le n count && b) ≡ true
+has-run n count b low high there = ap (λ t. nat_le 1 n && nat_le n count && t) there ∙ in-range
+  where
+    in-range : (nat_le 1 n && nat_le n count && true) ≡ true
+    in-range = grind (arith, nat_tests)
 
 pub unreachable-requires : goal.unreachable-requires
 unreachable-requires g c =
     let n = c.args.due.run in
     let count = length (states c.args.store.now.runs) in
-    let clash : true ≡ false = sym (has-run n count c.requires.from c.requires.to) ∙ c.place_of.ensures.some ∙ ap (λ o. is_some o) c.in_default.is in
+    let s = run_at (runs_in c.args.store.now) n in
+    let there : is_there s ≡ true = open-there s (due-open s n (run_due c.args.due) c.requires.its) in
+    let clash : true ≡ false = sym (has-run n count (is_there s) c.requires.from c.requires.to there) ∙ c.place_of.ensures.some ∙ ap (λ o. is_some o) c.in_default.is in
     absurd (cc)
 
 pub prepare_more-requires-clause-fits : goal.prepare_more-requires-clause-fits

@@ -35,7 +35,7 @@ invariant_of-self g c =
         latest = λ id. ap (option_map ordinal_of) (sets id ∙ ap (λ n. cond (bytes_eq (string_bytes c.args.created.key) id) (Some n) (get_by_text c.self.inside.index id)) count)
             ∙ place-cond (bytes_eq (string_bytes c.args.created.key) id) (length c.self.inside.runs.items) (get_by_text c.self.inside.index id)
             ∙ ap (λ o. cond (bytes_eq (string_bytes c.args.created.key) id) (Some (length c.self.inside.runs.items + 1)) o) (c.self.invariant.1.latest id)
-            ∙ sym (ap (λ t. latest_run (states t) id) pushed ∙ latest_run-push id c.self.inside.runs.items c.args.created.run (string_bytes c.args.created.key) c.requires.named);
+            ∙ sym (ap (λ t. latest_run (states t) id) pushed ∙ latest_run-push id c.self.inside.runs.items c.args.created.run (string_bytes c.args.created.key) c.requires.there c.requires.named);
       },
       omega (arith, ap length pushed, length-append c.self.inside.runs.items (c.args.created.run ∷ []), ap (λ v. length v.runs) c.self.view_is, c.requires.few),
       subst (λ (l : List (Option Due)). HasFirsts l (record { grown = c.self.inside.changed.grown; made = Some c.len-index.result }) (states c.push.new.self.items)) (sym c.push_none.ensures.slots)

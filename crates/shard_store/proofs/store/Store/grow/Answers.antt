@@ -1,6 +1,6 @@
 use Rattle.std.proofs.Common.{◌≡◌, ℕ, ◌+◌, ◌<◌, length, length-set, sym, ap, subst, ◌∙◌, arith, slice_index_or, slice_set}
-use Rattle.std.specs.Prelude.{unwrap_or, option_map, [], List, Option, None, Some}
-use Rattle.service_model.specs.RunState.{Beginning, RunState, no_run, id_of}
+use Rattle.std.specs.Prelude.{List, None, Some}
+use Rattle.service_model.specs.RunState.{RunState, no_run}
 use Rattle.service_model.specs.Outcome.{latest_run}
 use Rattle.mutable_state.specs.Steps.{after_step, FitStep}
 use Rattle.mutable_state.specs.View.{RunView}
@@ -26,13 +26,13 @@ invariant_of-self g c =
     let was = c.index_mut-run.result.now in
     let here : slice_index_or (states c.self.inside.runs.items) c.args.more.index no_run ≡ was.state =
     states-at c.self.inside.runs.items c.args.more.index was there ∙ ap (λ (v : RunView). v.state) (sym c.index_mut-run.ensures.value) in
-    let named : id_of c.commit.new.self.state ≡ id_of was.state =
-    ap id_of c.commit.ensures.state ∙ ap (λ (o : Option Beginning). unwrap_or (option_map (λ (b : Beginning). b.attributes.workflow_id) o) []) (beginning-stays c.args.more.plan.change.moment c.args.more.plan.change.facts was.state) in (
+    let began : c.commit.new.self.state.beginning ≡ was.state.beginning =
+    ap (λ s. s.beginning) c.commit.ensures.state ∙ (beginning-stays c.args.more.plan.change.moment c.args.more.plan.change.facts was.state) in (
       c.self.invariant.0,
       record {
         latest = λ id. c.self.invariant.1.latest id
             ∙ sym (ap (λ t. latest_run t id) (states-set c.self.inside.runs.items c.args.more.index c.commit.new.self)
-            ∙ latest_run-set id (states c.self.inside.runs.items) c.args.more.index c.commit.new.self.state (named ∙ ap id_of (sym here)));
+            ∙ latest_run-set id (states c.self.inside.runs.items) c.args.more.index c.commit.new.self.state (began ∙ ap (λ s. s.beginning) (sym here)));
       },
       rw length-set c.self.invariant.2,
       each-same _ _ _ _ (states-set c.self.inside.runs.items c.args.more.index c.commit.new.self)

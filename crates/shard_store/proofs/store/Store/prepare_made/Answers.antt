@@ -1,6 +1,6 @@
 use Rattle.std.proofs.Common.{◌∙◌, ap, sym}
-use Rattle.service_model.specs.RunState.{id_of}
-use Rattle.shard_store.proofs.StepLemmas.{id-of-begun}
+use Rattle.service_model.specs.RunState.{id_of, is_there}
+use Rattle.shard_store.proofs.StepLemmas.{id-of-begun, there-begun}
 use Rattle.shard_store.proofs.store.Store.prepare_made.Goals as goal
 
 pub returns-clause-made : goal.returns-clause-made
@@ -11,6 +11,7 @@ returns-clause-made g c =
         room = c.in_ok-reserve_run.ensures.room;
         noted = c.in_ok-reserve_run.ensures.noted.made;
         few = c.in_ok-reserve_run.ensures.few;
+        there = ap is_there c.in_ok-run.ensures ∙ there-begun c.args.moment b.facts b.request_id b.started;
         named = ap id_of c.in_ok-run.ensures ∙ id-of-begun c.args.moment b.facts b.request_id b.started ∙ sym (c.in_ok-key.ensures.ok ∙ c.as_str-id.ensures.value);
       };
       made = c.in_ok-run.ensures;
