@@ -1,0 +1,71 @@
+//! A service without records, from its opening to its history.
+
+ghost use Rattle.std.specs.Prelude.{◌≡◌, ℕ, ◌+◌, ◌<◌, [], length};
+ghost use Rattle.gate.specs.Passes.{number};
+ghost use Rattle.service.specs.Ends.{base_of};
+ghost use Rattle.service.specs.Services.{IsPassOf, known_by, settings_of};
+ghost use Rattle.history_tests.specs.Passes.{InOrder};
+
+use crate::order::assert_in_order;
+use history::merged;
+use service_history::laws::closed_records_may_be_merged;
+use service_model_types::settings::Settings;
+use std::alloc::AllocGlobal;
+use std::process::Abort;
+use workflow_service::{Pass, Service};
+
+/// A service, and its passes in the order of their numbers.
+pub(crate) fn open<R: Abort + AllocGlobal>(rt: &R, settings: &Settings) -> (Service, Vec<Pass>)
+    ensures own { InOrder result.0 result.1.items }
+    ensures count { length result.1.items ≡ settings.now.passes }
+    ensures settings { settings_of result.0 ≡ settings.now }
+    ensures bases { (k : ℕ) → base_of result.0 k ≡ [] }
+{
+    match Service::open(rt.alloc(), settings, Vec::new(rt.alloc())) {
+        Ok(opened) => opened,
+        Err(_) => panic!(rt; "the service was not opened"),
+    }
+}
+
+/// Takes the last pass.
+pub(crate) fn take_pass(service: &Service, passes: &mut Vec<Pass>) -> Pass
+    requires some { 0 < length passes.old.items }
+    requires own { InOrder service.now passes.old.items }
+    ensures own { IsPassOf result service.now }
+    ensures last { length passes.old.items ≡ number (known_by result) + 1 }
+    ensures less { length passes.old.items ≡ length passes.new.items + 1 }
+    ensures rest { InOrder service.now passes.new.items }
+{
+    let Some(pass) = passes.pop() else {
+        unreachable!()
+    };
+    pass
+}
+
+/// Gives a pass back, behind those with lower numbers.
+pub(crate) fn give_back<R: Abort>(rt: &R, service: &Service, passes: &mut Vec<Pass>, pass: Pass)
+    requires own { InOrder service.now passes.old.items }
+    requires pass { IsPassOf pass service.now
+        × (number (known_by pass) ≡ length passes.old.items) }
+    ensures own { InOrder service.now passes.new.items }
+    ensures more { length passes.new.items ≡ length passes.old.items + 1 }
+{
+    match passes.push(pass) {
+        Ok(()) => {}
+        Err(_) => panic!(rt; "no memory"),
+    }
+}
+
+/// Closes the service, and looks at the one history of its shards.
+pub(crate) fn close_merged<R: Abort + AllocGlobal>(rt: &R, service: Service, passes: Vec<Pass>)
+    requires own { InOrder service passes.items }
+    requires count { length passes.items ≡ (settings_of service).passes }
+    requires bases { (k : ℕ) → base_of service k ≡ [] }
+{
+    let closed = service.close(passes);
+    closed_records_may_be_merged();
+    match merged(rt.alloc(), &closed.records, &closed.tickets) {
+        Ok(steps) => assert_in_order(rt, &steps),
+        Err(_) => panic!(rt; "no memory"),
+    }
+}
