@@ -28,7 +28,7 @@ const REPLIES: [&str; 8] = [
     "history",
     "already started",
     "not found",
-    "cancellation already requested",
+    "repeated",
 ];
 
 /// The value behind this one: 1,103,515,245 times it and 12,345, modulo 2^31.
