@@ -53,6 +53,7 @@ pub(crate) fn start<R: Abort + AllocGlobal>(rt: &R, workflow_id: &str) -> Start 
         conflict: ConflictPolicy::Fail,
         run_timeout: Span::none(),
         task_timeout: Span::none(),
+        execution_timeout: Span::none(),
     }
 }
 

@@ -3,7 +3,7 @@ use Rattle.std.proofs.Common.{◌≡◌, ℕ, ◌+◌, ◌<◌, Bool, true, fals
 use Rattle.std.proofs.lemmas.List.{take_more}
 use Rattle.std.specs.List.{cons_option}
 use Rattle.std.specs.Option.{option_copied}
-use Rattle.std.specs.Prelude.{Option, Some, None, option_map, filter, flat_map, slice_get, unwrap_or}
+use Rattle.std.specs.Prelude.{Option, Some, None, find, option_map, filter, flat_map, slice_get, unwrap_or}
 use Rattle.wf_event.specs.declared.event.Event.{Event}
 use Rattle.wf_event.specs.declared.attributes.Attributes.{Attributes}
 use Rattle.wf_event.specs.declared.attributes.Attributes.TheVariants.{WorkflowExecutionStarted}
@@ -11,8 +11,9 @@ use Rattle.wf_event.specs.declared.payloads.WorkflowExecutionStarted.{WorkflowEx
 use Rattle.wf_event_values.specs.declared.policies.DeadlineClass.TheVariants.{RunTimeout, WorkflowTask as TaskTimeout}
 use Rattle.wf_event.specs.declared.role.Class.TheVariants.{Activity, Timer}
 use Rattle.service_model_types.specs.declared.journal.CancelRequest.{CancelRequest}
-use Rattle.service_model.specs.Deadlines.{Due, dues, due_after, run_timeout_dues, workflow_task_dues, task_timeout, activity_dues, timer_dues, pending_rows}
-use Rattle.service_model.specs.RunState.{RunState, ActivityRow, Beginning, LastTask, beginning_by, is_open, last_task, pending}
+use Rattle.service_model.specs.Deadlines.{Due, closed_dues, deadline_dues, dues, due_after, execution_dues, is_closing_event, retention_dues, run_timeout_dues, workflow_task_dues, task_timeout, activity_dues, timer_dues, pending_rows}
+use Rattle.service_model.specs.TimerTurns.{least}
+use Rattle.service_model.specs.RunState.{RunState, ActivityRow, Beginning, LastTask, beginning_by, is_open, is_there, last_task, pending}
 use Rattle.wf_event_values.specs.declared.policies.Status.{Status}
 use Rattle.buffered.specs.Buffers.{Buffer, event_at}
 use Rattle.timeouts.specs.declared.due.Due.{Due as Kept}
@@ -54,32 +55,35 @@ task-part s a t kept.Started is same numbers timeout =
     ∙ ap (λ d. due_after t.started_at d TaskTimeout t.scheduled) timeout
 
 own-parts : (s : RunState) (o : Option Beginning) (begun : ℕ) (a : StartedAttributes) → s.beginning ≡ o → option_map (λ (b : Beginning). b.at) o ≡ Some begun → option_map (λ (b : Beginning). b.attributes) o ≡ Some a →
-    (run_timeout_dues s.beginning ≡ due_after begun a.run_timeout RunTimeout 1) × (task_timeout s ≡ a.task_timeout)
+    (run_timeout_dues s.beginning ≡ due_after begun a.run_timeout RunTimeout 1) × (task_timeout s ≡ a.task_timeout) × (execution_dues s.beginning ≡ deadline_dues a.execution_deadline)
 own-parts s None begun a is at carries = absurd (cc)
 own-parts s (Some b) begun a is at carries =
     let same : b.at ≡ begun = cc in
     let what : b.attributes ≡ a = cc in (
       ap run_timeout_dues is ∙ ap (λ n. due_after n b.attributes.run_timeout RunTimeout 1) same ∙ ap (λ (x : StartedAttributes). due_after begun x.run_timeout RunTimeout 1) what,
       ap (λ x. unwrap_or (option_map (λ (c : Beginning). c.attributes.task_timeout) x) 0) is ∙ ap (λ (x : StartedAttributes). x.task_timeout) what,
+      ap execution_dues is ∙ ap (λ (x : StartedAttributes). deadline_dues x.execution_deadline) what,
     )
 
 -- an open run's deadlines: its own, those of its pending activities and those of its pending timers
-pub dues-parts : (s : RunState) (begun : ℕ) (a : StartedAttributes) (t : WorkflowTask) → is_open s ≡ true → option_map (λ (b : Beginning). b.at) s.beginning ≡ Some begun → option_map (λ (b : Beginning). b.attributes) s.beginning ≡ Some a →
-    phase_in t.phase ≡ s.task → numbers_in t ≡ last_task s → dues s ≡ own_dues begun a t ++ flat_map activity_dues (pending_rows s) ++ pending_timer_dues s
+pub dues-parts : (retention : ℕ) (s : RunState) (begun : ℕ) (a : StartedAttributes) (t : WorkflowTask) → is_open s ≡ true → option_map (λ (b : Beginning). b.at) s.beginning ≡ Some begun → option_map (λ (b : Beginning). b.attributes) s.beginning ≡ Some a →
+    phase_in t.phase ≡ s.task → numbers_in t ≡ last_task s → dues retention s ≡ own_dues begun a t ++ flat_map activity_dues (pending_rows s) ++ pending_timer_dues s
 unfolding dues
-dues-parts s begun a t opened at carries phase numbers =
+dues-parts retention s begun a t opened at carries phase numbers =
     let parts = own-parts s s.beginning begun a refl at carries in
     let activities : List Due = flat_map activity_dues (pending_rows s) in
-    ap (λ b. cond b (run_timeout_dues s.beginning ++ workflow_task_dues s s.task ++ activities ++ pending_timer_dues s) []) opened
-    ∙ ap (λ (l : List Due). l ++ workflow_task_dues s s.task ++ activities ++ pending_timer_dues s) parts.0
-    ∙ ap (λ (l : List Due). due_after begun a.run_timeout RunTimeout 1 ++ l ++ activities ++ pending_timer_dues s) (task-part s a t t.phase refl phase numbers parts.1)
+    let whole : List Due = deadline_dues a.execution_deadline in
+    ap (λ b. cond b (execution_dues s.beginning ++ run_timeout_dues s.beginning ++ workflow_task_dues s s.task ++ activities ++ pending_timer_dues s) (closed_dues retention s)) opened
+    ∙ ap (λ (l : List Due). l ++ run_timeout_dues s.beginning ++ workflow_task_dues s s.task ++ activities ++ pending_timer_dues s) parts.2
+    ∙ ap (λ (l : List Due). whole ++ l ++ workflow_task_dues s s.task ++ activities ++ pending_timer_dues s) parts.0
+    ∙ ap (λ (l : List Due). whole ++ due_after begun a.run_timeout RunTimeout 1 ++ l ++ activities ++ pending_timer_dues s) (task-part s a t t.phase refl phase numbers parts.1)
 
 -- and the first of them
-pub dues-firsts : (s : RunState) (n begun : ℕ) (a : StartedAttributes) (t : WorkflowTask) → is_open s ≡ true → option_map (λ (b : Beginning). b.at) s.beginning ≡ Some begun → option_map (λ (b : Beginning). b.attributes) s.beginning ≡ Some a →
+pub dues-firsts : (retention : ℕ) (s : RunState) (n begun : ℕ) (a : StartedAttributes) (t : WorkflowTask) → is_open s ≡ true → option_map (λ (b : Beginning). b.at) s.beginning ≡ Some begun → option_map (λ (b : Beginning). b.attributes) s.beginning ≡ Some a →
     phase_in t.phase ≡ s.task → numbers_in t ≡ last_task s →
-    first_of n (dues s) ≡ lesser_of_two (first_of n (own_dues begun a t)) (lesser_of_two (first_of n (pending_activity_dues s)) (first_of n (pending_timer_dues s)))
-dues-firsts s n begun a t opened at carries phase numbers =
-    ap (first_of n) (dues-parts s begun a t opened at carries phase numbers ∙ append_assoc (own_dues begun a t) (pending_activity_dues s) (pending_timer_dues s))
+    first_of n (dues retention s) ≡ lesser_of_two (first_of n (own_dues begun a t)) (lesser_of_two (first_of n (pending_activity_dues s)) (first_of n (pending_timer_dues s)))
+dues-firsts retention s n begun a t opened at carries phase numbers =
+    ap (first_of n) (dues-parts retention s begun a t opened at carries phase numbers ∙ append_assoc (own_dues begun a t) (pending_activity_dues s) (pending_timer_dues s))
     ∙ first_of-append n (own_dues begun a t) (pending_activity_dues s ++ pending_timer_dues s)
     ∙ ap (lesser_of_two (first_of n (own_dues begun a t))) (first_of-append n (pending_activity_dues s) (pending_timer_dues s))
 
@@ -137,7 +141,16 @@ kept-activity-dues b request cancel status t keys os h = rows-read b.events os �
 pub kept-dues : (b : Buffer) (request : Option (List ℕ)) (cancel : Option CancelRequest) (status : Status) (t : WorkflowTask) (keys : List (List ℕ)) (os : List Open) → AgreesWith b os → flat_map (kept_dues b.events) os ≡ pending_timer_dues (state_in b request cancel status t keys os)
 kept-dues b request cancel status t keys os h = kept-read b.events os ∙ ap (flat_map timer_dues) (used-unmarked Timer b.held os b.events h.marks)
 
--- a run that has closed has no deadline
-pub dues-closed : (s : RunState) → is_open s ≡ false → dues s ≡ []
+-- a run that has closed has its retention alone
+pub dues-closed : (retention : ℕ) (s : RunState) → is_there s ≡ true → is_open s ≡ false → dues retention s ≡ retention_dues retention (find is_closing_event s.shown)
 unfolding dues
-dues-closed s closed = ap (λ b. cond b (run_timeout_dues s.beginning ++ workflow_task_dues s s.task ++ flat_map activity_dues (pending_rows s) ++ flat_map timer_dues (pending Timer s)) []) closed
+dues-closed retention s there closed =
+    let kept : List Due = retention_dues retention (find is_closing_event s.shown) in
+    ap (λ b. cond b (execution_dues s.beginning ++ run_timeout_dues s.beginning ++ workflow_task_dues s s.task ++ flat_map activity_dues (pending_rows s) ++ flat_map timer_dues (pending Timer s)) (closed_dues retention s)) closed
+    ∙ ap (λ b. cond b kept []) there
+
+-- a retention of 0 gives no deadline
+pub kept-for-ever : (n : ℕ) (o : Option Event) → first_of n (retention_dues 0 o) ≡ None
+unfolding least
+kept-for-ever n None = refl
+kept-for-ever n (Some e) = refl

@@ -4,7 +4,7 @@ use Rattle.wf_event.specs.declared.event.Event.{Event}
 use Rattle.wf_event.specs.declared.payloads.WorkflowExecutionStarted.{WorkflowExecutionStarted as StartedAttributes}
 use Rattle.wf_event_values.specs.declared.policies.DeadlineClass.TheVariants.{RunTimeout, WorkflowTask as TaskTimeout}
 use Rattle.wf_event.specs.declared.role.Class.TheVariants.{Activity, Timer}
-use Rattle.service_model.specs.Deadlines.{Due, due_after, timer_dues, activity_dues, pending_rows}
+use Rattle.service_model.specs.Deadlines.{Due, deadline_dues, due_after, timer_dues, activity_dues, pending_rows}
 use Rattle.service_model.specs.RunState.{RunState, pending}
 use Rattle.service_model.specs.Tasks.{is_started_task}
 use Rattle.service_model.specs.TimerTurns.{RunDue}
@@ -20,9 +20,9 @@ use Rattle.mutable_state.specs.Tasks.{phase_in}
 abbrev pub task_dues : StartedAttributes → WorkflowTask → List Due
 task_dues a t = cond (is_started_task (phase_in t.phase)) (due_after t.started_at a.task_timeout TaskTimeout t.scheduled) []
 
--- its own timeout, where it began at this moment, and that of its workflow task
+-- the deadline of its workflow's execution, its own timeout, where it began at this moment, and that of its workflow task
 abbrev pub own_dues : ℕ → StartedAttributes → WorkflowTask → List Due
-own_dues begun a t = due_after begun a.run_timeout RunTimeout 1 ++ task_dues a t
+own_dues begun a t = deadline_dues a.execution_deadline ++ due_after begun a.run_timeout RunTimeout 1 ++ task_dues a t
 
 -- those of a run's pending timers
 abbrev pub pending_timer_dues : RunState → List Due

@@ -1,9 +1,9 @@
 //! When a run's time is over.
 
-ghost use Rattle.std.specs.Prelude.{◌≡◌, option_and_then, option_copied, option_map};
+ghost use Rattle.std.specs.Prelude.{◌≡◌, find, option_and_then, option_copied, option_map};
 ghost use Rattle.timeouts.specs.Firsts.{first_of, first_due, HasTimer};
 ghost use Rattle.timeouts.specs.Slots.{run_due};
-ghost use Rattle.service_model.specs.Deadlines.{timer_dues, activity_dues, by_phase};
+ghost use Rattle.service_model.specs.Deadlines.{timer_dues, activity_dues, by_phase, deadline_dues, is_closing_event, retention_dues};
 ghost use Rattle.service_model.specs.Pending.{IsQueued, IsRunning, IsWaiting};
 ghost use Rattle.mutable_state.specs.Noted.{kept_row, phase_said};
 ghost use Rattle.service_model.specs.TimerTurns.{timer_name};
@@ -18,24 +18,59 @@ use crate::rows::Row;
 use crate::run::Run;
 use crate::task::WorkflowTask;
 use buffered::History;
+use event_pieces::Events;
 use retry::wait_after;
 use timeouts::{Due, due_after, first_of_two};
 use wf_event::payloads::{ActivityTaskScheduled, WorkflowExecutionStarted};
 use wf_event::{Attributes, Class, Event};
-use wf_event_values::{DeadlineClass, Id, Moment};
+use wf_event_values::{DeadlineClass, Id, Moment, Span};
 
 impl Run {
-    /// The first of its deadlines, where this is its ordinal.
-    pub fn first_due(&self, ordinal: u64) -> Option<Due>
-        ensures { option_map run_due result ≡ first_due ordinal self.now.state }
+    /// The first of its deadlines, where this is its ordinal, and runs that have closed are kept for
+    /// so long.
+    pub fn first_due(&self, retention: Span, ordinal: u64) -> Option<Due>
+        ensures { option_map run_due result ≡ first_due retention ordinal self.now.state }
     {
         let begun = self.history.first().unwrap().at;
         if !self.is_open() {
-            return None;
+            return retention_due(retention, &self.events(), ordinal);
         }
         let own = first_own_due(begun, self.started(), self.task, ordinal);
         first_of_two(own, of_run(self.in_use.first_due(), ordinal))
     }
+}
+
+/// When a run that has closed is kept no longer, where these are its events. Only a service with a
+/// retention looks at them, and once for each run.
+pub fn retention_due(retention: Span, events: &Events<'_>, ordinal: u64) -> Option<Due>
+    ensures { option_map run_due result ≡ first_of ordinal
+        (retention_dues retention (find is_closing_event events.now)) }
+{
+    if retention.millis() == 0 {
+        return None;
+    }
+    let Some(closing) = closing_event(events) else {
+        return None;
+    };
+    due_after(
+        closing.at,
+        retention,
+        ordinal,
+        DeadlineClass::Retention,
+        closing.id,
+    )
+}
+
+/// The event among these that closes its run.
+fn closing_event<'a>(events: &Events<'a>) -> Option<&'a Event>
+    ensures { option_copied result ≡ find is_closing_event events.now }
+{
+    for event in events.again() {
+        if event.attributes.is_closing() {
+            return Some(event);
+        }
+    }
+    None
 }
 
 /// The same deadline of the run with this ordinal.
@@ -252,8 +287,8 @@ pub fn timer_due(event: &Event, ordinal: u64) -> Option<Due>
     }
 }
 
-/// The first of the deadlines that a run has of itself: its own timeout, where it began at this
-/// moment, and that of its workflow task, where a worker has it.
+/// The first of the deadlines that a run has of itself: that of its workflow's execution, its own
+/// timeout, where it began at this moment, and that of its workflow task, where a worker has it.
 #[tactic(auto, unfolding(service_model::specs::TimerTurns::least))]
 pub fn first_own_due(
     begun: Moment,
@@ -271,7 +306,22 @@ pub fn first_own_due(
         1,
     );
     let task = task_due(started, task, ordinal);
-    first_of_two(run, task)
+    first_of_two(first_of_two(execution_due(started, ordinal), run), task)
+}
+
+/// When the time of a workflow's execution is over, where it was given one.
+#[tactic(auto, unfolding(service_model::specs::TimerTurns::least))]
+fn execution_due(started: &WorkflowExecutionStarted, ordinal: u64) -> Option<Due>
+    ensures { option_map run_due result ≡ first_of ordinal
+        (deadline_dues started.now.execution_deadline) }
+{
+    let due = started.execution_deadline?;
+    Some(Due {
+        due,
+        run: ordinal,
+        class: DeadlineClass::ExecutionTimeout,
+        event: 1,
+    })
 }
 
 /// When the time of a workflow task is over that a worker has.

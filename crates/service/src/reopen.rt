@@ -11,6 +11,7 @@ use service_model_types::request::Request;
 use service_model_types::settings::Settings;
 use std::alloc::{AllocError, Global};
 use step_record::Record;
+use wf_event_values::Span;
 
 /// A record for each shard: those that are given, or else empty ones.
 fn one_each(
@@ -44,6 +45,7 @@ fn setup(alloc: Global, settings: &Settings, shard: u64) -> Result<Setup, AllocE
         shard: shard as u16,
         shards: settings.shards as u16,
         queues,
+        retention: Span::none(),
     })
 }
 

@@ -115,9 +115,9 @@ no-refusal : (S : Content) (t : Transfer) (b : Bool) (r : Refusal) (o : Outcome)
 no-refusal S t true r o h is = absurd (cc is)
 no-refusal S t false r o h is = h refl is
 
-took-effect : (S : Content) (t : Transfer) → is_delivered (deliver (runs_of S) S.accepted t).reply ≡ true → TookEffect S t (deliver (runs_of S) S.accepted t)
+took-effect : (S : Content) (m : ℕ) (t : Transfer) → is_delivered (deliver (runs_of S m) S.accepted t).reply ≡ true → TookEffect S t (deliver (runs_of S m) S.accepted t)
 unfolding deliver
-took-effect S t =
+took-effect S m t =
     no-refusal S t (not (nat_lt t.from S.setup.shards && comes_from S.setup t t.content)) (InvalidArgument field.From) _ (λ near.
     no-refusal S t (not (is_for_shard S.setup t.content)) (InvalidArgument field.WorkflowId) _ (λ here. by_word near (delivery_of (accepted_from S.accepted t.from) t.number) refl))
   where
@@ -128,9 +128,9 @@ took-effect S t =
         by_test true is h = grind (is, arith, nat_tests)
         by_test false is h = absurd (cc h)
 
-    by_word : not (nat_lt t.from S.setup.shards && comes_from S.setup t t.content) ≡ false → (d : Delivery) → delivery_of (accepted_from S.accepted t.from) t.number ≡ d → is_delivered (by_delivery (runs_of S) t d).reply ≡ true → TookEffect S t (by_delivery (runs_of S) t d)
+    by_word : not (nat_lt t.from S.setup.shards && comes_from S.setup t t.content) ≡ false → (d : Delivery) → delivery_of (accepted_from S.accepted t.from) t.number ≡ d → is_delivered (by_delivery (runs_of S m) t d).reply ≡ true → TookEffect S t (by_delivery (runs_of S m) t d)
     by_word near AlreadyDelivered is h = inl (already-number _ _ is)
-    by_word near IsNext is h = inr (inside near, next-number _ _ is, (effect-accepts (runs_of S) t t.content).is)
+    by_word near IsNext is h = inr (inside near, next-number _ _ is, (effect-accepts (runs_of S m) t t.content).is)
     by_word near OutOfOrder is h = absurd (cc h)
 
 pub delivered-accepted : (S : Content) (at : ℕ) (t : Transfer) → length S.accepted ≡ S.setup.shards → is_delivered (answer S (record { at = at; operation = operation.Deliver t })) ≡ true
@@ -139,10 +139,10 @@ unfolding answer outcome
 delivered-accepted S at t wide is =
     let q : Request = record { at = at; operation = operation.Deliver t } in
     ⊎_elim (λ (l : t.number ≤ accepted_from S.accepted t.from). let m = never-fewer S q t.from in omega (arith, l, m))
-    (λ (h : (t.from < S.setup.shards) × (t.number ≡ accepted_from S.accepted t.from + 1) × ((deliver (runs_of S) S.accepted t).counting ≡ AcceptsFrom t.from)).
+    (λ (h : (t.from < S.setup.shards) × (t.number ≡ accepted_from S.accepted t.from + 1) × ((deliver (runs_of S (moment_of S at)) S.accepted t).counting ≡ AcceptsFrom t.from)).
     let e = ap (λ l. accepted_from l t.from) (accepted-after S q ∙ ap (counted S.accepted) h.2) in let f = mores S.accepted t.from (let l = h.0 in omega (arith, l, wide)) in let n = h.1 in
     omega (arith, e, f, n))
-    (took-effect S t is)
+    (took-effect S (moment_of S at) t is)
 
 -- no step changes a shard's setup, or how many sources it counts
 setup-counted : (c : Counting) (T : Content) → (with_count c T).setup ≡ T.setup

@@ -14,6 +14,7 @@ pub mod NamedLemmas
 mod RowWords
 mod TaskRows
 mod TimerRows
+mod ExecutionRows
 mod ActivityRows
 mod PolicyRows
 mod TransferRows

@@ -122,13 +122,13 @@ have-queues : (setup : Setup) (runs : List Journal) → AllByRecursion (IsKnownR
 have-queues setup [] h = tt
 have-queues setup (J ∷ runs) h = (has-queue setup J h.0, have-queues setup runs h.1)
 
-all-have : (S : Content) → AreKnownRuns S → AllHaveQueues (runs_of S)
-all-have S h n there = at-place (HasQueue S.setup) (map state_of S.runs) (n - 1) no_run (have-queues S.setup S.runs h) there
+all-have : (S : Content) (m : ℕ) → AreKnownRuns S → AllHaveQueues (runs_of S m)
+all-have S m h n there = at-place (HasQueue S.setup) (map state_of S.runs) (n - 1) no_run (have-queues S.setup S.runs h) there
 
-added-known : (S : Content) (step moment : ℕ) (o : Outcome) → AreKnownRuns S → Names (runs_of S) o → AllByRecursion (IsKnownRun S.setup) (with_added step moment o.added S.runs)
+added-known : (S : Content) (step moment : ℕ) (o : Outcome) → AreKnownRuns S → Names (runs_of S moment) o → AllByRecursion (IsKnownRun S.setup) (with_added step moment o.added S.runs)
 added-known S step moment o h named = by_added o.added named.added
   where
-    by_added : (a : Option Added) → AddsKnown (runs_of S) a → AllByRecursion (IsKnownRun S.setup) (with_added step moment a S.runs)
+    by_added : (a : Option Added) → AddsKnown (runs_of S moment) a → AllByRecursion (IsKnownRun S.setup) (with_added step moment a S.runs)
     by_added None known = h
     by_added (Some a) known =
         set-all (IsKnownRun S.setup) S.runs (a.run - 1) (journal_at S.runs a.run ++ entries step moment 0 a.facts) h (λ there.
@@ -145,13 +145,13 @@ counted-known (AcceptsFrom n) S h = h
 counted-known (AcknowledgesTo to) S h = h
 counted-known CountsDispatch S h = h
 
-step-known : (S : Content) (moment : ℕ) (o : Outcome) → AreKnownRuns S → Names (runs_of S) o → AreKnownRuns (content_after S moment o)
+step-known : (S : Content) (moment : ℕ) (o : Outcome) → AreKnownRuns S → Names (runs_of S moment) o → AreKnownRuns (content_after S moment o)
 step-known S moment o h named =
     counted-known o.counting _ (created-known S (S.steps + 1) moment o.created (with_added (S.steps + 1) moment o.added S.runs) (added-known S (S.steps + 1) moment o h named) named.created)
 
 pub known-after : (S : Content) (q : Request) → AreKnownRuns S → AreKnownRuns (after S q)
 unfolding after
-known-after S q h = step-known S (moment_of S q.at) (outcome S (moment_of S q.at) q.operation) h (outcome-names S (moment_of S q.at) q.operation (all-have S h))
+known-after S q h = step-known S (moment_of S q.at) (outcome S (moment_of S q.at) q.operation) h (outcome-names S (moment_of S q.at) q.operation (all-have S (moment_of S q.at) h))
 
 pub known-replayed : (S : Content) (R : List Entry) → AreKnownRuns S → AreKnownRuns (fold (λ T (e : Entry). after T e.request) S R)
 known-replayed S [] h = h

@@ -163,7 +163,7 @@ start-names : (R : Runs) (q : Start) → Names R (start R q)
 unfolding start
 start-names R q =
     here R q.workflow_id _ (guarded (knows_queue R.setup q.task_queue)
-    (λ known. decided R _ (started_fact q ∷ first_task q.task_queue ∷ []) _ (known, (known, tt)) tt) (names tt tt))
+    (λ known. decided R _ (started_fact R.moment q ∷ first_task q.task_queue ∷ []) _ (known, (known, tt)) tt) (names tt tt))
 
 signals-name : (R : Runs) (n : ℕ) (request : Option (List ℕ)) (fact : Fact) (first again : Answer) → AllHaveQueues R → IsKnownFact R.setup fact → Names R (signals R n request fact first again)
 signals-name R n request fact first again all known =
@@ -182,7 +182,7 @@ unfolding signal_with_start
 signal_with_start-names R q all = here R q.workflow_id _ (guarded (knows_queue R.setup q.task_queue) (at (open_run R q.workflow_id None)) (names tt tt))
   where
     at : (n : Option ℕ) → knows_queue R.setup q.task_queue ≡ true → Names R (signal_or_start R q n)
-    at None known = decided R _ (started_fact (start_in q) ∷ signal_fact q.request_id q.name q.signal_input ∷ first_task q.task_queue ∷ []) _ (known, (tt, (known, tt))) tt
+    at None known = decided R _ (started_fact R.moment (start_in q) ∷ signal_fact q.request_id q.name q.signal_input ∷ first_task q.task_queue ∷ []) _ (known, (tt, (known, tt))) tt
     at (Some n) known = signals-name R n _ _ _ _ all tt
 
 -- requests to cancel, terminations and readings
@@ -395,19 +395,19 @@ cancel_activity-names R q all = at (running_attempt R q.task)
     at None = names tt tt
     at (Some r) = either r.cancel_requested (names (λ there. ends-known R.setup (run_at R q.task.run) r (ActivityTaskCanceled (record { scheduled = q.task.event; details = q.text })) (all q.task.run there) tt) tt) (names tt tt)
 
-fail_activity-names : (R : Runs) (moment : ℕ) (q : FailActivity) → AllHaveQueues R → Names R (fail_activity R moment q)
+fail_activity-names : (R : Runs) (q : FailActivity) → AllHaveQueues R → Names R (fail_activity R q)
 unfolding fail_activity
-fail_activity-names R moment q all = at (running_attempt R q.task)
+fail_activity-names R q all = at (running_attempt R q.task)
   where
     judged : (r : ActivityRow) (v : Verdict) → Names R (by_verdict R q r v)
     judged r (GivesUp state) = names (λ there. ends-known R.setup (run_at R q.task.run) r (ActivityTaskFailed (record { scheduled = q.task.event; message = q.message; error_type = q.error_type; retry = state })) (all q.task.run there) tt) tt
     judged r (RetriesAt ready) = names (λ there. (tt, tt)) tt
 
-    with_fields : (r : ActivityRow) (a : Option ScheduledAttributes) → Names R (fail_fields R moment q r a)
+    with_fields : (r : ActivityRow) (a : Option ScheduledAttributes) → Names R (fail_fields R q r a)
     with_fields r None = names tt tt
-    with_fields r (Some a) = judged r (verdict_at r a (FailedAttempt q.error_type q.non_retryable) moment)
+    with_fields r (Some a) = judged r (verdict_at r a (FailedAttempt q.error_type q.non_retryable) R.moment)
 
-    at : (r : Option ActivityRow) → Names R (fail_at R moment q r)
+    at : (r : Option ActivityRow) → Names R (fail_at R q r)
     at None = names tt tt
     at (Some r) = with_fields r (scheduled_fields r.opened.attributes)
 
@@ -442,6 +442,7 @@ verdict-known setup s moment kind (Some r) queue = with_fields (scheduled_fields
 
 fire-known : (setup : Setup) (s : RunState) (moment id : ℕ) (class : DeadlineClass) → HasQueue setup s → AllKnown setup (fire s moment id class)
 unfolding fire
+fire-known setup s moment id due.ExecutionTimeout queue = (tt, tt)
 fire-known setup s moment id due.RunTimeout queue = (tt, tt)
 fire-known setup s moment id due.WorkflowTask queue = (tt, (queue, tt))
 fire-known setup s moment id due.ScheduleToClose queue = over-known setup s id _ (pending_row s id) queue
@@ -449,15 +450,16 @@ fire-known setup s moment id due.ScheduleToStart queue = over-known setup s id _
 fire-known setup s moment id due.Heartbeat queue = verdict-known setup s moment _ (pending_row s id) queue
 fire-known setup s moment id due.StartToClose queue = verdict-known setup s moment _ (pending_row s id) queue
 fire-known setup s moment id due.RetryReady queue = (tt, tt)
+fire-known setup s moment id due.Retention queue = tt
 fire-known setup s moment id due.UserTimer queue = outside-one setup s (plain (TimerFired (record { timer_id = timer_name s id; started = id }))) queue tt
 
-timer_turn-names : (R : Runs) (moment : ℕ) → AllHaveQueues R → Names R (timer_turn R moment)
+timer_turn-names : (R : Runs) → AllHaveQueues R → Names R (timer_turn R)
 unfolding timer_turn
-timer_turn-names R moment all = at (due_now moment (least (all_dues R.states)))
+timer_turn-names R all = at (due_now R.moment (least (all_dues R.setup.retention R.states)))
   where
-    at : (d : Option RunDue) → Names R (fire_due R moment d)
+    at : (d : Option RunDue) → Names R (fire_due R d)
     at None = names tt tt
-    at (Some d) = names (λ there. fire-known R.setup (run_at R d.run) moment d.at.event d.at.class (all d.run there)) tt
+    at (Some d) = names (λ there. fire-known R.setup (run_at R d.run) R.moment d.at.event d.at.class (all d.run there)) tt
 
 -- what is counted
 acknowledges-name : (R : Runs) (issued so_far number : ℕ) (c : Counting) → Names R (acknowledges issued so_far number c)
@@ -549,25 +551,25 @@ deliver-names R accepted t all =
     by_number OutOfOrder = names tt tt
 
 -- whatever is asked
-pub outcome-names : (S : Content) (m : ℕ) (a : Operation) → AllHaveQueues (runs_of S) → Names (runs_of S) (outcome S m a)
+pub outcome-names : (S : Content) (m : ℕ) (a : Operation) → AllHaveQueues (runs_of S m) → Names (runs_of S m) (outcome S m a)
 unfolding outcome
-outcome-names S m (operation.Start q) all = start-names (runs_of S) q
-outcome-names S m (operation.Signal q) all = signal-names (runs_of S) q all
-outcome-names S m (operation.SignalWithStart q) all = signal_with_start-names (runs_of S) q all
-outcome-names S m (operation.RequestCancel q) all = request_cancel-names (runs_of S) q all
-outcome-names S m (operation.Terminate q) all = terminate-names (runs_of S) q
-outcome-names S m (operation.StartTask h) all = start_task-names (runs_of S) h
-outcome-names S m (operation.CompleteWorkflowTask q) all = complete_workflow_task-names (runs_of S) q all
-outcome-names S m (operation.FailWorkflowTask q) all = fail_workflow_task-names (runs_of S) q all
-outcome-names S m (operation.CompleteActivity q) all = complete_activity-names (runs_of S) q all
-outcome-names S m (operation.FailActivity q) all = fail_activity-names (runs_of S) m q all
-outcome-names S m (operation.CancelActivity q) all = cancel_activity-names (runs_of S) q all
-outcome-names S m (operation.Heartbeat q) all = heartbeat-names (runs_of S) q
-outcome-names S m (operation.History q) all = history-names (runs_of S) q
-outcome-names S m (operation.Describe q) all = describe-names (runs_of S) q
-outcome-names S m operation.TimerTurn all = timer_turn-names (runs_of S) m all
-outcome-names S m (operation.NextTransfer to) all = next_transfer-names (runs_of S) S.setup S.outgoing to
-outcome-names S m (operation.Deliver t) all = deliver-names (runs_of S) S.accepted t all
-outcome-names S m (operation.Acknowledge q) all = acknowledge-names (runs_of S) S.setup S.outgoing q
-outcome-names S m operation.NextDispatch all = next_dispatch-names (runs_of S) S
-outcome-names S m (operation.Dispatched number) all = dispatched-names (runs_of S) S number
+outcome-names S m (operation.Start q) all = start-names (runs_of S m) q
+outcome-names S m (operation.Signal q) all = signal-names (runs_of S m) q all
+outcome-names S m (operation.SignalWithStart q) all = signal_with_start-names (runs_of S m) q all
+outcome-names S m (operation.RequestCancel q) all = request_cancel-names (runs_of S m) q all
+outcome-names S m (operation.Terminate q) all = terminate-names (runs_of S m) q
+outcome-names S m (operation.StartTask h) all = start_task-names (runs_of S m) h
+outcome-names S m (operation.CompleteWorkflowTask q) all = complete_workflow_task-names (runs_of S m) q all
+outcome-names S m (operation.FailWorkflowTask q) all = fail_workflow_task-names (runs_of S m) q all
+outcome-names S m (operation.CompleteActivity q) all = complete_activity-names (runs_of S m) q all
+outcome-names S m (operation.FailActivity q) all = fail_activity-names (runs_of S m) q all
+outcome-names S m (operation.CancelActivity q) all = cancel_activity-names (runs_of S m) q all
+outcome-names S m (operation.Heartbeat q) all = heartbeat-names (runs_of S m) q
+outcome-names S m (operation.History q) all = history-names (runs_of S m) q
+outcome-names S m (operation.Describe q) all = describe-names (runs_of S m) q
+outcome-names S m operation.TimerTurn all = timer_turn-names (runs_of S m) all
+outcome-names S m (operation.NextTransfer to) all = next_transfer-names (runs_of S m) S.setup S.outgoing to
+outcome-names S m (operation.Deliver t) all = deliver-names (runs_of S m) S.accepted t all
+outcome-names S m (operation.Acknowledge q) all = acknowledge-names (runs_of S m) S.setup S.outgoing q
+outcome-names S m operation.NextDispatch all = next_dispatch-names (runs_of S m) S
+outcome-names S m (operation.Dispatched number) all = dispatched-names (runs_of S m) S number

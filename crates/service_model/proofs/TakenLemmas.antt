@@ -68,22 +68,22 @@ second-true : (a b : Bool) → (a && b) ≡ true → b ≡ true
 second-true true b h = h
 second-true false b h = absurd (cc h)
 
-turns : (S : Content) (t : Transfer) → Turns S t (deliver (runs_of S) S.accepted t)
+turns : (S : Content) (m : ℕ) (t : Transfer) → Turns S t (deliver (runs_of S m) S.accepted t)
 unfolding deliver
-turns S t = by_source (nat_lt t.from S.setup.shards && comes_from S.setup t t.content) refl
+turns S m t = by_source (nat_lt t.from S.setup.shards && comes_from S.setup t t.content) refl
   where
-    by_word : (nat_lt t.from S.setup.shards && comes_from S.setup t t.content) ≡ true → is_for_shard S.setup t.content ≡ true → (d : Delivery) → delivery_of (accepted_from S.accepted t.from) t.number ≡ d → Turns S t (by_delivery (runs_of S) t d)
+    by_word : (nat_lt t.from S.setup.shards && comes_from S.setup t t.content) ≡ true → is_for_shard S.setup t.content ≡ true → (d : Delivery) → delivery_of (accepted_from S.accepted t.from) t.number ≡ d → Turns S t (by_delivery (runs_of S m) t d)
     by_word near here AlreadyDelivered is = inr (record { counts_none = refl; adds_none = refl; makes_none = refl; tells_none = refl; other = λ number e. absurd (cc e) })
     by_word near here OutOfOrder is = inr (record { counts_none = refl; adds_none = refl; makes_none = refl; tells_none = refl; other = λ number e. absurd (cc e) })
     by_word near here IsNext is =
         let there : nat_lt t.from S.setup.shards ≡ true = first-true _ _ near in
-        inl (record { source = grind (there, arith, nat_tests); asking = second-true _ _ near; here = here; next = next-number _ _ is }, effect-accepts (runs_of S) t t.content)
+        inl (record { source = grind (there, arith, nat_tests); asking = second-true _ _ near; here = here; next = next-number _ _ is }, effect-accepts (runs_of S m) t t.content)
 
-    by_place : (nat_lt t.from S.setup.shards && comes_from S.setup t t.content) ≡ true → (b : Bool) → is_for_shard S.setup t.content ≡ b → Turns S t (cond (not b) (refused (InvalidArgument field.WorkflowId)) (by_delivery (runs_of S) t (delivery_of (accepted_from S.accepted t.from) t.number)))
+    by_place : (nat_lt t.from S.setup.shards && comes_from S.setup t t.content) ≡ true → (b : Bool) → is_for_shard S.setup t.content ≡ b → Turns S t (cond (not b) (refused (InvalidArgument field.WorkflowId)) (by_delivery (runs_of S m) t (delivery_of (accepted_from S.accepted t.from) t.number)))
     by_place near true here = by_word near here _ refl
     by_place near false here = inr (refused-rests _)
 
-    by_source : (b : Bool) → (nat_lt t.from S.setup.shards && comes_from S.setup t t.content) ≡ b → Turns S t (cond (not b) (refused (InvalidArgument field.From)) (cond (not (is_for_shard S.setup t.content)) (refused (InvalidArgument field.WorkflowId)) (by_delivery (runs_of S) t (delivery_of (accepted_from S.accepted t.from) t.number))))
+    by_source : (b : Bool) → (nat_lt t.from S.setup.shards && comes_from S.setup t t.content) ≡ b → Turns S t (cond (not b) (refused (InvalidArgument field.From)) (cond (not (is_for_shard S.setup t.content)) (refused (InvalidArgument field.WorkflowId)) (by_delivery (runs_of S m) t (delivery_of (accepted_from S.accepted t.from) t.number))))
     by_source true near = by_place near _ refl
     by_source false near = inr (refused-rests _)
 
@@ -96,17 +96,17 @@ is-next so_far number is = by_tests (nat_le number so_far) refl (number == so_fa
     by_tests false low true at = refl
     by_tests false low false at = absurd (grind (at, is, arith, nat_tests))
 
-may-take : (S : Content) (t : Transfer) → MayAccept S t → deliver (runs_of S) S.accepted t ≡ effect (runs_of S) t t.content
+may-take : (S : Content) (m : ℕ) (t : Transfer) → MayAccept S t → deliver (runs_of S m) S.accepted t ≡ effect (runs_of S m) t t.content
 unfolding deliver
-may-take S t h =
+may-take S m t h =
     let there : nat_lt t.from S.setup.shards ≡ true = (let l = h.source in grind (l, arith, nat_tests)) in
-    let rest : Bool → Bool → Bool → Delivery → Outcome = λ a b c d. cond (not (a && b)) (refused (InvalidArgument field.From)) (cond (not c) (refused (InvalidArgument field.WorkflowId)) (by_delivery (runs_of S) t d)) in
+    let rest : Bool → Bool → Bool → Delivery → Outcome = λ a b c d. cond (not (a && b)) (refused (InvalidArgument field.From)) (cond (not c) (refused (InvalidArgument field.WorkflowId)) (by_delivery (runs_of S m) t d)) in
     λ i. rest (there i) (h.asking i) (h.here i) (is-next _ _ h.next i)
 
 taken : (S : Content) (at : ℕ) (t : Transfer) → length S.accepted ≡ S.setup.shards → MayAccept S t → IsAccepted S at t
 unfolding answer outcome
 taken S at t wide h =
-    let effects : Accepts t (deliver (runs_of S) S.accepted t) = subst (Accepts t) (sym (may-take S t h)) (effect-accepts (runs_of S) t t.content) in
+    let effects : Accepts t (deliver (runs_of S (moment_of S at)) S.accepted t) = subst (Accepts t) (sym (may-take S (moment_of S at) t h)) (effect-accepts (runs_of S (moment_of S at)) t t.content) in
     let raised : accepted_from (after S (delivers at t)).accepted t.from ≡ accepted_from S.accepted t.from + 1 =
     ap (λ l. accepted_from l t.from) (accepted-after S (delivers at t) ∙ ap (counted S.accepted) effects.is) ∙ mores S.accepted t.from (let l = h.source in omega (arith, l, wide)) in
     record { answered = effects.says; counted = raised ∙ sym h.next }
@@ -116,16 +116,16 @@ unfolding answer after outcome
 delivered-once S at t wide = record {
   taken = taken S at t wide;
   only = λ number is. ⊎_elim
-      (λ (h : MayAccept S t × Accepts t (deliver (runs_of S) S.accepted t)). (h.0, same number is h.1.says))
-      (λ (h : Rests (deliver (runs_of S) S.accepted t)). absurd (h.other number is))
-      (turns S t);
+      (λ (h : MayAccept S t × Accepts t (deliver (runs_of S (moment_of S at)) S.accepted t)). (h.0, same number is h.1.says))
+      (λ (h : Rests (deliver (runs_of S (moment_of S at)) S.accepted t)). absurd (h.other number is))
+      (turns S (moment_of S at) t);
   otherwise = λ other. ⊎_elim
-      (λ (h : MayAccept S t × Accepts t (deliver (runs_of S) S.accepted t)). absurd (other h.1.says))
-      (λ (h : Rests (deliver (runs_of S) S.accepted t)). rest-leaves S (moment_of S at) _ h)
-      (turns S t);
+      (λ (h : MayAccept S t × Accepts t (deliver (runs_of S (moment_of S at)) S.accepted t)). absurd (other h.1.says))
+      (λ (h : Rests (deliver (runs_of S (moment_of S at)) S.accepted t)). rest-leaves S (moment_of S at) _ h)
+      (turns S (moment_of S at) t);
 }
   where
-    same : (number : ℕ) → (deliver (runs_of S) S.accepted t).reply ≡ Ok (Accepted number) → (deliver (runs_of S) S.accepted t).reply ≡ Ok (Accepted t.number) → number ≡ t.number
+    same : (number : ℕ) → (deliver (runs_of S (moment_of S at)) S.accepted t).reply ≡ Ok (Accepted number) → (deliver (runs_of S (moment_of S at)) S.accepted t).reply ≡ Ok (Accepted t.number) → number ≡ t.number
     same number is says = cc (is, says)
 
 wide-replayed : (S : Content) (R : List Entry) → length S.accepted ≡ S.setup.shards → let T = fold (λ U (e : Entry). after U e.request) S R in length T.accepted ≡ T.setup.shards

@@ -196,19 +196,19 @@ cancel_activity-quiet R q = at (running_attempt R q.task)
     at None = moves refl
     at (Some r) = either r.cancel_requested (moves refl) (moves refl)
 
-fail_activity-quiet : (R : Runs) (moment : ℕ) (q : FailActivity) → Quiet (fail_activity R moment q)
+fail_activity-quiet : (R : Runs) (q : FailActivity) → Quiet (fail_activity R q)
 unfolding fail_activity
-fail_activity-quiet R moment q = at (running_attempt R q.task)
+fail_activity-quiet R q = at (running_attempt R q.task)
   where
     judged : (r : ActivityRow) (v : Verdict) → Quiet (by_verdict R q r v)
     judged r (GivesUp state) = moves refl
     judged r (RetriesAt ready) = moves refl
 
-    with_fields : (r : ActivityRow) (a : Option ScheduledAttributes) → Quiet (fail_fields R moment q r a)
+    with_fields : (r : ActivityRow) (a : Option ScheduledAttributes) → Quiet (fail_fields R q r a)
     with_fields r None = moves refl
-    with_fields r (Some a) = judged r (verdict_at r a (FailedAttempt q.error_type q.non_retryable) moment)
+    with_fields r (Some a) = judged r (verdict_at r a (FailedAttempt q.error_type q.non_retryable) R.moment)
 
-    at : (r : Option ActivityRow) → Quiet (fail_at R moment q r)
+    at : (r : Option ActivityRow) → Quiet (fail_at R q r)
     at None = moves refl
     at (Some r) = with_fields r (scheduled_fields r.opened.attributes)
 
@@ -220,11 +220,11 @@ heartbeat-quiet R q = at (running_attempt R q.task)
     at None = moves refl
     at (Some r) = moves refl
 
-timer_turn-quiet : (R : Runs) (moment : ℕ) → Quiet (timer_turn R moment)
+timer_turn-quiet : (R : Runs) → Quiet (timer_turn R)
 unfolding timer_turn
-timer_turn-quiet R moment = at (due_now moment (least (all_dues R.states)))
+timer_turn-quiet R = at (due_now R.moment (least (all_dues R.setup.retention R.states)))
   where
-    at : (d : Option RunDue) → Quiet (fire_due R moment d)
+    at : (d : Option RunDue) → Quiet (fire_due R d)
     at None = moves refl
     at (Some d) = moves refl
 
@@ -332,16 +332,16 @@ already-number so_far number = by_tests (nat_le number so_far) refl (number == s
     by_tests false low true is = absurd (cc (is))
     by_tests false low false is = absurd (cc (is))
 
-deliver-grounded : (S : Content) (t : Transfer) → Grounded S (operation.Deliver t) (deliver (runs_of S) S.accepted t)
+deliver-grounded : (S : Content) (m : ℕ) (t : Transfer) → Grounded S (operation.Deliver t) (deliver (runs_of S m) S.accepted t)
 unfolding deliver
-deliver-grounded S t =
+deliver-grounded S m t =
     unless-refused S (operation.Deliver t) (not (nat_lt t.from S.setup.shards && comes_from S.setup t t.content)) (InvalidArgument field.From) _
     (unless-refused S (operation.Deliver t) (not (is_for_shard S.setup t.content)) (InvalidArgument field.WorkflowId) _
     (by_word (delivery_of (accepted_from S.accepted t.from) t.number) refl))
   where
-    by_word : (d : Delivery) → delivery_of (accepted_from S.accepted t.from) t.number ≡ d → Grounded S (operation.Deliver t) (by_delivery (runs_of S) t d)
+    by_word : (d : Delivery) → delivery_of (accepted_from S.accepted t.from) t.number ≡ d → Grounded S (operation.Deliver t) (by_delivery (runs_of S m) t d)
     by_word AlreadyDelivered is = tt
-    by_word IsNext is = subst (HasGrounds S (operation.Deliver t)) (sym (effect-accepts (runs_of S) t t.content).is) (record { transfer = t; asked = refl; source = refl; next = next-number _ _ is })
+    by_word IsNext is = subst (HasGrounds S (operation.Deliver t)) (sym (effect-accepts (runs_of S m) t t.content).is) (record { transfer = t; asked = refl; source = refl; next = next-number _ _ is })
     by_word OutOfOrder is = tt
 
 more-issued : (issued so_far number : ℕ) → acknowledgement_of issued so_far number ≡ Acknowledged → so_far < issued
@@ -394,14 +394,14 @@ grounded S m (operation.StartTask h) = from-quiet S _ _ (start_task-quiet _ h)
 grounded S m (operation.CompleteWorkflowTask q) = from-quiet S _ _ (complete_workflow_task-quiet _ q)
 grounded S m (operation.FailWorkflowTask q) = from-quiet S _ _ (fail_workflow_task-quiet _ q)
 grounded S m (operation.CompleteActivity q) = from-quiet S _ _ (complete_activity-quiet _ q)
-grounded S m (operation.FailActivity q) = from-quiet S _ _ (fail_activity-quiet _ m q)
+grounded S m (operation.FailActivity q) = from-quiet S _ _ (fail_activity-quiet _ q)
 grounded S m (operation.CancelActivity q) = from-quiet S _ _ (cancel_activity-quiet _ q)
 grounded S m (operation.Heartbeat q) = from-quiet S _ _ (heartbeat-quiet _ q)
 grounded S m (operation.History q) = from-quiet S _ _ (history-quiet _ q)
 grounded S m (operation.Describe q) = from-quiet S _ _ (describe-quiet _ q)
-grounded S m operation.TimerTurn = from-quiet S _ _ (timer_turn-quiet _ m)
+grounded S m operation.TimerTurn = from-quiet S _ _ (timer_turn-quiet _)
 grounded S m (operation.NextTransfer to) = from-quiet S _ _ (next_transfer-quiet _ _ to)
-grounded S m (operation.Deliver t) = deliver-grounded S t
+grounded S m (operation.Deliver t) = deliver-grounded S m t
 grounded S m (operation.Acknowledge q) = acknowledge-grounded S q
 grounded S m operation.NextDispatch = from-quiet S _ _ (next_dispatch-quiet S)
 grounded S m (operation.Dispatched number) = dispatched-grounded S number

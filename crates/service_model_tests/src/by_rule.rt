@@ -48,6 +48,7 @@ fn start(alloc: Global, workflow_id: Id) -> Result<Start, Refusal> {
         conflict: ConflictPolicy::Fail,
         run_timeout: Span::none(),
         task_timeout: Span::none(),
+        execution_timeout: Span::none(),
     })
 }
 

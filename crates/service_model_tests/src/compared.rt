@@ -16,7 +16,7 @@ use service_model_types::request::{Operation, Request};
 use std::alloc::{AllocError, AllocGlobal, Global};
 use std::process::Abort;
 use step_record::Entry;
-use wf_event_values::{Field, Id, Items, Moment, Refusal};
+use wf_event_values::{Field, Id, Items, Moment, Refusal, Span};
 use wire_replies::reply_text;
 
 /// A shard as the service runs it: its runs are kept by tables.
@@ -89,6 +89,7 @@ fn setup(alloc: Global, place: Place) -> Result<Setup, Refusal>
         shard: place.shard,
         shards: place.shards,
         queues: Items::from_vec(queues),
+        retention: Span::none(),
     })
 }
 

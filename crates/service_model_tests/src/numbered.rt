@@ -74,6 +74,7 @@ fn start(alloc: Global) -> Result<Operation, Refusal> {
         conflict: ConflictPolicy::Fail,
         run_timeout: Span::none(),
         task_timeout: Span::none(),
+        execution_timeout: Span::none(),
     }))
 }
 

@@ -13,7 +13,7 @@ use service_model_types::request::{
     SignalWithStart, Start, Terminate,
 };
 use std::alloc::Global;
-use wf_event_values::{ConflictPolicy, Field, Moment, Refusal, ReusePolicy, Text};
+use wf_event_values::{ConflictPolicy, Field, Moment, Refusal, ReusePolicy, Span, Text};
 
 /// A request whose moment is near that of the step with this number.
 pub(crate) fn request(
@@ -117,6 +117,14 @@ fn conflict(draws: &mut Draws) -> ConflictPolicy {
     }
 }
 
+fn execution_timeout(draws: &mut Draws) -> Result<Span, Refusal> {
+    if draws.one_in(8) {
+        span(draws, 2000)
+    } else {
+        Ok(Span::none())
+    }
+}
+
 pub(crate) fn start(alloc: Global, draws: &mut Draws) -> Result<Start, Refusal> {
     Ok(Start {
         workflow_id: started_id(alloc, draws)?,
@@ -128,6 +136,7 @@ pub(crate) fn start(alloc: Global, draws: &mut Draws) -> Result<Start, Refusal> 
         conflict: conflict(draws),
         run_timeout: span(draws, 1000)?,
         task_timeout: span(draws, 200)?,
+        execution_timeout: execution_timeout(draws)?,
     })
 }
 
@@ -155,6 +164,7 @@ fn signal_with_start(alloc: Global, draws: &mut Draws) -> Result<SignalWithStart
             span(draws, 1000)?
         },
         task_timeout: span(draws, 200)?,
+        execution_timeout: execution_timeout(draws)?,
         name: Text::new(alloc, Field::Name, "paid")?,
         signal_input: input(alloc, draws)?,
     })

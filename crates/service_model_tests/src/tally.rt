@@ -6,7 +6,7 @@ use std::process::Abort;
 use wf_event_values::{DeadlineClass, Field, Refusal, RunId};
 
 /// All kinds of reply that drawn requests get.
-pub(crate) const REPLIES: [&str; 41] = [
+pub(crate) const REPLIES: [&str; 42] = [
     "started",
     "existing",
     "signaled",
@@ -29,6 +29,7 @@ pub(crate) const REPLIES: [&str; 41] = [
     "activity canceled",
     "heartbeat",
     "nothing due",
+    "fired execution timeout",
     "fired run timeout",
     "fired workflow task",
     "fired user timer",
@@ -310,6 +311,7 @@ fn refusal_name(refusal: &Refusal) -> Option<&'static str> {
 
 fn fired_name(class: DeadlineClass) -> &'static str {
     match class {
+        DeadlineClass::ExecutionTimeout => "fired execution timeout",
         DeadlineClass::RunTimeout => "fired run timeout",
         DeadlineClass::WorkflowTask => "fired workflow task",
         DeadlineClass::UserTimer => "fired user timer",
@@ -318,5 +320,6 @@ fn fired_name(class: DeadlineClass) -> &'static str {
         DeadlineClass::Heartbeat => "fired heartbeat",
         DeadlineClass::StartToClose => "fired start to close",
         DeadlineClass::RetryReady => "fired retry ready",
+        DeadlineClass::Retention => "fired retention",
     }
 }

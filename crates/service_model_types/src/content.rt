@@ -2,7 +2,7 @@
 use crate::journal::JournalEntry;
 use crate::request::Hint;
 use crate::transfer::TransferContent;
-use wf_event_values::{Id, Items, Moment};
+use wf_event_values::{Id, Items, Moment, Span};
 
 /// A shard's settings.
 pub struct Setup {
@@ -10,6 +10,8 @@ pub struct Setup {
     pub shard: u16,
     pub shards: u16,
     pub queues: Items<Id>,
+    /// For how long a run is kept that has closed; for ever where it is 0.
+    pub retention: Span,
 }
 
 impl Drop for Setup {
@@ -19,6 +21,7 @@ impl Drop for Setup {
             shard: _,
             shards: _,
             queues: _,
+            retention: _,
         } = self;
     }
 }

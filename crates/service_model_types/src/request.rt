@@ -20,6 +20,7 @@ pub struct Start {
     pub conflict: ConflictPolicy,
     pub run_timeout: Span,
     pub task_timeout: Span,
+    pub execution_timeout: Span,
 }
 
 impl Drop for Start {
@@ -34,6 +35,7 @@ impl Drop for Start {
             conflict: _,
             run_timeout: _,
             task_timeout: _,
+            execution_timeout: _,
         } = self;
     }
 }
@@ -70,6 +72,7 @@ pub struct SignalWithStart {
     pub reuse: ReusePolicy,
     pub run_timeout: Span,
     pub task_timeout: Span,
+    pub execution_timeout: Span,
     pub name: Text,
     pub signal_input: Text,
 }
@@ -85,6 +88,7 @@ impl Drop for SignalWithStart {
             reuse: _,
             run_timeout: _,
             task_timeout: _,
+            execution_timeout: _,
             name: _,
             signal_input: _,
         } = self;

@@ -78,6 +78,7 @@ pub(crate) fn start<R: Abort + AllocGlobal>(
         conflict: ConflictPolicy::Fail,
         run_timeout: Span::none(),
         task_timeout: Span::none(),
+        execution_timeout: Span::none(),
     }
 }
 

@@ -127,6 +127,7 @@ fn both<R: Abort + AllocGlobal>(rt: &R, shard: u16) -> SignalWithStart {
         reuse: ReusePolicy::AllowDuplicate,
         run_timeout: Span::none(),
         task_timeout: Span::none(),
+        execution_timeout: Span::none(),
         name: text(rt, "s"),
         signal_input: text(rt, "i"),
     }

@@ -20,42 +20,42 @@ use Rattle.shard_store.specs.View.{ShardState}
 
 -- what a start of a known queue does, by the workflow ID's latest run
 abbrev pub decided_by : Runs → Start → Option ℕ → Outcome
-decided_by R q latest_one = by_decision R (unwrap_or latest_one 0) (started_fact q ∷ first_task q.task_queue ∷ []) (decision R q latest_one)
+decided_by R q latest_one = by_decision R (unwrap_or latest_one 0) (started_fact R.moment q ∷ first_task q.task_queue ∷ []) (decision R q latest_one)
 
 abbrev pub decided : Runs → Start → Outcome
 decided R q = decided_by R q (latest_run R.states q.workflow_id)
 
 -- what a start with a signal writes in a new run
-abbrev pub signaled_facts : SignalWithStart → List Fact
-signaled_facts q = started_fact (start_in q) ∷ signal_fact q.request_id q.name q.signal_input ∷ first_task q.task_queue ∷ []
+abbrev pub signaled_facts : ℕ → SignalWithStart → List Fact
+signaled_facts moment q = started_fact moment (start_in q) ∷ signal_fact q.request_id q.name q.signal_input ∷ first_task q.task_queue ∷ []
 
 -- what it does where the workflow ID has no open run, by the latest one
 abbrev pub signaled_by : Runs → SignalWithStart → Option ℕ → Outcome
-signaled_by R q latest_one = by_decision R (unwrap_or latest_one 0) (signaled_facts q) (decision R (start_in q) latest_one)
+signaled_by R q latest_one = by_decision R (unwrap_or latest_one 0) (signaled_facts R.moment q) (decision R (start_in q) latest_one)
 
--- the runs that requests are decided on
-abbrev pub runs_known : ShardState → Runs
-runs_known s = record { setup = s.setup; states = s.runs }
+-- what requests are decided on at the step's moment
+abbrev pub runs_known : ShardState → ℕ → Runs
+runs_known s at = record { setup = s.setup; moment = at; states = s.runs }
 
 -- what an operation does to a shard of which this is known, at the step's moment
 abbrev pub outcome_in : ShardState → ℕ → Operation → Outcome
-outcome_in s at (served.Start q) = start (runs_known s) q
-outcome_in s at (served.Signal q) = signal (runs_known s) q
-outcome_in s at (served.SignalWithStart q) = signal_with_start (runs_known s) q
-outcome_in s at (served.RequestCancel q) = request_cancel (runs_known s) q
-outcome_in s at (served.Terminate q) = terminate (runs_known s) q
-outcome_in s at (served.StartTask h) = start_task (runs_known s) h
-outcome_in s at (served.CompleteWorkflowTask q) = complete_workflow_task (runs_known s) q
-outcome_in s at (served.FailWorkflowTask q) = fail_workflow_task (runs_known s) q
-outcome_in s at (served.CompleteActivity q) = complete_activity (runs_known s) q
-outcome_in s at (served.FailActivity q) = fail_activity (runs_known s) at q
-outcome_in s at (served.CancelActivity q) = cancel_activity (runs_known s) q
-outcome_in s at (served.Heartbeat q) = heartbeat (runs_known s) q
-outcome_in s at (served.History q) = history (runs_known s) q
-outcome_in s at (served.Describe q) = describe (runs_known s) q
-outcome_in s at served.TimerTurn = timer_turn (runs_known s) at
+outcome_in s at (served.Start q) = start (runs_known s at) q
+outcome_in s at (served.Signal q) = signal (runs_known s at) q
+outcome_in s at (served.SignalWithStart q) = signal_with_start (runs_known s at) q
+outcome_in s at (served.RequestCancel q) = request_cancel (runs_known s at) q
+outcome_in s at (served.Terminate q) = terminate (runs_known s at) q
+outcome_in s at (served.StartTask h) = start_task (runs_known s at) h
+outcome_in s at (served.CompleteWorkflowTask q) = complete_workflow_task (runs_known s at) q
+outcome_in s at (served.FailWorkflowTask q) = fail_workflow_task (runs_known s at) q
+outcome_in s at (served.CompleteActivity q) = complete_activity (runs_known s at) q
+outcome_in s at (served.FailActivity q) = fail_activity (runs_known s at) q
+outcome_in s at (served.CancelActivity q) = cancel_activity (runs_known s at) q
+outcome_in s at (served.Heartbeat q) = heartbeat (runs_known s at) q
+outcome_in s at (served.History q) = history (runs_known s at) q
+outcome_in s at (served.Describe q) = describe (runs_known s at) q
+outcome_in s at served.TimerTurn = timer_turn (runs_known s at)
 outcome_in s at (served.NextTransfer to) = next_transfer s.setup s.outgoing to
-outcome_in s at (served.Deliver t) = deliver (runs_known s) s.accepted t
+outcome_in s at (served.Deliver t) = deliver (runs_known s at) s.accepted t
 outcome_in s at (served.Acknowledge q) = acknowledge s.setup s.outgoing q
 outcome_in s at served.NextDispatch = next_waiting s.waiting
 outcome_in s at (served.Dispatched number) = count_waiting s.waiting number

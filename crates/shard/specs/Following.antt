@@ -23,6 +23,7 @@ following from c a request = record {
     task_timeout = used_task_timeout (unwrap_or c.task_timeout a.task_timeout);
     continued_from = Some from;
     parent = a.parent;
+    execution_deadline = a.execution_deadline;
   };
   request_id = request;
   facts = first_task (unwrap_or c.task_queue a.task_queue) ∷ [];

@@ -11,7 +11,7 @@ ghost use Rattle.service_model.specs.Tasks.{take_by_kind, pending_row};
 ghost use Rattle.mutable_state.specs.Steps.{has_id};
 ghost use Rattle.shard_steps.specs.Attempts.{task_for};
 ghost use Rattle.shard_store.specs.Fitting.{FitsStep};
-ghost use Rattle.shard_store.specs.View.{ordinal_of, run_in, runs_in, state};
+ghost use Rattle.shard_store.specs.View.{ordinal_of, run_in, runs_at, runs_in, state};
 
 use crate::more::prepare_more;
 use mutable_state_keeper::KeepsRun;
@@ -31,7 +31,7 @@ pub(crate) fn take_activity<T: KeepsRun>(
 ) -> Result<Plan<T>, AllocError>
     ensures same { state store.new ≡ state store.old }
     ensures plan { IfOk result (λ plan. FitsStep store.new plan moment
-        (take_by_kind (runs_in store.old) wanted of_an_activity)) }
+        (take_by_kind (runs_at store.old moment) wanted of_an_activity)) }
 {
     let Some(index) = store.place_of(wanted.run) else {
         return Ok(answered(moment, Answer::Stale));

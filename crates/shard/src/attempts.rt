@@ -8,7 +8,7 @@ ghost use Rattle.service_model.specs.Tasks.{pending_row};
 ghost use Rattle.mutable_state.specs.Activities.{row_said};
 ghost use Rattle.shard.specs.Running.{HasAttempt, row_of};
 ghost use Rattle.shard_store.specs.Fitting.{FitsStep};
-ghost use Rattle.shard_store.specs.View.{run_in, runs_in, state};
+ghost use Rattle.shard_store.specs.View.{run_in, runs_at, runs_in, state};
 ghost use Rattle.shard_steps.specs.Attempts.{ended_activity};
 
 use crate::more::prepare_more;
@@ -39,7 +39,7 @@ pub(crate) fn prepare_complete_activity<T: KeepsRun>(
 ) -> Result<Plan<T>, AllocError>
     ensures same { state store.new ≡ state store.old }
     ensures plan { IfOk result (λ plan.
-        FitsStep store.new plan moment (complete_activity (runs_in store.old) request.now)) }
+        FitsStep store.new plan moment (complete_activity (runs_at store.old moment) request.now)) }
 {
     let Some(attempt) = attempt_running(store, request.task)? else {
         return Ok(refused(moment, Refusal::NotFound));
@@ -62,7 +62,7 @@ pub(crate) fn prepare_cancel_activity<T: KeepsRun>(
 ) -> Result<Plan<T>, AllocError>
     ensures same { state store.new ≡ state store.old }
     ensures plan { IfOk result (λ plan.
-        FitsStep store.new plan moment (cancel_activity (runs_in store.old) request.now)) }
+        FitsStep store.new plan moment (cancel_activity (runs_at store.old moment) request.now)) }
 {
     let Some(attempt) = attempt_running(store, request.task)? else {
         return Ok(refused(moment, Refusal::NotFound));
@@ -93,7 +93,7 @@ pub(crate) fn end_activity<T: KeepsRun>(
     ensures same { state store.new ≡ state store.old }
     ensures plan { IfOk result (λ plan. FitsStep store.new plan moment
         (adds task.run
-        (ends_activity (run_at (runs_in store.old) task.run) (row_of attempt.now) last)
+        (ends_activity (run_at (runs_at store.old moment) task.run) (row_of attempt.now) last)
         answer)) }
 {
     let run = store.run(attempt.index);

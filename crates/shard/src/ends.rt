@@ -3,7 +3,7 @@
 ghost use Rattle.std.specs.Prelude.{◌≡◌, ◌<◌, length, IfOk, Some, true};
 ghost use Rattle.service_model.specs.Cancels.{request_cancel, cancel_open, cancel_again, terminate, terminate_at};
 ghost use Rattle.service_model.specs.RunState.{is_open};
-ghost use Rattle.shard_store.specs.View.{ordinal_of, run_in, runs_in, state};
+ghost use Rattle.shard_store.specs.View.{ordinal_of, run_in, runs_at, state};
 ghost use Rattle.shard_store.specs.Fitting.{FitsStep};
 
 use crate::more::prepare_more;
@@ -24,7 +24,7 @@ pub(crate) fn prepare_request_cancel<T: KeepsRun>(
 ) -> Result<Plan<T>, AllocError>
     ensures same { state store.new ≡ state store.old }
     ensures plan { IfOk result (λ plan. FitsStep store.new plan moment
-        (request_cancel (runs_in store.old) request.now)) }
+        (request_cancel (runs_at store.old moment) request.now)) }
 {
     if !store.is_home_of(&request.workflow_id) {
         return Ok(refused(moment, Refusal::InvalidArgument(Field::WorkflowId)));
@@ -46,7 +46,7 @@ fn prepare_cancel_of<T: KeepsRun>(
     requires open { is_open (run_in store.old index) ≡ true }
     ensures same { state store.new ≡ state store.old }
     ensures plan { IfOk result (λ plan. FitsStep store.new plan moment
-        (cancel_open (runs_in store.old) request.now (ordinal_of index)
+        (cancel_open (runs_at store.old moment) request.now (ordinal_of index)
         (run_in store.old index).cancel_request)) }
 {
     let before = store.run(index).cancel_request()?;
@@ -80,7 +80,7 @@ pub(crate) fn prepare_terminate<T: KeepsRun>(
 ) -> Result<Plan<T>, AllocError>
     ensures same { state store.new ≡ state store.old }
     ensures plan { IfOk result (λ plan. FitsStep store.new plan moment
-        (terminate (runs_in store.old) request.now)) }
+        (terminate (runs_at store.old moment) request.now)) }
 {
     if !store.is_home_of(&request.workflow_id) {
         return Ok(refused(moment, Refusal::InvalidArgument(Field::WorkflowId)));

@@ -6,7 +6,7 @@ ghost use Rattle.service_model.specs.Tasks.{continue_part, continued};
 ghost use Rattle.shard_steps.specs.Kept.{IsNoted};
 ghost use Rattle.shard_store.specs.Fitting.{FitsCreated};
 ghost use Rattle.shard.specs.Following.{continuing, following};
-ghost use Rattle.shard_store.specs.View.{ordinal_of, run_in, runs_in, state};
+ghost use Rattle.shard_store.specs.View.{ordinal_of, run_in, runs_at, state};
 
 use mutable_state_keeper::KeepsRun;
 use service_model_types::limits::used_task_timeout;
@@ -34,7 +34,7 @@ pub(crate) fn prepare_follower<T: KeepsRun>(
     ensures runs { store.new.runs ≡ store.old.runs }
     ensures noted { OnOk result (IsNoted store.new.changed) }
     ensures made { IfOk result (λ created. FitsCreated store.new moment created
-        (continued (runs_in store.old) (ordinal_of index) (continuing fault commands.now)
+        (continued (runs_at store.old moment) (ordinal_of index) (continuing fault commands.now)
         (run_in store.old index).beginning)) }
 {
     let Some(command) = continuing(fault, commands) else {
@@ -56,7 +56,7 @@ fn prepare_following<T: KeepsRun>(
     ensures runs { store.new.runs ≡ store.old.runs }
     ensures noted { OnOk result (IsNoted store.new.changed) }
     ensures made { IfOk result (λ made. FitsCreated store.new moment (Some made)
-        (continued (runs_in store.old) (ordinal_of index) (Some command.now)
+        (continued (runs_at store.old moment) (ordinal_of index) (Some command.now)
         (run_in store.old index).beginning)) }
 {
     let from = store.run_id(index);
@@ -97,6 +97,7 @@ fn following(
             task_timeout: used_task_timeout(task_timeout),
             continued_from: Some(from),
             parent: started.parent,
+            execution_deadline: started.execution_deadline,
         },
         request_id: owned(request_id)?,
         facts: Items::from_vec(facts),

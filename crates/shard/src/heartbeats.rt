@@ -7,7 +7,7 @@ ghost use Rattle.service_model.specs.RunState.{ActivityRow};
 ghost use Rattle.shard_store.specs.Fitting.{FitsStep};
 ghost use Rattle.mutable_state.specs.Steps.{MayEnd};
 ghost use Rattle.shard.specs.Running.{HasAttempt};
-ghost use Rattle.shard_store.specs.View.{run_in, state, runs_in};
+ghost use Rattle.shard_store.specs.View.{run_in, runs_at, state};
 
 use crate::attempts::attempt_running;
 use crate::more::prepare_more;
@@ -30,7 +30,7 @@ pub(crate) fn prepare_heartbeat<T: KeepsRun>(
 ) -> Result<Plan<T>, AllocError>
     ensures same { state store.new ≡ state store.old }
     ensures plan { IfOk result (λ plan.
-        FitsStep store.new plan moment (heartbeat (runs_in store.old) request.now)) }
+        FitsStep store.new plan moment (heartbeat (runs_at store.old moment) request.now)) }
 {
     let Some(attempt) = attempt_running(store, request.task)? else {
         return Ok(refused(moment, Refusal::NotFound));

@@ -5,7 +5,7 @@ ghost use Rattle.service_model.specs.Outcome.{latest_run, open_run};
 ghost use Rattle.service_model.specs.RunState.{is_open};
 ghost use Rattle.service_model.specs.Signals.{signal_with_start, signal_or_start};
 ghost use Rattle.service_model.specs.Starts.{starts_new};
-ghost use Rattle.shard_store.specs.View.{ordinal_of, run_in, runs_in, state, states};
+ghost use Rattle.shard_store.specs.View.{ordinal_of, run_in, runs_at, state, states};
 ghost use Rattle.shard_store.specs.Fitting.{FitsStep, IsFree};
 ghost use Rattle.shard.specs.Deciding.{signaled_by, signaled_facts};
 
@@ -28,7 +28,7 @@ pub(crate) fn prepare_signal_with_start<T: KeepsRun>(
 ) -> Result<Plan<T>, AllocError>
     ensures same { state store.new ≡ state store.old }
     ensures plan { IfOk result (λ plan. FitsStep store.new plan moment
-        (signal_with_start (runs_in store.old) request.now)) }
+        (signal_with_start (runs_at store.old moment) request.now)) }
 {
     if !store.is_home_of(&request.workflow_id) {
         return Ok(refused(moment, Refusal::InvalidArgument(Field::WorkflowId)));
@@ -47,8 +47,8 @@ fn prepare_signal_or_start<T: KeepsRun>(
 ) -> Result<Plan<T>, AllocError>
     ensures same { state store.new ≡ state store.old }
     ensures plan { IfOk result (λ plan. FitsStep store.new plan moment
-        (signal_or_start (runs_in store.old) request.now
-        (open_run (runs_in store.old) request.now.workflow_id None))) }
+        (signal_or_start (runs_at store.old moment) request.now
+        (open_run (runs_at store.old moment) request.now.workflow_id None))) }
 {
     match store.named_open(&request.workflow_id, None) {
         Some(index) => prepare_signal_open(store, moment, index, request),
@@ -67,7 +67,7 @@ fn prepare_signal_open<T: KeepsRun>(
     requires open { is_open (run_in store.old index) ≡ true }
     ensures same { state store.new ≡ state store.old }
     ensures plan { IfOk result (λ plan. FitsStep store.new plan moment
-        (signal_or_start (runs_in store.old) request.now (Some (ordinal_of index)))) }
+        (signal_or_start (runs_at store.old moment) request.now (Some (ordinal_of index)))) }
 {
     let run = store.run_id(index);
     let answers = SignalAnswers {
@@ -93,7 +93,7 @@ fn prepare_signal_start<T: KeepsRun>(
 ) -> Result<Plan<T>, AllocError>
     ensures same { state store.new ≡ state store.old }
     ensures plan { IfOk result (λ plan. FitsStep store.new plan moment
-        (signaled_by (runs_in store.old) request.now
+        (signaled_by (runs_at store.old moment) request.now
         (latest_run (states store.old.runs) request.now.workflow_id))) }
 {
     match store.latest(&request.workflow_id) {
@@ -114,7 +114,7 @@ fn prepare_signal_behind<T: KeepsRun>(
         ≡ Some (ordinal_of index) }
     ensures same { state store.new ≡ state store.old }
     ensures plan { IfOk result (λ plan. FitsStep store.new plan moment
-        (signaled_by (runs_in store.old) request.now (Some (ordinal_of index)))) }
+        (signaled_by (runs_at store.old moment) request.now (Some (ordinal_of index)))) }
 {
     let run = store.run_id(index);
     let given = &request.request_id;
@@ -135,8 +135,8 @@ fn prepare_signaled<T: KeepsRun>(
     requires { IsFree (states store.old.runs) request.now.workflow_id }
     ensures same { state store.new ≡ state store.old }
     ensures plan { IfOk result (λ plan. FitsStep store.new plan moment
-        (starts_new (runs_in store.old) None (signaled_facts request.now))) }
+        (starts_new (runs_at store.old moment) None (signaled_facts moment request.now))) }
 {
-    let beginning = signaled_beginning(store.alloc(), request)?;
+    let beginning = signaled_beginning(store.alloc(), moment, request)?;
     prepare_new_run(store, moment, beginning)
 }

@@ -3,7 +3,7 @@
 ghost use Rattle.std.specs.Prelude.{◌≡◌, ◌<◌, length, IfOk, None, Some, true};
 ghost use Rattle.service_model.specs.RunState.{is_open};
 ghost use Rattle.service_model.specs.Signals.{signal, signal_at, signal_fact, signals};
-ghost use Rattle.shard_store.specs.View.{ordinal_of, run_in, runs_in, state};
+ghost use Rattle.shard_store.specs.View.{ordinal_of, run_in, runs_at, state};
 ghost use Rattle.shard_store.specs.Fitting.{FitsStep};
 
 use crate::more::prepare_more;
@@ -30,7 +30,7 @@ pub(crate) fn prepare_signal<T: KeepsRun>(
 ) -> Result<Plan<T>, AllocError>
     ensures same { state store.new ≡ state store.old }
     ensures plan { IfOk result (λ plan. FitsStep store.new plan moment
-        (signal (runs_in store.old) request.now)) }
+        (signal (runs_at store.old moment) request.now)) }
 {
     if !store.is_home_of(&request.workflow_id) {
         return Ok(refused(moment, Refusal::InvalidArgument(Field::WorkflowId)));
@@ -51,7 +51,7 @@ fn prepare_signal_here<T: KeepsRun>(
     requires open { is_open (run_in store.old index) ≡ true }
     ensures same { state store.new ≡ state store.old }
     ensures plan { IfOk result (λ plan. FitsStep store.new plan moment
-        (signal_at (runs_in store.old) request.now (Some (ordinal_of index)))) }
+        (signal_at (runs_at store.old moment) request.now (Some (ordinal_of index)))) }
 {
     let answers = SignalAnswers {
         first: Answer::Signaled,
@@ -83,7 +83,7 @@ pub(crate) fn prepare_signal_of<T: KeepsRun>(
     requires open { is_open (run_in store.old index) ≡ true }
     ensures same { state store.new ≡ state store.old }
     ensures plan { IfOk result (λ plan. FitsStep store.new plan moment
-        (signals (runs_in store.old) (ordinal_of index) request_id.now
+        (signals (runs_at store.old moment) (ordinal_of index) request_id.now
         (signal_fact request_id.now name.now input.now) answers.first answers.again)) }
 {
     let SignalAnswers { first, again } = answers;

@@ -6,7 +6,7 @@ ghost use Rattle.service_model.specs.IdPolicy.{TerminateThenNew, decide, is_same
 ghost use Rattle.service_model.specs.Outcome.{latest_run};
 ghost use Rattle.service_model.specs.RunState.{id_of, is_open};
 ghost use Rattle.service_model.specs.Starts.{by_decision, start, start_request, starts_new, started_fact, first_task};
-ghost use Rattle.shard_store.specs.View.{ordinal_of, run_in, runs_in, state, states};
+ghost use Rattle.shard_store.specs.View.{ordinal_of, run_in, runs_at, state, states};
 ghost use Rattle.shard_steps.specs.Starts.{first_facts, MayBegin};
 ghost use Rattle.shard_store.specs.Fitting.{FitsStep, IsFree};
 ghost use Rattle.shard.specs.Deciding.{decided, decided_by};
@@ -28,7 +28,7 @@ pub(crate) fn prepare_start<T: KeepsRun>(
 ) -> Result<Plan<T>, AllocError>
     ensures same { state store.new ≡ state store.old }
     ensures plan { IfOk result (λ plan. FitsStep store.new plan moment
-        (start (runs_in store.old) request.now)) }
+        (start (runs_at store.old moment) request.now)) }
 {
     if !store.is_home_of(&request.workflow_id) {
         return Ok(refused(moment, Refusal::InvalidArgument(Field::WorkflowId)));
@@ -47,7 +47,7 @@ fn prepare_decided<T: KeepsRun>(
 ) -> Result<Plan<T>, AllocError>
     ensures same { state store.new ≡ state store.old }
     ensures plan { IfOk result (λ plan. FitsStep store.new plan moment
-        (decided (runs_in store.old) request.now)) }
+        (decided (runs_at store.old moment) request.now)) }
 {
     match store.latest(&request.workflow_id) {
         Some(index) => prepare_decided_by(store, moment, index, request),
@@ -67,7 +67,7 @@ fn prepare_decided_by<T: KeepsRun>(
         ≡ Some (ordinal_of index) }
     ensures same { state store.new ≡ state store.old }
     ensures plan { IfOk result (λ plan. FitsStep store.new plan moment
-        (decided_by (runs_in store.old) request.now (Some (ordinal_of index)))) }
+        (decided_by (runs_at store.old moment) request.now (Some (ordinal_of index)))) }
 {
     let run = store.run_id(index);
     let given = &request.request_id;
@@ -110,10 +110,10 @@ fn prepare_started<T: KeepsRun>(
     requires { IsFree (states store.old.runs) request.now.workflow_id }
     ensures same { state store.new ≡ state store.old }
     ensures plan { IfOk result (λ plan. FitsStep store.new plan moment
-        (starts_new (runs_in store.old) None
-        (started_fact request.now ∷ first_task request.now.task_queue ∷ []))) }
+        (starts_new (runs_at store.old moment) None
+        (started_fact moment request.now ∷ first_task request.now.task_queue ∷ []))) }
 {
-    let beginning = beginning_of(store.alloc(), request)?;
+    let beginning = beginning_of(store.alloc(), moment, request)?;
     prepare_new_run(store, moment, beginning)
 }
 
@@ -127,7 +127,7 @@ pub(crate) fn prepare_new_run<T: KeepsRun>(
     requires free { IsFree (states store.old.runs) beginning.started.workflow_id }
     ensures same { state store.new ≡ state store.old }
     ensures plan { IfOk result (λ plan. FitsStep store.new plan moment
-        (starts_new (runs_in store.old) None (first_facts beginning))) }
+        (starts_new (runs_at store.old moment) None (first_facts beginning))) }
 {
     let made = store.prepare_made(moment, beginning)?;
     Ok(Plan {
@@ -155,13 +155,13 @@ fn prepare_replaced<T: KeepsRun>(
     requires open { is_open (run_in store.old index) ≡ true }
     ensures same { state store.new ≡ state store.old }
     ensures plan { IfOk result (λ plan. FitsStep store.new plan moment
-        (by_decision (runs_in store.old) (ordinal_of index)
-        (started_fact request.now ∷ first_task request.now.task_queue ∷ [])
+        (by_decision (runs_at store.old moment) (ordinal_of index)
+        (started_fact moment request.now ∷ first_task request.now.task_queue ∷ [])
         TerminateThenNew)) }
 {
     let facts = terminated_facts(store.alloc(), replaced_reason(store.alloc())?)?;
     let more = store.prepare_in(index, moment, facts)?;
-    let beginning = beginning_of(store.alloc(), request)?;
+    let beginning = beginning_of(store.alloc(), moment, request)?;
     let made = store.prepare_made(moment, beginning)?;
     Ok(Plan {
         moment,

@@ -8,7 +8,7 @@ ghost use Rattle.service_model.specs.Journal.{plain};
 ghost use Rattle.service_model.specs.Outcome.{adds, next_ordinal, run_at, run_id};
 ghost use Rattle.service_model.specs.RunState.{is_open};
 ghost use Rattle.service_model.specs.Tasks.{start_task, take_workflow, waits_workflow, runs_workflow, complete_workflow_task, complete_judged, fail_workflow_task};
-ghost use Rattle.shard_store.specs.View.{ordinal_of, run_in, runs_in, state};
+ghost use Rattle.shard_store.specs.View.{ordinal_of, run_in, runs_at, runs_in, state};
 ghost use Rattle.shard_store.specs.Fitting.{FitsStep};
 
 use crate::activities::take_activity;
@@ -34,7 +34,7 @@ pub(crate) fn prepare_start_task<T: KeepsRun>(
 ) -> Result<Plan<T>, AllocError>
     ensures same { state store.new ≡ state store.old }
     ensures plan { IfOk result (λ plan. FitsStep store.new plan moment
-        (start_task (runs_in store.old) wanted)) }
+        (start_task (runs_at store.old moment) wanted)) }
 {
     match wanted.kind {
         TaskKind::Workflow => prepare_take(store, moment, wanted),
@@ -49,7 +49,7 @@ fn prepare_take<T: KeepsRun>(
 ) -> Result<Plan<T>, AllocError>
     ensures same { state store.new ≡ state store.old }
     ensures plan { IfOk result (λ plan. FitsStep store.new plan moment
-        (take_workflow (runs_in store.old) wanted)) }
+        (take_workflow (runs_at store.old moment) wanted)) }
 {
     match waiting(store, wanted)? {
         Some(index) => prepare_taken(store, moment, index, wanted),
@@ -70,7 +70,7 @@ fn prepare_taken<T: KeepsRun>(
     requires open { is_open (run_in store.old index) ≡ true }
     ensures same { state store.new ≡ state store.old }
     ensures plan { IfOk result (λ plan. FitsStep store.new plan moment
-        (take_workflow (runs_in store.old) wanted)) }
+        (take_workflow (runs_at store.old moment) wanted)) }
 {
     let shown = store.run(index).shown(store.alloc())?;
     let task = WorkflowTask {
@@ -134,7 +134,7 @@ pub(crate) fn prepare_completion<T: KeepsRun>(
 ) -> Result<Plan<T>, AllocError>
     ensures same { state store.new ≡ state store.old }
     ensures plan { IfOk result (λ plan. FitsStep store.new plan moment
-        (complete_workflow_task (runs_in store.old) request.now)) }
+        (complete_workflow_task (runs_at store.old moment) request.now)) }
 {
     match running(store, request.task)? {
         Some(index) => prepare_completed(store, moment, index, request),
@@ -155,9 +155,9 @@ fn prepare_completed<T: KeepsRun>(
     requires runs { runs_workflow (runs_in store.old) request.now.task ≡ true }
     ensures same { state store.new ≡ state store.old }
     ensures plan { IfOk result (λ plan. FitsStep store.new plan moment
-        (complete_judged (runs_in store.old) request.now
-        (judge_all store.old.setup (run_id store.old.setup (next_ordinal (runs_in store.old)))
-        (run_at (runs_in store.old) request.now.task.run) [] request.now.commands))) }
+        (complete_judged (runs_at store.old moment) request.now
+        (judge_all store.old.setup (run_id store.old.setup (next_ordinal (runs_at store.old moment)))
+        (run_at (runs_at store.old moment) request.now.task.run) [] request.now.commands))) }
 {
     let commands = request.commands.as_slice();
     let Completion { plan, fault } = store.complete_in(index, commands, moment)?;
@@ -183,7 +183,7 @@ pub(crate) fn prepare_failure<T: KeepsRun>(
 ) -> Result<Plan<T>, AllocError>
     ensures same { state store.new ≡ state store.old }
     ensures plan { IfOk result (λ plan. FitsStep store.new plan moment
-        (fail_workflow_task (runs_in store.old) request.now)) }
+        (fail_workflow_task (runs_at store.old moment) request.now)) }
 {
     match running(store, request.task)? {
         Some(index) => prepare_failed(store, moment, index, request),
@@ -204,7 +204,7 @@ fn prepare_failed<T: KeepsRun>(
     ensures same { state store.new ≡ state store.old }
     ensures plan { IfOk result (λ plan. FitsStep store.new plan moment
         (adds request.now.task.run
-        (map plain (failed_task (run_at (runs_in store.old) request.now.task.run)
+        (map plain (failed_task (run_at (runs_at store.old moment) request.now.task.run)
         WorkflowWorkerUnhandledFailure request.now.message)) Failed)) }
 {
     let message = request.message.clone()?;

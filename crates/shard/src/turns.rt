@@ -4,7 +4,7 @@ ghost use Rattle.std.specs.Prelude.{◌≡◌, IfOk, Some};
 ghost use Rattle.service_model.specs.TimerTurns.{fire_due, timer_turn};
 ghost use Rattle.timeouts.specs.Firsts.{IsOfRun};
 ghost use Rattle.timeouts.specs.Slots.{run_due};
-ghost use Rattle.shard_store.specs.View.{state, states, runs_in};
+ghost use Rattle.shard_store.specs.View.{runs_at, state, states};
 ghost use Rattle.shard_store.specs.Fitting.{FitsStep};
 
 use crate::more::prepare_more;
@@ -23,7 +23,7 @@ pub(crate) fn prepare_timer_turn<T: KeepsRun>(
 ) -> Result<Plan<T>, AllocError>
     ensures same { state store.new ≡ state store.old }
     ensures plan { IfOk result (λ plan. FitsStep store.new plan moment
-        (timer_turn (runs_in store.old) moment)) }
+        (timer_turn (runs_at store.old moment))) }
 {
     match store.due_now(moment)? {
         Some(due) => prepare_fired(store, moment, due),
@@ -37,10 +37,10 @@ fn prepare_fired<T: KeepsRun>(
     moment: Moment,
     due: Due,
 ) -> Result<Plan<T>, AllocError>
-    requires { IsOfRun (run_due due) (states store.old.runs) }
+    requires { IsOfRun store.old.setup.retention (run_due due) (states store.old.runs) }
     ensures same { state store.new ≡ state store.old }
     ensures plan { IfOk result (λ plan. FitsStep store.new plan moment
-        (fire_due (runs_in store.old) moment (Some (run_due due)))) }
+        (fire_due (runs_at store.old moment) (Some (run_due due)))) }
 {
     let Some(index) = store.place_of(due.run) else {
         unreachable!()

@@ -5,7 +5,7 @@ ghost use Rattle.service_model.specs.Activities.{by_verdict, fail_activity};
 ghost use Rattle.retry.specs.Verdicts.{says};
 ghost use Rattle.shard_store.specs.Fitting.{FitsStep};
 ghost use Rattle.shard.specs.Running.{HasAttempt, row_of};
-ghost use Rattle.shard_store.specs.View.{state, runs_in};
+ghost use Rattle.shard_store.specs.View.{runs_at, state};
 ghost use Rattle.shard_steps.specs.Attempts.{HasNext};
 
 use crate::attempts::{RunningAttempt, attempt_running, end_activity};
@@ -29,7 +29,7 @@ pub(crate) fn prepare_fail_activity<T: KeepsRun>(
 ) -> Result<Plan<T>, AllocError>
     ensures same { state store.new ≡ state store.old }
     ensures plan { IfOk result (λ plan.
-        FitsStep store.new plan moment (fail_activity (runs_in store.old) moment request.now)) }
+        FitsStep store.new plan moment (fail_activity (runs_at store.old moment) request.now)) }
 {
     let Some(attempt) = attempt_running(store, request.task)? else {
         return Ok(refused(moment, Refusal::NotFound));
@@ -58,7 +58,7 @@ fn prepare_by_verdict<T: KeepsRun>(
     requires next { HasNext request.now.task.attempt (says verdict) }
     ensures same { state store.new ≡ state store.old }
     ensures plan { IfOk result (λ plan. FitsStep store.new plan moment
-        (by_verdict (runs_in store.old) request.now (row_of attempt.now) (says verdict))) }
+        (by_verdict (runs_at store.old moment) request.now (row_of attempt.now) (says verdict))) }
 {
     match verdict {
         Verdict::GiveUp(state) => {

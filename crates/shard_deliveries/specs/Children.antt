@@ -14,7 +14,7 @@ use Rattle.shard_steps.specs.declared.starts.Beginning.{Beginning}
 -- how its run begins
 abbrev pub child_beginning : StartChildTransfer → Beginning
 child_beginning c = record {
-  started = record { workflow_id = c.workflow_id; workflow_type = c.workflow_type; task_queue = c.task_queue; input = c.input; run_timeout = c.run_timeout; task_timeout = used_task_timeout c.task_timeout; continued_from = None; parent = Some (record { run = c.parent_run; event = c.initiated }) };
+  started = record { workflow_id = c.workflow_id; workflow_type = c.workflow_type; task_queue = c.task_queue; input = c.input; run_timeout = c.run_timeout; task_timeout = used_task_timeout c.task_timeout; continued_from = None; parent = Some (record { run = c.parent_run; event = c.initiated }); execution_deadline = None };
   request_id = None;
   facts = first_task c.task_queue ∷ [];
 }

@@ -4,7 +4,7 @@ ghost use Rattle.std.specs.Prelude.{◌≡◌, ◌<◌, ◌∷◌, [], IfOk, Non
 ghost use Rattle.service_model.specs.Deliveries.{accepts, accepts_only, adds_outside};
 ghost use Rattle.mutable_state.specs.Steps.{FitStep};
 ghost use Rattle.shard_store.specs.Fitting.{FitsStep};
-ghost use Rattle.shard_store.specs.View.{ordinal_of, run_in, runs_in, state};
+ghost use Rattle.shard_store.specs.View.{ordinal_of, run_in, runs_at, state};
 ghost use Rattle.shard_deliveries.specs.Accepting.{IsFromOutside, MayAccept};
 
 use crate::events::event_facts;
@@ -97,7 +97,7 @@ pub(crate) fn accept_event<T: KeepsRun>(
     ensures same { state store.new ≡ state store.old }
     ensures plan { IfOk result (λ plan. FitsStep store.new plan moment
         (accepts transfer.now
-        (adds_outside (runs_in store.old) (ordinal_of index) (event ∷ [])) None
+        (adds_outside (runs_at store.old moment) (ordinal_of index) (event ∷ [])) None
         (option_to_list answer))) }
 {
     let facts = event_facts(store.alloc(), store.run(index), event)?;

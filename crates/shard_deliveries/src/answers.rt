@@ -5,7 +5,7 @@ ghost use Rattle.std.specs.Prelude.{◌≡◌, IfOk, None};
 ghost use Rattle.service_model.specs.Deliveries.{effect, external_class};
 ghost use Rattle.service_model_types.specs.declared.transfer.TransferContent.TheVariants as content;
 ghost use Rattle.shard_store.specs.Fitting.{FitsStep};
-ghost use Rattle.shard_store.specs.View.{state, runs_in};
+ghost use Rattle.shard_store.specs.View.{runs_at, state};
 ghost use Rattle.shard_deliveries.specs.Accepting.{MayAccept};
 
 use crate::accepts::{accept_event, accept_only};
@@ -32,7 +32,7 @@ pub(crate) fn prepare_child_started<T: KeepsRun>(
     requires { MayAccept store.old transfer.now }
     ensures same { state store.new ≡ state store.old }
     ensures plan { IfOk result (λ plan. FitsStep store.new plan moment
-        (effect (runs_in store.old) transfer.now (content.ChildStarted child.now))) }
+        (effect (runs_at store.old moment) transfer.now (content.ChildStarted child.now))) }
 {
     let run = child.parent_run;
     let Some(asked) = pending_request(store, run, Class::Child, child.initiated)? else {
@@ -58,7 +58,7 @@ pub(crate) fn prepare_child_start_failed<T: KeepsRun>(
     requires { MayAccept store.old transfer.now }
     ensures same { state store.new ≡ state store.old }
     ensures plan { IfOk result (λ plan. FitsStep store.new plan moment
-        (effect (runs_in store.old) transfer.now (content.ChildStartFailed child.now))) }
+        (effect (runs_at store.old moment) transfer.now (content.ChildStartFailed child.now))) }
 {
     let run = child.parent_run;
     let Some(asked) = pending_request(store, run, Class::Child, child.initiated)? else {
@@ -84,7 +84,7 @@ pub(crate) fn prepare_child_closed<T: KeepsRun>(
     requires { MayAccept store.old transfer.now }
     ensures same { state store.new ≡ state store.old }
     ensures plan { IfOk result (λ plan. FitsStep store.new plan moment
-        (effect (runs_in store.old) transfer.now (content.ChildClosed child.now))) }
+        (effect (runs_at store.old moment) transfer.now (content.ChildClosed child.now))) }
 {
     let run = child.parent_run;
     let Some(asked) = pending_request(store, run, Class::Child, child.initiated)? else {
@@ -105,7 +105,7 @@ pub(crate) fn prepare_external_done<T: KeepsRun>(
     requires { MayAccept store.old transfer.now }
     ensures same { state store.new ≡ state store.old }
     ensures plan { IfOk result (λ plan. FitsStep store.new plan moment
-        (effect (runs_in store.old) transfer.now (content.ExternalDone done.now))) }
+        (effect (runs_at store.old moment) transfer.now (content.ExternalDone done.now))) }
 {
     let class = external_class(done.kind);
     let Some(asked) = pending_request(store, done.to_run, class, done.initiated)? else {

@@ -6,7 +6,7 @@ ghost use Rattle.service_model.specs.Deliveries.{asked_before, close_by, effect,
 ghost use Rattle.service_model.specs.RunState.{is_open, parent_of};
 ghost use Rattle.service_model_types.specs.declared.transfer.TransferContent.TheVariants as content;
 ghost use Rattle.shard_store.specs.Fitting.{FitsStep};
-ghost use Rattle.shard_store.specs.View.{ordinal_of, run_in, runs_in, state};
+ghost use Rattle.shard_store.specs.View.{ordinal_of, run_in, runs_at, state};
 ghost use Rattle.shard_deliveries.specs.Accepting.{MayAccept};
 
 use crate::accepts::{accept_event, accept_facts, accept_only};
@@ -30,7 +30,7 @@ pub(crate) fn prepare_close_child<T: KeepsRun>(
     requires { MayAccept store.old transfer.now }
     ensures same { state store.new ≡ state store.old }
     ensures plan { IfOk result (λ plan. FitsStep store.new plan moment
-        (effect (runs_in store.old) transfer.now (content.CloseChild child.now))) }
+        (effect (runs_at store.old moment) transfer.now (content.CloseChild child.now))) }
 {
     let Some(index) = store.named_open(&child.workflow_id, None) else {
         return Ok(accept_only(store, moment, transfer));
@@ -72,7 +72,7 @@ fn prepare_end<T: KeepsRun>(
     requires open { is_open (run_in store.old index) ≡ true }
     ensures same { state store.new ≡ state store.old }
     ensures plan { IfOk result (λ plan. FitsStep store.new plan moment
-        (close_by (runs_in store.old) transfer.now (ordinal_of index)
+        (close_by (runs_at store.old moment) transfer.now (ordinal_of index)
         ParentClosePolicy.Terminate)) }
 {
     let reason = parent_reason(store.alloc())?;
@@ -92,7 +92,7 @@ fn prepare_cancel<T: KeepsRun>(
     requires open { is_open (run_in store.old index) ≡ true }
     ensures same { state store.new ≡ state store.old }
     ensures plan { IfOk result (λ plan. FitsStep store.new plan moment
-        (close_by (runs_in store.old) transfer.now (ordinal_of index)
+        (close_by (runs_at store.old moment) transfer.now (ordinal_of index)
         ParentClosePolicy.RequestCancel)) }
 {
     if is_asked(store.run(index))? {

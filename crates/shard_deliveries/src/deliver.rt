@@ -3,7 +3,7 @@
 ghost use Rattle.std.specs.Prelude.{◌≡◌, ◌<◌, IfOk};
 ghost use Rattle.service_model.specs.Deliveries.{by_delivery, deliver, delivery_of, accepted_from, effect};
 ghost use Rattle.shard_store.specs.Fitting.{FitsStep};
-ghost use Rattle.shard_store.specs.View.{state, runs_in};
+ghost use Rattle.shard_store.specs.View.{runs_at, state};
 ghost use Rattle.shard_deliveries.specs.Accepting.{MayAccept};
 
 use crate::answers::{
@@ -31,7 +31,7 @@ pub fn prepare_delivery<T: KeepsRun>(
 ) -> Result<Plan<T>, AllocError>
     ensures same { state store.new ≡ state store.old }
     ensures plan { IfOk result (λ plan. FitsStep store.new plan moment
-        (deliver (runs_in store.old) store.old.accepted transfer.now)) }
+        (deliver (runs_at store.old moment) store.old.accepted transfer.now)) }
 {
     let setup = store.setup();
     if transfer.from >= setup.shards || !comes_from(setup, transfer) {
@@ -52,7 +52,7 @@ fn prepare_judged<T: KeepsRun>(
     requires { transfer.now.from < store.old.setup.shards }
     ensures same { state store.new ≡ state store.old }
     ensures plan { IfOk result (λ plan. FitsStep store.new plan moment
-        (by_delivery (runs_in store.old) transfer.now
+        (by_delivery (runs_at store.old moment) transfer.now
         (delivery_of (accepted_from store.old.accepted transfer.now.from)
         transfer.now.number))) }
 {
@@ -74,7 +74,7 @@ fn prepare_effect<T: KeepsRun>(
     requires { MayAccept store.old transfer.now }
     ensures same { state store.new ≡ state store.old }
     ensures plan { IfOk result (λ plan. FitsStep store.new plan moment
-        (effect (runs_in store.old) transfer.now transfer.now.content)) }
+        (effect (runs_at store.old moment) transfer.now transfer.now.content)) }
 {
     match &transfer.content {
         TransferContent::StartChild(child) => prepare_start_child(store, moment, transfer, child),

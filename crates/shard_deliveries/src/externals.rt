@@ -5,7 +5,7 @@ ghost use Rattle.service_model.specs.Deliveries.{cancel_external, effect, extern
 ghost use Rattle.service_model.specs.RunState.{is_open};
 ghost use Rattle.service_model_types.specs.declared.transfer.TransferContent.TheVariants as content;
 ghost use Rattle.shard_store.specs.Fitting.{FitsStep};
-ghost use Rattle.shard_store.specs.View.{ordinal_of, run_in, runs_in, state};
+ghost use Rattle.shard_store.specs.View.{ordinal_of, run_in, runs_at, state};
 ghost use Rattle.shard_deliveries.specs.Accepting.{MayAccept};
 
 use crate::accepts::{accept_event, accept_with};
@@ -32,7 +32,7 @@ pub(crate) fn prepare_signal_external<T: KeepsRun>(
     requires { MayAccept store.old transfer.now }
     ensures same { state store.new ≡ state store.old }
     ensures plan { IfOk result (λ plan. FitsStep store.new plan moment
-        (effect (runs_in store.old) transfer.now (content.SignalExternal ask.now))) }
+        (effect (runs_at store.old moment) transfer.now (content.SignalExternal ask.now))) }
 {
     match store.named_open(&ask.workflow_id, ask.run) {
         Some(index) => prepare_signal_of(store, moment, transfer, index, ask),
@@ -56,7 +56,7 @@ fn prepare_signal_of<T: KeepsRun>(
     requires open { is_open (run_in store.old index) ≡ true }
     ensures same { state store.new ≡ state store.old }
     ensures plan { IfOk result (λ plan. FitsStep store.new plan moment
-        (signal_external (runs_in store.old) transfer.now ask.now
+        (signal_external (runs_at store.old moment) transfer.now ask.now
         (Some (ordinal_of index)))) }
 {
     let answer = external_done(ask.from_run, ask.initiated, ExternalKind::Signal, true);
@@ -78,7 +78,7 @@ pub(crate) fn prepare_cancel_external<T: KeepsRun>(
     requires { MayAccept store.old transfer.now }
     ensures same { state store.new ≡ state store.old }
     ensures plan { IfOk result (λ plan. FitsStep store.new plan moment
-        (effect (runs_in store.old) transfer.now (content.CancelExternal request.now))) }
+        (effect (runs_at store.old moment) transfer.now (content.CancelExternal request.now))) }
 {
     match store.named_open(&request.workflow_id, request.run) {
         Some(index) => prepare_cancel_of(store, moment, transfer, index, request),
@@ -107,7 +107,7 @@ fn prepare_cancel_of<T: KeepsRun>(
     requires open { is_open (run_in store.old index) ≡ true }
     ensures same { state store.new ≡ state store.old }
     ensures plan { IfOk result (λ plan. FitsStep store.new plan moment
-        (cancel_external (runs_in store.old) transfer.now request.now
+        (cancel_external (runs_at store.old moment) transfer.now request.now
         (Some (ordinal_of index)))) }
 {
     let answer = external_done(

@@ -4,7 +4,7 @@ ghost use Rattle.std.specs.Prelude.{◌≡◌, IfOk, true};
 ghost use Rattle.service_model.specs.Deliveries.{effect};
 ghost use Rattle.service_model_types.specs.declared.transfer.TransferContent.TheVariants as content;
 ghost use Rattle.shard_store.specs.Fitting.{FitsStep};
-ghost use Rattle.shard_store.specs.View.{runs_in, state};
+ghost use Rattle.shard_store.specs.View.{runs_at, runs_in, state};
 ghost use Rattle.shard_deliveries.specs.Accepting.{MayAccept};
 ghost use Rattle.shard_deliveries.specs.Children.{child_beginning, is_free_for, starts_child};
 
@@ -33,7 +33,7 @@ pub(crate) fn prepare_start_child<T: KeepsRun>(
     requires { MayAccept store.old transfer.now }
     ensures same { state store.new ≡ state store.old }
     ensures plan { IfOk result (λ plan. FitsStep store.new plan moment
-        (effect (runs_in store.old) transfer.now (content.StartChild child.now))) }
+        (effect (runs_at store.old moment) transfer.now (content.StartChild child.now))) }
 {
     if store.setup().knows_queue(&child.task_queue) && is_free_for(store, child) {
         return prepare_child(store, moment, transfer, child);
@@ -76,7 +76,7 @@ fn prepare_child<T: KeepsRun>(
     requires free { is_free_for (runs_in store.old) child.now ≡ true }
     ensures same { state store.new ≡ state store.old }
     ensures plan { IfOk result (λ plan. FitsStep store.new plan moment
-        (starts_child (runs_in store.old) transfer.now child.now)) }
+        (starts_child (runs_at store.old moment) transfer.now child.now)) }
 {
     let beginning = child_beginning(store.alloc(), child)?;
     let made = store.prepare_made(moment, beginning)?;
@@ -119,6 +119,7 @@ fn child_beginning(alloc: Global, child: &StartChildTransfer) -> Result<Beginnin
                 run: child.parent_run,
                 event: child.initiated,
             }),
+            execution_deadline: None,
         },
         request_id: None,
         facts: Items::from_vec(facts),

@@ -41,10 +41,10 @@ no-place : (o : Option ℕ) (k : ℕ) → o ≡ None → o ≢ Some k
 no-place o k none e = let clash = sym none ∙ e in cc
 
 -- all first deadlines are kept, where no run changed
-pub firsts-kept : (slots : List (Option Due)) (changed : Changed) (runs : List RunState) → AreNoted changed → HasFirsts slots changed runs → KeepsFirsts 1 slots runs
-firsts-kept slots changed runs noted h = record {
+pub firsts-kept : (retention : ℕ) (slots : List (Option Due)) (changed : Changed) (runs : List RunState) → AreNoted changed → HasFirsts retention slots changed runs → KeepsFirsts retention 1 slots runs
+firsts-kept retention slots changed runs noted h = record {
   count = h.count;
-  first = λ k s there. let next : k + 1 ≡ 1 + k = omega arith in h.each k s there (no-place changed.grown k noted.grown) (no-place changed.made k noted.made) ∙ ap (λ n. first_due n s) next;
+  first = λ k s there. let next : k + 1 ≡ 1 + k = omega arith in h.each k s there (no-place changed.grown k noted.grown) (no-place changed.made k noted.made) ∙ ap (λ n. first_due retention n s) next;
 }
 
 -- what stands at a place where this was put, and elsewhere

@@ -234,10 +234,10 @@ has-next p ending cancel k moment deadline few = by_verdict_of (verdict p ending
     by_verdict_of (RetriesAt ready) h = below k few h
 
 -- a failure goes on as its verdict says
-pub failed-by : (R : Runs) (moment : ℕ) (q : FailActivity) (r : ActivityRow) (v : Verdict) → running_attempt R q.task ≡ Some r → Some v ≡ option_map (λ (a : ScheduledAttributes). verdict_at r a (FailedAttempt q.error_type q.non_retryable) moment) (scheduled_fields r.opened.attributes) → fail_activity R moment q ≡ by_verdict R q r v
+pub failed-by : (R : Runs) (q : FailActivity) (r : ActivityRow) (v : Verdict) → running_attempt R q.task ≡ Some r → Some v ≡ option_map (λ (a : ScheduledAttributes). verdict_at r a (FailedAttempt q.error_type q.non_retryable) R.moment) (scheduled_fields r.opened.attributes) → fail_activity R q ≡ by_verdict R q r v
 unfolding fail_activity
-failed-by R moment q r v found judged = ap (λ o. fail_at R moment q o) found ∙ by_fields (scheduled_fields r.opened.attributes) judged
+failed-by R q r v found judged = ap (λ o. fail_at R q o) found ∙ by_fields (scheduled_fields r.opened.attributes) judged
   where
-    by_fields : (o : Option ScheduledAttributes) → Some v ≡ option_map (λ (a : ScheduledAttributes). verdict_at r a (FailedAttempt q.error_type q.non_retryable) moment) o → fail_fields R moment q r o ≡ by_verdict R q r v
+    by_fields : (o : Option ScheduledAttributes) → Some v ≡ option_map (λ (a : ScheduledAttributes). verdict_at r a (FailedAttempt q.error_type q.non_retryable) R.moment) o → fail_fields R q r o ≡ by_verdict R q r v
     by_fields None h = absurd (cc)
     by_fields (Some a) h = ap (λ o. by_verdict R q r (unwrap_or o v)) (sym h)

@@ -97,7 +97,7 @@ no-signal None = refl
 no-signal (Some r) = refl
 
 -- a signal, and then the first workflow task
-pub signaled-fits : (at : ℕ) (q : SignalWithStart) → MayBegin at (signaled_beginning q)
+pub signaled-fits : (at : ℕ) (q : SignalWithStart) → MayBegin at (signaled_beginning at q)
 unfolding role opens settles closing_status
 signaled-fits at q = record {
   fits = λ p. (record { open_run = refl; fits_role = tt; begins_none = refl; may_settle = tt; may_ask = refl; first_signal = no-signal q.request_id }, (record { open_run = refl; fits_role = (refl, refl); begins_none = refl; may_settle = tt; may_ask = refl; first_signal = refl }, tt));

@@ -7,7 +7,7 @@ use Rattle.wf_event.specs.declared.attributes.Attributes.TheVariants.{WorkflowEx
 use Rattle.wf_event.specs.declared.role.Class.TheVariants.{Timer}
 use Rattle.wf_event.specs.Role.{role, opens, settles, closing_status}
 use Rattle.wf_event_values.specs.declared.policies.DeadlineClass.{DeadlineClass}
-use Rattle.wf_event_values.specs.declared.policies.DeadlineClass.TheVariants.{RunTimeout, WorkflowTask, ScheduleToClose, ScheduleToStart, Heartbeat, StartToClose, RetryReady, UserTimer}
+use Rattle.wf_event_values.specs.declared.policies.DeadlineClass.TheVariants.{ExecutionTimeout, RunTimeout, WorkflowTask, ScheduleToClose, ScheduleToStart, Heartbeat, StartToClose, RetryReady, UserTimer, Retention}
 use Rattle.wf_event_values.specs.declared.policies.TimeoutKind.TheVariants.{ScheduleToClose as ToClose, ScheduleToStart as ToStart, Heartbeat as NoHeartbeat, StartToClose as ToEnd}
 use Rattle.service_model_types.specs.declared.journal.Fact.{Fact}
 use Rattle.service_model.specs.Deadlines.{dues}
@@ -20,20 +20,20 @@ use Rattle.service_model.specs.TimerTurns.{RunDue, fire, timer_name}
 use Rattle.mutable_state.specs.Steps.{IsFirst, FitsEvent, FitStep, has_id}
 use Rattle.timeouts.specs.Firsts.{of_run, HasTimer}
 use Rattle.timeouts.specs.Slots.{IsOneOf}
-use Rattle.timeouts.proofs.ClassLemmas.{due-open, due-retry, due-task, due-timer}
+use Rattle.timeouts.proofs.ClassLemmas.{due-open, due-retry, due-task, due-timer, is_retention}
 use Rattle.shard_steps.proofs.ActivityTurnLemmas.{attempt-fits, closed-fits, ready-fits}
 
 -- the run's own timeout, also while a workflow task is started
-over-fits : (at : ℕ) (s : RunState) (d : RunDue) → IsOneOf d (of_run d.run (dues s)) → FitStep at s (plain WorkflowExecutionTimedOut ∷ [])
+over-fits : (at retention : ℕ) (s : RunState) (d : RunDue) → is_retention d.at.class ≡ false → IsOneOf d (of_run d.run (dues retention s)) → FitStep at s (plain WorkflowExecutionTimedOut ∷ [])
 unfolding role opens settles
-over-fits at s d is = (record { open_run = due-open s d.run d is; fits_role = (tt, refl); begins_none = refl; may_settle = tt; may_ask = refl; first_signal = refl }, tt)
+over-fits at retention s d class is = (record { open_run = due-open retention s d.run d class is; fits_role = (tt, refl); begins_none = refl; may_settle = tt; may_ask = refl; first_signal = refl }, tt)
 
 -- the timeout of a started workflow task, and its next attempt
-task-fits : (at : ℕ) (s : RunState) (d : RunDue) → d.at.class ≡ WorkflowTask → IsOneOf d (of_run d.run (dues s)) → FitStep at s (fire s at d.at.event WorkflowTask)
+task-fits : (at retention : ℕ) (s : RunState) (d : RunDue) → d.at.class ≡ WorkflowTask → IsOneOf d (of_run d.run (dues retention s)) → FitStep at s (fire s at d.at.event WorkflowTask)
 unfolding role opens settles fire closing_status
-task-fits at s d class is =
-    let opened = due-open s d.run d is in (
-      record { open_run = opened; fits_role = (due-task s d.run d class is, tt); begins_none = refl; may_settle = tt; may_ask = refl; first_signal = refl },
+task-fits at retention s d class is =
+    let opened = due-open retention s d.run d (ap is_retention class) is in (
+      record { open_run = opened; fits_role = (due-task retention s d.run d class is, tt); begins_none = refl; may_settle = tt; may_ask = refl; first_signal = refl },
       (record { open_run = opened; fits_role = (refl, refl); begins_none = refl; may_settle = tt; may_ask = refl; first_signal = refl }, tt),
     )
 
@@ -50,15 +50,15 @@ has-at (x ∷ es) (suc k) e there = by_test (x.id == e.id) (has-at es k e there)
     by_test false rest = rest
 
 -- the firing of a pending timer, and a workflow task where there is none
-timer-fits : (at : ℕ) (s : RunState) (d : RunDue) → d.at.class ≡ UserTimer → IsOneOf d (of_run d.run (dues s)) → FitStep at s (fire s at d.at.event UserTimer)
+timer-fits : (at retention : ℕ) (s : RunState) (d : RunDue) → d.at.class ≡ UserTimer → IsOneOf d (of_run d.run (dues retention s)) → FitStep at s (fire s at d.at.event UserTimer)
 unfolding role opens settles fire closing_status
-timer-fits at s d class is = by_task s.task refl
+timer-fits at retention s d class is = by_task s.task refl
   where
     opened : is_open s ≡ true
-    opened = due-open s d.run d is
+    opened = due-open retention s d.run d (ap is_retention class) is
 
     has : HasTimer s d.at.event
-    has = due-timer s d.run d class is
+    has = due-timer retention s d.run d class is
 
     pending_one : has_id d.at.event (pending Timer s) ≡ true
     pending_one = ap (λ n. has_id n (pending Timer s)) (sym has.named) ∙ has-at (pending Timer s) has.place has.event has.there
@@ -72,19 +72,21 @@ timer-fits at s d class is = by_task s.task refl
     by_task IsStarted same = (now [], tt)
 
 -- whatever the deadline, where it is one of the run's
-pub fire-fits : (at : ℕ) (s : RunState) (d : RunDue) → IsOneOf d (of_run d.run (dues s)) → FitStep at s (fire s at d.at.event d.at.class)
+pub fire-fits : (at retention : ℕ) (s : RunState) (d : RunDue) → IsOneOf d (of_run d.run (dues retention s)) → FitStep at s (fire s at d.at.event d.at.class)
 unfolding fire
-fire-fits at s d is = by_class d.at.class refl
+fire-fits at retention s d is = by_class d.at.class refl
   where
-    opened : is_open s ≡ true
-    opened = due-open s d.run d is
+    opened : (k : DeadlineClass) → d.at.class ≡ k → is_retention k ≡ false → is_open s ≡ true
+    opened k class other = due-open retention s d.run d (ap is_retention class ∙ other) is
 
     by_class : (k : DeadlineClass) → d.at.class ≡ k → FitStep at s (fire s at d.at.event k)
-    by_class RunTimeout class = over-fits at s d is
-    by_class WorkflowTask class = task-fits at s d class is
-    by_class ScheduleToClose class = closed-fits at s d.at.event ToClose (pending_row s d.at.event) opened refl
-    by_class ScheduleToStart class = closed-fits at s d.at.event ToStart (pending_row s d.at.event) opened refl
-    by_class Heartbeat class = attempt-fits at s d.at.event NoHeartbeat (pending_row s d.at.event) opened refl
-    by_class StartToClose class = attempt-fits at s d.at.event ToEnd (pending_row s d.at.event) opened refl
-    by_class RetryReady class = ready-fits at d.at.event s opened (due-retry s d.run d class is)
-    by_class UserTimer class = timer-fits at s d class is
+    by_class ExecutionTimeout class = over-fits at retention s d (ap is_retention class) is
+    by_class RunTimeout class = over-fits at retention s d (ap is_retention class) is
+    by_class WorkflowTask class = task-fits at retention s d class is
+    by_class ScheduleToClose class = closed-fits at s d.at.event ToClose (pending_row s d.at.event) (opened _ class refl) refl
+    by_class ScheduleToStart class = closed-fits at s d.at.event ToStart (pending_row s d.at.event) (opened _ class refl) refl
+    by_class Heartbeat class = attempt-fits at s d.at.event NoHeartbeat (pending_row s d.at.event) (opened _ class refl) refl
+    by_class StartToClose class = attempt-fits at s d.at.event ToEnd (pending_row s d.at.event) (opened _ class refl) refl
+    by_class RetryReady class = ready-fits at d.at.event s (opened _ class refl) (due-retry retention s d.run d class is)
+    by_class UserTimer class = timer-fits at retention s d class is
+    by_class Retention class = tt

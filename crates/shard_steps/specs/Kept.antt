@@ -43,9 +43,9 @@ pub record KeepsEach {A B : Type 0} (says : A → B) (fact : ℕ → RunState �
   pub made : IfSome changed.made (λ n. n < length runs)
   pub each : (n : ℕ) (s : RunState) → slice_get runs n ≡ Some s → changed.grown ≢ Some n → changed.made ≢ Some n → says (slice_index_or slots n none) ≡ fact n s
 
--- the first deadline of each run is
-abbrev pub HasFirsts : List (Option Due) → Changed → List RunState → Type 0
-HasFirsts slots changed runs = KeepsEach (option_map run_due) (λ n s. first_due (n + 1) s) None slots changed runs
+-- the first deadline of each run is, with a retention
+abbrev pub HasFirsts : ℕ → List (Option Due) → Changed → List RunState → Type 0
+HasFirsts retention slots changed runs = KeepsEach (option_map run_due) (λ n s. first_due retention (n + 1) s) None slots changed runs
 
 -- how many events each run shows is
 abbrev pub HasShown : List ℕ → Changed → List RunState → Type 0

@@ -1,6 +1,6 @@
 //! What a deadline that fires writes.
 
-ghost use Rattle.std.specs.Prelude.{◌≡◌, ◌∷◌, [], IfOk};
+ghost use Rattle.std.specs.Prelude.{◌≡◌, ℕ, ◌∷◌, [], IfOk};
 ghost use Rattle.wf_event.specs.declared.attributes.Attributes.TheVariants.{WorkflowExecutionTimedOut};
 ghost use Rattle.service_model.specs.Completion.{next_attempt};
 ghost use Rattle.service_model.specs.Deadlines.{dues};
@@ -29,11 +29,12 @@ pub fn fired_facts<T: KeepsRun>(
     moment: Moment,
     due: Due,
 ) -> Result<Items<Fact>, AllocError>
-    requires { IsOneOf (run_due due) (of_run due.run (dues run.now.state)) }
+    requires { (retention : ℕ) ×
+        IsOneOf (run_due due) (of_run due.run (dues retention run.now.state)) }
     ensures { IfOk result (λ facts. facts ≡ fire run.now.state moment due.event due.class) }
 {
     match due.class {
-        DeadlineClass::RunTimeout => run_timed_out(alloc),
+        DeadlineClass::ExecutionTimeout | DeadlineClass::RunTimeout => run_timed_out(alloc),
         DeadlineClass::WorkflowTask => task_timed_out(alloc, run),
         DeadlineClass::ScheduleToClose => {
             activity_over(alloc, run, due.event, TimeoutKind::ScheduleToClose)
@@ -49,6 +50,7 @@ pub fn fired_facts<T: KeepsRun>(
         }
         DeadlineClass::RetryReady => note_facts(alloc, due.event, Note::Ready),
         DeadlineClass::UserTimer => timer_fired(alloc, run, due.event),
+        DeadlineClass::Retention => Ok(Items::from_vec(Vec::new(alloc))),
     }
 }
 

@@ -39,9 +39,13 @@ state v = record { setup = v.setup; runs = states v.runs; last = v.last; waiting
 abbrev pub ordinal_of : ℕ → ℕ
 ordinal_of index = index + 1
 
--- what requests are decided on
+-- what requests are decided on at a step's moment
+abbrev pub runs_at : ShardView → ℕ → Runs
+runs_at v moment = record { setup = v.setup; moment = moment; states = states v.runs }
+
+-- the same for what reads no moment
 abbrev pub runs_in : ShardView → Runs
-runs_in v = record { setup = v.setup; states = states v.runs }
+runs_in v = runs_at v 0
 
 -- what is known of the run at a place
 abbrev pub run_in : ShardView → ℕ → RunState

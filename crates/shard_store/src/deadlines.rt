@@ -34,7 +34,7 @@ impl<T: KeepsRun> Store<T> {
             return Ok(());
         };
         let run = &self.runs[index];
-        let due = run.first_due(self.alloc, index as u64 + 1)?;
+        let due = run.first_due(self.alloc, self.setup.retention, index as u64 + 1)?;
         let issued = self.dispatches.issued(self.alloc, &self.setup, run, index)?;
         let shown = run.shown(self.alloc)?;
         self.dispatches.issue(index, shown, issued)?;
@@ -55,7 +55,7 @@ impl<T: KeepsRun> Store<T> {
             return Ok(());
         };
         let run = &self.runs[index];
-        let due = run.first_due(self.alloc, index as u64 + 1)?;
+        let due = run.first_due(self.alloc, self.setup.retention, index as u64 + 1)?;
         let issued = run.dispatches(self.alloc, &self.setup, index as u64 + 1, 0)?;
         let shown = run.shown(self.alloc)?;
         self.dispatches.issue(index, shown, issued)?;
@@ -68,7 +68,7 @@ impl<T: KeepsRun> Store<T> {
     pub fn due_now(&mut self, moment: Moment) -> Result<Option<Due>, AllocError>
         ensures same { state self.new ≡ state self.old }
         ensures due { IfOk result (λ due. option_map run_due due
-            ≡ due_now moment (least (all_dues (states self.old.runs)))) }
+            ≡ due_now moment (least (all_dues self.old.setup.retention (states self.old.runs)))) }
     {
         self.note_change()?;
         Ok(self.deadlines.due(moment))

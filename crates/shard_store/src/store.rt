@@ -81,7 +81,7 @@ impl<T: KeepsRun> Model for Store<T> {
     ghost invariant = { λ a. IsSetup a.setup
         × IsIndexed (get_by_text a.index) a.runs.items
         × (length a.runs.items < 2 ^ 60)
-        × HasFirsts a.deadlines.slots a.changed (states a.runs.items)
+        × HasFirsts a.setup.retention a.deadlines.slots a.changed (states a.runs.items)
         × HasShown a.dispatches.shown a.changed (states a.runs.items)
         × KeepsTransfers a.setup.shards (length a.runs.items) a.transfers };
 }

@@ -50,6 +50,7 @@ pub(crate) fn start(alloc: Global, number: u64) -> io::Result<Start> {
         conflict: ConflictPolicy::Fail,
         run_timeout: Span::none(),
         task_timeout: Span::none(),
+        execution_timeout: Span::none(),
     })
 }
 

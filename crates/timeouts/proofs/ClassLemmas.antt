@@ -1,6 +1,6 @@
 -- of which classes a run's deadlines are
 use Rattle.std.proofs.Common.{◌≡◌, ℕ, suc, ◌+◌, inl, inr, Bool, true, false, cond, List, [], ◌∷◌, ◌++◌, refl, sym, ap, ◌∙◌, subst}
-use Rattle.std.specs.Prelude.{Option, Some, None, flat_map, ◌==◌, unwrap_or, slice_get}
+use Rattle.std.specs.Prelude.{Option, Some, None, find, flat_map, ◌==◌, ◌&&◌, unwrap_or, slice_get}
 use Rattle.std.specs.List.{AllByRecursion}
 use Rattle.wf_event.specs.declared.event.Event.{Event}
 use Rattle.wf_event.specs.declared.attributes.Attributes.{Attributes}
@@ -9,10 +9,10 @@ use Rattle.wf_event.specs.declared.payloads.TimerStarted.{TimerStarted as TimerF
 use Rattle.wf_event.specs.declared.payloads.ActivityTaskScheduled.{ActivityTaskScheduled as ScheduledAttributes}
 use Rattle.wf_event.specs.declared.role.Class.TheVariants.{Timer}
 use Rattle.wf_event_values.specs.declared.policies.DeadlineClass.{DeadlineClass}
-use Rattle.wf_event_values.specs.declared.policies.DeadlineClass.TheVariants.{RunTimeout, WorkflowTask, ScheduleToClose, ScheduleToStart, Heartbeat, StartToClose, RetryReady, UserTimer}
-use Rattle.service_model.specs.Deadlines.{Due, dues, due_after, run_timeout_dues, workflow_task_dues, task_timeout, activity_dues, row_dues, by_phase, timer_dues, pending_rows, scheduled_fields}
+use Rattle.wf_event_values.specs.declared.policies.DeadlineClass.TheVariants.{ExecutionTimeout, RunTimeout, WorkflowTask, ScheduleToClose, ScheduleToStart, Heartbeat, StartToClose, RetryReady, UserTimer, Retention}
+use Rattle.service_model.specs.Deadlines.{Due, closed_dues, dues, is_closing_event, retention_dues, due_after, deadline_dues, execution_dues, run_timeout_dues, workflow_task_dues, task_timeout, activity_dues, row_dues, by_phase, timer_dues, pending_rows, scheduled_fields}
 use Rattle.service_model.specs.Pending.{Phase, IsQueued, IsRunning, IsWaiting, Task, NoTask, IsScheduled, IsStarted}
-use Rattle.service_model.specs.RunState.{RunState, ActivityRow, Beginning, is_open, last_task, pending}
+use Rattle.service_model.specs.RunState.{RunState, ActivityRow, Beginning, is_open, is_open_status, is_there, last_task, pending}
 use Rattle.service_model.specs.TimerTurns.{RunDue}
 use Rattle.timeouts.specs.Firsts.{of_run, HasTimer, HasActivity}
 use Rattle.timeouts.specs.Slots.{IsOneOf}
@@ -77,6 +77,15 @@ module _ (P : Due → Type 0) where
       by_kind (TimerStarted a) is = after e.at a.duration UserTimer e.id (user a _ is)
       by_kind _ is = tt
 
+  whole : OfClass ExecutionTimeout → (o : Option Beginning) → Are (execution_dues o)
+  unfolding Are OfClass
+  whole over None = tt
+  whole over (Some b) = by_deadline b.attributes.execution_deadline
+    where
+      by_deadline : (o : Option ℕ) → AllByRecursion P (deadline_dues o)
+      by_deadline None = tt
+      by_deadline (Some due) = (over due 1, tt)
+
   own : OfClass RunTimeout → (o : Option Beginning) → Are (run_timeout_dues o)
   unfolding Are OfClass
   own over None = tt
@@ -88,64 +97,95 @@ module _ (P : Due → Type 0) where
   task s NoTask over = tt
   task s IsScheduled over = tt
 
-  all-dues : (s : RunState) → OfClass RunTimeout → (s.task ≡ IsStarted → OfClass WorkflowTask) → Are (flat_map activity_dues (pending_rows s)) → Are (flat_map timer_dues (pending Timer s)) → Are (dues s)
-  unfolding Are dues
-  all-dues s over task_over rows timer_rows = by_test (is_open s)
+  closed : (retention : ℕ) (s : RunState) → OfClass Retention → Are (closed_dues retention s)
+  unfolding Are OfClass
+  closed retention s kept = by_event (is_there s) (find is_closing_event s.shown)
     where
-      by_test : (b : Bool) → AllByRecursion P (cond b (run_timeout_dues s.beginning ++ workflow_task_dues s s.task ++ flat_map activity_dues (pending_rows s) ++ flat_map timer_dues (pending Timer s)) [])
-      by_test false = tt
+      by_event : (b : Bool) (o : Option Event) → AllByRecursion P (cond b (retention_dues retention o) [])
+      by_event false o = tt
+      by_event true None = tt
+      by_event true (Some e) = after e.at retention Retention e.id (kept _ _)
+
+  all-dues : (retention : ℕ) (s : RunState) → OfClass ExecutionTimeout → OfClass RunTimeout → (s.task ≡ IsStarted → OfClass WorkflowTask) → Are (flat_map activity_dues (pending_rows s)) → Are (flat_map timer_dues (pending Timer s)) → OfClass Retention → Are (dues retention s)
+  unfolding Are dues
+  all-dues retention s whole_over over task_over rows timer_rows kept = by_test (is_open s)
+    where
+      by_test : (b : Bool) → AllByRecursion P (cond b (execution_dues s.beginning ++ run_timeout_dues s.beginning ++ workflow_task_dues s s.task ++ flat_map activity_dues (pending_rows s) ++ flat_map timer_dues (pending Timer s)) (closed_dues retention s))
+      by_test false = closed retention s kept
       by_test true =
-          both (run_timeout_dues s.beginning ++ workflow_task_dues s s.task ++ flat_map activity_dues (pending_rows s)) (flat_map timer_dues (pending Timer s))
-          (both (run_timeout_dues s.beginning ++ workflow_task_dues s s.task) (flat_map activity_dues (pending_rows s)) (both (run_timeout_dues s.beginning) (workflow_task_dues s s.task) (own over s.beginning) (task s s.task task_over)) rows)
+          both (execution_dues s.beginning ++ run_timeout_dues s.beginning ++ workflow_task_dues s s.task ++ flat_map activity_dues (pending_rows s)) (flat_map timer_dues (pending Timer s))
+          (both (execution_dues s.beginning ++ run_timeout_dues s.beginning ++ workflow_task_dues s s.task) (flat_map activity_dues (pending_rows s))
+          (both (execution_dues s.beginning ++ run_timeout_dues s.beginning) (workflow_task_dues s s.task)
+          (both (execution_dues s.beginning) (run_timeout_dues s.beginning) (whole whole_over s.beginning) (own over s.beginning)) (task s s.task task_over)) rows)
           timer_rows
 
--- a run with a deadline is open
-pub due-open : (s : RunState) (n : ℕ) (d : RunDue) → IsOneOf d (of_run n (dues s)) → is_open s ≡ true
-unfolding dues
-due-open s n d is = by_test (is_open s) is
+-- whether it is the class of a run that has closed
+abbrev pub is_retention : DeadlineClass → Bool
+is_retention Retention = true
+is_retention _ = false
+
+-- a run with a deadline of another class is open
+pub due-open : (retention : ℕ) (s : RunState) (n : ℕ) (d : RunDue) → is_retention d.at.class ≡ false → IsOneOf d (of_run n (dues retention s)) → is_open s ≡ true
+unfolding dues Are OfClass
+due-open retention s n d class is = by_test (is_open s) is
   where
-    by_test : (b : Bool) → IsOneOf d (of_run n (cond b (run_timeout_dues s.beginning ++ workflow_task_dues s s.task ++ flat_map activity_dues (pending_rows s) ++ flat_map timer_dues (pending Timer s)) [])) → b ≡ true
+    P : Due → Type 0
+    P x = is_retention x.class ≡ false → ⊥
+
+    by_test : (b : Bool) → IsOneOf d (of_run n (cond b (execution_dues s.beginning ++ run_timeout_dues s.beginning ++ workflow_task_dues s s.task ++ flat_map activity_dues (pending_rows s) ++ flat_map timer_dues (pending Timer s)) (closed_dues retention s))) → b ≡ true
     by_test true h = refl
-    by_test false h = absurd h
+    by_test false h = absurd (one P n (closed_dues retention s) d (closed P retention s (λ due event other. absurd (cc))) h class)
+
+-- a run with a deadline is there
+pub due-there : (retention : ℕ) (s : RunState) (n : ℕ) (d : RunDue) → IsOneOf d (of_run n (dues retention s)) → is_there s ≡ true
+unfolding dues
+due-there retention s n d is = by_test (is_there s) refl is
+  where
+    Own : List Due
+    Own = execution_dues s.beginning ++ run_timeout_dues s.beginning ++ workflow_task_dues s s.task ++ flat_map activity_dues (pending_rows s) ++ flat_map timer_dues (pending Timer s)
+
+    by_test : (b : Bool) → is_there s ≡ b → IsOneOf d (of_run n (dues retention s)) → is_there s ≡ true
+    by_test true e h = e
+    by_test false e h = absurd (subst (λ t. IsOneOf d (of_run n (cond (t && is_open_status s.status) Own (cond t (retention_dues retention (find is_closing_event s.shown)) [])))) e h)
 
 is_task_class : DeadlineClass → Bool
 is_task_class WorkflowTask = true
 is_task_class _ = false
 
 -- a worker has the workflow task that has a deadline
-pub due-task : (s : RunState) (n : ℕ) (d : RunDue) → d.at.class ≡ WorkflowTask → IsOneOf d (of_run n (dues s)) → s.task ≡ IsStarted
+pub due-task : (retention : ℕ) (s : RunState) (n : ℕ) (d : RunDue) → d.at.class ≡ WorkflowTask → IsOneOf d (of_run n (dues retention s)) → s.task ≡ IsStarted
 unfolding is_task_class Are OfClass OfRow
-due-task s n d class is =
+due-task retention s n d class is =
     let P : Due → Type 0 = λ x. is_task_class x.class ≡ true → s.task ≡ IsStarted in
     let none : (c : DeadlineClass) → is_task_class c ≡ false → (due event : ℕ) → is_task_class c ≡ true → s.task ≡ IsStarted = λ c h _ _ e. absurd (let clash : true ≡ false = sym e ∙ h in cc) in
-    one P n (dues s) d (all-dues P s (none RunTimeout refl) (λ started _ _ _. started)
+    one P n (dues retention s) d (all-dues P retention s (none ExecutionTimeout refl) (none RunTimeout refl) (λ started _ _ _. started)
     (flat P activity_dues (pending_rows s) (λ _ r _. activities P r (λ due. none ScheduleToClose refl due r.opened.id) (λ due. none ScheduleToStart refl due r.opened.id) (λ due. none Heartbeat refl due r.opened.id) (λ due. none StartToClose refl due r.opened.id) (λ due. none RetryReady refl due r.opened.id)))
-    (flat P timer_dues (pending Timer s) (λ _ e _. timers P e (λ _ due _. none UserTimer refl due e.id)))) is (ap is_task_class class)
+    (flat P timer_dues (pending Timer s) (λ _ e _. timers P e (λ _ due _. none UserTimer refl due e.id))) (none Retention refl)) is (ap is_task_class class)
 
 is_timer_class : DeadlineClass → Bool
 is_timer_class UserTimer = true
 is_timer_class _ = false
 
 -- the timer is pending that has a deadline
-pub due-timer : (s : RunState) (n : ℕ) (d : RunDue) → d.at.class ≡ UserTimer → IsOneOf d (of_run n (dues s)) → HasTimer s d.at.event
+pub due-timer : (retention : ℕ) (s : RunState) (n : ℕ) (d : RunDue) → d.at.class ≡ UserTimer → IsOneOf d (of_run n (dues retention s)) → HasTimer s d.at.event
 unfolding is_timer_class Are OfClass OfRow
-due-timer s n d class is =
+due-timer retention s n d class is =
     let P : Due → Type 0 = λ x. is_timer_class x.class ≡ true → HasTimer s x.event in
     let none : (c : DeadlineClass) → is_timer_class c ≡ false → (due event : ℕ) → is_timer_class c ≡ true → HasTimer s event = λ c h _ _ e. absurd (let clash : true ≡ false = sym e ∙ h in cc) in
-    one P n (dues s) d (all-dues P s (none RunTimeout refl) (λ _. none WorkflowTask refl)
+    one P n (dues retention s) d (all-dues P retention s (none ExecutionTimeout refl) (none RunTimeout refl) (λ _. none WorkflowTask refl)
     (flat P activity_dues (pending_rows s) (λ _ r _. activities P r (λ due. none ScheduleToClose refl due r.opened.id) (λ due. none ScheduleToStart refl due r.opened.id) (λ due. none Heartbeat refl due r.opened.id) (λ due. none StartToClose refl due r.opened.id) (λ due. none RetryReady refl due r.opened.id)))
-    (flat P timer_dues (pending Timer s) (λ k e there. timers P e (λ a _ starts _. record { place = k; event = e; timer = a; there = there; named = refl; starts = starts })))) is (ap is_timer_class class)
+    (flat P timer_dues (pending Timer s) (λ k e there. timers P e (λ a _ starts _. record { place = k; event = e; timer = a; there = there; named = refl; starts = starts }))) (none Retention refl)) is (ap is_timer_class class)
 
 is_retry_class : DeadlineClass → Bool
 is_retry_class RetryReady = true
 is_retry_class _ = false
 
 -- the activity is pending whose next attempt has a deadline
-pub due-retry : (s : RunState) (n : ℕ) (d : RunDue) → d.at.class ≡ RetryReady → IsOneOf d (of_run n (dues s)) → HasActivity s d.at.event
+pub due-retry : (retention : ℕ) (s : RunState) (n : ℕ) (d : RunDue) → d.at.class ≡ RetryReady → IsOneOf d (of_run n (dues retention s)) → HasActivity s d.at.event
 unfolding is_retry_class Are OfClass OfRow
-due-retry s n d class is =
+due-retry retention s n d class is =
     let P : Due → Type 0 = λ x. is_retry_class x.class ≡ true → HasActivity s x.event in
     let none : (c : DeadlineClass) → is_retry_class c ≡ false → (due event : ℕ) → is_retry_class c ≡ true → HasActivity s event = λ c h _ _ e. absurd (let clash : true ≡ false = sym e ∙ h in cc) in
-    one P n (dues s) d (all-dues P s (none RunTimeout refl) (λ _. none WorkflowTask refl)
+    one P n (dues retention s) d (all-dues P retention s (none ExecutionTimeout refl) (none RunTimeout refl) (λ _. none WorkflowTask refl)
     (flat P activity_dues (pending_rows s) (λ k r there. activities P r (λ due. none ScheduleToClose refl due r.opened.id) (λ due. none ScheduleToStart refl due r.opened.id) (λ due. none Heartbeat refl due r.opened.id) (λ due. none StartToClose refl due r.opened.id) (λ _ _. record { place = k; row = r; there = there; named = refl })))
-    (flat P timer_dues (pending Timer s) (λ _ e _. timers P e (λ _ due _. none UserTimer refl due e.id)))) is (ap is_retry_class class)
+    (flat P timer_dues (pending Timer s) (λ _ e _. timers P e (λ _ due _. none UserTimer refl due e.id))) (none Retention refl)) is (ap is_retry_class class)

@@ -16,22 +16,22 @@ unfolding least
 least-one None = refl
 least-one (Some d) = refl
 
-dues_from : ℕ → List RunState → List RunDue
-dues_from n states = flat_map (λ (p : ℕ × RunState). map (λ (d : Due). record { run = p.0; at = d }) (dues p.1)) (enumerate_from n states)
+dues_from : ℕ → ℕ → List RunState → List RunDue
+dues_from r n states = flat_map (λ (p : ℕ × RunState). map (λ (d : Due). record { run = p.0; at = d }) (dues r p.1)) (enumerate_from n states)
 
-from : (n : ℕ) (states : List RunState) → least (dues_from n states) ≡ least (firsts n states)
+from : (r n : ℕ) (states : List RunState) → least (dues_from r n states) ≡ least (firsts r n states)
 unfolding dues_from
-from n [] = refl
-from n (s ∷ states) =
-    least-append (map (λ (d : Due). record { run = n; at = d }) (dues s)) (dues_from (n + 1) states)
-    ∙ ap (lesser_of_two (first_due n s)) (from (n + 1) states)
-    ∙ ap (λ o. lesser_of_two o (least (firsts (n + 1) states))) (sym (least-one (first_due n s)))
-    ∙ sym (least-append (option_to_list (first_due n s)) (firsts (n + 1) states))
+from r n [] = refl
+from r n (s ∷ states) =
+    least-append (map (λ (d : Due). record { run = n; at = d }) (dues r s)) (dues_from r (n + 1) states)
+    ∙ ap (lesser_of_two (first_due r n s)) (from r (n + 1) states)
+    ∙ ap (λ o. lesser_of_two o (least (firsts r (n + 1) states))) (sym (least-one (first_due r n s)))
+    ∙ sym (least-append (option_to_list (first_due r n s)) (firsts r (n + 1) states))
 
 -- the least of all deadlines is the least of the first ones
-pub least-firsts : (states : List RunState) → least (all_dues states) ≡ least (firsts 1 states)
+pub least-firsts : (r : ℕ) (states : List RunState) → least (all_dues r states) ≡ least (firsts r 1 states)
 unfolding dues_from
-least-firsts states = from 1 states
+least-firsts r states = from r 1 states
 
 at_run : ℕ → Due → RunDue
 at_run n d = record { run = n; at = d }
@@ -58,55 +58,55 @@ either x [] ys P left right one = right one
 either x (y ∷ xs) ys P left right (inl is) = left (inl is)
 either x (y ∷ xs) ys P left right (inr rest) = either x xs ys P (λ one. left (inr one)) right rest
 
-later : (n : ℕ) (o : Option Kept) (slots : List (Option Kept)) (s : RunState) (states : List RunState) → KeepsFirsts n (o ∷ slots) (s ∷ states) → KeepsFirsts (n + 1) slots states
-later n o slots s states h = record {
+later : (r n : ℕ) (o : Option Kept) (slots : List (Option Kept)) (s : RunState) (states : List RunState) → KeepsFirsts r n (o ∷ slots) (s ∷ states) → KeepsFirsts r (n + 1) slots states
+later r n o slots s states h = record {
   count = omega (arith, h.count);
-  first = λ k t there. let count : n + suc k ≡ n + 1 + k = omega arith in h.first (suc k) t there ∙ ap (λ m. first_due m t) count;
+  first = λ k t there. let count : n + suc k ≡ n + 1 + k = omega arith in h.first (suc k) t there ∙ ap (λ m. first_due r m t) count;
 }
 
-first-here : (n : ℕ) (o : Option Kept) (slots : List (Option Kept)) (s : RunState) (states : List RunState) → KeepsFirsts n (o ∷ slots) (s ∷ states) → option_map run_due o ≡ first_due n s
-first-here n o slots s states h = let count : n + 0 ≡ n = omega arith in h.first 0 s refl ∙ ap (λ m. first_due m s) count
+first-here : (r n : ℕ) (o : Option Kept) (slots : List (Option Kept)) (s : RunState) (states : List RunState) → KeepsFirsts r n (o ∷ slots) (s ∷ states) → option_map run_due o ≡ first_due r n s
+first-here r n o slots s states h = let count : n + 0 ≡ n = omega arith in h.first 0 s refl ∙ ap (λ m. first_due r m s) count
 
-keeps-there : (n : ℕ) (slots : List (Option Kept)) (states : List RunState) → KeepsFirsts n slots states → (x : RunDue) → IsOneOf x (firsts n states) → (k : ℕ) × (d : Kept) × (slice_index_or slots k None ≡ Some d) × (run_due d ≡ x)
-keeps-there n slots [] h x one = absurd one
-keeps-there n [] (s ∷ states) h x one = absurd (omega (arith, h.count))
-keeps-there n (o ∷ slots) (s ∷ states) h x one =
-    either x (option_to_list (first_due n s)) (firsts (n + 1) states) _
-    (λ first. let (d, is, same) = here x o (subst (λ (f : Option RunDue). IsOneOf x (option_to_list f)) (sym (first-here n o slots s states h)) first) in (0, d, is, same))
-    (λ more. let (k, d, is, same) = keeps-there (n + 1) slots states (later n o slots s states h) x more in (suc k, d, is, same))
+keeps-there : (r n : ℕ) (slots : List (Option Kept)) (states : List RunState) → KeepsFirsts r n slots states → (x : RunDue) → IsOneOf x (firsts r n states) → (k : ℕ) × (d : Kept) × (slice_index_or slots k None ≡ Some d) × (run_due d ≡ x)
+keeps-there r n slots [] h x one = absurd one
+keeps-there r n [] (s ∷ states) h x one = absurd (omega (arith, h.count))
+keeps-there r n (o ∷ slots) (s ∷ states) h x one =
+    either x (option_to_list (first_due r n s)) (firsts r (n + 1) states) _
+    (λ first. let (d, is, same) = here x o (subst (λ (f : Option RunDue). IsOneOf x (option_to_list f)) (sym (first-here r n o slots s states h)) first) in (0, d, is, same))
+    (λ more. let (k, d, is, same) = keeps-there r (n + 1) slots states (later r n o slots s states h) x more in (suc k, d, is, same))
     one
 
-keeps-only : (n : ℕ) (slots : List (Option Kept)) (states : List RunState) → KeepsFirsts n slots states → (k : ℕ) (d : Kept) → slice_index_or slots k None ≡ Some d → IsOneOf (run_due d) (firsts n states)
-keeps-only n [] states h k d is = absurd (cc)
-keeps-only n (o ∷ slots) [] h k d is = absurd (omega (arith, h.count))
-keeps-only n (o ∷ slots) (s ∷ states) h zero d is =
-    one-left (run_due d) (option_to_list (first_due n s)) (firsts (n + 1) states)
-    (subst (λ (f : Option RunDue). IsOneOf (run_due d) (option_to_list f)) (first-here n o slots s states h) (one-of d o is))
-keeps-only n (o ∷ slots) (s ∷ states) h (suc k) d is =
-    one-right (run_due d) (option_to_list (first_due n s)) (firsts (n + 1) states) (keeps-only (n + 1) slots states (later n o slots s states h) k d is)
+keeps-only : (r n : ℕ) (slots : List (Option Kept)) (states : List RunState) → KeepsFirsts r n slots states → (k : ℕ) (d : Kept) → slice_index_or slots k None ≡ Some d → IsOneOf (run_due d) (firsts r n states)
+keeps-only r n [] states h k d is = absurd (cc)
+keeps-only r n (o ∷ slots) [] h k d is = absurd (omega (arith, h.count))
+keeps-only r n (o ∷ slots) (s ∷ states) h zero d is =
+    one-left (run_due d) (option_to_list (first_due r n s)) (firsts r (n + 1) states)
+    (subst (λ (f : Option RunDue). IsOneOf (run_due d) (option_to_list f)) (first-here r n o slots s states h) (one-of d o is))
+keeps-only r n (o ∷ slots) (s ∷ states) h (suc k) d is =
+    one-right (run_due d) (option_to_list (first_due r n s)) (firsts r (n + 1) states) (keeps-only r (n + 1) slots states (later r n o slots s states h) k d is)
 
 its-run : (n : ℕ) (ds : List Due) (d : RunDue) → IsOneOf d (of_run n ds) → d.run ≡ n
 its-run n [] d one = absurd one
 its-run n (x ∷ ds) d (inl is) = ap (λ (y : RunDue). y.run) is
 its-run n (x ∷ ds) d (inr rest) = its-run n ds d rest
 
-record Found (n : ℕ) (d : RunDue) (states : List RunState) : Type 0 where
+record Found (r n : ℕ) (d : RunDue) (states : List RunState) : Type 0 where
   place : ℕ
   there : place < length states
   run : d.run ≡ n + place
-  its : IsOneOf d (of_run (n + place) (dues (slice_index_or states place no_run)))
+  its : IsOneOf d (of_run (n + place) (dues r (slice_index_or states place no_run)))
 
-found : (n : ℕ) (states : List RunState) (d : RunDue) → IsOneOf d (dues_from n states) → Found n d states
+found : (r n : ℕ) (states : List RunState) (d : RunDue) → IsOneOf d (dues_from r n states) → Found r n d states
 unfolding dues_from
-found n [] d one = absurd one
-found n (s ∷ states) d one =
+found r n [] d one = absurd one
+found r n (s ∷ states) d one =
     let count : n + 0 ≡ n = omega arith in
-    either d (of_run n (dues s)) (dues_from (n + 1) states) (Found n d (s ∷ states))
-    (λ here. record { place = 0; there = omega arith; run = its-run n (dues s) d here ∙ sym count; its = subst (λ k. IsOneOf d (of_run k (dues s))) (sym count) here })
+    either d (of_run n (dues r s)) (dues_from r (n + 1) states) (Found r n d (s ∷ states))
+    (λ here. record { place = 0; there = omega arith; run = its-run n (dues r s) d here ∙ sym count; its = subst (λ k. IsOneOf d (of_run k (dues r s))) (sym count) here })
     (λ rest.
-    let more = found (n + 1) states d rest in
+    let more = found r (n + 1) states d rest in
     let next : n + 1 + more.place ≡ n + suc more.place = omega arith in
-    record { place = suc more.place; there = omega (arith, more.there); run = more.run ∙ next; its = subst (λ k. IsOneOf d (of_run k (dues (slice_index_or states more.place no_run)))) next more.its })
+    record { place = suc more.place; there = omega (arith, more.there); run = more.run ∙ next; its = subst (λ k. IsOneOf d (of_run k (dues r (slice_index_or states more.place no_run)))) next more.its })
     one
 
 not-later : (moment : ℕ) (o : Option RunDue) (d : RunDue) → due_now moment o ≡ Some d → o ≡ Some d
@@ -118,21 +118,21 @@ not-later moment (Some e) d is = by_test (nat_le e.at.due moment) is
     by_test false same = absurd (cc)
 
 -- the deadline that fires is that of one of the runs
-pub due-of-run : (states : List RunState) (moment : ℕ) (d : RunDue) → due_now moment (least (all_dues states)) ≡ Some d → IsOfRun d states
+pub due-of-run : (r : ℕ) (states : List RunState) (moment : ℕ) (d : RunDue) → due_now moment (least (all_dues r states)) ≡ Some d → IsOfRun r d states
 unfolding dues_from
-due-of-run states moment d is =
-    let at = found 1 states d (least-fires (all_dues states) d (not-later moment (least (all_dues states)) d is)).0 in
+due-of-run r states moment d is =
+    let at = found r 1 states d (least-fires (all_dues r states) d (not-later moment (least (all_dues r states)) d is)).0 in
     let place : at.place ≡ d.run - 1 = omega (arith, at.run) in
     record {
       from = omega (arith, at.run);
       to = omega (arith, at.run, at.there);
-      its = subst (λ k. IsOneOf d (of_run d.run (dues (slice_index_or states k no_run)))) place (subst (λ k. IsOneOf d (of_run k (dues (slice_index_or states at.place no_run)))) (sym at.run) at.its);
+      its = subst (λ k. IsOneOf d (of_run d.run (dues r (slice_index_or states k no_run)))) place (subst (λ k. IsOneOf d (of_run k (dues r (slice_index_or states at.place no_run)))) (sym at.run) at.its);
     }
 
 -- what is due of the numbered first deadlines is the shard's first deadline, where that is due
-pub due-firsts : (slots : List (Option Kept)) (states : List RunState) (moment : ℕ) (o : Option Kept) → KeepsFirsts 1 slots states →
+pub due-firsts : (r : ℕ) (slots : List (Option Kept)) (states : List RunState) (moment : ℕ) (o : Option Kept) → KeepsFirsts r 1 slots states →
     IfSome o (λ d. IsLeastAt (λ k. slice_index_or slots k None) d × (d.due ≤ moment)) → IfNone o ((k : ℕ) (d : Kept) → slice_index_or slots k None ≡ Some d → moment < d.due) →
-    option_map run_due o ≡ due_now moment (least (all_dues states))
-due-firsts slots states moment o h first later =
-    due-kept (λ k. slice_index_or slots k None) (firsts 1 states) moment o (record { there = keeps-there 1 slots states h; only = keeps-only 1 slots states h }) first later
-    ∙ ap (due_now moment) (sym (least-firsts states))
+    option_map run_due o ≡ due_now moment (least (all_dues r states))
+due-firsts r slots states moment o h first later =
+    due-kept (λ k. slice_index_or slots k None) (firsts r 1 states) moment o (record { there = keeps-there r 1 slots states h; only = keeps-only r 1 slots states h }) first later
+    ∙ ap (due_now moment) (sym (least-firsts r states))

@@ -18,20 +18,20 @@ of_run n ds = map (λ (d : Due). record { run = n; at = d }) ds
 abbrev pub first_of : ℕ → List Due → Option RunDue
 first_of n ds = least (of_run n ds)
 
--- the first deadline of the run with this ordinal
-abbrev pub first_due : ℕ → RunState → Option RunDue
-first_due n s = first_of n (dues s)
+-- the first deadline of the run with this ordinal, with a retention
+abbrev pub first_due : ℕ → ℕ → RunState → Option RunDue
+first_due retention n s = first_of n (dues retention s)
 
 -- the first deadline of each run that has one, where the ordinals count from n
-abbrev pub firsts : ℕ → List RunState → List RunDue
-firsts n [] = []
-firsts n (s ∷ states) = option_to_list (first_due n s) ++ firsts (n + 1) states
+abbrev pub firsts : ℕ → ℕ → List RunState → List RunDue
+firsts retention n [] = []
+firsts retention n (s ∷ states) = option_to_list (first_due retention n s) ++ firsts retention (n + 1) states
 
 -- the deadline is that of one of the runs, whose ordinals count from 1
-pub record IsOfRun (d : RunDue) (states : List RunState) : Type 0 where
+pub record IsOfRun (retention : ℕ) (d : RunDue) (states : List RunState) : Type 0 where
   pub from : 1 ≤ d.run
   pub to : d.run ≤ length states
-  pub its : IsOneOf d (of_run d.run (dues (slice_index_or states (d.run - 1) no_run)))
+  pub its : IsOneOf d (of_run d.run (dues retention (slice_index_or states (d.run - 1) no_run)))
 
 -- a timer is pending that this event started
 pub record HasTimer (s : RunState) (id : ℕ) : Type 0 where
@@ -50,6 +50,6 @@ pub record HasActivity (s : RunState) (id : ℕ) : Type 0 where
   pub named : row.opened.id ≡ id
 
 -- of each run, where the ordinals count from n, its first deadline is kept at its place
-pub record KeepsFirsts (n : ℕ) (slots : List (Option Kept)) (states : List RunState) : Type 0 where
+pub record KeepsFirsts (retention n : ℕ) (slots : List (Option Kept)) (states : List RunState) : Type 0 where
   pub count : length slots ≡ length states
-  pub first : (k : ℕ) (s : RunState) → slice_get states k ≡ Some s → option_map run_due (slice_index_or slots k None) ≡ first_due (n + k) s
+  pub first : (k : ℕ) (s : RunState) → slice_get states k ≡ Some s → option_map run_due (slice_index_or slots k None) ≡ first_due retention (n + k) s

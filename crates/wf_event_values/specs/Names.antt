@@ -152,6 +152,7 @@ status_name status.TimedOut = codes "TimedOut"
 
 -- a class of deadline, by name
 abbrev pub class_name : DeadlineClass → List ℕ
+class_name class.ExecutionTimeout = codes "execution_timeout"
 class_name class.RunTimeout = codes "run_timeout"
 class_name class.WorkflowTask = codes "workflow_task"
 class_name class.ScheduleToClose = codes "schedule_to_close"
@@ -160,6 +161,7 @@ class_name class.Heartbeat = codes "heartbeat"
 class_name class.StartToClose = codes "start_to_close"
 class_name class.RetryReady = codes "retry_ready"
 class_name class.UserTimer = codes "user_timer"
+class_name class.Retention = codes "retention"
 
 -- a kind of task, by name
 abbrev pub task_kind_name : TaskKind → List ℕ

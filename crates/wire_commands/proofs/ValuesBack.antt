@@ -1,5 +1,6 @@
 -- what was written is read again: keys, and values of each kind
-use Rattle.std.proofs.Common.{◌≡◌, ℕ, ◌<◌, ◌≤◌, ◌^◌, List, [], ◌∷◌, map, length, Bool, true, false, cond, nat_le, nat_lt, Option, Some, None, IfSome, option_map, refl, ap, ◌∙◌, arith, le-leb, lt-ltb}
+use Rattle.std.proofs.lemmas.Bool.Decides.{nat_tests}
+use Rattle.std.proofs.Common.{◌≡◌, ℕ, ◌<◌, ◌≤◌, ◌^◌, List, [], ◌∷◌, map, length, Bool, true, false, cond, nat_le, nat_lt, ◌==◌, Option, Some, None, IfSome, option_map, refl, ap, ◌∙◌, arith, le-leb, lt-ltb}
 use Rattle.std.specs.Prelude.{⊤, Result, Ok, Err}
 use Rattle.std.specs.List.{AllByRecursion}
 use Rattle.serde_json.specs.Data.{Data, number, unsigned, string, boolean, array, object, Items, no_items, item}
@@ -44,6 +45,10 @@ module _ {A : Type 0} (kind : Field → Data → Result A Refusal) where
   pub default_is : (default : A) (f : Field) (rows : List Row) (d : Data) (x : A) → rise rows ≡ true → lookup (field_name f) rows ≡ Some d → kind f d ≡ Ok x → or_default kind default f (object_of rows) ≡ Ok x
   default_is default f rows d x r at e = ap (present_or (Ok default) (kind f)) (found (field_name f) rows r ∙ at) ∙ e
 
+  -- a value that is left out where it is the default
+  pub left_out_is : (default : A) (f : Field) (rows : List Row) (o : Option Data) (x : A) → rise rows ≡ true → lookup (field_name f) rows ≡ o → present_or (Ok default) (kind f) o ≡ Ok x → or_default kind default f (object_of rows) ≡ Ok x
+  left_out_is default f rows o x r at e = ap (present_or (Ok default) (kind f)) (found (field_name f) rows r ∙ at) ∙ e
+
   module _ (P : A → Type 0) (write : A → Data) where
     pub some_is : (f : Field) → ((x : A) → P x → kind f (write x) ≡ Ok x) → (o : Option A) → IfSome o P → present_or (Ok None) (λ v. kind f v >>= (λ x. Ok (Some x))) (option_map write o) ≡ Ok o
     some_is f back None h = refl
@@ -68,6 +73,21 @@ moment_back f n h = rw (le-leb _ _ h) refl
 
 pub span_back : (f : Field) (n : ℕ) → IsSpan n → span_of f (number (unsigned n)) ≡ Ok n
 span_back f n h = rw (le-leb _ _ h) refl
+
+-- a duration that is left out where it is 0
+pub left_out_back : (f : Field) (n : ℕ) → IsSpan n → present_or (Ok 0) (span_of f) (option_map (λ x. number (unsigned x)) (cond (n == 0) None (Some n))) ≡ Ok n
+left_out_back f n h = by_test (n == 0) refl
+  where
+    by_test : (b : Bool) → (n == 0) ≡ b → present_or (Ok 0) (span_of f) (option_map (λ x. number (unsigned x)) (cond b None (Some n))) ≡ Ok n
+    by_test true is = let none : 0 ≡ n = grind (arith, nat_tests) in ap Ok none
+    by_test false is = span_back f n h
+
+pub left_out_span : (n : ℕ) → IsSpan n → IfSome (cond (n == 0) None (Some n)) IsSpan
+left_out_span n h = by_test (n == 0)
+  where
+    by_test : (b : Bool) → IfSome (cond b None (Some n)) IsSpan
+    by_test true = tt
+    by_test false = h
 
 pub run_back : (f : Field) (r : Run) → IsRun r → run_of f (string (run_text r)) ≡ Ok r
 run_back f r h = rw (run_again r h) refl

@@ -23,6 +23,7 @@ start_of line = do
   conflict ← or_default conflict_of Fail field.Conflict line
   run_timeout ← or_default span_of 0 field.RunTimeout line
   task_timeout ← or_default span_of 0 field.TaskTimeout line
+  execution_timeout ← or_default span_of 0 field.ExecutionTimeout line
   Ok (record {
     workflow_id = workflow_id;
     workflow_type = workflow_type;
@@ -33,6 +34,7 @@ start_of line = do
     conflict = conflict;
     run_timeout = run_timeout;
     task_timeout = task_timeout;
+    execution_timeout = execution_timeout;
   })
 
 -- signal_with_start: the fields of a start without a conflict policy, and those of the signal
@@ -46,6 +48,7 @@ signal_with_start_of line = do
   reuse ← or_default reuse_of AllowDuplicate field.Reuse line
   run_timeout ← or_default span_of 0 field.RunTimeout line
   task_timeout ← or_default span_of 0 field.TaskTimeout line
+  execution_timeout ← or_default span_of 0 field.ExecutionTimeout line
   name ← required text_of field.Name line
   signal_input ← or_default text_of [] field.SignalInput line
   Ok (record {
@@ -57,6 +60,7 @@ signal_with_start_of line = do
     reuse = reuse;
     run_timeout = run_timeout;
     task_timeout = task_timeout;
+    execution_timeout = execution_timeout;
     name = name;
     signal_input = signal_input;
   })

@@ -24,6 +24,7 @@ pub fn start<V: Tree>(alloc: Global, line: &V) -> Result<Start, Refusal>
     let conflict = or_default(alloc, line, Field::Conflict, ConflictPolicy::Fail)?;
     let run_timeout = or_default(alloc, line, Field::RunTimeout, Span::none())?;
     let task_timeout = or_default(alloc, line, Field::TaskTimeout, Span::none())?;
+    let execution_timeout = or_default(alloc, line, Field::ExecutionTimeout, Span::none())?;
     Ok(Start {
         workflow_id,
         workflow_type,
@@ -34,6 +35,7 @@ pub fn start<V: Tree>(alloc: Global, line: &V) -> Result<Start, Refusal>
         conflict,
         run_timeout,
         task_timeout,
+        execution_timeout,
     })
 }
 
@@ -50,6 +52,7 @@ pub fn signal_with_start<V: Tree>(alloc: Global, line: &V) -> Result<SignalWithS
     let reuse = or_default(alloc, line, Field::Reuse, ReusePolicy::AllowDuplicate)?;
     let run_timeout = or_default(alloc, line, Field::RunTimeout, Span::none())?;
     let task_timeout = or_default(alloc, line, Field::TaskTimeout, Span::none())?;
+    let execution_timeout = or_default(alloc, line, Field::ExecutionTimeout, Span::none())?;
     let name = required(alloc, line, Field::Name)?;
     let signal_input = or_default(alloc, line, Field::SignalInput, Text::empty(alloc))?;
     Ok(SignalWithStart {
@@ -61,6 +64,7 @@ pub fn signal_with_start<V: Tree>(alloc: Global, line: &V) -> Result<SignalWithS
         reuse,
         run_timeout,
         task_timeout,
+        execution_timeout,
         name,
         signal_input,
     })

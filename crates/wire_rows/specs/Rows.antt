@@ -32,6 +32,10 @@ if_text key t = (key, option_map string t)
 abbrev pub if_count : List ℕ → Option ℕ → Row
 if_count key n = (key, option_map (λ x. number (unsigned x)) n)
 
+-- a number, where it is not 0
+abbrev pub unless_zero : ℕ → Option ℕ
+unless_zero n = cond (n == 0) None (Some n)
+
 abbrev pub if_run : List ℕ → Option Run → Row
 if_run key r = (key, option_map (λ x. string (run_text x)) r)
 

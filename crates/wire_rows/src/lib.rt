@@ -9,7 +9,7 @@ ghost use Rattle.wire_rows.specs.Plain.{IsPlain, HasUtf8, has_feed};
 
 mod put;
 
-pub use put::{put_if_count, put_if_id, put_if_number, put_if_run, put_if_text};
+pub use put::{put_if_count, put_if_id, put_if_number, put_if_run, put_if_span, put_if_text};
 
 /// The text of a plain value reads as the value.
 pub fn plain_texts_read_again()

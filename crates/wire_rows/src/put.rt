@@ -3,7 +3,7 @@
 
 ghost use Rattle.std.specs.Prelude.{◌≡◌, OnOk};
 ghost use Rattle.wire_events.specs.Pages.{sheet_of};
-ghost use Rattle.wire_rows.specs.Rows.{add_row, if_text, if_count, if_run};
+ghost use Rattle.wire_rows.specs.Rows.{add_row, if_text, if_count, if_run, unless_zero};
 
 use std::alloc::AllocError;
 use wf_event_values::{Id, RunId, Span, Text};
@@ -37,6 +37,17 @@ pub fn put_if_count(page: &mut Page, key: &str, span: Option<Span>) -> Result<()
         Some(span) => page.number(key, span.millis()),
         None => Ok(()),
     }
+}
+
+/// A duration, where there is one.
+pub fn put_if_span(page: &mut Page, key: &str, span: Span) -> Result<(), AllocError>
+    ensures { OnOk result (sheet_of page.new
+        ≡ add_row (if_count key.now (unless_zero span)) (sheet_of page.old)) }
+{
+    if span.millis() == 0 {
+        return Ok(());
+    }
+    page.number(key, span.millis())
 }
 
 pub fn put_if_run(page: &mut Page, key: &str, run: Option<RunId>) -> Result<(), AllocError>

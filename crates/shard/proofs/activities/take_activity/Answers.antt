@@ -5,14 +5,14 @@ use Rattle.service_model.specs.Outcome.{Outcome, answered, has_run, run_at}
 use Rattle.service_model.specs.Tasks.{take_row, pending_row}
 use Rattle.shard_steps.specs.Attempts.{task_for}
 use Rattle.shard_store.specs.Fitting.{FitsStep}
-use Rattle.shard_store.specs.View.{runs_in}
+use Rattle.shard_store.specs.View.{runs_at}
 use Rattle.shard_steps.proofs.AttemptLemmas.{taking, taken-by}
 use Rattle.shard.proofs.StartLemmas.{fits-answered}
 use Rattle.shard.proofs.activities.take_activity.Goals as goal
 
 pub returns-in_default-clause-plan : goal.returns-in_default-clause-plan
 returns-in_default-clause-plan g c =
-    let R = runs_in c.args.store.now in
+    let R = runs_at c.args.store.now c.args.moment in
     let h = c.args.wanted in
     let none : has_run R h.run ≡ false = c.place_of.ensures.some ∙ ap (λ o. is_some o) c.in_default.is in
     let P : Outcome → Type 0 = λ o. FitsStep {T = g.row.T.Denot} c.args.store.now c.answered.result c.args.moment o in
@@ -20,7 +20,7 @@ returns-in_default-clause-plan g c =
 
 pub returns-clause-plan : goal.returns-clause-plan
 returns-clause-plan g c =
-    let R = runs_in c.args.store.now in
+    let R = runs_at c.args.store.now c.args.moment in
     let h = c.args.wanted in
     let row = pending_row (run_at R h.run) h.event in
     let there : has_run R h.run ≡ true = c.place_of.ensures.some ∙ ap (λ o. is_some o) c.in-Some.is in

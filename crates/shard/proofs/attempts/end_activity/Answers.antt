@@ -4,7 +4,7 @@ use Rattle.service_model.specs.Activities.{ends_activity}
 use Rattle.service_model.specs.Outcome.{Outcome, adds, run_at}
 use Rattle.mutable_state.specs.Steps.{FitStep}
 use Rattle.shard_store.specs.Fitting.{FitsStep}
-use Rattle.shard_store.specs.View.{ordinal_of, run_in, runs_in}
+use Rattle.shard_store.specs.View.{ordinal_of, run_in, runs_at}
 use Rattle.shard.specs.Running.{row_of}
 use Rattle.shard_steps.proofs.EndingLemmas.{ending-fits}
 use Rattle.shard.proofs.attempts.end_activity.Goals as goal
@@ -20,7 +20,7 @@ prepare_more-requires-clause-fits g c =
 
 pub returns-clause-plan : goal.returns-clause-plan
 returns-clause-plan g c =
-    let R = runs_in c.args.store.now in
+    let R = runs_at c.args.store.now c.args.moment in
     let n = ordinal_of c.args.attempt.now.index in
     let row = row_of c.args.attempt.now in
     let last = c.args.last in

@@ -7,14 +7,14 @@ use Rattle.service_model_types.specs.declared.journal.Fact.{Fact}
 use Rattle.service_model.specs.Cancels.{cancel_open}
 use Rattle.service_model.specs.Outcome.{Outcome, outside, adds, made_by}
 use Rattle.mutable_state.specs.Steps.{FitStep}
-use Rattle.shard_store.specs.View.{ordinal_of, run_in, runs_in}
+use Rattle.shard_store.specs.View.{ordinal_of, run_in, runs_at}
 use Rattle.shard_store.specs.Fitting.{FitsStep}
 use Rattle.shard_steps.proofs.StartLemmas.{cancel-fits}
 use Rattle.shard.proofs.ends.prepare_cancel_of.Goals as goal
 
 pub returns-in-Some-clause-plan : goal.returns-in-Some-clause-plan
 returns-in-Some-clause-plan g c =
-    let R = runs_in c.args.store.now in
+    let R = runs_at c.args.store.now c.args.moment in
     let q = c.args.request.now in
     let there : run_in c.args.store.now c.args.index ≡ c.run.result.now.state =
     sym c.run.ensures in
@@ -24,7 +24,7 @@ returns-in-Some-clause-plan g c =
 
 pub prepare_more-requires-clause-fits : goal.prepare_more-requires-clause-fits
 prepare_more-requires-clause-fits g c =
-    let R = runs_in c.args.store.now in
+    let R = runs_at c.args.store.now c.args.moment in
     let s = run_in c.args.store.now c.args.index in
     let fact = made_by c.args.request.now.request_id (WorkflowExecutionCancelRequested Client) in
     let again : s ≡ c.run-2.result.now.state =
@@ -34,7 +34,7 @@ prepare_more-requires-clause-fits g c =
 
 pub returns-clause-plan : goal.returns-clause-plan
 returns-clause-plan g c =
-    let R = runs_in c.args.store.now in
+    let R = runs_at c.args.store.now c.args.moment in
     let q = c.args.request.now in
     let s = run_in c.args.store.now c.args.index in
     let fact = made_by q.request_id (WorkflowExecutionCancelRequested Client) in

@@ -8,7 +8,7 @@ use Rattle.service_model.specs.Starts.{start_request}
 use Rattle.shard_steps.specs.Starts.{MayBegin, first_facts}
 use Rattle.shard_steps.proofs.StartLemmas.{first-fits}
 use Rattle.shard.specs.Following.{following}
-use Rattle.shard_store.specs.View.{ordinal_of, runs_in}
+use Rattle.shard_store.specs.View.{ordinal_of, runs_at}
 use Rattle.shard.proofs.FollowLemmas.{follows}
 use Rattle.shard.proofs.followers.prepare_following.Goals as goal
 
@@ -19,7 +19,7 @@ prepare_made-requires g c =
 
 pub returns-clause-made : goal.returns-clause-made
 returns-clause-made g c =
-    let R = runs_in c.args.store.now in
+    let R = runs_at c.args.store.now c.args.moment in
     let n = ordinal_of c.args.index in
     let s = run_at R n in
     let k = c.args.command.now in

@@ -3,7 +3,7 @@ use Rattle.service_model.specs.Starts.{starts_new}
 use Rattle.shard_steps.specs.declared.starts.Beginning.{Beginning}
 use Rattle.shard_steps.specs.Starts.{first_facts, MayBegin}
 use Rattle.shard_steps.proofs.StartLemmas.{signaled-fits}
-use Rattle.shard_store.specs.View.{runs_in, states}
+use Rattle.shard_store.specs.View.{runs_at, states}
 use Rattle.shard_store.specs.Fitting.{FitsStep, IsFree}
 use Rattle.shard.proofs.signal_starts.prepare_signaled.Goals as goal
 
@@ -15,5 +15,5 @@ prepare_new_run-requires-clause-free g c = subst (λ (b : Beginning). IsFree (st
 
 pub returns-clause-plan : goal.returns-clause-plan
 returns-clause-plan g c =
-    let P : Beginning → Type 0 = λ b. IfOk c.prepare_new_run.result (λ plan. FitsStep c.prepare_new_run.new.store plan c.args.moment (starts_new (runs_in c.args.store.now) None (first_facts b))) in
+    let P : Beginning → Type 0 = λ b. IfOk c.prepare_new_run.result (λ plan. FitsStep c.prepare_new_run.new.store plan c.args.moment (starts_new (runs_at c.args.store.now c.args.moment) None (first_facts b))) in
     subst P c.in_ok-beginning.ensures c.prepare_new_run.ensures.plan

@@ -3,14 +3,14 @@ use Rattle.service_model_types.specs.declared.journal.Fact.{Fact}
 use Rattle.service_model.specs.Outcome.{Outcome, outside, adds, answered}
 use Rattle.service_model.specs.Signals.{was_signaled, signal_fact}
 use Rattle.mutable_state.specs.Steps.{FitStep}
-use Rattle.shard_store.specs.View.{ordinal_of, run_in, runs_in}
+use Rattle.shard_store.specs.View.{ordinal_of, run_in, runs_at}
 use Rattle.shard_store.specs.Fitting.{FitsStep}
 use Rattle.shard_steps.proofs.StartLemmas.{signal-fits}
 use Rattle.shard.proofs.signals.prepare_signal_of.Goals as goal
 
 pub prepare_more-requires-clause-fits : goal.prepare_more-requires-clause-fits
 prepare_more-requires-clause-fits g c =
-    let R = runs_in c.args.store.now in
+    let R = runs_at c.args.store.now c.args.moment in
     let request = c.args.request_id.now in
     let s = run_in c.args.store.now c.args.index in
     let fact = signal_fact request c.args.name.now c.args.input.now in
@@ -24,7 +24,7 @@ prepare_more-requires-clause-fits g c =
 
 pub returns-clause-plan : goal.returns-clause-plan
 returns-clause-plan g c =
-    let R = runs_in c.args.store.now in
+    let R = runs_at c.args.store.now c.args.moment in
     let request = c.args.request_id.now in
     let s = run_in c.args.store.now c.args.index in
     let fact = signal_fact request c.args.name.now c.args.input.now in

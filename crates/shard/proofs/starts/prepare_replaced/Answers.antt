@@ -12,14 +12,14 @@ use Rattle.shard_steps.specs.declared.starts.Beginning.{Beginning}
 use Rattle.shard_steps.proofs.ClosingLemmas.{terminated-behind}
 use Rattle.shard_steps.proofs.StartLemmas.{first-fits, terminate-fits}
 use Rattle.shard_store.specs.Fitting.{IsPrepared}
-use Rattle.shard_store.specs.View.{ordinal_of, run_in, runs_in}
+use Rattle.shard_store.specs.View.{ordinal_of, run_in, runs_at}
 use Rattle.shard.proofs.FollowLemmas.{both-fits}
 use Rattle.shard_store.proofs.IndexLemmas.{length-states}
 use Rattle.shard_store.proofs.PlanLemmas.{stays-prepared}
 use Rattle.shard.proofs.starts.prepare_replaced.Goals as goal
 
 pub prepare_made-requires : goal.prepare_made-requires
-prepare_made-requires g c = subst (MayBegin c.args.moment) (sym c.in_ok-beginning.ensures) (first-fits c.args.moment c.args.request.now.request_id (started_by c.args.request.now) c.args.request.now.task_queue)
+prepare_made-requires g c = subst (MayBegin c.args.moment) (sym c.in_ok-beginning.ensures) (first-fits c.args.moment c.args.request.now.request_id (started_by c.args.moment c.args.request.now) c.args.request.now.task_queue)
 
 pub returns-clause-plan : goal.returns-clause-plan
 returns-clause-plan g c =
@@ -39,6 +39,6 @@ returns-clause-plan g c =
     let prepared = stays-prepared c.prepare_in.new.self v at i facts more c.in_ok-made.ensures.runs c.in_ok-made.ensures.noted first in
     let count = c.count.ensures.count ∙ sym (length-states v.runs) ∙ ap (λ s. length s.runs) same in
     let id = c.run_id.ensures ∙ ap (λ s. run_id s.setup (c.count.result + 1)) same ∙ ap (λ k. run_id old.setup (k + 1)) count in
-    both-fits v old at i more facts b c.in_ok-made.made (Ok (Started c.run_id.result)) (by_decision (runs_in old) (ordinal_of i) (started_fact q ∷ first_task q.task_queue ∷ []) TerminateThenNew) same prepared
+    both-fits v old at i more facts b c.in_ok-made.made (Ok (Started c.run_id.result)) (by_decision (runs_at old at) (ordinal_of i) (started_fact at q ∷ first_task q.task_queue ∷ []) TerminateThenNew) same prepared
     (terminate-fits at s reason c.requires.open) c.requires.open (terminated-behind at s reason) (c.requires.named ∙ sym (ap (λ (x : Beginning). x.started.workflow_id) c.in_ok-beginning.ensures)) c.in_ok-made.ensures.made
     refl (ap (λ x. Some (first_facts x)) (sym c.in_ok-beginning.ensures)) (ap (λ r. Ok (Started r)) id) refl refl

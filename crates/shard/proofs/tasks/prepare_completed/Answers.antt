@@ -8,7 +8,7 @@ use Rattle.service_model.specs.Tasks.{complete_judged, continued}
 use Rattle.task_completion.specs.Ends.{IsCompletion}
 use Rattle.shard_store.specs.Fitting.{FitsCreated, FitsStep, state_at, view_at}
 use Rattle.shard.specs.Following.{continuing}
-use Rattle.shard_store.specs.View.{ordinal_of, runs_in, states}
+use Rattle.shard_store.specs.View.{ordinal_of, runs_at, states}
 use Rattle.shard_store.specs.declared.plan.Count.TheVariants as count
 use Rattle.shard_store.proofs.IndexLemmas.{at-place, length-states}
 use Rattle.shard_steps.proofs.TaskLemmas.{running-started}
@@ -16,12 +16,12 @@ use Rattle.shard.proofs.TaskLemmas.{completion-fits}
 use Rattle.shard.proofs.tasks.prepare_completed.Goals as goal
 
 pub complete_in-requires-clause-started : goal.complete_in-requires-clause-started
-complete_in-requires-clause-started g c = let R = runs_in c.args.store.now in ap (λ s. s.task) (sym (at-place R c.args.index)) ∙ ap (λ k. (run_at R k).task) c.requires.run ∙ running-started R c.args.request.now.task c.requires.runs
+complete_in-requires-clause-started g c = let R = runs_at c.args.store.now c.args.moment in ap (λ s. s.task) (sym (at-place R c.args.index)) ∙ ap (λ k. (run_at R k).task) c.requires.run ∙ running-started R c.args.request.now.task c.requires.runs
 
 pub returns-clause-plan : goal.returns-clause-plan
 returns-clause-plan g c =
     let old = c.args.store.now in
-    let R = runs_in old in
+    let R = runs_at old c.args.moment in
     let q = c.args.request.now in
     let i = c.args.index in
     let n = ordinal_of i in
@@ -40,7 +40,7 @@ returns-clause-plan g c =
     ∙ ap (λ l. judge_all setup next (run_at R q.task.run) [] l) c.as_slice-commands.ensures in
     let J : Judged → Type 0 = λ j. IsCompletion (view_at v.runs i) at j done in
     let same = c.in_ok-plan.ensures.same in
-    let known : runs_in v ≡ R = ap (λ s. record { setup = s.setup; states = s.runs }) same in
+    let known : runs_at v at ≡ R = ap (λ s. record { setup = s.setup; moment = at; states = s.runs }) same in
     let M : Runs → List Command → Type 0 = λ r l. FitsCreated w at created (continued r n (continuing done.fault l) (run_at r n).beginning) in
     let made : M R q.commands = subst (λ l. M R l) c.as_slice-commands.ensures (subst (λ r. M r c.as_slice-commands.result.now) known c.in_ok-created.ensures.made) in
     let fits = completion-fits {T = g.row.T.Denot} v w old at i q next all done created same (c.in_ok-created.ensures.same ∙ same) c.in_ok-created.ensures.runs c.in_ok-plan.ensures.there c.in_ok-plan.ensures.noted c.in_ok-created.ensures.noted c.requires.run

@@ -8,7 +8,7 @@ use Rattle.service_model.specs.Journal.{plain}
 use Rattle.service_model.specs.Outcome.{Outcome, adds, run_at}
 use Rattle.task_completion.specs.Ends.{IsPlanned}
 use Rattle.shard_store.specs.Fitting.{FitsStep, view_at}
-use Rattle.shard_store.specs.View.{ordinal_of, runs_in}
+use Rattle.shard_store.specs.View.{ordinal_of, runs_at}
 use Rattle.shard_store.specs.declared.plan.Plan.{Plan}
 use Rattle.shard_store.proofs.IndexLemmas.{at-place}
 use Rattle.shard_steps.proofs.TaskLemmas.{running-started}
@@ -16,12 +16,12 @@ use Rattle.shard.proofs.TaskLemmas.{ended-fits}
 use Rattle.shard.proofs.tasks.prepare_failed.Goals as goal
 
 pub fail_in-requires-clause-started : goal.fail_in-requires-clause-started
-fail_in-requires-clause-started g c = let R = runs_in c.args.store.now in ap (λ s. s.task) (sym (at-place R c.args.index)) ∙ ap (λ k. (run_at R k).task) c.requires.run ∙ running-started R c.args.request.now.task c.requires.runs
+fail_in-requires-clause-started g c = let R = runs_at c.args.store.now c.args.moment in ap (λ s. s.task) (sym (at-place R c.args.index)) ∙ ap (λ k. (run_at R k).task) c.requires.run ∙ running-started R c.args.request.now.task c.requires.runs
 
 pub returns-clause-plan : goal.returns-clause-plan
 returns-clause-plan g c =
     let old = c.args.store.now in
-    let R = runs_in old in
+    let R = runs_at old c.args.moment in
     let i = c.args.index in
     let q = c.args.request.now in
     let v = c.fail_in.new.self in

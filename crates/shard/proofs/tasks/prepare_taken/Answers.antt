@@ -8,21 +8,21 @@ use Rattle.service_model.specs.Journal.{plain}
 use Rattle.service_model.specs.Outcome.{Outcome, run_at, run_id, adds, answered}
 use Rattle.service_model.specs.RunState.{RunState, id_of}
 use Rattle.mutable_state.specs.Steps.{FitStep}
-use Rattle.shard_store.specs.View.{ordinal_of, run_in, runs_in}
+use Rattle.shard_store.specs.View.{ordinal_of, run_in, runs_at}
 use Rattle.shard_store.specs.Fitting.{FitsStep}
 use Rattle.shard_steps.proofs.TaskLemmas.{waiting-scheduled, take-fits}
 use Rattle.shard.proofs.tasks.prepare_taken.Goals as goal
 
 pub prepare_more-requires-clause-fits : goal.prepare_more-requires-clause-fits
 prepare_more-requires-clause-fits g c =
-    let R = runs_in c.args.store.now in
+    let R = runs_at c.args.store.now c.args.moment in
     let s = run_in c.args.store.now c.args.index in
     let scheduled = ap (λ k. (run_at R k).task) c.requires.run ∙ waiting-scheduled R c.args.wanted c.requires.waits in
     subst (λ (l : List Fact). FitStep c.args.moment s l) (sym c.in_ok-facts.ensures) (take-fits c.args.moment c.args.wanted.event s c.requires.open scheduled)
 
 pub returns-clause-plan : goal.returns-clause-plan
 returns-clause-plan g c =
-    let R = runs_in c.args.store.now in
+    let R = runs_at c.args.store.now c.args.moment in
     let h = c.args.wanted in
     let n = ordinal_of c.args.index in
     let T : Run → ℕ → List ℕ → Answer = λ r k i. WorkflowTask (record { attempt = h.attempt; run = r; scheduled = h.event; started = k; workflow_id = i }) in

@@ -6,14 +6,15 @@ use Rattle.wf_event_values.specs.Run.{Run}
 use Rattle.service_model_types.specs.declared.answer.Answer.{Answer}
 use Rattle.service_model_types.specs.declared.answer.Answer.TheVariants.{Fired}
 use Rattle.service_model.specs.Outcome.{Outcome, adds, run_at, run_id}
+use Rattle.service_model.specs.Deadlines.{dues}
 use Rattle.service_model.specs.RunState.{RunState, is_there}
 use Rattle.service_model.specs.TimerTurns.{fire}
 use Rattle.mutable_state.specs.Steps.{FitStep}
-use Rattle.timeouts.specs.Slots.{run_due}
-use Rattle.timeouts.proofs.ClassLemmas.{due-open}
-use Rattle.service_model.proofs.ThereLemmas.{open-there}
+use Rattle.timeouts.specs.Firsts.{of_run}
+use Rattle.timeouts.specs.Slots.{IsOneOf, run_due}
+use Rattle.timeouts.proofs.ClassLemmas.{due-there}
 use Rattle.shard_store.specs.Fitting.{FitsStep}
-use Rattle.shard_store.specs.View.{ordinal_of, run_in, runs_in, states}
+use Rattle.shard_store.specs.View.{ordinal_of, run_in, runs_at, states}
 use Rattle.shard_steps.proofs.TurnLemmas.{fire-fits}
 use Rattle.shard.proofs.turns.prepare_fired.Goals as goal
 
@@ -28,25 +29,32 @@ pub unreachable-requires : goal.unreachable-requires
 unreachable-requires g c =
     let n = c.args.due.run in
     let count = length (states c.args.store.now.runs) in
-    let s = run_at (runs_in c.args.store.now) n in
-    let there : is_there s ≡ true = open-there s (due-open s n (run_due c.args.due) c.requires.its) in
+    let s = run_at (runs_at c.args.store.now c.args.moment) n in
+    let there : is_there s ≡ true = due-there c.args.store.now.setup.retention s n (run_due c.args.due) c.requires.its in
     let clash : true ≡ false = sym (has-run n count (is_there s) c.requires.from c.requires.to there) ∙ c.place_of.ensures.some ∙ ap (λ o. is_some o) c.in_default.is in
     absurd (cc)
+
+pub fired_facts-requires : goal.fired_facts-requires
+fired_facts-requires g c =
+    let d = c.args.due in
+    let R = runs_at c.args.store.now c.args.moment in
+    let retention = c.args.store.now.setup.retention in
+    (retention, subst (λ s. IsOneOf (run_due d) (of_run d.run (dues retention s))) (sym (c.run.ensures ∙ ap (λ k. run_at R k) c.in-Some.ensures.found)) c.requires.its)
 
 pub prepare_more-requires-clause-fits : goal.prepare_more-requires-clause-fits
 prepare_more-requires-clause-fits g c =
     let d = c.args.due in
     let m = c.args.moment in
-    let R = runs_in c.args.store.now in
+    let R = runs_at c.args.store.now c.args.moment in
     let made : c.in_ok-facts.facts ≡ fire (run_in c.args.store.now c.in-Some.index) m d.event d.class = c.in_ok-facts.ensures ∙ ap (λ (x : RunState). fire x m d.event d.class) c.run.ensures in
     let P : ℕ → Type 0 = λ k. FitStep m (run_at R k) (fire (run_at R k) m d.event d.class) in
-    subst (λ (l : List Fact). FitStep m (run_in c.args.store.now c.in-Some.index) l) (sym made) (subst P (sym c.in-Some.ensures.found) (fire-fits m (run_at R d.run) (run_due d) c.requires.its))
+    subst (λ (l : List Fact). FitStep m (run_in c.args.store.now c.in-Some.index) l) (sym made) (subst P (sym c.in-Some.ensures.found) (fire-fits m c.args.store.now.setup.retention (run_at R d.run) (run_due d) c.requires.its))
 
 pub returns-clause-plan : goal.returns-clause-plan
 returns-clause-plan g c =
     let d = c.args.due in
     let m = c.args.moment in
-    let R = runs_in c.args.store.now in
+    let R = runs_at c.args.store.now c.args.moment in
     let n = ordinal_of c.in-Some.index in
     let made : c.in_ok-facts.facts ≡ fire (run_at R n) m d.event d.class = c.in_ok-facts.ensures ∙ ap (λ (x : RunState). fire x m d.event d.class) c.run.ensures in
     let T : Run → Answer = λ r. Fired (record { class = d.class; due = d.due; event = d.event; run = r }) in

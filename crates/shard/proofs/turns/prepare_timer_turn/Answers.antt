@@ -3,10 +3,10 @@ use Rattle.std.specs.Prelude.{option_map}
 use Rattle.timeouts.specs.Firsts.{IsOfRun}
 use Rattle.timeouts.specs.Slots.{run_due}
 use Rattle.timeouts.proofs.FirstLemmas.{due-of-run}
-use Rattle.shard_store.specs.View.{states}
+use Rattle.shard_store.specs.View.{ShardState, states}
 use Rattle.shard.proofs.turns.prepare_timer_turn.Goals as goal
 
 pub prepare_fired-requires : goal.prepare_fired-requires
 prepare_fired-requires g c =
     let fires = sym c.in_ok-due.ensures.due ∙ ap (option_map run_due) c.in-Some.is in
-    subst (λ runs. IsOfRun (run_due c.in-Some.due) runs) (sym (ap (λ s. s.runs) c.in_ok-due.ensures.same)) (due-of-run (states c.args.store.now.runs) c.args.moment (run_due c.in-Some.due) fires)
+    subst (λ (s : ShardState). IsOfRun s.setup.retention (run_due c.in-Some.due) s.runs) (sym c.in_ok-due.ensures.same) (due-of-run c.args.store.now.setup.retention (states c.args.store.now.runs) c.args.moment (run_due c.in-Some.due) fires)

@@ -7,14 +7,14 @@ use Rattle.service_model.specs.Deadlines.{scheduled_fields}
 use Rattle.service_model.specs.Outcome.{Outcome}
 use Rattle.service_model.specs.Retry.{FailedAttempt, Verdict}
 use Rattle.shard_store.specs.Fitting.{FitsStep}
-use Rattle.shard_store.specs.View.{runs_in}
+use Rattle.shard_store.specs.View.{runs_at}
 use Rattle.shard.specs.Running.{row_of}
 use Rattle.shard_steps.proofs.EndingLemmas.{failed-by}
 use Rattle.shard.proofs.verdicts.prepare_fail_activity.Goals as goal
 
 pub returns-clause-plan : goal.returns-clause-plan
 returns-clause-plan g c =
-    let R = runs_in c.args.store.now in
+    let R = runs_at c.args.store.now c.args.moment in
     let q = c.args.request.now in
     let row = row_of c.in-Some.attempt in
     let v : Verdict = says c.in-Some-verdict_of.verdict in
@@ -22,4 +22,4 @@ returns-clause-plan g c =
     let judged : Some v ≡ option_map (λ (a : ScheduledAttributes). verdict_at row a (FailedAttempt q.error_type q.non_retryable) c.args.moment) (scheduled_fields row.opened.attributes) =
     ap (option_map says) (sym c.in-Some-verdict_of.is) ∙ c.verdict_of.ensures.verdict ∙ ap (λ o. option_map (λ (a : ScheduledAttributes). verdict_at row a (FailedAttempt o q.non_retryable) c.args.moment) (scheduled_fields row.opened.attributes)) c.as_ref.ensures.value in
     let P : Outcome → Type 0 = λ o. FitsStep {T = g.row.T.Denot} c.prepare_by_verdict.new.store c.in_ok-plan.plan c.args.moment o in
-    subst P (sym (failed-by R c.args.moment q row v found judged)) c.in_ok-plan.ensures.plan
+    subst P (sym (failed-by R q row v found judged)) c.in_ok-plan.ensures.plan

@@ -38,8 +38,8 @@ invariant_of-self g c =
             ∙ sym (ap (λ t. latest_run (states t) id) pushed ∙ latest_run-push id c.self.inside.runs.items c.args.created.run (string_bytes c.args.created.key) c.requires.there c.requires.named);
       },
       omega (arith, ap length pushed, length-append c.self.inside.runs.items (c.args.created.run ∷ []), ap (λ v. length v.runs) c.self.view_is, c.requires.few),
-      subst (λ (l : List (Option Due)). HasFirsts l (record { grown = c.self.inside.changed.grown; made = Some c.len-index.result }) (states c.push.new.self.items)) (sym c.push_none.ensures.slots)
-          (subst (λ n. HasFirsts (c.self.inside.deadlines.slots ++ None ∷ []) (record { grown = c.self.inside.changed.grown; made = Some n }) (states c.push.new.self.items)) (sym states-count)
+      subst (λ (l : List (Option Due)). HasFirsts c.self.inside.setup.retention l (record { grown = c.self.inside.changed.grown; made = Some c.len-index.result }) (states c.push.new.self.items)) (sym c.push_none.ensures.slots)
+          (subst (λ n. HasFirsts c.self.inside.setup.retention (c.self.inside.deadlines.slots ++ None ∷ []) (record { grown = c.self.inside.changed.grown; made = Some n }) (states c.push.new.self.items)) (sym states-count)
           (each-same _ _ _ _ (ap states pushed ∙ states-push c.self.inside.runs.items c.args.created.run)
           (each-added _ _ (states c.self.inside.runs.items) c.args.created.run.state (ap (λ v. v.changed.made) c.self.view_is ∙ c.requires.noted) c.self.invariant.3))),
       subst (λ (l : List ℕ). HasShown l (record { grown = c.self.inside.changed.grown; made = Some c.len-index.result }) (states c.push.new.self.items)) (sym c.add_run.ensures.shown)

@@ -20,11 +20,11 @@ invariant_of-self-2 g c =
     let s = c.index-run.result.now.state in
     let grown = ap (λ v. v.changed.grown) c.self.view_is ∙ c.requires in
     let C : Option ℕ → Option ℕ → Changed = λ a b. record { grown = a; made = b } in
-    let firsts : HasFirsts c.self.inside.deadlines.slots (C None (Some n)) runs = subst (λ o. HasFirsts c.self.inside.deadlines.slots (C o (Some n)) runs) grown (subst (λ o. HasFirsts c.self.inside.deadlines.slots (C c.self.inside.changed.grown o) runs) c.in-Some.is c.self.invariant.3) in
+    let firsts : HasFirsts c.self.inside.setup.retention c.self.inside.deadlines.slots (C None (Some n)) runs = subst (λ o. HasFirsts c.self.inside.setup.retention c.self.inside.deadlines.slots (C o (Some n)) runs) grown (subst (λ o. HasFirsts c.self.inside.setup.retention c.self.inside.deadlines.slots (C c.self.inside.changed.grown o) runs) c.in-Some.is c.self.invariant.3) in
     let counts : HasShown c.self.inside.dispatches.shown (C None (Some n)) runs = subst (λ o. HasShown c.self.inside.dispatches.shown (C o (Some n)) runs) grown (subst (λ o. HasShown c.self.inside.dispatches.shown (C c.self.inside.changed.grown o) runs) c.in-Some.is c.self.invariant.4) in
     let low : n < length c.self.inside.runs.items = omega (arith, firsts.made, length-states c.self.inside.runs.items) in
     let there : slice_get runs n ≡ Some s = get-at runs n firsts.made ∙ ap (λ x. Some x) (states-at c.self.inside.runs.items n c.index-run.result.now low ∙ ap (λ (v : RunView). v.state) (sym c.index-run.ensures)) in
-    let P : List (Option Due) → Option ℕ → Type 0 = λ l o. HasFirsts l (C o None) runs in
+    let P : List (Option Due) → Option ℕ → Type 0 = λ l o. HasFirsts c.self.inside.setup.retention l (C o None) runs in
     let Q : List ℕ → Option ℕ → Type 0 = λ l o. HasShown l (C o None) runs in (
       c.self.invariant.0,
       c.self.invariant.1,
@@ -42,7 +42,7 @@ returns-clause-same g c =
     let d = c.self.inside.dispatches in
     let grown = ap (λ v. v.changed.grown) c.self.view_is ∙ c.requires in
     let C : Option ℕ → Option ℕ → Changed = λ a b. record { grown = a; made = b } in
-    let firsts : HasFirsts c.self.inside.deadlines.slots (C None (Some n)) runs = subst (λ o. HasFirsts c.self.inside.deadlines.slots (C o (Some n)) runs) grown (subst (λ o. HasFirsts c.self.inside.deadlines.slots (C c.self.inside.changed.grown o) runs) c.in-Some.is c.self.invariant.3) in
+    let firsts : HasFirsts c.self.inside.setup.retention c.self.inside.deadlines.slots (C None (Some n)) runs = subst (λ o. HasFirsts c.self.inside.setup.retention c.self.inside.deadlines.slots (C o (Some n)) runs) grown (subst (λ o. HasFirsts c.self.inside.setup.retention c.self.inside.deadlines.slots (C c.self.inside.changed.grown o) runs) c.in-Some.is c.self.invariant.3) in
     let low : n < length c.self.inside.runs.items = omega (arith, firsts.made, length-states c.self.inside.runs.items) in
     let here : slice_index_or runs n no_run ≡ c.index-run.result.now.state = states-at c.self.inside.runs.items n c.index-run.result.now low ∙ ap (λ (v : RunView). v.state) (sym c.index-run.ensures) in
     let issued = c.in_ok-issued.ensures ∙ ap (issued_first setup (n + 1)) (sym here) in
