@@ -67,6 +67,10 @@ fn second_of_two(rt: HostRuntime) -> Result<(), Fail> {
     let replies = seen.missing_replies(alloc, &REPLIES)?;
     assert_missing(&rt, replies, &[]);
     let events = seen.missing_events(alloc, &EVENTS)?;
-    assert_missing(&rt, events, &["WorkflowExecutionContinuedAsNew"]);
+    assert_missing(
+        &rt,
+        events,
+        &["WorkflowExecutionContinuedAsNew", "TimerCanceled"],
+    );
     Ok(())
 }
