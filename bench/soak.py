@@ -5,9 +5,10 @@ Usage: bench/soak.py [SECONDS [SEED]]   (default: 600 seconds, a seed by the clo
 
 Eight lanes over sixteen shards serve starts, signals, cancellations, terminations, polls, completions
 with drawn commands, activities' ends, reads and turns of every kind. What a call needs, as a task's
-token, is drawn from what was answered before. At the end every workflow's history is read, and the
-records are saved. A program that is opened from these has to answer the same histories, and to save
-the same records. The memory that was held is printed beside the bytes of the records.
+token, is drawn from what was answered before. With every second seed what has closed is kept for half
+a second of the lines' moments alone. At the end every workflow's history is read, and the records are
+saved. A program that is opened from these has to answer the same histories, and to save the same
+records. The memory that was held is printed beside the bytes of the records.
 """
 import collections
 import json
@@ -25,6 +26,7 @@ import records
 LANES, SHARDS, QUEUES = 8, 16, 4
 WORKFLOWS, BATCH = 400, 2_000
 KEPT_TOKENS = 3_000
+RETENTION = 500
 # Thousands of replies come within a second, on a machine that is busy too.
 REPLY_SECONDS = 300
 SETTINGS = ["--passes", str(LANES), "--shards", str(SHARDS), "--capacity", "65536"]
@@ -198,12 +200,12 @@ def main():
     seconds = int(sys.argv[1]) if len(sys.argv) > 1 else 600
     seed = int(sys.argv[2]) if len(sys.argv) > 2 else int(time.time())
     drawn, answers, lines = Drawn(seed), collections.Counter(), 0
-    wfserve = records.program()
+    wfserve, retention = records.program(), ["--retention", str(seed % 2 * RETENTION)]
     with tempfile.TemporaryDirectory() as folder:
         first, again = pathlib.Path(folder, "first"), pathlib.Path(folder, "again")
         first.mkdir()
         again.mkdir()
-        program = Program(wfserve, ["--save", str(first)])
+        program = Program(wfserve, [*retention, "--save", str(first)])
         ends = time.monotonic() + seconds
         while time.monotonic() < ends:
             drawn.at += 20
@@ -214,12 +216,12 @@ def main():
         read = histories(program)
         program.end()
         held = resource.getrusage(resource.RUSAGE_CHILDREN).ru_maxrss
-        opened = Program(wfserve, ["--load", str(first), "--save", str(again)])
+        opened = Program(wfserve, [*retention, "--load", str(first), "--save", str(again)])
         read_again = histories(opened)
         opened.end()
         saved = kept(first)
         steps = sum(text.count(b"\n") for text in saved)
-        print(f"seed {seed}: {lines} lines in {seconds} s, {steps} steps, "
+        print(f"seed {seed}, {' '.join(retention)}: {lines} lines in {seconds} s, {steps} steps, "
               f"{sum(map(len, saved)) / 1e6:.1f} MB of records, {held / 1e3:.1f} MB held at most")
         print(", ".join(f"{name} {count}" for name, count in answers.most_common()))
         if read != read_again:

@@ -46,6 +46,7 @@ ROWS = {
         "a child lives on the shard of its workflow ID",
     ],
     "transfer_turns.cases": ["the parts of a turn"],
+    "retention.cases": ["of one workflow ID the older run goes first"],
 }
 OLDER = "an older file\n"
 COUNT_BYTES = 8

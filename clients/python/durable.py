@@ -50,12 +50,15 @@ class Settings:
     service: int = 1
     queues: Sequence[str] = ("main",)
     capacity: int = 1024
+    # For how many milliseconds a workflow that has closed is kept; 0 for ever.
+    retention: int = 0
 
     def options(self) -> List[str]:
         """The program's options for it."""
         return [
             "--shards", str(self.shards), "--service", str(self.service),
             "--queues", ",".join(self.queues), "--capacity", str(self.capacity),
+            "--retention", str(self.retention),
         ]
 
     def header(self, generation: int = 0) -> bytes:

@@ -184,12 +184,14 @@ def words_of(words: List[str]) -> argparse.Namespace:
     add("--shards", type=int, help="how many shards a new log's service has, 1 by default")
     add("--queues", help="the names of a new log's task queues, with commas between them, main by default")
     add("--capacity", type=int, help="how many tasks wait in a queue of a new log's service at most")
+    add("--retention", type=int, help="for how many milliseconds a new log's service keeps what has closed, for ever by default")
     return parser.parse_args(words)
 
 
 def settings_of(said: argparse.Namespace) -> Optional[Settings]:
     """The settings that were named; None where none was, for the log's own."""
-    named = {name: getattr(said, name) for name in ("shards", "capacity") if getattr(said, name) is not None}
+    numbers = ("shards", "capacity", "retention")
+    named = {name: getattr(said, name) for name in numbers if getattr(said, name) is not None}
     if said.queues is not None:
         named["queues"] = tuple(said.queues.split(","))
     return Settings(**named) if named else None

@@ -79,6 +79,8 @@ class Workflows:
             self.add(request["workflow_id"], reply["run"], request["workflow_type"], request.get("at", 0))
         if op == "transfer_turn" and reply["ok"] == "accepted":
             self._all_stale()
+        if op == "timer_turn" and reply.get("class") == "retention":
+            self.remove(reply["run"])
         for run in (reply.get("run"), run_of_token(str(request.get("token", "")), self._service)):
             self._stale(self._by_run.get(run))
         for entry in self._by_workflow.get(request.get("workflow_id"), ()):
@@ -91,6 +93,13 @@ class Workflows:
             self._entries[workflow_id, run] = self._by_run[run] = entry
             self._by_workflow.setdefault(workflow_id, []).append(entry)
         return entry
+
+    def remove(self, run: str) -> None:
+        """Forgets a run that was taken away."""
+        entry = self._by_run.pop(run, None)
+        if entry is not None:
+            del self._entries[entry.workflow_id, run]
+            self._by_workflow[entry.workflow_id].remove(entry)
 
     def _stale(self, entry: Optional[Entry]) -> None:
         if entry is not None and entry.status == "Running":

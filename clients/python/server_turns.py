@@ -19,6 +19,7 @@ LOG = logging.getLogger("wfserve.turns")
 SECOND = 1_000
 DURATIONS = (
     "duration", "schedule_to_start", "start_to_close", "schedule_to_close", "heartbeat", "run_timeout", "task_timeout",
+    "execution_timeout",
 )
 # So many turns of one kind are asked for at once, at most.
 MOST_AT_ONCE = 64

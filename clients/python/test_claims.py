@@ -72,7 +72,7 @@ class Claims(unittest.TestCase):
         for old, new in wrong.items():
             with self.subTest(new=new):
                 self.assertEqual(len(self.faults(look, path, old, new)), 1)
-        for word in ("--capacity", "--trace", "QueueFull", "CommandAfterClose", "retry_ready"):
+        for word in ("--capacity", "--retention", "--trace", "QueueFull", "CommandAfterClose", "retry_ready"):
             with self.subTest(word=word):
                 self.assertEqual(len(look(text_of(path).replace(word, "-"), ROOT)), 1)
 

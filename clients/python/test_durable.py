@@ -9,7 +9,7 @@ import threading
 import time
 import unittest
 
-from durable import DurableService, OtherSettings, RefusedSettings, Settings
+from durable import DurableService, OtherSettings, RefusedSettings, Settings, read_header
 from line_log import LogDamaged, LogInUse
 from programs import BUILT, COUNTING, needs_program
 from wfserve import Clock, Ended, Refused
@@ -90,7 +90,7 @@ class Counted(Durable):
         self.assertEqual(json.loads(reply["said"]), {"op": "signal", "at": 0, "name": "d"})
 
     def test_a_log_has_its_settings(self):
-        settings = Settings(shards=2, queues=("orders", "payments"), capacity=7)
+        settings = Settings(shards=2, queues=("orders", "payments"), capacity=7, retention=86_400_000)
         self.open(settings).close()
         self.assertEqual(self.open().settings, settings)
 
@@ -102,11 +102,20 @@ class Counted(Durable):
             "service is 1, and not 9": Settings(service=9),
             "queues is main, and not main,more": Settings(queues=("main", "more")),
             "capacity is 1024, and not 8": Settings(capacity=8),
+            "retention is 0, and not 1000": Settings(retention=1_000),
         }
         for said, settings in others.items():
             with self.assertRaisesRegex(OtherSettings, said):
                 self.open(settings)
         self.assertEqual(self.log.read_bytes(), data)
+
+    def test_a_log_of_a_time_before_retentions_has_none(self):
+        self.open().close()
+        header = self.log.read_bytes().split(b" ", 2)[2].split(b"\n")[0]
+        self.assertIn(b'"retention":0', header)
+        older = json.loads(header)
+        del older["retention"]
+        self.assertEqual(read_header(json.dumps(older).encode(), "a.log"), (Settings(), 0))
 
     def test_settings_that_the_program_refuses_begin_no_log(self):
         self.program = [*COUNTING[:3], "import sys; sys.exit(2 if '65' in sys.argv else 0)"]

@@ -14,6 +14,7 @@ EXAMPLES = {
     "provisioning.jsonl": ("examples", "a site"),
     "order_and_payment.jsonl": ("examples", "an order and its payment"),
     "signals.jsonl": ("examples", "a signal that is sent twice"),
+    "retention.jsonl": ("examples", "an order that is kept for a day"),
     "start_and_history.jsonl": ("whole_workflows", "start and history"),
 }
 

@@ -20,7 +20,8 @@ from examples import children
 from http_calls import CallLost, NotServed
 from programs import BUILT, COUNTING, SERVER_PYTHON, memory_folder, needs_program, needs_server
 from served import HERE, Server
-from server_list import run_of_token
+from server_list import Workflows, run_id, run_of_token
+from wfserve import Refused
 from workflows import Retry, Worker, input_of, seconds, workflow
 
 SEED = int(os.environ.get("WFSERVE_SEED", random.randrange(1 << 32)))
@@ -157,9 +158,34 @@ async def spoken(ctx, word):
     return await ctx.activity(say, word, start_to_close=seconds(10), retry=Retry(initial=100))
 
 
+class Listed(unittest.TestCase):
+    def test_a_run_that_was_taken_away_is_listed_no_more(self):
+        workflows = Workflows()
+        for number in (1, 2):
+            asked = {"op": "start", "workflow_id": "w", "workflow_type": "spoken", "at": number}
+            workflows.observe(asked, {"line": number, "ok": "started", "run": run_id(1, 0, number)})
+        fired = {"class": "retention", "due": 9, "event": 3, "line": 3, "ok": "fired", "run": run_id(1, 0, 1)}
+        for _ in range(2):
+            workflows.observe({"op": "timer_turn", "shard": 0, "at": 9}, fired)
+            self.assertIsNone(workflows.find("w", run_id(1, 0, 1)))
+            self.assertEqual([entry.run for entry in workflows.search("", "", 10)], [run_id(1, 0, 2)])
+
+
 @needs_server
 @needs_program
 class Served(WithAServer):
+    def test_a_workflow_is_gone_once_its_retention_is_over(self):
+        server = self.serve("--retention", "1500")
+        client = server.client()
+        client.start("w", "spoken")
+        client.start("kept", "spoken")
+        client.terminate("w")
+        self.assertEqual(client.describe("w")["status"], "Terminated")
+        self.wait(lambda: [row["workflow_id"] for row in server.read("/api/workflows")["workflows"]] == ["kept"])
+        with self.assertRaises(Refused):
+            client.history("w")
+        client.start("w", "spoken", reuse="RejectDuplicate")
+
     def test_a_long_poll_gets_the_task_when_it_comes(self):
         server = self.serve()
         found = []

@@ -23,6 +23,7 @@ pub(crate) fn settings<R: Abort + AllocGlobal>(rt: &R) -> Settings
             service: 1,
             queues,
             capacity: DEFAULT_CAPACITY,
+            retention: 0,
         },
         Err(_) => panic!(rt; "no memory"),
     }

@@ -25,6 +25,7 @@ pub(crate) fn settings<R: Abort + AllocGlobal>(rt: &R, shards: u64, passes: u64)
             service: 1,
             queues,
             capacity: DEFAULT_CAPACITY,
+            retention: 0,
         },
         Err(_) => panic!(rt; "no memory"),
     }

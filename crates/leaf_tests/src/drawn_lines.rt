@@ -161,6 +161,7 @@ fn settings(alloc: Global) -> Result<Settings, AllocError> {
         service: 1,
         queues: main_queue(alloc)?,
         capacity: DEFAULT_CAPACITY,
+        retention: 0,
     })
 }
 

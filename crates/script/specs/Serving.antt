@@ -44,4 +44,5 @@ text_of number (Some reply) = reply_line number reply
 abbrev pub IsOutOfRange : Settings → List ℕ → Type 0
 IsOutOfRange K name =
     ((name ≡ codes "shards") × ((K.shards ≡ 0) ⊎ (64 < K.shards))) ⊎ (((name ≡ codes "service") × (2 ^ 48 ≤ K.service))
-    ⊎ (((name ≡ codes "queues") × (are_queues K.queues ≡ false)) ⊎ ((name ≡ codes "capacity") × ((K.capacity ≡ 0) ⊎ (65536 < K.capacity)))))
+    ⊎ (((name ≡ codes "queues") × (are_queues K.queues ≡ false)) ⊎ (((name ≡ codes "capacity") × ((K.capacity ≡ 0) ⊎ (65536 < K.capacity)))
+    ⊎ ((name ≡ codes "retention") × (10 ^ 12 < K.retention)))))

@@ -14,7 +14,7 @@ option_rule name = record (new_rule name) { long = Some name }
 unfoldable pub flag_rule : Text → Rule
 flag_rule name = record (option_rule name) { action = Some SetTrue }
 
--- wfserve [--shards N] [--passes P] [--service K] [--queues NAMES] [--capacity C] [--load DIR] [--save DIR] [--trace] [FILE]
+-- wfserve [--shards N] [--passes P] [--service K] [--queues NAMES] [--capacity C] [--retention MS] [--load DIR] [--save DIR] [--trace] [FILE]
 unfoldable pub wfserve : App
 wfserve =
     let command = new_app (codes "wfserve") in
@@ -23,6 +23,7 @@ wfserve =
     let command = with_rule command (option_rule (codes "service")) in
     let command = with_rule command (option_rule (codes "queues")) in
     let command = with_rule command (option_rule (codes "capacity")) in
+    let command = with_rule command (option_rule (codes "retention")) in
     let command = with_rule command (option_rule (codes "load")) in
     let command = with_rule command (option_rule (codes "save")) in
     let command = with_rule command (flag_rule (codes "trace")) in

@@ -20,6 +20,7 @@ pub record Sets (words : List Text) (c : CommandLine) : Type 0 where
   pub service : IsSetTo 1 (codes "service") (matches_in words) c.settings.service
   pub queues : AreSetTo (matches_in words) c.settings.queues
   pub capacity : IsSetTo 1024 (codes "capacity") (matches_in words) c.settings.capacity
+  pub retention : IsSetTo 0 (codes "retention") (matches_in words) c.settings.retention
   pub file : text_of c.file ≡ first_of (codes "FILE") (matches_in words)
   pub load : text_of c.load ≡ first_of (codes "load") (matches_in words)
   pub save : text_of c.save ≡ first_of (codes "save") (matches_in words)

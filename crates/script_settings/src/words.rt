@@ -26,6 +26,9 @@ const QUEUES: &str =
 
 const CAPACITY: &str = "How many hints wait in a task queue at most: 1 to 65536, 1024 by default";
 
+const RETENTION: &str =
+    "For how many milliseconds a closed workflow is kept: 0 to 10^12, 0 (for ever) by default";
+
 const LOAD: &str = "The folder whose records are opened from: shard-00.rec, shard-01.rec and so on";
 
 const SAVE: &str = "The folder that the records are saved in at the end; it may be the one loaded";
@@ -76,6 +79,7 @@ fn matched<'a>(alloc: Global, words: &'a [&'a str]) -> Result<ArgMatches<'a>, Er
     let command = with_option(alloc, command, "service", SERVICE)?;
     let command = with_option(alloc, command, "queues", QUEUES)?;
     let command = with_option(alloc, command, "capacity", CAPACITY)?;
+    let command = with_option(alloc, command, "retention", RETENTION)?;
     let command = with_option(alloc, command, "load", LOAD)?;
     let command = with_option(alloc, command, "save", SAVE)?;
     let command = with_flag(alloc, command, "trace", TRACE)?;
@@ -123,12 +127,14 @@ pub fn settings_of<'a>(alloc: Global, words: &'a [&'a str]) -> Result<CommandLin
     let service = number(&matches, "service", 1)?;
     let queues = queues(alloc, &matches)?;
     let capacity = number(&matches, "capacity", DEFAULT_CAPACITY)?;
+    let retention = number(&matches, "retention", 0)?;
     let settings = Settings {
         shards,
         passes,
         service,
         queues,
         capacity,
+        retention,
     };
     let load = matches.get_str("load");
     let trace = flag(&matches, "trace");

@@ -1,6 +1,8 @@
 //! Scripts of as many tasks, deadlines and transfers as a service is asked for in a day, none of which
 //! is to be refused.
 
+ghost use Rattle.std.specs.Prelude.{◌≡◌};
+
 use crate::runs::defaults;
 use script::run_one;
 use service_model_types::settings::Settings;
@@ -19,11 +21,16 @@ const SENDERS: u64 = 5;
 const SIGNALS: u64 = 2_000;
 
 /// What the script prints, none of whose replies is a refusal.
-fn printed<R: Abort + AllocGlobal + Wait>(rt: &R, script: &str) -> Result<String, AllocError> {
+fn printed<R: Abort + AllocGlobal + Wait>(
+    rt: &R,
+    settings: &Settings,
+    script: &str,
+) -> Result<String, AllocError>
+    requires { settings.now.passes ≡ 1 }
+{
     let mut reader = Counted::new(script.as_bytes());
     let mut writer = Counted::new(Vec::new(rt.alloc()));
-    let settings: Settings = defaults(rt);
-    match run_one::<Shard, _, _, _>(rt, rt.alloc(), &settings, false, &mut reader, &mut writer) {
+    match run_one::<Shard, _, _, _>(rt, rt.alloc(), settings, false, &mut reader, &mut writer) {
         Ok(outcome) if !outcome.refused => {}
         _ => panic!(rt; "a refusal, or a fault"),
     }
@@ -66,7 +73,7 @@ fn ten_thousand_tasks_are_taken(rt: HostRuntime) -> Result<(), AllocError> {
         script.push_str("{\"op\":\"dispatch_turn\",\"shard\":0}\n")?;
         script.push_str("{\"op\":\"poll_workflow_task\",\"task_queue\":\"main\"}\n")?;
     }
-    let text = printed(&rt, &script)?;
+    let text = printed(&rt, &defaults(&rt), &script)?;
     assert_eq!(rt; count(&text, "\"ok\":\"dispatched\""), TASKS);
     assert_eq!(rt; count(&text, "\"ok\":\"task\""), TASKS);
     Ok(())
@@ -82,8 +89,38 @@ fn five_thousand_runs_time_out(rt: HostRuntime) -> Result<(), AllocError> {
     for _ in 0..RUNS {
         script.push_str("{\"at\":2000,\"op\":\"timer_turn\",\"shard\":0}\n")?;
     }
-    let text = printed(&rt, &script)?;
+    let text = printed(&rt, &defaults(&rt), &script)?;
     assert_eq!(rt; count(&text, "\"class\":\"run_timeout\""), RUNS);
+    Ok(())
+}
+
+/// As many runs time out and are taken away, and then each workflow begins anew.
+#[test]
+fn five_thousand_runs_come_and_go(rt: HostRuntime) -> Result<(), AllocError> {
+    let mut settings = defaults(&rt);
+    settings.retention = 1000;
+    let mut script = String::new(rt.alloc());
+    for number in 0..RUNS {
+        push_start(rt.alloc(), &mut script, number, ",\"run_timeout\":1000")?;
+    }
+    for _ in 0..RUNS {
+        script.push_str("{\"at\":2000,\"op\":\"timer_turn\",\"shard\":0}\n")?;
+    }
+    for _ in 0..RUNS {
+        script.push_str("{\"at\":3000,\"op\":\"timer_turn\",\"shard\":0}\n")?;
+    }
+    for number in 0..RUNS {
+        push_start(
+            rt.alloc(),
+            &mut script,
+            number,
+            ",\"reuse\":\"RejectDuplicate\"",
+        )?;
+    }
+    let text = printed(&rt, &settings, &script)?;
+    assert_eq!(rt; count(&text, "\"class\":\"run_timeout\""), RUNS);
+    assert_eq!(rt; count(&text, "\"class\":\"retention\""), RUNS);
+    assert_eq!(rt; count(&text, "\"ok\":\"started\""), RUNS.saturating_mul(2));
     Ok(())
 }
 
@@ -129,7 +166,7 @@ fn ten_thousand_signals_are_sent(rt: HostRuntime) -> Result<(), AllocError> {
         script.push_str("{\"from\":0,\"op\":\"transfer_turn\",\"to\":0}\n")?;
     }
     script.push_str("{\"op\":\"describe\",\"workflow_id\":\"target\"}\n")?;
-    let text = printed(&rt, &script)?;
+    let text = printed(&rt, &defaults(&rt), &script)?;
     assert_eq!(rt; count(&text, "\"ok\":\"accepted\""), 2 * SENDERS * SIGNALS);
     assert_eq!(rt; count(&text, "\"length\":10002"), 1);
     Ok(())

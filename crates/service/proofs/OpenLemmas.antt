@@ -8,13 +8,14 @@ use Rattle.service_model_types.specs.declared.settings.Settings.{Settings}
 use Rattle.service.specs.Ranges.{are_different, range_fault, stands_in}
 use Rattle.service.specs.Services.{IsInRange}
 
-five-tests : (a b c d n : Bool) (e f g h i : Refusal) → ◌≡◌ {A = Result (Unit {0}) Refusal} (if a then (if b then (if c then (if d then (if n then Ok tt else Err e) else Err f) else Err g) else Err h) else Err i) (Ok tt) → (a ≡ true) × (b ≡ true) × (c ≡ true) × (d ≡ true) × (n ≡ true)
-five-tests true true true true true e f g h i is = (refl, refl, refl, refl, refl)
-five-tests true true true true false e f g h i is = absurd (cc)
-five-tests true true true false n e f g h i is = absurd (cc)
-five-tests true true false d n e f g h i is = absurd (cc)
-five-tests true false c d n e f g h i is = absurd (cc)
-five-tests false b c d n e f g h i is = absurd (cc)
+six-tests : (a b c d n m : Bool) (e f g h i j : Refusal) → ◌≡◌ {A = Result (Unit {0}) Refusal} (if a then (if b then (if c then (if d then (if n then (if m then Ok tt else Err j) else Err e) else Err f) else Err g) else Err h) else Err i) (Ok tt) → (a ≡ true) × (b ≡ true) × (c ≡ true) × (d ≡ true) × (n ≡ true) × (m ≡ true)
+six-tests true true true true true true e f g h i j is = (refl, refl, refl, refl, refl, refl)
+six-tests true true true true true false e f g h i j is = absurd (cc)
+six-tests true true true true false m e f g h i j is = absurd (cc)
+six-tests true true true false n m e f g h i j is = absurd (cc)
+six-tests true true false d n m e f g h i j is = absurd (cc)
+six-tests true false c d n m e f g h i j is = absurd (cc)
+six-tests false b c d n m e f g h i j is = absurd (cc)
 
 two-tests : (a b : Bool) → (a && b) ≡ true → (a ≡ true) × (b ≡ true)
 two-tests true true h = (refl, refl)
@@ -24,7 +25,7 @@ two-tests false b h = absurd (cc)
 -- settings without a fault are in their ranges
 pub in-range : (K : Settings) → range_fault K ≡ Ok tt → IsInRange K
 in-range K h =
-    let all = five-tests _ _ _ _ _ _ _ _ _ _ h in
+    let all = six-tests _ _ _ _ _ _ _ _ _ _ _ _ h in
     let shards = two-tests (nat_le 1 K.shards) (nat_le K.shards 64) all.0 in
     let passes = two-tests (nat_le 1 K.passes) (nat_le K.passes 256) all.1 in
     let queues = two-tests (nat_le 1 (length K.queues) && nat_le (length K.queues) 64) (are_different K.queues) all.3 in
@@ -39,6 +40,7 @@ in-range K h =
     let q1 : nat_le (length K.queues) 64 ≡ true = names.1 in
     let c0 : nat_le 1 K.capacity ≡ true = capacity.0 in
     let c1 : nat_le K.capacity 65536 ≡ true = capacity.1 in
+    let r0 : nat_le K.retention (10 ^ 12) ≡ true = all.5 in
     record {
       some_shard = grind (arith, nat_tests);
       few_shards = grind (arith, nat_tests);
@@ -50,6 +52,7 @@ in-range K h =
       different = queues.1;
       some_capacity = grind (arith, nat_tests);
       few_capacity = grind (arith, nat_tests);
+      retention = grind (arith, nat_tests);
     }
 
 -- names that are looked at from one place on

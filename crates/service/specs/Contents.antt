@@ -20,7 +20,7 @@ use Rattle.service_model.specs.Service.{opening}
 
 -- a shard's setup
 abbrev pub setup_of : Settings → ℕ → Setup
-setup_of K shard = record { service = K.service; shard = shard; shards = K.shards; queues = K.queues; retention = 0 }
+setup_of K shard = record { service = K.service; shard = shard; shards = K.shards; queues = K.queues; retention = K.retention }
 
 -- the contents of all shards at opening
 abbrev pub opening_contents : Settings → List Content

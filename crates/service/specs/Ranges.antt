@@ -1,7 +1,7 @@
 -- MEANING: the first setting that is out of its range
-use Rattle.std.specs.Prelude.{ℕ, ◌&&◌, Bool, true, not, nat_le, nat_lt, bytes_eq, length, if◌then◌else◌, List, [], ◌∷◌, Result, Ok, Err}
+use Rattle.std.specs.Prelude.{ℕ, ◌^◌, ◌&&◌, Bool, true, not, nat_le, nat_lt, bytes_eq, length, if◌then◌else◌, List, [], ◌∷◌, Result, Ok, Err}
 use Rattle.std.specs.List.{list_any}
-use Rattle.wf_event_values.specs.declared.field.Field.TheVariants.{Shards, Passes, Service, Queues, Capacity}
+use Rattle.wf_event_values.specs.declared.field.Field.TheVariants.{Shards, Passes, Service, Queues, Capacity, Retention}
 use Rattle.wf_event_values.specs.declared.refusal.Refusal.{Refusal}
 use Rattle.wf_event_values.specs.declared.refusal.Refusal.TheVariants.{InvalidArgument}
 use Rattle.service_model_types.specs.declared.settings.Settings.{Settings}
@@ -24,7 +24,9 @@ range_fault K =
     then (if nat_le 1 K.passes && nat_le K.passes most_passes
     then (if nat_lt K.service service_numbers
     then (if are_queues K.queues
-    then (if nat_le 1 K.capacity && nat_le K.capacity most_capacity then Ok tt else Err (InvalidArgument Capacity))
+    then (if nat_le 1 K.capacity && nat_le K.capacity most_capacity
+    then (if nat_le K.retention (10 ^ 12) then Ok tt else Err (InvalidArgument Retention))
+    else Err (InvalidArgument Capacity))
     else Err (InvalidArgument Queues))
     else Err (InvalidArgument Service))
     else Err (InvalidArgument Passes))

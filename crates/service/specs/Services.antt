@@ -1,5 +1,6 @@
 -- MEANING: what a clause reads of a service and of its passes
 use Rattle.std.specs.Prelude.{◌≡◌, ℕ, ◌<◌, ◌≤◌, true, List, length, Option, None, Some, Err, Result, IfOk, IfErr}
+use Rattle.wf_event_values.specs.Limits.{IsSpan}
 use Rattle.wf_event_values.specs.declared.refusal.Refusal.{Refusal}
 use Rattle.service_model_types.specs.declared.call.StepCall.{StepCall}
 use Rattle.service_model_types.specs.declared.content.Content.{Content}
@@ -48,6 +49,7 @@ pub record IsInRange (K : Settings) : Type 0 where
   pub different : are_different K.queues ≡ true
   pub some_capacity : 1 ≤ K.capacity
   pub few_capacity : K.capacity ≤ most_capacity
+  pub retention : IsSpan K.retention
 
 -- the service was opened by its settings
 pub record IsOpened (x : Service) : Type 0 where

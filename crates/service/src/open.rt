@@ -30,7 +30,7 @@ use shard_gate::{KeepsShard, Opened, ShardGate, ShardPass};
 use std::alloc::{AllocError, Global};
 use std::sync::Mutex;
 use step_record::Record;
-use wf_event_values::{Field, Id, Refusal};
+use wf_event_values::{Field, Id, LONGEST_SPAN, Refusal};
 
 impl<S: KeepsShard> Service<S> {
     /// Opens a service and gives its passes, numbered from 0.
@@ -42,7 +42,7 @@ impl<S: KeepsShard> Service<S> {
     ///
     /// # Errors
     /// `InvalidArgument` with the first setting out of its range, in the order shards, passes,
-    /// service, queues, capacity, and then with `records` where there is neither none nor one of each
+    /// service, queues, capacity, retention, and then with `records` where there is neither none nor one of each
     /// shard; `QueueFull` where the hints don't fit; `NoMemory`.
     pub fn open(
         alloc: Global,
@@ -116,6 +116,9 @@ fn check_ranges(settings: &Settings) -> Result<(), Refusal>
     }
     if settings.capacity < 1 || settings.capacity > MOST_CAPACITY {
         return Err(Refusal::InvalidArgument(Field::Capacity));
+    }
+    if settings.retention > LONGEST_SPAN {
+        return Err(Refusal::InvalidArgument(Field::Retention));
     }
     Ok(())
 }

@@ -11,7 +11,7 @@ use service_model_types::request::Request;
 use service_model_types::settings::Settings;
 use std::alloc::{AllocError, Global};
 use step_record::Record;
-use wf_event_values::Span;
+use wf_event_values::{Field, Span};
 
 /// A record for each shard: those that are given, or else empty ones.
 fn one_each(
@@ -40,12 +40,15 @@ fn setup(alloc: Global, settings: &Settings, shard: u64) -> Result<Setup, AllocE
     ensures { IfOk result (λ s. s ≡ setup_of settings.now shard) }
 {
     let queues = settings.copy_queues(alloc)?;
+    let Ok(retention) = Span::new(Field::Retention, settings.retention) else {
+        unreachable!()
+    };
     Ok(Setup {
         service: settings.service,
         shard: shard as u16,
         shards: settings.shards as u16,
         queues,
-        retention: Span::none(),
+        retention,
     })
 }
 

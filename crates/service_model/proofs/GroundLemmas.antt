@@ -1,10 +1,8 @@
 -- What grounds a request stays so as records grow, and each part of a transfer turn grounds the next.
-use Rattle.std.proofs.Common.{◌≡◌, ◌⊎◌, inl, inr, ⊎_elim, ℕ, zero, suc, ◌+◌, ◌-◌, ◌<◌, ◌≤◌, Bool, true, false, cond, List, [], ◌∷◌, ◌++◌, length, refl, sym, ap, ◌∙◌, subst, arith, append_assoc, length-set, Option, Some, None, Ok, Err}
+use Rattle.std.proofs.Common.{◌≡◌, ◌⊎◌, inl, inr, ⊎_elim, ℕ, zero, suc, ◌+◌, ◌-◌, ◌<◌, ◌≤◌, Bool, true, false, cond, List, [], ◌∷◌, ◌++◌, length, refl, ap, ◌∙◌, subst, arith, length-set, Option, Some, None, Ok}
 use Rattle.std.proofs.lemmas.Bool.Decides.{nat_tests}
-use Rattle.std.specs.Prelude.{slice_get, slice_set, slice_index_or, nat_le, nat_lt, ◌==◌, ◌&&◌, not}
-use Rattle.service_model_types.specs.declared.answer.Answer.TheVariants.{Transfer as ATransfer, NoTransfer}
+use Rattle.std.specs.Prelude.{slice_get, slice_set, slice_index_or, nat_lt, ◌&&◌, not}
 use Rattle.service_model_types.specs.declared.content.Content.{Content}
-use Rattle.service_model_types.specs.declared.content.Setup.{Setup}
 use Rattle.service_model_types.specs.declared.request.Acknowledge.{Acknowledge}
 use Rattle.service_model_types.specs.declared.request.Operation.{Operation}
 use Rattle.service_model_types.specs.declared.request.Operation.TheVariants as operation

@@ -1,9 +1,7 @@
 -- each task that waits goes to a queue that the service knows
 use Rattle.std.proofs.Common.{◌≡◌, ℕ, zero, suc, ◌+◌, ◌-◌, ◌<◌, Bool, true, false, cond, List, [], ◌∷◌, ◌++◌, length, refl, ap, ◌∙◌, subst, arith, Option, Some, None}
 use Rattle.std.proofs.lemmas.Bool.Decides.{nat_tests}
-use Rattle.std.proofs.lemmas.List.{length-map}
-use Rattle.std.proofs.lemmas.List.Elements.{filter_map-append}
-use Rattle.std.specs.Prelude.{filter, filter_map, find, flat_map, is_some, map, nat_lt, option_and_then, option_map, slice_index_or, slice_set, unwrap_or, ◌&&◌, ◌||◌, ◌==◌, bytes_eq, not}
+use Rattle.std.specs.Prelude.{filter, find, flat_map, is_some, map, nat_lt, option_and_then, option_map, slice_index_or, slice_set, unwrap_or, ◌&&◌, ◌||◌, ◌==◌, bytes_eq, not}
 use Rattle.std.specs.List.{AllByRecursion, cons_option, enumerate_from, fold, list_any, position, position_or_len}
 use Rattle.wf_event.specs.declared.event.Event.{Event}
 use Rattle.wf_event.specs.declared.attributes.Attributes.{Attributes}
@@ -24,23 +22,23 @@ use Rattle.service_model.specs.Issued.{row_dispatch, task_dispatch}
 use Rattle.service_model.specs.Journal.{Journal, Made, events_made, first_some, latest, made_at}
 use Rattle.service_model.specs.Outcome.{Added, Counting, CountsNothing, AcceptsFrom, AcknowledgesTo, CountsDispatch, Outcome}
 use Rattle.service_model.specs.Pending.{in_use, is_closed, is_in_use, is_settled}
-use Rattle.service_model.specs.RunState.{ActivityRow, Beginning, RunState, activity_row, beginning, beginning_by, beginning_part, held_attributes, last_task, no_run, row_of, state_of}
-use Rattle.service_model.specs.Service.{Entry, after, content_after, entries, journal_at, moment_of, opening, outcome, replay, runs_of, with_added, with_count, with_created}
-use Rattle.service_model.specs.Shown.{Keyed, key_of, keyed, numbered, ordered, put_all, put_in_order, shown, visible}
+use Rattle.service_model.specs.RunState.{ActivityRow, Beginning, RunState, activity_row, beginning, beginning_by, beginning_part, held_attributes, is_there, last_task, no_run, row_of, state_of}
+use Rattle.service_model.specs.Service.{Entry, after, content_after, entries, journal_at, moment_of, opening, outcome, replay, runs_of, with_added, with_count, with_created, with_removed}
+use Rattle.service_model.specs.Shown.{shown}
 use Rattle.service_model.specs.Tasks.{is_queued, is_scheduled_task, pending_row}
 use Rattle.service_model.specs.Waiting.{queued_dispatch, waiting, waiting_of, waiting_task}
 use Rattle.service_model.specs.WaitingLaws.{IsNamed, WaitingAreNamed}
-use Rattle.service_model.specs.Windows.{Placed, placed}
-use Rattle.service_model.proofs.LatestLemmas.{latest-append}
-use Rattle.service_model.proofs.QueueLemmas.{AddsKnown, MakesKnown, AllHaveQueues, AllKnown, BeginsRun, HasQueue, IsBeginning, IsKnown, IsKnownFact, Names, all-both, outcome-names}
+use Rattle.service_model.proofs.AddingLemmas.{AddedThere, AddsThere, outcome-adds}
+use Rattle.service_model.proofs.QueueLemmas.{AddsKnown, MakesKnown, AllHaveQueues, AllKnown, HasQueue, IsKnown, IsKnownFact, Names, all-both, outcome-names}
+use Rattle.service_model.proofs.ShownLemmas.{IfHas, all-found, all-kept, all-made, all-shown}
+use Rattle.service_model.proofs.ThereLemmas.{none-there}
 
--- the journal's events name known queues, and one of them began the run
+-- the journal's events name known queues
 abbrev IsKnownEntry : Setup → JournalEntry → Type 0
 IsKnownEntry setup e = IsKnownFact setup e.fact
 
-pub record IsKnownRun (setup : Setup) (J : Journal) : Type 0 where
-  pub known : AllByRecursion (IsKnownEntry setup) J
-  pub begun : is_some (beginning J) ≡ true
+abbrev pub IsKnownRun : Setup → Journal → Type 0
+IsKnownRun setup J = AllByRecursion (IsKnownEntry setup) J
 
 -- the queue of a run's workflow tasks is that of its beginning
 abbrev HasKnownQueue : Setup → Option Beginning → Type 0
@@ -63,19 +61,23 @@ latest-known setup (e ∷ J) h = by_fact e.fact h.0 (latest-known setup J h.1)
     by_fact (an_event f) known rest = first-known setup (latest beginning_part (events_made J)) _ rest (began-known setup e.moment f.request_id f.attributes known)
     by_fact (a_note n) known rest = rest
 
-has-queue : (setup : Setup) (J : Journal) → IsKnownRun setup J → HasQueue setup (state_of J)
+-- that of a run that is there
+abbrev HasIfThere : Setup → RunState → Type 0
+HasIfThere setup s = is_there s ≡ true → HasQueue setup s
+
+has-queue : (setup : Setup) (J : Journal) → IsKnownRun setup J → HasIfThere setup (state_of J)
 unfolding beginning
-has-queue setup J h = by_beginning (latest beginning_part (events_made J)) (latest-known setup J h.known) h.begun
+has-queue setup J h there = by_beginning (latest beginning_part (events_made J)) (latest-known setup J h) there
   where
     by_beginning : (o : Option Beginning) → HasKnownQueue setup o → is_some o ≡ true → knows_queue setup (unwrap_or (option_map (λ (b : Beginning). b.attributes.task_queue) o) []) ≡ true
     by_beginning None known begun = absurd (cc)
     by_beginning (Some b) known begun = known
 
 -- what stands at a place, and a list with another member there
-at-place : {A : Type 0} (P : A → Type 0) (xs : List A) (n : ℕ) (d : A) → AllByRecursion P xs → n < length xs → P (slice_index_or xs n d)
-at-place P [] n d h there = absurd (omega arith)
-at-place P (x ∷ xs) zero d h there = h.0
-at-place P (x ∷ xs) (suc n) d h there = at-place P xs n d h.1 (omega arith)
+at-place : {A : Type 0} (P : A → Type 0) (xs : List A) (n : ℕ) (d : A) → AllByRecursion P xs → P d → P (slice_index_or xs n d)
+at-place P [] n d h other = other
+at-place P (x ∷ xs) zero d h other = h.0
+at-place P (x ∷ xs) (suc n) d h other = at-place P xs n d h.1 other
 
 set-all : {A : Type 0} (P : A → Type 0) (xs : List A) (n : ℕ) (x : A) → AllByRecursion P xs → (n < length xs → P x) → AllByRecursion P (slice_set xs n x)
 set-all P [] n x h here = tt
@@ -87,57 +89,35 @@ entries-known : (setup : Setup) (step moment n : ℕ) (facts : List Fact) → Al
 entries-known setup step moment n [] h = tt
 entries-known setup step moment n (f ∷ facts) h = (h.0, entries-known setup step moment (n + 1) facts h.1)
 
-first-some : {B : Type 0} (a b : Option B) → is_some b ≡ true → is_some (first_some a b) ≡ true
-first-some None b h = h
-first-some (Some x) b h = refl
-
-grown-known : (setup : Setup) (J K : Journal) → IsKnownRun setup J → AllByRecursion (IsKnownEntry setup) K → IsKnownRun setup (J ++ K)
-unfolding beginning
-grown-known setup J K h more = record {
-  known = all-both (IsKnownEntry setup) J K h.known more;
-  begun =
-      ap (λ l. is_some (latest beginning_part l)) (filter_map-append (λ (e : JournalEntry). made_at e.step e.moment e.fact) J K)
-      ∙ ap is_some (latest-append beginning_part (events_made J) (events_made K))
-      ∙ first-some (latest beginning_part (events_made K)) (latest beginning_part (events_made J)) h.begun;
-}
-
-made-known : (setup : Setup) (step moment : ℕ) (facts : List Fact) → AllKnown setup facts → IsBeginning facts → IsKnownRun setup (entries step moment 0 facts)
-unfolding beginning
-made-known setup step moment [] h first = absurd first
-made-known setup step moment (a_note n ∷ facts) h first = absurd first
-made-known setup step moment (an_event f ∷ facts) h first = record {
-  known = entries-known setup step moment 0 (an_event f ∷ facts) h;
-  begun = first-some (latest beginning_part (events_made (entries step moment (0 + 1) facts))) (beginning_by moment f.request_id f.attributes) (by_kind f.attributes first);
-}
-  where
-    by_kind : (a : Attributes) → BeginsRun a → is_some (beginning_by moment f.request_id a) ≡ true
-    by_kind (WorkflowExecutionStarted a) begins = refl
-    by_kind _ begins = absurd begins
-
 -- all runs of a content
 abbrev pub AreKnownRuns : Content → Type 0
 AreKnownRuns S = AllByRecursion (IsKnownRun S.setup) S.runs
 
-have-queues : (setup : Setup) (runs : List Journal) → AllByRecursion (IsKnownRun setup) runs → AllByRecursion (HasQueue setup) (map state_of runs)
+have-queues : (setup : Setup) (runs : List Journal) → AllByRecursion (IsKnownRun setup) runs → AllByRecursion (HasIfThere setup) (map state_of runs)
 have-queues setup [] h = tt
 have-queues setup (J ∷ runs) h = (has-queue setup J h.0, have-queues setup runs h.1)
 
 all-have : (S : Content) (m : ℕ) → AreKnownRuns S → AllHaveQueues (runs_of S m)
-all-have S m h n there = at-place (HasQueue S.setup) (map state_of S.runs) (n - 1) no_run (have-queues S.setup S.runs h) there
+unfolding no_run
+all-have S m h n there = at-place (HasIfThere S.setup) (map state_of S.runs) (n - 1) no_run (have-queues S.setup S.runs h) (λ begun. absurd (let f = none-there.0 in cc (f, begun))) there
 
-added-known : (S : Content) (step moment : ℕ) (o : Outcome) → AreKnownRuns S → Names (runs_of S moment) o → AllByRecursion (IsKnownRun S.setup) (with_added step moment o.added S.runs)
-added-known S step moment o h named = by_added o.added named.added
+added-known : (S : Content) (step moment : ℕ) (o : Outcome) → AreKnownRuns S → AddsThere (runs_of S moment) o → Names (runs_of S moment) o → AllByRecursion (IsKnownRun S.setup) (with_added step moment o.added S.runs)
+added-known S step moment o h adds named = by_added o.added adds.is named.added
   where
-    by_added : (a : Option Added) → AddsKnown (runs_of S moment) a → AllByRecursion (IsKnownRun S.setup) (with_added step moment a S.runs)
-    by_added None known = h
-    by_added (Some a) known =
-        set-all (IsKnownRun S.setup) S.runs (a.run - 1) (journal_at S.runs a.run ++ entries step moment 0 a.facts) h (λ there.
-        grown-known S.setup (journal_at S.runs a.run) (entries step moment 0 a.facts) (at-place (IsKnownRun S.setup) S.runs (a.run - 1) [] h there)
-        (entries-known S.setup step moment 0 a.facts (known (let same : length (map state_of S.runs) ≡ length S.runs = length-map S.runs state_of in omega arith))))
+    by_added : (a : Option Added) → AddedThere (runs_of S moment) a → AddsKnown (runs_of S moment) a → AllByRecursion (IsKnownRun S.setup) (with_added step moment a S.runs)
+    by_added None there known = h
+    by_added (Some a) there known =
+        set-all (IsKnownRun S.setup) S.runs (a.run - 1) (journal_at S.runs a.run ++ entries step moment 0 a.facts) h (λ low.
+        all-both (IsKnownEntry S.setup) (journal_at S.runs a.run) (entries step moment 0 a.facts) (at-place (IsKnownRun S.setup) S.runs (a.run - 1) [] h tt)
+        (entries-known S.setup step moment 0 a.facts (known there)))
+
+removed-known : (setup : Setup) (o : Option ℕ) (runs : List Journal) → AllByRecursion (IsKnownRun setup) runs → AllByRecursion (IsKnownRun setup) (with_removed o runs)
+removed-known setup None runs h = h
+removed-known setup (Some n) runs h = set-all (IsKnownRun setup) runs (n - 1) [] h (λ low. tt)
 
 created-known : (S : Content) (step moment : ℕ) (o : Option (List Fact)) (runs : List Journal) → AllByRecursion (IsKnownRun S.setup) runs → MakesKnown S.setup o → AllByRecursion (IsKnownRun S.setup) (with_created step moment o runs)
 created-known S step moment None runs h known = h
-created-known S step moment (Some facts) runs h known = all-both (IsKnownRun S.setup) runs _ h (made-known S.setup step moment facts known.0 known.1, tt)
+created-known S step moment (Some facts) runs h known = all-both (IsKnownRun S.setup) runs _ h (entries-known S.setup step moment 0 facts known, tt)
 
 counted-known : (c : Counting) (S : Content) → AreKnownRuns S → AreKnownRuns (with_count c S)
 counted-known CountsNothing S h = h
@@ -145,13 +125,13 @@ counted-known (AcceptsFrom n) S h = h
 counted-known (AcknowledgesTo to) S h = h
 counted-known CountsDispatch S h = h
 
-step-known : (S : Content) (moment : ℕ) (o : Outcome) → AreKnownRuns S → Names (runs_of S moment) o → AreKnownRuns (content_after S moment o)
-step-known S moment o h named =
-    counted-known o.counting _ (created-known S (S.steps + 1) moment o.created (with_added (S.steps + 1) moment o.added S.runs) (added-known S (S.steps + 1) moment o h named) named.created)
+step-known : (S : Content) (moment : ℕ) (o : Outcome) → AreKnownRuns S → AddsThere (runs_of S moment) o → Names (runs_of S moment) o → AreKnownRuns (content_after S moment o)
+step-known S moment o h adds named =
+    counted-known o.counting _ (created-known S (S.steps + 1) moment o.created _ (removed-known S.setup o.removed _ (added-known S (S.steps + 1) moment o h adds named)) named.created)
 
 pub known-after : (S : Content) (q : Request) → AreKnownRuns S → AreKnownRuns (after S q)
 unfolding after
-known-after S q h = step-known S (moment_of S q.at) (outcome S (moment_of S q.at) q.operation) h (outcome-names S (moment_of S q.at) q.operation (all-have S (moment_of S q.at) h))
+known-after S q h = step-known S (moment_of S q.at) (outcome S (moment_of S q.at) q.operation) h (outcome-adds S (moment_of S q.at) q.operation) (outcome-names S (moment_of S q.at) q.operation (all-have S (moment_of S q.at) h))
 
 pub known-replayed : (S : Content) (R : List Entry) → AreKnownRuns S → AreKnownRuns (fold (λ T (e : Entry). after T e.request) S R)
 known-replayed S [] h = h
@@ -172,84 +152,18 @@ pub setup-replayed : (S : Content) (R : List Entry) → (fold (λ T (e : Entry).
 setup-replayed S [] = refl
 setup-replayed S (e ∷ R) = setup-replayed (after S e.request) R ∙ setup-after S e.request
 
--- the events that a history shows are among those that were made
-module _ {A : Type 0} where
-  all-kept : (P : A → Type 0) (test : A → Bool) (xs : List A) → AllByRecursion P xs → AllByRecursion P (filter test xs)
-  all-kept P test [] h = tt
-  all-kept P test (x ∷ xs) h = by_test (test x) (all-kept P test xs h.1)
-    where
-      by_test : (b : Bool) → AllByRecursion P (filter test xs) → AllByRecursion P (cond b (x ∷ filter test xs) (filter test xs))
-      by_test true rest = (h.0, rest)
-      by_test false rest = rest
-
-abbrev IfHas : {A : Type 0} → (A → Type 0) → Option A → Type 0
-IfHas P None = Unit {0}
-IfHas P (Some x) = P x
-
-all-found : {A B : Type 0} (P : A → Type 0) (Q : B → Type 0) (f : A → Option B) (xs : List A) → ((x : A) → P x → IfHas Q (f x)) → AllByRecursion P xs → AllByRecursion Q (filter_map f xs)
-all-found P Q f [] each h = tt
-all-found P Q f (x ∷ xs) each h = one (f x) (each x h.0) (all-found P Q f xs each h.1)
-  where
-    one : (o : Option _) → IfHas Q o → AllByRecursion Q (filter_map f xs) → AllByRecursion Q (cons_option o (filter_map f xs))
-    one None here rest = rest
-    one (Some y) here rest = (here, rest)
-
-all-made : {A B : Type 0} (P : A → Type 0) (Q : B → Type 0) (f : A → B) (xs : List A) → ((x : A) → P x → Q (f x)) → AllByRecursion P xs → AllByRecursion Q (map f xs)
-all-made P Q f [] each h = tt
-all-made P Q f (x ∷ xs) each h = (each x h.0, all-made P Q f xs each h.1)
-
-abbrev IsKnownMade : Setup → Made → Type 0
-IsKnownMade setup e = IsKnown setup e.attributes
-
-made-one : (setup : Setup) (step at : ℕ) (f : Fact) → IsKnownFact setup f → IfHas (IsKnownMade setup) (made_at step at f)
-made-one setup step at (an_event f) h = h
-made-one setup step at (a_note n) h = tt
-
-placed-known : (setup : Setup) (before es : List Made) → AllByRecursion (IsKnownMade setup) es → AllByRecursion (λ (p : Placed). IsKnownMade setup p.event) (placed before es)
-unfolding placed
-placed-known setup before [] h = tt
-placed-known setup before (e ∷ es) h = (h.0, placed-known setup (before ++ e ∷ []) es h.1)
-
-abbrev IsKnownKeyed : Setup → Keyed → Type 0
-IsKnownKeyed setup k = IsKnownMade setup k.item
-
-keyed-known : (setup : Setup) (p : Placed) → IsKnownMade setup p.event → IfHas (IsKnownKeyed setup) (keyed p)
-keyed-known setup p h = by_key (key_of p)
-  where
-    by_key : (o : Option ℕ) → IfHas (IsKnownKeyed setup) (option_map (λ k. record { at = k; item = p.event }) o)
-    by_key None = tt
-    by_key (Some k) = h
-
-put-known : (setup : Setup) (k : ℕ) (e : Made) (xs : List Keyed) → IsKnownMade setup e → AllByRecursion (IsKnownKeyed setup) xs → AllByRecursion (IsKnownKeyed setup) (put_in_order k e xs)
-unfolding put_in_order
-put-known setup k e [] here h = (here, tt)
-put-known setup k e (x ∷ xs) here h = by_key (nat_lt k x.at) (put-known setup k e xs here h.1)
-  where
-    by_key : (b : Bool) → AllByRecursion (IsKnownKeyed setup) (put_in_order k e xs) → AllByRecursion (IsKnownKeyed setup) (cond b (record { at = k; item = e } ∷ x ∷ xs) (x ∷ put_in_order k e xs))
-    by_key true rest = (here, h)
-    by_key false rest = (h.0, rest)
-
-ordered-known : (setup : Setup) (done xs : List Keyed) → AllByRecursion (IsKnownKeyed setup) done → AllByRecursion (IsKnownKeyed setup) xs → AllByRecursion (IsKnownKeyed setup) (put_all done xs)
-unfolding put_all
-ordered-known setup done [] d h = d
-ordered-known setup done (x ∷ xs) d h = ordered-known setup (put_in_order x.at x.item done) xs (put-known setup x.at x.item done h.0 d) h.1
-
+-- the events that a history shows are known
 abbrev IsKnownEvent : Setup → Event → Type 0
 IsKnownEvent setup e = IsKnown setup e.attributes
 
-numbered-known : (setup : Setup) (n : ℕ) (es : List Made) → AllByRecursion (IsKnownMade setup) es → AllByRecursion (IsKnownEvent setup) (numbered n es)
-unfolding numbered
-numbered-known setup n [] h = tt
-numbered-known setup n (e ∷ es) h = (h.0, numbered-known setup (n + 1) es h.1)
+made-one : (setup : Setup) (step at : ℕ) (f : Fact) → IsKnownFact setup f → IfHas (λ (m : Made). IsKnown setup m.attributes) (made_at step at f)
+made-one setup step at (an_event f) h = h
+made-one setup step at (a_note n) h = tt
 
 shown-known : (setup : Setup) (J : Journal) → AllByRecursion (IsKnownEntry setup) J → AllByRecursion (IsKnownEvent setup) (shown J)
 shown-known setup J h =
-    let made = all-found (IsKnownEntry setup) (IsKnownMade setup) (λ (e : JournalEntry). made_at e.step e.moment e.fact) J (λ e known. made-one setup e.step e.moment e.fact known) h in
-    let places = placed-known setup [] (events_made J) made in
-    let keys = all-found (λ (p : Placed). IsKnownMade setup p.event) (IsKnownKeyed setup) keyed (placed [] (events_made J)) (keyed-known setup) places in
-    let sorted = ordered-known setup [] (filter_map keyed (placed [] (events_made J))) tt keys in
-    let items = all-made (IsKnownKeyed setup) (IsKnownMade setup) (λ k. k.item) (ordered (filter_map keyed (placed [] (events_made J)))) (λ k known. known) sorted in
-    numbered-known setup 1 (visible J) (all-kept (IsKnownMade setup) _ _ items)
+    all-shown (IsKnown setup) J
+    (all-found (IsKnownEntry setup) (λ (m : Made). IsKnown setup m.attributes) (λ (e : JournalEntry). made_at e.step e.moment e.fact) J (λ e known. made-one setup e.step e.moment e.fact known) h)
 
 -- the rows of the activities in use are of such events
 abbrev IsKnownRow : Setup → ActivityRow → Type 0
@@ -306,7 +220,7 @@ task-named setup run s id at _ rows h = tt
 run-named : (setup : Setup) (run : ℕ) (J : Journal) → IsKnownRun setup J → AllByRecursion (IsNamed setup) (waiting_of setup run (state_of J))
 run-named setup run J h =
     all-found (IsKnownEvent setup) (IsNamed setup) (waiting_task setup run (state_of J)) (shown J)
-    (λ e known. task-named setup run (state_of J) e.id e.at e.attributes (rows-known setup J h.known) known) (shown-known setup J h.known)
+    (λ e known. task-named setup run (state_of J) e.id e.at e.attributes (rows-known setup J h) known) (shown-known setup J h)
 
 runs-named : (setup : Setup) (n : ℕ) (runs : List Journal) → AllByRecursion (IsKnownRun setup) runs → AllByRecursion (IsNamed setup) (flat_map (λ (p : ℕ × RunState). waiting_of setup p.0 p.1) (enumerate_from n (map state_of runs)))
 runs-named setup n [] h = tt

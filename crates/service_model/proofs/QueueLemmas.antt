@@ -1,5 +1,5 @@
 -- each fact that a step adds, and each that begins a run, names no queue but those that the service knows
-use Rattle.std.proofs.Common.{◌≡◌, ℕ, ◌-◌, ◌<◌, Bool, true, false, cond, List, [], ◌∷◌, ◌++◌, length, refl, sym, ap, ◌∙◌, Option, Some, None, Ok, Err}
+use Rattle.std.proofs.Common.{◌≡◌, ℕ, Bool, true, false, cond, List, [], ◌∷◌, ◌++◌, refl, sym, ap, ◌∙◌, Option, Some, None, Ok, Err}
 use Rattle.std.specs.Prelude.{not, ◌&&◌, ◌==◌, is_some, map, nat_lt, option_map, unwrap_or}
 use Rattle.std.specs.List.{AllByRecursion}
 use Rattle.wf_event_values.specs.declared.policies.CancelSource.TheVariants.{Client, Parent as ByParent, External as ByExternal}
@@ -71,12 +71,12 @@ use Rattle.service_model.specs.Journal.{first_some, latest, plain}
 use Rattle.service_model.specs.Outcome.{Outcome, Added, Counting, CountsDispatch, AcknowledgesTo, Runs, has_run, is_no_task, made_by, named_run, on_shard, open_run, outside, run_at, schedule_task}
 use Rattle.service_model.specs.Reads.{history, history_at, describe, describe_at}
 use Rattle.service_model.specs.Retry.{FailedAttempt, TimedOutAttempt, Verdict, GivesUp, RetriesAt}
-use Rattle.service_model.specs.RunState.{ActivityRow, Beginning, RunState, parent_of, queue_of}
+use Rattle.service_model.specs.RunState.{ActivityRow, Beginning, RunState, is_there, parent_of, queue_of}
 use Rattle.service_model.specs.Service.{outcome, runs_of}
 use Rattle.service_model.specs.Signals.{signal, signal_at, signal_fact, signal_or_start, start_in, signal_with_start, signals, was_signaled}
 use Rattle.service_model.specs.Starts.{by_decision, first_task, start, started_fact}
 use Rattle.service_model.specs.Tasks.{complete_judged, complete_workflow_task, continue_part, continued, fail_workflow_task, pending_row, runs_workflow, start_task, take_by_kind, take_fields, take_row, waits_activity, waits_workflow}
-use Rattle.service_model.specs.TimerTurns.{RunDue, activity_over, all_dues, attempt_fields, attempt_over, attempt_verdict, due_now, fire, fire_due, least, timed_out, timer_name, timer_turn}
+use Rattle.service_model.specs.TimerTurns.{RunDue, activity_over, all_dues, attempt_fields, attempt_over, attempt_verdict, due_now, fire, fire_due, is_retention, least, timed_out, timer_name, timer_turn}
 
 pub all-both : {A : Type 0} (P : A → Type 0) (xs ys : List A) → AllByRecursion P xs → AllByRecursion P ys → AllByRecursion P (xs ++ ys)
 all-both P [] ys h k = k
@@ -96,33 +96,23 @@ IsKnownFact setup (a_note n) = Unit {0}
 abbrev pub AllKnown : Setup → List Fact → Type 0
 AllKnown setup facts = AllByRecursion (IsKnownFact setup) facts
 
--- a run begins with such facts
-abbrev pub BeginsRun : Attributes → Type 0
-BeginsRun (WorkflowExecutionStarted a) = Unit {0}
-BeginsRun _ = ⊥
-
-abbrev pub IsBeginning : List Fact → Type 0
-IsBeginning [] = ⊥
-IsBeginning (an_event f ∷ facts) = BeginsRun f.attributes
-IsBeginning (a_note n ∷ facts) = ⊥
-
 -- the queue of a run's workflow tasks is known
 abbrev pub HasQueue : Setup → RunState → Type 0
 HasQueue setup s = knows_queue setup (queue_of s) ≡ true
 
--- that of each run that there is
+-- that of each run that is there
 abbrev pub AllHaveQueues : Runs → Type 0
-AllHaveQueues R = (n : ℕ) → n - 1 < length R.states → HasQueue R.setup (run_at R n)
+AllHaveQueues R = (n : ℕ) → is_there (run_at R n) ≡ true → HasQueue R.setup (run_at R n)
 
 abbrev pub AddsKnown : Runs → Option Added → Type 0
 AddsKnown R None = Unit {0}
-AddsKnown R (Some a) = a.run - 1 < length R.states → AllKnown R.setup a.facts
+AddsKnown R (Some a) = is_there (run_at R a.run) ≡ true → AllKnown R.setup a.facts
 
 abbrev pub MakesKnown : Setup → Option (List Fact) → Type 0
 MakesKnown setup None = Unit {0}
-MakesKnown setup (Some facts) = AllKnown setup facts × IsBeginning facts
+MakesKnown setup (Some facts) = AllKnown setup facts
 
--- what a step adds to a run that there is, and what it makes a run of
+-- what a step adds to a run that is there, and what it makes a run of
 pub record Names (R : Runs) (o : Outcome) : Type 0 where
   pub added : AddsKnown R o.added
   pub created : MakesKnown R.setup o.created
@@ -152,18 +142,18 @@ outside-one : (setup : Setup) (s : RunState) (f : Fact) → HasQueue setup s →
 outside-one setup s f queue h = outside-known setup s (f ∷ []) queue (h, tt)
 
 -- starts and signals
-decided : (R : Runs) (n : ℕ) (facts : List Fact) (d : Decision) → AllKnown R.setup facts → IsBeginning facts → Names R (by_decision R n facts d)
-decided R n facts New h k = names tt (h, k)
-decided R n facts Same h k = names tt tt
-decided R n facts Existing h k = names tt tt
-decided R n facts TerminateThenNew h k = names (λ there. (tt, tt)) (h, k)
-decided R n facts Refused h k = names tt tt
+decided : (R : Runs) (n : ℕ) (facts : List Fact) (d : Decision) → AllKnown R.setup facts → Names R (by_decision R n facts d)
+decided R n facts New h = names tt h
+decided R n facts Same h = names tt tt
+decided R n facts Existing h = names tt tt
+decided R n facts TerminateThenNew h = names (λ there. (tt, tt)) h
+decided R n facts Refused h = names tt tt
 
 start-names : (R : Runs) (q : Start) → Names R (start R q)
 unfolding start
 start-names R q =
     here R q.workflow_id _ (guarded (knows_queue R.setup q.task_queue)
-    (λ known. decided R _ (started_fact R.moment q ∷ first_task q.task_queue ∷ []) _ (known, (known, tt)) tt) (names tt tt))
+    (λ known. decided R _ (started_fact R.moment q ∷ first_task q.task_queue ∷ []) _ (known, (known, tt))) (names tt tt))
 
 signals-name : (R : Runs) (n : ℕ) (request : Option (List ℕ)) (fact : Fact) (first again : Answer) → AllHaveQueues R → IsKnownFact R.setup fact → Names R (signals R n request fact first again)
 signals-name R n request fact first again all known =
@@ -182,7 +172,7 @@ unfolding signal_with_start
 signal_with_start-names R q all = here R q.workflow_id _ (guarded (knows_queue R.setup q.task_queue) (at (open_run R q.workflow_id None)) (names tt tt))
   where
     at : (n : Option ℕ) → knows_queue R.setup q.task_queue ≡ true → Names R (signal_or_start R q n)
-    at None known = decided R _ (started_fact R.moment (start_in q) ∷ signal_fact q.request_id q.name q.signal_input ∷ first_task q.task_queue ∷ []) _ (known, (tt, (known, tt))) tt
+    at None known = decided R _ (started_fact R.moment (start_in q) ∷ signal_fact q.request_id q.name q.signal_input ∷ first_task q.task_queue ∷ []) _ (known, (tt, (known, tt)))
     at (Some n) known = signals-name R n _ _ _ _ all tt
 
 -- requests to cancel, terminations and readings
@@ -365,7 +355,7 @@ complete_workflow_task-names R q all = either (runs_workflow R q.task) (judged _
     follower (Some c) (Some b) facts is h =
         let known : knows_queue R.setup (unwrap_or c.task_queue b.attributes.task_queue) ≡ true =
         sym (ap (λ (x : Option Beginning). knows_queue R.setup (unwrap_or c.task_queue (unwrap_or (option_map (λ (y : Beginning). y.attributes.task_queue) x) []))) is) ∙ h in
-        ((known, (known, tt)), tt)
+        (known, (known, tt))
 
     judged : (j : Judged) → IsGood R.setup s (latest continue_part q.commands) j → Names R (complete_judged R q j)
     judged (Err cause) h = names (λ there. failed-known R.setup s cause [] (all q.task.run there)) tt
@@ -459,7 +449,7 @@ timer_turn-names R all = at (due_now R.moment (least (all_dues R.setup.retention
   where
     at : (d : Option RunDue) → Names R (fire_due R d)
     at None = names tt tt
-    at (Some d) = names (λ there. fire-known R.setup (run_at R d.run) R.moment d.at.event d.at.class (all d.run there)) tt
+    at (Some d) = either (is_retention d.at.class) (names tt tt) (names (λ there. fire-known R.setup (run_at R d.run) R.moment d.at.event d.at.class (all d.run there)) tt)
 
 -- what is counted
 acknowledges-name : (R : Runs) (issued so_far number : ℕ) (c : Counting) → Names R (acknowledges issued so_far number c)
@@ -496,7 +486,7 @@ guarded-both true d h k = either d (h refl) k
 guarded-both false d h k = k
 
 child-names : (R : Runs) (t : Transfer) (c : StartChildTransfer) → Names R (start_child R t c)
-child-names R t c = guarded-both (knows_queue R.setup c.task_queue) _ (λ known. names tt ((known, (known, tt)), tt)) (names tt tt)
+child-names R t c = guarded-both (knows_queue R.setup c.task_queue) _ (λ known. names tt (known, (known, tt))) (names tt tt)
 
 closed-known : (setup : Setup) (c : ChildClosedContent) (status : ChildStatus) → IsKnown setup (child_closed_event c status)
 closed-known setup c ended.Completed = tt

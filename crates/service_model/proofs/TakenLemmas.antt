@@ -1,7 +1,7 @@
 -- a transfer is accepted just where it is the next one and belongs here, and any other delivery leaves all but the moment
-use Rattle.std.proofs.Common.{◌≡◌, ◌≢◌, ◌⊎◌, inl, inr, ⊎_elim, ℕ, ◌+◌, ◌<◌, Bool, true, false, cond, List, [], ◌∷◌, ◌++◌, length, refl, sym, ap, ◌∙◌, subst, arith, append-nil, Option, Some, None, Ok, Err}
+use Rattle.std.proofs.Common.{◌≡◌, ◌≢◌, ◌⊎◌, inl, inr, ⊎_elim, ℕ, ◌+◌, Bool, true, false, cond, List, [], ◌∷◌, ◌++◌, length, refl, sym, ap, ◌∙◌, subst, arith, append-nil, Option, None, Ok}
 use Rattle.std.proofs.lemmas.Bool.Decides.{nat_tests}
-use Rattle.std.specs.Prelude.{nat_lt, nat_le, not, ◌==◌, ◌&&◌, replicate}
+use Rattle.std.specs.Prelude.{nat_lt, nat_le, not, ◌==◌, ◌&&◌}
 use Rattle.std.specs.List.{fold}
 use Rattle.wf_event_values.specs.declared.field.Field.TheVariants as field
 use Rattle.wf_event_values.specs.declared.refusal.Refusal.{Refusal}
@@ -11,16 +11,14 @@ use Rattle.service_model_types.specs.declared.content.Content.{Content}
 use Rattle.service_model_types.specs.declared.content.Outgoing.{Outgoing}
 use Rattle.service_model_types.specs.declared.content.Setup.{Setup}
 use Rattle.service_model_types.specs.declared.journal.Fact.{Fact}
-use Rattle.service_model_types.specs.declared.request.Operation.TheVariants as operation
-use Rattle.service_model_types.specs.declared.request.Request.{Request}
 use Rattle.service_model_types.specs.declared.transfer.Delivery.{Delivery}
 use Rattle.service_model_types.specs.declared.transfer.Delivery.TheVariants.{Accepted as IsNext, AlreadyDelivered, OutOfOrder}
 use Rattle.service_model_types.specs.declared.transfer.Sent.{Sent}
 use Rattle.service_model_types.specs.declared.transfer.Transfer.{Transfer}
 use Rattle.service_model.specs.Deliveries.{accepted_from, by_delivery, comes_from, deliver, delivery_of, effect, is_for_shard}
 use Rattle.service_model.specs.Outcome.{Added, Counting, CountsNothing, Outcome, refused}
-use Rattle.service_model.specs.Service.{Entry, after, answer, content_after, dispatched_for, dispatched_new, moment_of, opening, outcome, replay, runs_of, sent_for, with_added, with_all_sent, with_count, with_created}
-use Rattle.service_model.specs.TransferLaws.{AcceptsExactly, DeliversOnce, IsAccepted, MayAccept, delivers, only_later}
+use Rattle.service_model.specs.Service.{Entry, after, answer, content_after, dispatched_for, dispatched_new, moment_of, opening, outcome, replay, runs_of, sent_for, with_added, with_all_sent, with_count, with_created, with_removed}
+use Rattle.service_model.specs.TransferLaws.{AcceptsExactly, DeliversOnce, IsAccepted, MayAccept, delivers}
 use Rattle.service_model.proofs.GroundLemmas.{mores, setup-stays}
 use Rattle.std.proofs.lemmas.List.{length-replicate}
 use Rattle.service_model.proofs.TransferLemmas.{Accepts, accepted-after, counted, effect-accepts, next-number}
@@ -30,20 +28,21 @@ record Rests (o : Outcome) : Type 0 where
   counts_none : o.counting ≡ CountsNothing
   adds_none : o.added ≡ None
   makes_none : o.created ≡ None
+  takes_none : o.removed ≡ None
   tells_none : o.answers ≡ []
   other : (number : ℕ) → o.reply ≢ Ok (Accepted number)
 
 refused-rests : (r : Refusal) → Rests (refused r)
-refused-rests r = record { counts_none = refl; adds_none = refl; makes_none = refl; tells_none = refl; other = λ number e. absurd (cc e) }
+refused-rests r = record { counts_none = refl; adds_none = refl; makes_none = refl; takes_none = refl; tells_none = refl; other = λ number e. absurd (cc e) }
 
 none-sent : (to : ℕ) (all : List Outgoing) → with_all_sent [] to all ≡ all
 none-sent to [] = refl
 none-sent to (o ∷ os) = λ i. record { issued = append-nil o.issued i; acknowledged = o.acknowledged } ∷ none-sent (to + 1) os i
 
 -- the content after a step, by what its outcome says
-abbrev left_by : Content → ℕ → Counting → Option Added → Option (List Fact) → List Sent → Content
-left_by S m c added created answers = with_count c (record S {
-  runs = with_created (S.steps + 1) m created (with_added (S.steps + 1) m added S.runs);
+abbrev left_by : Content → ℕ → Counting → Option Added → Option (List Fact) → Option ℕ → List Sent → Content
+left_by S m c added created removed answers = with_count c (record S {
+  runs = with_created (S.steps + 1) m created (with_removed removed (with_added (S.steps + 1) m added S.runs));
   outgoing = with_all_sent (sent_for S (S.steps + 1) m added ++ answers) 0 S.outgoing;
   dispatches = S.dispatches ++ (dispatched_for S (S.steps + 1) m added ++ dispatched_new S (S.steps + 1) m created);
   last_moment = m;
@@ -52,8 +51,8 @@ left_by S m c added created answers = with_count c (record S {
 
 rest-leaves : (S : Content) (m : ℕ) (o : Outcome) → Rests o → content_after S m o ≡ record S { last_moment = m; steps = S.steps + 1 }
 rest-leaves S m o h =
-    let quiet : content_after S m o ≡ left_by S m CountsNothing None None [] = λ i. left_by S m (h.counts_none i) (h.adds_none i) (h.makes_none i) (h.tells_none i) in
-    let same : left_by S m CountsNothing None None [] ≡ record S { last_moment = m; steps = S.steps + 1 } = λ i. record S { outgoing = none-sent 0 S.outgoing i; dispatches = append-nil S.dispatches i; last_moment = m; steps = S.steps + 1 } in
+    let quiet : content_after S m o ≡ left_by S m CountsNothing None None None [] = λ i. left_by S m (h.counts_none i) (h.adds_none i) (h.makes_none i) (h.takes_none i) (h.tells_none i) in
+    let same : left_by S m CountsNothing None None None [] ≡ record S { last_moment = m; steps = S.steps + 1 } = λ i. record S { outgoing = none-sent 0 S.outgoing i; dispatches = append-nil S.dispatches i; last_moment = m; steps = S.steps + 1 } in
     quiet ∙ same
 
 -- a delivery is accepted, or leaves all as it was
@@ -73,8 +72,8 @@ unfolding deliver
 turns S m t = by_source (nat_lt t.from S.setup.shards && comes_from S.setup t t.content) refl
   where
     by_word : (nat_lt t.from S.setup.shards && comes_from S.setup t t.content) ≡ true → is_for_shard S.setup t.content ≡ true → (d : Delivery) → delivery_of (accepted_from S.accepted t.from) t.number ≡ d → Turns S t (by_delivery (runs_of S m) t d)
-    by_word near here AlreadyDelivered is = inr (record { counts_none = refl; adds_none = refl; makes_none = refl; tells_none = refl; other = λ number e. absurd (cc e) })
-    by_word near here OutOfOrder is = inr (record { counts_none = refl; adds_none = refl; makes_none = refl; tells_none = refl; other = λ number e. absurd (cc e) })
+    by_word near here AlreadyDelivered is = inr (record { counts_none = refl; adds_none = refl; makes_none = refl; takes_none = refl; tells_none = refl; other = λ number e. absurd (cc e) })
+    by_word near here OutOfOrder is = inr (record { counts_none = refl; adds_none = refl; makes_none = refl; takes_none = refl; tells_none = refl; other = λ number e. absurd (cc e) })
     by_word near here IsNext is =
         let there : nat_lt t.from S.setup.shards ≡ true = first-true _ _ near in
         inl (record { source = grind (there, arith, nat_tests); asking = second-true _ _ near; here = here; next = next-number _ _ is }, effect-accepts (runs_of S m) t t.content)

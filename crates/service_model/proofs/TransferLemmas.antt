@@ -63,7 +63,7 @@ use Rattle.service_model.specs.Service.{Entry, after, moment_of, one_more_acknow
 use Rattle.service_model.specs.Signals.{signal, signal_at, signal_or_start, signal_with_start, signals, was_signaled}
 use Rattle.service_model.specs.Starts.{by_decision, start}
 use Rattle.service_model.specs.Tasks.{complete_judged, complete_workflow_task, fail_workflow_task, pending_row, runs_workflow, start_task, take_by_kind, take_fields, take_row, waits_activity, waits_workflow}
-use Rattle.service_model.specs.TimerTurns.{RunDue, all_dues, due_now, fire_due, least, timer_turn}
+use Rattle.service_model.specs.TimerTurns.{RunDue, all_dues, due_now, fire_due, is_retention, least, timer_turn}
 use Rattle.service_model.specs.TransferLaws.{AcceptsNext, AcceptsOneByOne, AcknowledgesIssued}
 
 -- the count that a step moves on
@@ -226,7 +226,7 @@ timer_turn-quiet R = at (due_now R.moment (least (all_dues R.setup.retention R.s
   where
     at : (d : Option RunDue) → Quiet (fire_due R d)
     at None = moves refl
-    at (Some d) = moves refl
+    at (Some d) = either (is_retention d.at.class) (moves refl) (moves refl)
 
 next_transfer-quiet : (setup : Setup) (all : List Outgoing) (to : ℕ) → Quiet (next_transfer setup all to)
 unfolding next_transfer

@@ -1,23 +1,18 @@
 -- In a run of the whole service, what is acknowledged begins what is accepted, and that begins what was issued.
 use Rattle.std.proofs.Common.{◌≡◌, ◌≢◌, ◌⊎◌, inl, inr, ⊎_elim, ℕ, zero, suc, ◌+◌, ◌-◌, ◌<◌, ◌≤◌, eqb, Bool, true, false, cond, List, [], ◌∷◌, ◌++◌, length, refl, sym, ap, ◌∙◌, subst, arith, append_assoc, append-nil, length-append, eq-eqb, ne_eqb, Some}
-use Rattle.std.specs.Prelude.{take, slice_get, replicate, ◌==◌}
+use Rattle.std.specs.Prelude.{take, slice_get, replicate}
 use Rattle.std.specs.List.{fold}
 use mathlib.Core.Logic.{dite}
 use native.Mathlib.Decide.{ℕ_discrete}
 use Rattle.service_model_types.specs.declared.content.Content.{Content}
 use Rattle.service_model_types.specs.declared.content.Outgoing.{Outgoing}
 use Rattle.service_model_types.specs.declared.content.Setup.{Setup}
-use Rattle.service_model_types.specs.declared.request.Acknowledge.{Acknowledge}
-use Rattle.service_model_types.specs.declared.request.Operation.{Operation}
-use Rattle.service_model_types.specs.declared.request.Operation.TheVariants as operation
-use Rattle.service_model_types.specs.declared.request.Request.{Request}
-use Rattle.service_model_types.specs.declared.transfer.Transfer.{Transfer}
 use Rattle.service_model_types.specs.declared.transfer.TransferContent.{TransferContent}
 use Rattle.service_model.specs.Counts.{outgoing_to}
 use Rattle.service_model.specs.Deliveries.{accepted_from}
 use Rattle.service_model.specs.Service.{Entry, after, opening, replay}
 use Rattle.service_model.specs.TransferLaws.{AcceptsNext}
-use Rattle.service_model.specs.WholeRuns.{Whole, on, content_at, Holds, Accepted, Grounded, IsWhole, delivered, accepts, all_accepted, Starts, InOrder, TransfersInOrder}
+use Rattle.service_model.specs.WholeRuns.{Whole, on, content_at, Holds, Accepted, Grounded, delivered, accepts, all_accepted, Starts, TransfersInOrder}
 use Rattle.service_model.proofs.TransferLemmas.{accepts-step, CountsNext, counts-step, issued-more}
 
 abbrev Ts : Type 0

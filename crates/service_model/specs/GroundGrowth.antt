@@ -1,5 +1,5 @@
 -- PROOF: what one shard has issued and accepted, it still has after a step (no proof here uses a tactic, so that an object of the gate can name them)
-use Rattle.std.proofs.Common.{◌≡◌, le_refl, refl, sym, ap, ◌∙◌, subst}
+use Rattle.std.proofs.Common.{◌≡◌, le_refl, refl, ap, ◌∙◌, subst}
 use Rattle.std.proofs.Math.Nat.{le_trans, le-add_right}
 use Rattle.std.specs.Prelude.{ℕ, zero, suc, ◌+◌, ◌-◌, ◌==◌, ◌≤◌, Bool, true, false, cond, List, [], ◌∷◌, ◌++◌, Option, None, Some, unwrap_or, slice_get, slice_set, slice_index_or}
 use Rattle.service_model_types.specs.declared.content.Content.{Content}

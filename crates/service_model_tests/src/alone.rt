@@ -44,11 +44,12 @@ fn one_shard(rt: HostRuntime) -> Result<(), Fail> {
     let place = Place {
         shard: 0,
         shards: 1,
+        retention: 0,
     };
     let alloc = rt.alloc();
     let mut seen = Tally::new(alloc);
     for seed in 1..23_u64 {
-        go_through(&rt, place, seed, &mut seen).map_err(|refusal| refusal.name())?;
+        go_through(&rt, place.drawn_by(seed), seed, &mut seen).map_err(|refusal| refusal.name())?;
     }
     let replies = seen.missing_replies(alloc, &REPLIES)?;
     assert_missing(&rt, replies, &["another shard's workflow"]);
@@ -62,15 +63,11 @@ fn second_of_two(rt: HostRuntime) -> Result<(), Fail> {
     let alloc = rt.alloc();
     let mut seen = Tally::new(alloc);
     for seed in 1..17_u64 {
-        go_through(&rt, SECOND, seed, &mut seen).map_err(|refusal| refusal.name())?;
+        go_through(&rt, SECOND.drawn_by(seed), seed, &mut seen).map_err(|refusal| refusal.name())?;
     }
     let replies = seen.missing_replies(alloc, &REPLIES)?;
     assert_missing(&rt, replies, &[]);
     let events = seen.missing_events(alloc, &EVENTS)?;
-    assert_missing(
-        &rt,
-        events,
-        &["WorkflowExecutionContinuedAsNew", "TimerCanceled"],
-    );
+    assert_missing(&rt, events, &["TimerCanceled"]);
     Ok(())
 }

@@ -17,6 +17,7 @@ const COUNT: u64 = 1_000;
 const ALONE: Place = Place {
     shard: 0,
     shards: 1,
+    retention: 0,
 };
 
 /// All kinds of reply that these requests get.

@@ -22,11 +22,34 @@ use wire_replies::reply_text;
 /// A shard as the service runs it: its runs are kept by tables.
 pub(crate) type Shard = shard::Shard<mutable_state::Run>;
 
-/// Which shard of how many.
+/// Which shard of how many, and for how long it keeps a run that has closed.
 #[derive(Clone, Copy)]
 pub(crate) struct Place {
     pub(crate) shard: u16,
     pub(crate) shards: u16,
+    pub(crate) retention: u64,
+}
+
+impl Place {
+    /// The same shard with the retention of a seed.
+    pub(crate) fn drawn_by(self, seed: u64) -> Place
+        ensures shard { result.shard ≡ self.shard }
+        ensures shards { result.shards ≡ self.shards }
+    {
+        Place {
+            shard: self.shard,
+            shards: self.shards,
+            retention: retention(seed),
+        }
+    }
+}
+
+/// A retention, so that many runs are gone before the last request: with half of the seeds, none.
+fn retention(seed: u64) -> u64 {
+    if seed.is_multiple_of(2) {
+        return 0;
+    }
+    Draws::new(seed).below(3000).saturating_add(1)
 }
 
 /// What a shard was asked, and what its workers know of it.
@@ -89,7 +112,7 @@ fn setup(alloc: Global, place: Place) -> Result<Setup, Refusal>
         shard: place.shard,
         shards: place.shards,
         queues: Items::from_vec(queues),
-        retention: Span::none(),
+        retention: Span::new(Field::Retention, place.retention)?,
     })
 }
 

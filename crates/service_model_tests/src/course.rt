@@ -15,17 +15,20 @@ use wf_event_values::Refusal;
 pub(crate) const FIRST: Place = Place {
     shard: 0,
     shards: 2,
+    retention: 0,
 };
 
 /// The second of two shards.
 pub(crate) const SECOND: Place = Place {
     shard: 1,
     shards: 2,
+    retention: 0,
 };
 
 /// What the two shards of a service were asked, what their workers know, and what is drawn next.
 #[derive(Drop)]
 pub(crate) struct Course {
+    seed: u64,
     first: Half,
     second: Half,
     pub(crate) draws: Draws,
@@ -34,6 +37,7 @@ pub(crate) struct Course {
 impl Course {
     pub(crate) fn new(alloc: Global, seed: u64) -> Course {
         Course {
+            seed,
             first: Half::new(alloc, 0),
             second: Half::new(alloc, 1),
             draws: Draws::for_two(seed),
@@ -72,8 +76,10 @@ pub(crate) fn ask<R: Abort + AllocGlobal>(
     ensures other { OnOk result ((S : Content) × StandsFor other.new S) }
 {
     if shard == 0 {
-        compare(rt, FIRST, one, &mut course.first, asked, seen)
+        let place = FIRST.drawn_by(course.seed);
+        compare(rt, place, one, &mut course.first, asked, seen)
     } else {
-        compare(rt, SECOND, other, &mut course.second, asked, seen)
+        let place = SECOND.drawn_by(course.seed);
+        compare(rt, place, other, &mut course.second, asked, seen)
     }
 }

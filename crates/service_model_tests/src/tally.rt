@@ -6,7 +6,7 @@ use std::process::Abort;
 use wf_event_values::{DeadlineClass, Field, Refusal, RunId};
 
 /// All kinds of reply that drawn requests get.
-pub(crate) const REPLIES: [&str; 42] = [
+pub(crate) const REPLIES: [&str; 43] = [
     "started",
     "existing",
     "signaled",
@@ -38,6 +38,7 @@ pub(crate) const REPLIES: [&str; 42] = [
     "fired heartbeat",
     "fired start to close",
     "fired retry ready",
+    "fired retention",
     "dispatch",
     "no dispatch",
     "counted",

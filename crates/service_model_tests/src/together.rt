@@ -140,8 +140,8 @@ fn history(alloc: Global, number: u64) -> Result<Operation, Refusal> {
 /// Compares two shards through all that a seed draws.
 fn go_through<R: Abort + AllocGlobal>(rt: &R, seed: u64, seen: &mut Tally) -> Result<(), Refusal> {
     let alloc = rt.alloc();
-    let mut one = new_shard(alloc, FIRST)?;
-    let mut other = new_shard(alloc, SECOND)?;
+    let mut one = new_shard(alloc, FIRST.drawn_by(seed))?;
+    let mut other = new_shard(alloc, SECOND.drawn_by(seed))?;
     let mut course = Course::new(alloc, seed);
     seen.turn_to_another_service();
     for number in 0..COUNT {

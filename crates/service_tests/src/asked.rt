@@ -28,6 +28,7 @@ pub(crate) fn settings<R: Abort + AllocGlobal>(
             service,
             queues,
             capacity: DEFAULT_CAPACITY,
+            retention: 0,
         },
         Err(_) => panic!(rt; "no memory"),
     }

@@ -21,6 +21,8 @@ mod refusals;
 #[cfg(test)]
 mod reopening;
 #[cfg(test)]
+mod retention;
+#[cfg(test)]
 mod shown;
 #[cfg(test)]
 mod threads;

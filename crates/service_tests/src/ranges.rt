@@ -30,7 +30,7 @@ fn numbers_out_of_range(rt: HostRuntime) {
     }
 }
 
-/// Settings with these queues and this capacity are refused by that name.
+/// Settings with these queues, this capacity and a retention that is too long are refused by that name.
 fn assert_refused<R: Abort + AllocGlobal>(rt: &R, names: &[&str], capacity: u64, wanted: &str) {
     let mut queues = Vec::new(rt.alloc());
     for name in names {
@@ -44,6 +44,7 @@ fn assert_refused<R: Abort + AllocGlobal>(rt: &R, names: &[&str], capacity: u64,
         service: 1,
         queues: Items::from_vec(queues),
         capacity,
+        retention: 1_000_000_000_001,
     };
     assert_eq!(rt; refused(rt, &settings), wanted);
 }
@@ -54,4 +55,5 @@ fn queues_out_of_their_range(rt: HostRuntime) {
     assert_refused(&rt, &["a", "b", "a"], 0, "queues");
     assert_refused(&rt, &["a", "b"], 0, "capacity");
     assert_refused(&rt, &["a", "b"], 65_537, "capacity");
+    assert_refused(&rt, &["a", "b"], 65_536, "retention");
 }

@@ -12,6 +12,7 @@ fn name_of(answer: &Answer) -> &'static str {
         Answer::Signaled => "signaled",
         Answer::CancelRequested => "cancel requested",
         Answer::Terminated => "terminated",
+        Answer::Stale => "stale",
         Answer::History(_) => "history",
         Answer::Described(_) => "described",
         Answer::WorkflowTask(_) => "task",

@@ -41,9 +41,9 @@ free-behind v old at i m facts same made opened over one =
 -- a plan that closes the run and makes another
 pub both-fits : {T : Type 0} (v old : ShardView) (at i : ℕ) (m : MoreOf) (facts : List Fact) (b : NewBeginning) (new : NewRun T) (reply : Reply) (o : Outcome) → state v ≡ state old → IsPrepared v at i facts m →
     FitStep at (run_in old i) facts → is_open (run_in old i) ≡ true → is_open (after_step at facts (run_in old i)) ≡ false → id_of (run_in old i) ≡ b.started.workflow_id → IsMade v at new b →
-    o.added ≡ Some (record { run = ordinal_of i; facts = facts }) → o.created ≡ Some (first_facts b) → reply ≡ o.reply → o.counting ≡ CountsNothing → o.answers ≡ [] →
-    FitsStep v (record { moment = at; change = record { added = Some m; created = Some new; count = count.Nothing; answer = None }; reply = reply }) at o
-both-fits v old at i m facts b new reply o same prepared fits opened over named made added created replies counts answers =
+    o.added ≡ Some (record { run = ordinal_of i; facts = facts }) → o.created ≡ Some (first_facts b) → o.removed ≡ None → reply ≡ o.reply → o.counting ≡ CountsNothing → o.answers ≡ [] →
+    FitsStep v (record { moment = at; change = record { added = Some m; created = Some new; taken = None; count = count.Nothing; answer = None }; reply = reply }) at o
+both-fits v old at i m facts b new reply o same prepared fits opened over named made added created removed replies counts answers =
     let runs = runs_added (Some m) (states v.runs) in
     record {
       moment = refl;
@@ -51,6 +51,7 @@ both-fits v old at i m facts b new reply o same prepared fits opened over named 
       change = record {
         added = subst (FitsAdded v at (Some m)) (sym added) (fits-added v old at i m facts same prepared fits);
         created = (b, created, made);
+        taken = removed;
         count = counts;
         answer = answers;
         free = λ one. subst (HasClosed runs) (named ∙ sym (made-named v at b new made)) (free-behind v old at i m facts same prepared opened over one);

@@ -1,16 +1,19 @@
 -- what a request does to a shard that stands for a content
-use Rattle.std.proofs.Common.{◌≡◌, ℕ, ◌≤◌, length, refl, sym, ap, ◌∙◌, subst}
+use Rattle.std.proofs.Common.{arith, ◌≡◌, ℕ, ◌≤◌, length, refl, sym, ap, ◌∙◌, subst}
 use Rattle.std.specs.Prelude.{max}
 use Rattle.service_model_types.specs.declared.content.Content.{Content}
 use Rattle.service_model_types.specs.declared.request.Operation.{Operation}
 use Rattle.service_model_types.specs.declared.request.Operation.TheVariants as served
 use Rattle.service_model_types.specs.declared.request.Request.{Request}
+use Rattle.service_model.specs.Aging.{AreAged}
 use Rattle.service_model.specs.Growth.{KeepsHistories}
 use Rattle.service_model.specs.Outcome.{Outcome}
 use Rattle.service_model.specs.Service.{after, moment_of, outcome}
 use Rattle.shard_steps.proofs.DispatchLemmas.{count-is, next-is}
 use Rattle.shard_store.specs.Fitting.{FitsStep, state_after}
-use Rattle.shard_store.specs.View.{ShardView, state}
+use Rattle.shard_store.specs.Open.{IsOneOpen}
+use Rattle.shard_store.specs.View.{ShardState, ShardView, state, states}
+use Rattle.shard_store.proofs.OpenLemmas.{of-journals}
 use Rattle.shard_store.specs.declared.plan.Plan.{Plan}
 use Rattle.shard_store.proofs.KeptLemmas.{keeps-after}
 use Rattle.shard_store.proofs.StepLemmas.{stands-after}
@@ -41,6 +44,13 @@ outcome-in S m (served.Acknowledge q) low = refl
 outcome-in S m served.NextDispatch low = next-is S
 outcome-in S m (served.Dispatched number) low = count-is S number low
 
+-- of each workflow ID a shard has one open run at most, and its older runs closed first
+pub one-open : (v : ShardView) (S : Content) → StandsFor v S → IsOneOpen (states v.runs)
+one-open v S h = subst (λ l. IsOneOpen l) (sym (ap (λ s. s.runs) h.says)) (of-journals S h.one)
+
+pub in-order : (v : ShardView) (S : Content) → StandsFor v S → AreAged v.last (states v.runs)
+in-order v S h = subst (λ (s : ShardState). AreAged s.last s.runs) (sym h.says) h.aged
+
 -- what was prepared on a shard that stands for a content is ready for it
 pub prepared : {T : Type 0} (v w : ShardView) (S : Content) (q : Request) (plan : Plan T) → StandsFor v S → state w ≡ state v → FitsStep w plan (max q.at v.last) (outcome_in (state v) (max q.at v.last) q.operation) → IsReady w S q plan
 prepared v w S q plan h same fits =
@@ -49,14 +59,19 @@ prepared v w S q plan h same fits =
     ap (λ s. outcome_in s (max q.at s.last) q.operation) h.says ∙ sym (outcome-in S (moment_of S q.at) q.operation h.counted) in
     let M : ℕ → Type 0 = λ t. FitsStep w plan t (outcome_in (state v) (max q.at v.last) q.operation) in
     let O : Outcome → Type 0 = λ t. FitsStep w plan (moment_of S q.at) t in
-    record { stands = record { says = same ∙ h.says; formed = h.formed; counted = h.counted }; fits = subst O o (subst M m fits) }
+    record { stands = record { says = same ∙ h.says; formed = h.formed; counted = h.counted; one = h.one; aged = h.aged }; fits = subst O o (subst M m fits) }
+
+-- no moment is before the last one
+not-before : (at last : ℕ) → last ≤ max at last
+not-before at last = omega arith
+
+-- what is ready leaves a content that keeps of the one before what every content does
+pub ready-keeps : {T : Type 0} (v w : ShardView) (S : Content) (q : Request) (plan : Plan T) → IsReady v S q plan → state w ≡ state_after plan (state v) → KeepsHistories S (after S q)
+unfolding after
+ready-keeps v w S q plan ready did = keeps-after v S (moment_of S q.at) (outcome S (moment_of S q.at) q.operation) plan ready.stands ready.fits (not-before q.at S.last_moment)
 
 -- a shard that did what is ready stands for the content after the request
 pub ready-stands : {T : Type 0} (v w : ShardView) (S : Content) (q : Request) (plan : Plan T) → IsReady v S q plan → state w ≡ state_after plan (state v) → StandsFor w (after S q)
 unfolding after
-ready-stands v w S q plan ready did = stands-after v w S (moment_of S q.at) (outcome S (moment_of S q.at) q.operation) plan ready.stands ready.fits did
-
--- and that content keeps of the one before what every content does
-pub ready-keeps : {T : Type 0} (v w : ShardView) (S : Content) (q : Request) (plan : Plan T) → IsReady v S q plan → state w ≡ state_after plan (state v) → KeepsHistories S (after S q)
-unfolding after
-ready-keeps v w S q plan ready did = keeps-after v S (moment_of S q.at) (outcome S (moment_of S q.at) q.operation) plan ready.stands ready.fits
+ready-stands v w S q plan ready did =
+    stands-after v w S (moment_of S q.at) (outcome S (moment_of S q.at) q.operation) plan ready.stands ready.fits (ready-keeps v w S q plan ready did) did

@@ -6,7 +6,7 @@ ghost use Rattle.wf_event_values.specs.declared.policies.TaskKind.TheVariants.{A
 ghost use Rattle.service_model_types.specs.declared.answer.Answer.TheVariants.{ActivityTask as an_activity_task};
 ghost use Rattle.service_model_types.specs.declared.journal.Note.TheVariants.{Taken};
 ghost use Rattle.service_model.specs.Outcome.{adds, noted};
-ghost use Rattle.service_model.specs.RunState.{is_open, used};
+ghost use Rattle.service_model.specs.RunState.{is_open, used, is_there};
 ghost use Rattle.service_model.specs.Tasks.{take_by_kind, pending_row};
 ghost use Rattle.mutable_state.specs.Steps.{has_id};
 ghost use Rattle.shard_steps.specs.Attempts.{task_for};
@@ -50,6 +50,7 @@ fn attempt_for<T: KeepsRun>(
     wanted: WaitingTask,
 ) -> Result<Option<ActivityTask>, AllocError>
     requires there { index < length store.now.runs }
+    requires begun { is_there (run_in store.now index) ≡ true }
     requires run { ordinal_of index ≡ wanted.run }
     ensures task { IfOk result (λ task. task ≡ task_for (runs_in store.now) wanted
         (pending_row (run_in store.now index) wanted.event)) }
@@ -78,6 +79,7 @@ fn take_attempt<T: KeepsRun>(
     task: ActivityTask,
 ) -> Result<Plan<T>, AllocError>
     requires there { index < length store.old.runs }
+    requires begun { is_there (run_in store.old index) ≡ true }
     requires run { ordinal_of index ≡ wanted.run }
     requires in_use { has_id wanted.event (used Activity (run_in store.old index)) ≡ true }
     requires open { is_open (run_in store.old index) ≡ true }

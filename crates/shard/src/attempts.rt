@@ -3,7 +3,7 @@
 ghost use Rattle.std.specs.Prelude.{◌≡◌, ◌<◌, Some, length, true, option_map, IfOk, IfSome};
 ghost use Rattle.service_model.specs.Activities.{cancel_activity, complete_activity, ends_activity, keep_running, running_attempt};
 ghost use Rattle.service_model.specs.Outcome.{adds, run_at};
-ghost use Rattle.service_model.specs.RunState.{is_open};
+ghost use Rattle.service_model.specs.RunState.{is_open, is_there};
 ghost use Rattle.service_model.specs.Tasks.{pending_row};
 ghost use Rattle.mutable_state.specs.Activities.{row_said};
 ghost use Rattle.shard.specs.Running.{HasAttempt, row_of};
@@ -128,6 +128,7 @@ fn attempt_in<T: KeepsRun>(
     task: TakenTask,
 ) -> Result<Option<Activity>, AllocError>
     requires there { index < length store.now.runs }
+    requires begun { is_there (run_in store.now index) ≡ true }
     ensures found { IfOk result (λ found. option_map row_said found
         ≡ keep_running task (pending_row (run_in store.now index) task.event)) }
     ensures open { IfOk result (λ found.

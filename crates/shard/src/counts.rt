@@ -57,6 +57,7 @@ pub(crate) fn prepare_dispatched<T: KeepsRun>(
         change: Change {
             added: None,
             created: None,
+            taken: None,
             count: Count::Dispatch,
             answer: None,
         },

@@ -2,7 +2,7 @@
 
 ghost use Rattle.std.specs.Prelude.{◌≡◌, ◌<◌, length, IfOk, Some, true};
 ghost use Rattle.service_model.specs.Cancels.{request_cancel, cancel_open, cancel_again, terminate, terminate_at};
-ghost use Rattle.service_model.specs.RunState.{is_open};
+ghost use Rattle.service_model.specs.RunState.{is_open, is_there};
 ghost use Rattle.shard_store.specs.View.{ordinal_of, run_in, runs_at, state};
 ghost use Rattle.shard_store.specs.Fitting.{FitsStep};
 
@@ -43,6 +43,7 @@ fn prepare_cancel_of<T: KeepsRun>(
     request: &RequestCancel,
 ) -> Result<Plan<T>, AllocError>
     requires there { index < length store.old.runs }
+    requires begun { is_there (run_in store.old index) ≡ true }
     requires open { is_open (run_in store.old index) ≡ true }
     ensures same { state store.new ≡ state store.old }
     ensures plan { IfOk result (λ plan. FitsStep store.new plan moment
@@ -99,6 +100,7 @@ fn prepare_termination<T: KeepsRun>(
     request: &Terminate,
 ) -> Result<Plan<T>, AllocError>
     requires there { index < length store.old.runs }
+    requires begun { is_there (run_in store.old index) ≡ true }
     requires open { is_open (run_in store.old index) ≡ true }
     ensures same { state store.new ≡ state store.old }
     ensures plan { IfOk result (λ plan. FitsStep store.new plan moment

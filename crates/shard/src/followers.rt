@@ -1,6 +1,7 @@
 //! The run that follows one which continues as new.
 
-ghost use Rattle.std.specs.Prelude.{◌≡◌, ◌<◌, length, IfOk, OnOk, option_copied};
+ghost use Rattle.std.specs.Prelude.{◌≡◌, ◌<◌, length, IfOk, OnOk, option_copied, true};
+ghost use Rattle.service_model.specs.RunState.{is_there};
 ghost use Rattle.service_model.specs.Journal.{latest};
 ghost use Rattle.service_model.specs.Tasks.{continue_part, continued};
 ghost use Rattle.shard_steps.specs.Kept.{IsNoted};
@@ -29,6 +30,7 @@ pub(crate) fn prepare_follower<T: KeepsRun>(
     commands: &[Command],
 ) -> Result<Option<NewRun<T>>, AllocError>
     requires there { index < length store.old.runs }
+    requires begun { is_there (run_in store.old index) ≡ true }
     requires noted { IsNoted store.old.changed }
     ensures same { state store.new ≡ state store.old }
     ensures runs { store.new.runs ≡ store.old.runs }
@@ -52,6 +54,7 @@ fn prepare_following<T: KeepsRun>(
     command: &ContinueAsNew,
 ) -> Result<NewRun<T>, AllocError>
     requires there { index < length store.old.runs }
+    requires begun { is_there (run_in store.old index) ≡ true }
     ensures same { state store.new ≡ state store.old }
     ensures runs { store.new.runs ≡ store.old.runs }
     ensures noted { OnOk result (IsNoted store.new.changed) }

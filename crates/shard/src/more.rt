@@ -1,6 +1,7 @@
 //! Steps that add facts to a run.
 
-ghost use Rattle.std.specs.Prelude.{◌≡◌, ◌<◌, IfOk, length};
+ghost use Rattle.std.specs.Prelude.{◌≡◌, ◌<◌, IfOk, length, true};
+ghost use Rattle.service_model.specs.RunState.{is_there};
 ghost use Rattle.service_model.specs.Outcome.{adds};
 ghost use Rattle.mutable_state.specs.Steps.{FitStep};
 ghost use Rattle.shard_store.specs.Fitting.{FitsStep};
@@ -22,6 +23,7 @@ pub(crate) fn prepare_more<T: KeepsRun>(
     answer: Answer,
 ) -> Result<Plan<T>, AllocError>
     requires there { index < length store.old.runs }
+    requires begun { is_there (run_in store.old index) ≡ true }
     requires fits { FitStep moment (run_in store.old index) facts }
     ensures same { state store.new ≡ state store.old }
     ensures plan { IfOk result (λ plan. FitsStep store.new plan moment

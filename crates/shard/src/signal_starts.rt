@@ -2,7 +2,7 @@
 
 ghost use Rattle.std.specs.Prelude.{◌≡◌, ◌<◌, length, IfOk, None, Some, true};
 ghost use Rattle.service_model.specs.Outcome.{latest_run, open_run};
-ghost use Rattle.service_model.specs.RunState.{is_open};
+ghost use Rattle.service_model.specs.RunState.{is_open, is_there};
 ghost use Rattle.service_model.specs.Signals.{signal_with_start, signal_or_start};
 ghost use Rattle.service_model.specs.Starts.{starts_new};
 ghost use Rattle.shard_store.specs.View.{ordinal_of, run_in, runs_at, state, states};
@@ -64,6 +64,7 @@ fn prepare_signal_open<T: KeepsRun>(
     request: &SignalWithStart,
 ) -> Result<Plan<T>, AllocError>
     requires there { index < length store.old.runs }
+    requires begun { is_there (run_in store.old index) ≡ true }
     requires open { is_open (run_in store.old index) ≡ true }
     ensures same { state store.new ≡ state store.old }
     ensures plan { IfOk result (λ plan. FitsStep store.new plan moment
@@ -110,6 +111,7 @@ fn prepare_signal_behind<T: KeepsRun>(
     request: &SignalWithStart,
 ) -> Result<Plan<T>, AllocError>
     requires there { index < length store.old.runs }
+    requires begun { is_there (run_in store.old index) ≡ true }
     requires latest { latest_run (states store.old.runs) request.now.workflow_id
         ≡ Some (ordinal_of index) }
     ensures same { state store.new ≡ state store.old }

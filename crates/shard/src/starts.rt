@@ -4,7 +4,7 @@ ghost use Rattle.std.specs.Prelude.{◌≡◌, ◌<◌, length, IfOk, Some, None
 ghost use Rattle.id_policy.specs.Decisions.{says};
 ghost use Rattle.service_model.specs.IdPolicy.{TerminateThenNew, decide, is_same_request};
 ghost use Rattle.service_model.specs.Outcome.{latest_run};
-ghost use Rattle.service_model.specs.RunState.{id_of, is_open};
+ghost use Rattle.service_model.specs.RunState.{id_of, is_open, is_there};
 ghost use Rattle.service_model.specs.Starts.{by_decision, start, start_request, starts_new, started_fact, first_task};
 ghost use Rattle.shard_store.specs.View.{ordinal_of, run_in, runs_at, state, states};
 ghost use Rattle.shard_steps.specs.Starts.{first_facts, MayBegin};
@@ -63,6 +63,7 @@ fn prepare_decided_by<T: KeepsRun>(
     request: &Start,
 ) -> Result<Plan<T>, AllocError>
     requires there { index < length store.old.runs }
+    requires begun { is_there (run_in store.old index) ≡ true }
     requires latest { latest_run (states store.old.runs) request.now.workflow_id
         ≡ Some (ordinal_of index) }
     ensures same { state store.new ≡ state store.old }
@@ -89,6 +90,7 @@ pub(crate) fn decision_by<T: KeepsRun>(
     conflict: ConflictPolicy,
 ) -> Decision
     requires there { index < length store.now.runs }
+    requires begun { is_there (run_in store.now index) ≡ true }
     ensures { let latest = run_in store.now index in
         says result ≡ decide (Some latest.status)
         (is_same_request given.now (start_request latest)) reuse conflict }
@@ -135,6 +137,7 @@ pub(crate) fn prepare_new_run<T: KeepsRun>(
         change: Change {
             added: None,
             created: Some(made),
+            taken: None,
             count: Count::Nothing,
             answer: None,
         },
@@ -151,6 +154,7 @@ fn prepare_replaced<T: KeepsRun>(
     request: &Start,
 ) -> Result<Plan<T>, AllocError>
     requires there { index < length store.old.runs }
+    requires begun { is_there (run_in store.old index) ≡ true }
     requires named { id_of (run_in store.old index) ≡ request.now.workflow_id }
     requires open { is_open (run_in store.old index) ≡ true }
     ensures same { state store.new ≡ state store.old }
@@ -168,6 +172,7 @@ fn prepare_replaced<T: KeepsRun>(
         change: Change {
             added: Some(more),
             created: Some(made),
+            taken: None,
             count: Count::Nothing,
             answer: None,
         },

@@ -6,7 +6,7 @@ ghost use Rattle.service_model_types.specs.declared.answer.Answer.TheVariants.{F
 ghost use Rattle.service_model.specs.Completion.{judge_all, failed_task};
 ghost use Rattle.service_model.specs.Journal.{plain};
 ghost use Rattle.service_model.specs.Outcome.{adds, next_ordinal, run_at, run_id};
-ghost use Rattle.service_model.specs.RunState.{is_open};
+ghost use Rattle.service_model.specs.RunState.{is_open, is_there};
 ghost use Rattle.service_model.specs.Tasks.{start_task, take_workflow, waits_workflow, runs_workflow, complete_workflow_task, complete_judged, fail_workflow_task};
 ghost use Rattle.shard_store.specs.View.{ordinal_of, run_in, runs_at, runs_in, state};
 ghost use Rattle.shard_store.specs.Fitting.{FitsStep};
@@ -65,6 +65,7 @@ fn prepare_taken<T: KeepsRun>(
     wanted: WaitingTask,
 ) -> Result<Plan<T>, AllocError>
     requires there { index < length store.old.runs }
+    requires begun { is_there (run_in store.old index) ≡ true }
     requires run { ordinal_of index ≡ wanted.run }
     requires waits { waits_workflow (runs_in store.old) wanted ≡ true }
     requires open { is_open (run_in store.old index) ≡ true }
@@ -89,7 +90,8 @@ fn waiting<T: KeepsRun>(store: &Store<T>, wanted: WaitingTask) -> Result<Option<
     ensures waits { IfOk result (λ found. waits_workflow (runs_in store.now) wanted
         ≡ is_some found) }
     ensures found { IfOk result (λ found. IfSome found
-        (λ index. (ordinal_of index ≡ wanted.run) × (index < length store.now.runs))) }
+        (λ index. (ordinal_of index ≡ wanted.run) × (index < length store.now.runs)
+        × (is_there (run_in store.now index) ≡ true))) }
     ensures open { IfOk result (λ found. IfSome found
         (λ index. is_open (run_in store.now index) ≡ true)) }
 {
@@ -112,7 +114,8 @@ fn running<T: KeepsRun>(store: &Store<T>, taken: TakenTask) -> Result<Option<usi
     ensures runs { IfOk result (λ found. runs_workflow (runs_in store.now) taken
         ≡ is_some found) }
     ensures found { IfOk result (λ found. IfSome found
-        (λ index. (ordinal_of index ≡ taken.run) × (index < length store.now.runs))) }
+        (λ index. (ordinal_of index ≡ taken.run) × (index < length store.now.runs)
+        × (is_there (run_in store.now index) ≡ true))) }
 {
     let Some(index) = store.place_on(taken.shard, taken.run) else {
         return Ok(None);
@@ -151,6 +154,7 @@ fn prepare_completed<T: KeepsRun>(
     request: &CompleteWorkflowTask,
 ) -> Result<Plan<T>, AllocError>
     requires there { index < length store.old.runs }
+    requires begun { is_there (run_in store.old index) ≡ true }
     requires run { ordinal_of index ≡ request.now.task.run }
     requires runs { runs_workflow (runs_in store.old) request.now.task ≡ true }
     ensures same { state store.new ≡ state store.old }
@@ -167,6 +171,7 @@ fn prepare_completed<T: KeepsRun>(
         change: Change {
             added: Some(MoreOf { index, plan }),
             created,
+            taken: None,
             count: Count::Nothing,
             answer: None,
         },
@@ -199,6 +204,7 @@ fn prepare_failed<T: KeepsRun>(
     request: &FailWorkflowTask,
 ) -> Result<Plan<T>, AllocError>
     requires there { index < length store.old.runs }
+    requires begun { is_there (run_in store.old index) ≡ true }
     requires run { ordinal_of index ≡ request.now.task.run }
     requires runs { runs_workflow (runs_in store.old) request.now.task ≡ true }
     ensures same { state store.new ≡ state store.old }

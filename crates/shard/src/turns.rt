@@ -1,8 +1,8 @@
 //! Timer turns: the first deadline of the shard fires, if it is due.
 
 ghost use Rattle.std.specs.Prelude.{◌≡◌, IfOk, Some};
-ghost use Rattle.service_model.specs.TimerTurns.{fire_due, timer_turn};
-ghost use Rattle.timeouts.specs.Firsts.{IsOfRun};
+ghost use Rattle.service_model.specs.TimerTurns.{all_dues, due_now, fire_due, is_retention, least, timer_turn};
+ghost use Rattle.shard_steps.specs.Kept.{IsNoted};
 ghost use Rattle.timeouts.specs.Slots.{run_due};
 ghost use Rattle.shard_store.specs.View.{runs_at, state, states};
 ghost use Rattle.shard_store.specs.Fitting.{FitsStep};
@@ -11,10 +11,10 @@ use crate::more::prepare_more;
 use mutable_state_keeper::KeepsRun;
 use service_model_types::answer::{Answer, Fired};
 use shard_steps::fired_facts;
-use shard_store::{Plan, Store, answered};
+use shard_store::{Plan, Store, answered, taking};
 use std::alloc::AllocError;
 use timeouts::Due;
-use wf_event_values::Moment;
+use wf_event_values::{DeadlineClass, Moment};
 
 #[tactic(auto, unfolding(service_model::specs::TimerTurns::timer_turn))]
 pub(crate) fn prepare_timer_turn<T: KeepsRun>(
@@ -31,13 +31,25 @@ pub(crate) fn prepare_timer_turn<T: KeepsRun>(
     }
 }
 
-/// A deadline of one of the runs fires.
+/// Whether a deadline of this class takes its run away.
+fn is_retention(class: DeadlineClass) -> bool
+    ensures { result ≡ is_retention class }
+{
+    match class {
+        DeadlineClass::Retention => true,
+        _ => false,
+    }
+}
+
+/// The first deadline fires: it takes its run away, or adds to it.
 fn prepare_fired<T: KeepsRun>(
     store: &mut Store<T>,
     moment: Moment,
     due: Due,
 ) -> Result<Plan<T>, AllocError>
-    requires { IsOfRun store.old.setup.retention (run_due due) (states store.old.runs) }
+    requires noted { IsNoted store.old.changed }
+    requires first { due_now moment (least (all_dues store.old.setup.retention
+        (states store.old.runs))) ≡ Some (run_due due) }
     ensures same { state store.new ≡ state store.old }
     ensures plan { IfOk result (λ plan. FitsStep store.new plan moment
         (fire_due (runs_at store.old moment) (Some (run_due due)))) }
@@ -45,13 +57,16 @@ fn prepare_fired<T: KeepsRun>(
     let Some(index) = store.place_of(due.run) else {
         unreachable!()
     };
-    let facts = fired_facts(store.alloc(), store.run(index), moment, due)?;
     let answer = Answer::Fired(Fired {
         class: due.class,
         due: due.due,
         event: due.event,
         run: store.run_id(index),
     });
+    if is_retention(due.class) {
+        return Ok(taking(moment, index, answer));
+    }
+    let facts = fired_facts(store.alloc(), store.run(index), moment, due)?;
     let plan = prepare_more(store, moment, index, facts, answer)?;
     Ok(plan)
 }

@@ -28,13 +28,14 @@ answer-fits v (Some a) noted = (refl, noted)
 
 -- a delivery that adds facts to the run at a place
 pub more-accepted : {T : Type 0} (v old : ShardView) (at i : ℕ) (t : Transfer) (m : MoreOf) (facts : List Fact) (answer : Option Sent) → state v ≡ state old → MayAccept old t → IsPrepared v at i facts m → FitStep at (run_at (runs_in old) (ordinal_of i)) facts →
-    FitsStep {T = T} v (record { moment = at; change = record { added = Some m; created = None; count = count.Accepts t.from; answer = answer }; reply = Ok (Accepted t.number) }) at (accepts t (Some (record { run = ordinal_of i; facts = facts })) None (option_to_list answer))
+    FitsStep {T = T} v (record { moment = at; change = record { added = Some m; created = None; taken = None; count = count.Accepts t.from; answer = answer }; reply = Ok (Accepted t.number) }) at (accepts t (Some (record { run = ordinal_of i; facts = facts })) None (option_to_list answer))
 more-accepted v old at i t m facts answer same may made fits = record {
   moment = refl;
   reply = refl;
   change = record {
     added = fits-added v old at i m facts same made fits;
     created = refl;
+    taken = refl;
     count = (refl, still-counts v old t.from same may.counts);
     answer = answer-fits v answer made.noted.answer;
     free = λ one. tt;

@@ -1,6 +1,7 @@
 //! Steps of a delivery that is accepted.
 
-ghost use Rattle.std.specs.Prelude.{◌≡◌, ◌<◌, ◌∷◌, [], IfOk, None, Some, length, option_to_list};
+ghost use Rattle.std.specs.Prelude.{◌≡◌, ◌<◌, ◌∷◌, [], IfOk, None, Some, length, option_to_list, true};
+ghost use Rattle.service_model.specs.RunState.{is_there};
 ghost use Rattle.service_model.specs.Deliveries.{accepts, accepts_only, adds_outside};
 ghost use Rattle.mutable_state.specs.Steps.{FitStep};
 ghost use Rattle.shard_store.specs.Fitting.{FitsStep};
@@ -33,6 +34,7 @@ pub(crate) fn accept_with<T: KeepsRun>(
         change: Change {
             added: None,
             created: None,
+            taken: None,
             answer,
             count: Count::Accepts(transfer.from),
         },
@@ -63,6 +65,7 @@ pub(crate) fn accept_facts<T: KeepsRun>(
 ) -> Result<Plan<T>, AllocError>
     requires accepts { MayAccept store.old transfer.now }
     requires there { index < length store.old.runs }
+    requires begun { is_there (run_in store.old index) ≡ true }
     requires fits { FitStep moment (run_in store.old index) facts }
     ensures same { state store.new ≡ state store.old }
     ensures plan { IfOk result (λ plan. FitsStep store.new plan moment
@@ -75,6 +78,7 @@ pub(crate) fn accept_facts<T: KeepsRun>(
         change: Change {
             added: Some(more),
             created: None,
+            taken: None,
             answer,
             count: Count::Accepts(transfer.from),
         },
@@ -93,6 +97,7 @@ pub(crate) fn accept_event<T: KeepsRun>(
 ) -> Result<Plan<T>, AllocError>
     requires accepts { MayAccept store.old transfer.now }
     requires there { index < length store.old.runs }
+    requires begun { is_there (run_in store.old index) ≡ true }
     requires outside { IsFromOutside (run_in store.old index) event }
     ensures same { state store.new ≡ state store.old }
     ensures plan { IfOk result (λ plan. FitsStep store.new plan moment

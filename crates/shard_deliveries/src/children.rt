@@ -3,7 +3,7 @@
 
 ghost use Rattle.std.specs.Prelude.{◌≡◌, ◌<◌, IfOk, length, true};
 ghost use Rattle.service_model.specs.Deliveries.{asked_before, close_by, effect, is_child_of};
-ghost use Rattle.service_model.specs.RunState.{is_open, parent_of};
+ghost use Rattle.service_model.specs.RunState.{is_open, parent_of, is_there};
 ghost use Rattle.service_model_types.specs.declared.transfer.TransferContent.TheVariants as content;
 ghost use Rattle.shard_store.specs.Fitting.{FitsStep};
 ghost use Rattle.shard_store.specs.View.{ordinal_of, run_in, runs_at, state};
@@ -69,6 +69,7 @@ fn prepare_end<T: KeepsRun>(
 ) -> Result<Plan<T>, AllocError>
     requires accepts { MayAccept store.old transfer.now }
     requires there { index < length store.old.runs }
+    requires begun { is_there (run_in store.old index) ≡ true }
     requires open { is_open (run_in store.old index) ≡ true }
     ensures same { state store.new ≡ state store.old }
     ensures plan { IfOk result (λ plan. FitsStep store.new plan moment
@@ -89,6 +90,7 @@ fn prepare_cancel<T: KeepsRun>(
 ) -> Result<Plan<T>, AllocError>
     requires accepts { MayAccept store.old transfer.now }
     requires there { index < length store.old.runs }
+    requires begun { is_there (run_in store.old index) ≡ true }
     requires open { is_open (run_in store.old index) ≡ true }
     ensures same { state store.new ≡ state store.old }
     ensures plan { IfOk result (λ plan. FitsStep store.new plan moment

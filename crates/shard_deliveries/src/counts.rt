@@ -65,6 +65,7 @@ pub fn prepare_acknowledge<T: KeepsRun>(
         change: Change {
             added: None,
             created: None,
+            taken: None,
             answer: None,
             count,
         },

@@ -2,7 +2,7 @@
 
 ghost use Rattle.std.specs.Prelude.{◌≡◌, ◌<◌, IfOk, Some, length, true, option_to_list};
 ghost use Rattle.service_model.specs.Deliveries.{cancel_external, effect, external_done, signal_external};
-ghost use Rattle.service_model.specs.RunState.{is_open};
+ghost use Rattle.service_model.specs.RunState.{is_open, is_there};
 ghost use Rattle.service_model_types.specs.declared.transfer.TransferContent.TheVariants as content;
 ghost use Rattle.shard_store.specs.Fitting.{FitsStep};
 ghost use Rattle.shard_store.specs.View.{ordinal_of, run_in, runs_at, state};
@@ -53,6 +53,7 @@ fn prepare_signal_of<T: KeepsRun>(
 ) -> Result<Plan<T>, AllocError>
     requires accepts { MayAccept store.old transfer.now }
     requires there { index < length store.old.runs }
+    requires begun { is_there (run_in store.old index) ≡ true }
     requires open { is_open (run_in store.old index) ≡ true }
     ensures same { state store.new ≡ state store.old }
     ensures plan { IfOk result (λ plan. FitsStep store.new plan moment
@@ -104,6 +105,7 @@ fn prepare_cancel_of<T: KeepsRun>(
 ) -> Result<Plan<T>, AllocError>
     requires accepts { MayAccept store.old transfer.now }
     requires there { index < length store.old.runs }
+    requires begun { is_there (run_in store.old index) ≡ true }
     requires open { is_open (run_in store.old index) ≡ true }
     ensures same { state store.new ≡ state store.old }
     ensures plan { IfOk result (λ plan. FitsStep store.new plan moment

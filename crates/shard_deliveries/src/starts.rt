@@ -93,6 +93,7 @@ fn prepare_child<T: KeepsRun>(
         change: Change {
             added: None,
             created: Some(made),
+            taken: None,
             answer: Some(answer),
             count: Count::Accepts(transfer.from),
         },

@@ -102,6 +102,22 @@ each-added {says = says} {d = d} slots changed runs s none h = record {
   each = λ k t at past apart. ap says (index-push d slots k) ∙ h.each k t (get-push runs k s t (λ e. apart (ap Some (sym e))) at) past (no-place changed.made k none);
 }
 
+set-there : (runs : List RunState) (n : ℕ) (s : RunState) → n < length runs → slice_get (slice_set runs n s) n ≡ Some s
+set-there [] n s low = absurd (omega (arith, low))
+set-there (r ∷ runs) zero s low = refl
+set-there (r ∷ runs) (suc n) s low = set-there runs n s (omega (arith, low))
+
+-- another run stands at a place, of which another thing is kept
+pub each-set : {A B : Type 0} {says : A → B} {fact : ℕ → RunState → B} {d : A} (slots : List A) (changed : Changed) (runs : List RunState) (n : ℕ) (s : RunState) (x : A) → n < length runs → says x ≡ fact n s →
+    KeepsEach says fact d slots changed runs → KeepsEach says fact d (slice_set slots n x) changed (slice_set runs n s)
+each-set {says = says} {fact = fact} {d = d} slots changed runs n s x low is h = record {
+  count = length-set slots n x ∙ h.count ∙ sym (length-set runs n s);
+  grown = subst (λ l. IfSome changed.grown (λ k. k < l)) (sym (length-set runs n s)) h.grown;
+  made = subst (λ l. IfSome changed.made (λ k. k < l)) (sym (length-set runs n s)) h.made;
+  each = λ k t at past apart.
+      put-there says fact d slots n (slice_set runs n s) s x (omega (arith, low, h.count)) (set-there runs n s low) is k t at (λ other. h.each k t (get-set-other runs n k s t other at) past apart);
+}
+
 pub each-fresh : {A B : Type 0} {says : A → B} {fact : ℕ → RunState → B} {d : A} (slots : List A) (runs : List RunState) → slots ≡ [] → runs ≡ [] → KeepsEach says fact d slots unchanged runs
 each-fresh {A = A} {says = says} {fact = fact} {d = d} slots runs no_slots no_runs = subst (λ (l : List A). KeepsEach says fact d l unchanged runs) (sym no_slots) (subst (λ (l : List RunState). KeepsEach says fact d [] unchanged l) (sym no_runs)
     (record { count = refl; grown = tt; made = tt; each = λ k s there _ _. absurd (let past = slice_get_within [] k s there in omega (arith, past)) }))

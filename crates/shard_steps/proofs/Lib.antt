@@ -9,3 +9,4 @@ pub mod TurnLemmas
 pub mod EachLemmas
 pub mod DispatchLemmas
 pub mod SendingLemmas
+pub mod TakenLemmas

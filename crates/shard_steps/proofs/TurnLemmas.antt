@@ -16,11 +16,11 @@ use Rattle.service_model.specs.Outcome.{is_no_task, schedule_task}
 use Rattle.service_model.specs.Pending.{Task, NoTask, IsScheduled, IsStarted}
 use Rattle.service_model.specs.RunState.{RunState, is_open, pending}
 use Rattle.service_model.specs.Tasks.{pending_row}
-use Rattle.service_model.specs.TimerTurns.{RunDue, fire, timer_name}
+use Rattle.service_model.specs.TimerTurns.{RunDue, fire, is_retention, timer_name}
 use Rattle.mutable_state.specs.Steps.{IsFirst, FitsEvent, FitStep, has_id}
 use Rattle.timeouts.specs.Firsts.{of_run, HasTimer}
 use Rattle.timeouts.specs.Slots.{IsOneOf}
-use Rattle.timeouts.proofs.ClassLemmas.{due-open, due-retry, due-task, due-timer, is_retention}
+use Rattle.timeouts.proofs.ClassLemmas.{due-open, due-retry, due-task, due-timer}
 use Rattle.shard_steps.proofs.ActivityTurnLemmas.{attempt-fits, closed-fits, ready-fits}
 
 -- the run's own timeout, also while a workflow task is started

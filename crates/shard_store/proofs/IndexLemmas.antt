@@ -9,7 +9,8 @@ use Rattle.service_model.specs.Outcome.{Runs, latest_run, run_at}
 use Rattle.service_model.proofs.ListLemmas.{map-push}
 use Rattle.mutable_state.specs.View.{RunView}
 use Rattle.shard_store.specs.Fitting.{state_at}
-use Rattle.shard_store.specs.View.{IsIndexed, ordinal_of, states}
+use Rattle.shard_store.specs.View.{IsIndexed, ShardView, ordinal_of, run_in, runs_in, states}
+use Rattle.shard_store.proofs.PlaceLemmas.{none-there}
 
 -- whether a run is there and has this workflow ID, by how it began
 abbrev pub bears : List ℕ → RunState → Bool
@@ -114,9 +115,24 @@ pub place-within : (count : ℕ) (place found : Option ℕ) → option_map ordin
 place-within count None found is h = tt
 place-within count (Some i) found is h = let w = subst (λ o. IfSome o (λ n. (1 ≤ n) × (n ≤ count))) (sym is) h in omega (arith, w.1)
 
+-- a run that is there is at one of the places
+pub there-within : (runs : List RunState) (i : ℕ) → is_there (state_at runs i) ≡ true → i < length runs
+there-within [] i h = absurd (let clash = sym none-there ∙ h in cc)
+there-within (r ∷ runs) zero h = omega arith
+there-within (r ∷ runs) (suc i) h = omega (arith, there-within runs i h)
+
 -- the run with the ordinal of a place stands there
 pub at-place : (R : Runs) (i : ℕ) → run_at R (ordinal_of i) ≡ state_at R.states i
 at-place R i = let place : ordinal_of i - 1 ≡ i = omega arith in ap (λ k. slice_index_or R.states k no_run) place
+
+-- what is known of the run at a place, where these are the places of the shard
+pub run-at : (v : ShardView) (runs : List RunView) (i : ℕ) (d : RunView) → runs ≡ v.runs → i < length runs → (slice_index_or runs i d).state ≡ run_in v i
+run-at v runs i d is low = sym (states-at runs i d low) ∙ ap (λ l. state_at (states l) i) is ∙ sym (at-place (runs_in v) i)
+
+pub run-within : (v : ShardView) (runs : List RunView) (i : ℕ) → runs ≡ v.runs → is_there (run_in v i) ≡ true → i < length runs
+run-within v runs i is there =
+    let low = there-within (states v.runs) i (ap is_there (sym (at-place (runs_in v) i)) ∙ there) in
+    omega (arith, low, length-states v.runs, ap length is)
 
 -- the index still knows the latest runs, where one run's state is as it was
 pub indexed-same : (look : List ℕ → Option ℕ) (runs : List RunView) (n : ℕ) (was now : RunView) → n < length runs → was ≡ slice_index_or runs n was → now.state ≡ was.state → IsIndexed look runs → IsIndexed look (slice_set runs n now)

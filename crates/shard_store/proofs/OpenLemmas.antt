@@ -1,29 +1,25 @@
 -- a workflow ID has at most one open run: of two runs of one ID the earlier has closed
 use Rattle.std.proofs.Common.{◌≡◌, ℕ, ◌+◌, ◌-◌, ◌<◌, ◌≤◌, ◌⊎◌, inl, inr, ⊎_elim, Bool, true, false, cond, List, [], ◌∷◌, ◌++◌, length, refl, sym, ap, ◌∙◌, arith, Option, Some, None, zero, suc, slice_set, IfSome}
-use Rattle.std.specs.Prelude.{◌&&◌, map, slice_get, bytes_eq, unwrap_or, option_map}
+use Rattle.std.specs.Prelude.{◌&&◌, map, slice_get, bytes_eq, option_map}
 use Rattle.std.proofs.lemmas.Slice.Eq.{bytes_eq-Decides}
 use Rattle.std.proofs.lemmas.Bool.Decides.{not_from_Decides}
 use Rattle.service_model_types.specs.declared.content.Content.{Content}
-use Rattle.service_model_types.specs.declared.journal.Fact.{Fact}
+use Rattle.service_model_types.specs.declared.content.Setup.{Setup}
+use Rattle.service_model.specs.Aging.{IsAged}
 use Rattle.service_model.specs.Growth.{HasOneOpen}
+use Rattle.service_model.specs.Service.{opening}
 use Rattle.service_model.specs.Journal.{first_some}
-use Rattle.service_model.specs.Outcome.{Outcome, Added, latest_run}
-use Rattle.service_model.specs.RunState.{RunState, Beginning, id_of, is_open, is_open_status, is_there, state_of}
-use Rattle.service_model.proofs.ListLemmas.{get-map, map-get}
+use Rattle.service_model.specs.Outcome.{latest_run}
+use Rattle.service_model.specs.RunState.{RunState, id_of, is_open, is_open_status, is_there, state_of}
+use Rattle.service_model.proofs.ListLemmas.{get-map}
 use Rattle.service_model.proofs.ThereLemmas.{open-there}
-use Rattle.mutable_state.specs.Steps.{after_step, all_written, FitStep}
-use Rattle.mutable_state.proofs.GrowthLemmas.{beginning-stays}
 use Rattle.shard_steps.proofs.DispatchLemmas.{get-at}
-use Rattle.shard_store.specs.View.{ShardView, states}
-use Rattle.shard_store.specs.Fitting.{FitsAdded, FitsChange, IsFree, IsFreeFor, grown, runs_added, runs_created, state_at}
+use Rattle.shard_store.specs.View.{ShardView, ordinal_of, run_in, states}
+use Rattle.shard_store.specs.Fitting.{IsFree, state_at}
 use Rattle.shard_store.specs.Open.{HasClosed, IsOneOpen}
-use Rattle.shard_store.specs.declared.plan.Change.{Change}
-use Rattle.shard_store.specs.declared.plan.MoreOf.{MoreOf}
-use Rattle.shard_store.specs.declared.plan.NewRun.{NewRun}
 use Rattle.shard_store.proofs.IndexLemmas.{bears, latest_from}
-use Rattle.shard_store.proofs.StepLemmas.{no-facts}
 
-same-some : {A : Type 0} (x y : A) → Some x ≡ Some y → x ≡ y
+pub same-some : {A : Type 0} (x y : A) → Some x ≡ Some y → x ≡ y
 same-some x y e = cc
 
 -- what stands in a list that has one member more
@@ -34,19 +30,19 @@ get-pushed (z ∷ xs) x y zero is = inl is
 get-pushed (z ∷ xs) x y (suc n) is = ⊎_elim (λ e. inl e) (λ e. inr (ap suc e.0, e.1)) (get-pushed xs x y n is)
 
 -- what stands in a list one member of which is another
-get-set : {A : Type 0} (xs : List A) (i : ℕ) (x y : A) (n : ℕ) → slice_get (slice_set xs i x) n ≡ Some y → (z : A) × (slice_get xs n ≡ Some z) × (((n ≡ i) × (y ≡ x)) ⊎ (y ≡ z))
+pub get-set : {A : Type 0} (xs : List A) (i : ℕ) (x y : A) (n : ℕ) → slice_get (slice_set xs i x) n ≡ Some y → (z : A) × (slice_get xs n ≡ Some z) × (((n ≡ i) × (y ≡ x)) ⊎ (y ≡ z))
 get-set [] i x y n is = absurd (cc)
 get-set (z ∷ xs) zero x y zero is = (z, refl, inl (refl, same-some y x (sym is)))
 get-set (z ∷ xs) zero x y (suc n) is = (y, is, inr refl)
 get-set (z ∷ xs) (suc i) x y zero is = (y, is, inr refl)
 get-set (z ∷ xs) (suc i) x y (suc n) is = let r = get-set xs i x y n is in (r.0, r.1, ⊎_elim (λ e. inl (ap suc e.0, e.1)) (λ e. inr e) r.2)
 
-get-below : {A : Type 0} (xs : List A) (n : ℕ) (x : A) → slice_get xs n ≡ Some x → n < length xs
+pub get-below : {A : Type 0} (xs : List A) (n : ℕ) (x : A) → slice_get xs n ≡ Some x → n < length xs
 get-below [] n x is = absurd (cc)
 get-below (y ∷ xs) zero x is = omega arith
 get-below (y ∷ xs) (suc n) x is = let l = get-below xs n x is in omega (arith, l)
 
-state-there : (runs : List RunState) (n : ℕ) (s : RunState) → slice_get runs n ≡ Some s → state_at runs n ≡ s
+pub state-there : (runs : List RunState) (n : ℕ) (s : RunState) → slice_get runs n ≡ Some s → state_at runs n ≡ s
 state-there [] n s is = absurd (cc)
 state-there (r ∷ runs) zero s is = same-some r s is
 state-there (r ∷ runs) (suc n) s is = state-there runs n s is
@@ -63,12 +59,12 @@ bears-not : (id : List ℕ) (s : RunState) → bears id s ≡ false → is_there
 bears-not id s h there same = not_from_Decides (bytes_eq (id_of s) id) (bytes_eq-Decides (id_of s) id) (ap (λ b. b && bytes_eq (id_of s) id) (sym there) ∙ h) same
 
 -- the run of this ID that has the largest ordinal, where these count from k
-record IsLatest (k : ℕ) (id : List ℕ) (runs : List RunState) (o : Option ℕ) : Type 0 where
-  none : o ≡ None → (m : ℕ) (s : RunState) → slice_get runs m ≡ Some s → is_there s ≡ true → id_of s ≡ id → ⊥
-  some : (x : ℕ) → o ≡ Some x → (i : ℕ) × (t : RunState) × (x ≡ k + i) × (slice_get runs i ≡ Some t) × (is_there t ≡ true) × (id_of t ≡ id)
+pub record IsLatest (k : ℕ) (id : List ℕ) (runs : List RunState) (o : Option ℕ) : Type 0 where
+  pub none : o ≡ None → (m : ℕ) (s : RunState) → slice_get runs m ≡ Some s → is_there s ≡ true → id_of s ≡ id → ⊥
+  pub some : (x : ℕ) → o ≡ Some x → (i : ℕ) × (t : RunState) × (x ≡ k + i) × (slice_get runs i ≡ Some t) × (is_there t ≡ true) × (id_of t ≡ id)
       × ((m : ℕ) (s : RunState) → slice_get runs m ≡ Some s → is_there s ≡ true → id_of s ≡ id → m ≤ i)
 
-is-latest : (k : ℕ) (id : List ℕ) (runs : List RunState) → IsLatest k id runs (latest_from k id runs)
+pub is-latest : (k : ℕ) (id : List ℕ) (runs : List RunState) → IsLatest k id runs (latest_from k id runs)
 unfolding latest_from
 is-latest k id [] = record { none = λ e m s is there same. absurd (cc); some = λ x e. absurd (cc) }
 is-latest k id (r ∷ runs) = by_rest (latest_from (k + 1) id runs) (is-latest (k + 1) id runs) (bears id r) refl
@@ -138,6 +134,11 @@ latest-there runs id n is =
     let here : i ≡ n - 1 = omega (arith, place) in
     ap is_there (ap (state_at runs) (sym here) ∙ state-there runs i t at) ∙ there
 
+-- so it is at the place that the index knows
+pub run-latest : (v : ShardView) (id : List ℕ) (place : Option ℕ) → option_map ordinal_of place ≡ latest_run (states v.runs) id → IfSome place (λ i. is_there (run_in v i) ≡ true)
+run-latest v id None is = tt
+run-latest v id (Some i) is = latest-there (states v.runs) id (ordinal_of i) (sym is)
+
 pub latest-named : (runs : List RunState) (id : List ℕ) (n : ℕ) → latest_run runs id ≡ Some n → id_of (state_at runs (n - 1)) ≡ id
 unfolding latest_run latest_from
 latest-named runs id n is =
@@ -145,7 +146,7 @@ latest-named runs id n is =
     let here : i ≡ n - 1 = omega (arith, place) in
     ap id_of (ap (state_at runs) (sym here) ∙ state-there runs i t at) ∙ named
 
-set-there : {A : Type 0} (xs : List A) (i : ℕ) (x : A) → i < length xs → slice_get (slice_set xs i x) i ≡ Some x
+pub set-there : {A : Type 0} (xs : List A) (i : ℕ) (x : A) → i < length xs → slice_get (slice_set xs i x) i ≡ Some x
 set-there [] i x h = absurd (omega arith)
 set-there (y ∷ xs) zero x h = refl
 set-there (y ∷ xs) (suc i) x h = set-there xs i x (omega arith)
@@ -179,4 +180,14 @@ of-journals S one = record {
       let (J, there_m, is_m) = get-map state_of S.runs m s at_m in
       let (K, there_n, is_n) = get-map state_of S.runs n t at_n in
       ap is_open is_m ∙ one.earlier m n J K l there_m there_n (ap is_there (sym is_n) ∙ is_t) (ap id_of (sym is_m) ∙ same ∙ ap id_of is_n);
+}
+
+-- both are so where no run was made
+pub none-made : (setup : Setup) → HasOneOpen (opening setup)
+none-made setup = record { earlier = λ m n J K less at_m at_n is_k same. absurd (cc) }
+
+pub none-aged : (setup : Setup) → IsAged (opening setup)
+none-aged setup = record {
+  over = λ n s at there over. absurd (cc);
+  in_order = λ m n s t pair over a b at_a at_b. absurd (let at = pair.at_m in cc);
 }

@@ -1,14 +1,15 @@
 -- plans that add to a run
-use Rattle.std.proofs.Common.{◌≡◌, ℕ, ◌<◌, ◌≤◌, List, Some, ap, length, slice_index_or, subst, sym}
+use Rattle.std.proofs.Common.{◌≡◌, ℕ, ◌<◌, ◌≤◌, List, Some, Ok, ap, refl, length, slice_index_or, subst, sym}
+use Rattle.service_model_types.specs.declared.answer.Answer.{Answer}
 use Rattle.service_model_types.specs.declared.journal.Fact.{Fact}
-use Rattle.service_model.specs.Outcome.{run_at}
+use Rattle.service_model.specs.Outcome.{run_at, takes_away}
 use Rattle.service_model.specs.RunState.{RunState, no_run}
 use Rattle.mutable_state.specs.declared.change.Change.{Change as MoreFacts}
 use Rattle.mutable_state.specs.Steps.{FitStep}
 use Rattle.mutable_state.specs.View.{RunView}
 use Rattle.shard_steps.specs.Kept.{IsNoted}
 use Rattle.shard_store.specs.declared.plan.MoreOf.{MoreOf}
-use Rattle.shard_store.specs.Fitting.{FitsAdded, FitsMore, IsPrepared, room_at, state_at}
+use Rattle.shard_store.specs.Fitting.{FitsAdded, FitsMore, FitsStep, IsPrepared, MayTake, room_at, state_at, taking}
 use Rattle.shard_store.specs.View.{ShardView, ordinal_of, runs_in, state, states}
 use Rattle.shard_store.proofs.IndexLemmas.{at-place}
 
@@ -34,4 +35,12 @@ stays-prepared v w at i facts m same noted made = record {
   noted = noted;
   room = subst (λ (l : List RunView). length m.plan.change.facts ≤ room_at l m.index) (sym same) made.room;
   change = made.change;
+}
+
+-- a run that may be taken away is, alone
+pub fits-taking : {T : Type 0} (v : ShardView) (at i : ℕ) (a : Answer) → MayTake v i → FitsStep {T = T} v (record { moment = at; change = taking i; reply = Ok a }) at (takes_away (ordinal_of i) a)
+fits-taking v at i a may = record {
+  moment = refl;
+  reply = refl;
+  change = record { added = refl; created = refl; taken = (refl, may, refl); count = refl; answer = refl; free = λ one. tt };
 }

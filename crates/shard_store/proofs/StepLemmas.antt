@@ -1,5 +1,5 @@
 -- a shard that did what was planned stands for the next content
-use Rattle.std.proofs.Common.{◌≡◌, ℕ, ◌+◌, ◌-◌, ◌<◌, ◌≤◌, false, true, List, [], ◌∷◌, ◌++◌, length, refl, sym, ap, ◌∙◌, arith, Option, Some, None, zero, suc, slice_index_or, slice_set, subst, append-nil, append_assoc, length-append, length-set}
+use Rattle.std.proofs.Common.{◌≡◌, ℕ, ◌+◌, ◌-◌, ◌<◌, ◌≤◌, ◌⊎◌, inl, inr, ⊎_elim, false, true, List, [], ◌∷◌, ◌++◌, length, refl, sym, ap, ◌∙◌, arith, Option, Some, None, zero, suc, slice_index_or, slice_set, subst, append-nil, append_assoc, length-append, length-set}
 use Rattle.std.proofs.lemmas.List.{drop-append-le, drop-drop, length-drop, length-map}
 use Rattle.std.specs.Prelude.{drop, filter_map, is_some, map, option_and_then, option_to_list, slice_get, unwrap_or, option_map}
 use Rattle.std.specs.List.{AllByRecursion}
@@ -12,20 +12,21 @@ use Rattle.service_model_types.specs.declared.content.Setup.{Setup}
 use Rattle.service_model_types.specs.declared.journal.Fact.{Fact}
 use Rattle.service_model_types.specs.declared.journal.Fact.TheVariants.{Event as an_event, Note as a_note}
 use Rattle.service_model_types.specs.declared.transfer.Sent.{Sent}
+use Rattle.service_model.specs.Growth.{KeepsHistories}
 use Rattle.service_model.specs.Journal.{Journal}
 use Rattle.service_model.specs.RunState.{RunState, Beginning, state_of, no_run, id_of, is_open, is_there}
 use Rattle.service_model.specs.Outcome.{Outcome, Added, Counting, CountsNothing, AcceptsFrom, AcknowledgesTo, CountsDispatch}
 use Rattle.service_model.specs.Issued.{dispatches_of, ready_dispatch, task_dispatch, transfers_of}
-use Rattle.service_model.specs.Service.{dispatched_for, dispatched_new, entries, one_more_acknowledged, sent_for, with_added, with_all_sent, with_created, with_count, content_after}
+use Rattle.service_model.specs.Service.{dispatched_for, dispatched_new, entries, one_more_acknowledged, sent_for, with_added, with_all_sent, with_created, with_count, with_removed, content_after}
 use Rattle.service_model.specs.Shown.{shown, numbered, put_all}
 use Rattle.service_model.specs.Windows.{placed}
 use Rattle.mutable_state.specs.declared.change.Change.{Change as MoreFacts}
 use Rattle.mutable_state.specs.Formed.{IsFormed, Stands}
 use Rattle.mutable_state.specs.Steps.{begun, after_step, FitStep, IsLater}
 use Rattle.mutable_state.proofs.GrowthLemmas.{Begins, step-begins, beginning-stays}
-use Rattle.mutable_state.proofs.JournalLemmas.{formed-later, stands-next, stands-begun}
+use Rattle.mutable_state.proofs.JournalLemmas.{formed-later, formed-none, stands-next, stands-begun}
 use Rattle.shard_store.specs.View.{ShardView, ShardState, state, states}
-use Rattle.shard_store.specs.Fitting.{FitsAdded, FitsAnswer, FitsChange, FitsCount, FitsCreated, FitsMore, FitsStep, IsMade, accepted_by, acknowledged_by, after_added, after_answer, after_change, after_count, counted_by, grown, issued_for, issued_new, outgoing_added, outgoing_answered, runs_added, runs_created, state_after, state_at, transfers_for, waiting_added, waiting_created}
+use Rattle.shard_store.specs.Fitting.{FitsAdded, FitsAnswer, FitsChange, FitsCount, FitsCreated, FitsMore, FitsStep, FitsTaken, IsMade, accepted_by, acknowledged_by, after_added, after_answer, after_change, after_count, after_taken, counted_by, grown, issued_for, issued_new, outgoing_added, outgoing_answered, runs_added, runs_created, runs_taken, state_after, state_at, transfers_for, waiting_added, waiting_created}
 use Rattle.shard_steps.specs.Issuing.{Waiting, one_counted, queued_dispatch, waiting_in, with_issued}
 use Rattle.shard_steps.specs.Starts.{first_facts, new_run}
 use Rattle.shard_steps.specs.declared.starts.Beginning.{Beginning as NewBeginning}
@@ -70,11 +71,12 @@ all-at steps (J ∷ Js) (suc n) there h = all-at steps Js n (omega arith) h.1
 
 -- the journals after a step of that outcome
 runs_of_step : Content → ℕ → Outcome → List Journal
-runs_of_step S moment o = with_created (S.steps + 1) moment o.created (with_added (S.steps + 1) moment o.added S.runs)
+runs_of_step S moment o = with_created (S.steps + 1) moment o.created (with_removed o.removed (with_added (S.steps + 1) moment o.added S.runs))
 
 -- the journal that a step adds to, before and after
 pub record AddedTo (S : Content) (v : ShardView) (moment : ℕ) (m : MoreOf) (facts : List Fact) (J K : Journal) : Type 0 where
   pub before : state_of J ≡ state_at (states v.runs) m.index
+  pub stood : Stands S.steps J (state_at (states v.runs) m.index)
   pub behind : Stands (S.steps + 1) K (after_step moment facts (state_at (states v.runs) m.index))
 
 pub added-stands : (S : Content) (v : ShardView) (moment : ℕ) (m : MoreOf) (facts : List Fact) → StandsFor v S → FitsMore v moment m facts →
@@ -85,9 +87,11 @@ added-stands S v moment m facts h fits =
     let there : m.index < length S.runs = omega (arith, fits.has_room.there, ap length known-runs, length-map S.runs state_of, length-states v.runs) in
     let here : state_of J ≡ state_at (states v.runs) m.index = sym (state-at S.runs m.index) ∙ ap (λ t. state_at t m.index) known-runs in
     let may : FitStep moment (state_at (states v.runs) m.index) facts = subst (λ (c : MoreFacts). FitStep c.moment (state_at (states v.runs) m.index) c.facts) fits.change fits.has_room.fits in
+    let stood : Stands S.steps J (state_at (states v.runs) m.index) = record { says = here; formed = all-at S.steps S.runs m.index there h.formed } in
     record {
       before = here;
-      behind = stands-next S.steps moment J facts (state_at (states v.runs) m.index) (after_step moment facts (state_at (states v.runs) m.index)) (record { says = here; formed = all-at S.steps S.runs m.index there h.formed }) may refl;
+      stood = stood;
+      behind = stands-next S.steps moment J facts (state_at (states v.runs) m.index) (after_step moment facts (state_at (states v.runs) m.index)) stood may refl;
     }
 
 -- where a step adds to a run, its journal is put in the place of the older one
@@ -119,6 +123,25 @@ added-done S v moment (Some m) o h (facts, added, fits) =
       formed = subst P (sym is) (all-set (IsFormed (S.steps + 1)) S.runs n K (all-later S.steps S.runs h.formed) stands.formed);
     }
 
+-- where a step takes a run away, its journal is the one without facts
+none-stands : state_of [] ≡ no_run
+unfolding no_run
+none-stands = refl
+
+taken-done : {T : Type 0} (S : Content) (v : ShardView) (c : Change T) (i o : Option ℕ) (Js : List Journal) (runs : List RunState) → DoneRuns S Js runs → FitsTaken v c i o → DoneRuns S (with_removed o Js) (runs_taken i runs)
+taken-done S v c None o Js runs before none =
+    let is : with_removed o Js ≡ Js = ap (λ t. with_removed t Js) none in
+    let P : List Journal → Type 0 = λ l. AllByRecursion (IsFormed (S.steps + 1)) l in
+    record { says = ap (map state_of) is ∙ before.says; formed = subst P (sym is) before.formed }
+taken-done S v c (Some i) o Js runs before (removed, may, alone) =
+    let place : i + 1 - 1 ≡ i = omega arith in
+    let is : with_removed o Js ≡ slice_set Js i [] = ap (λ t. with_removed t Js) removed ∙ ap (λ k. slice_set Js k []) place in
+    let P : List Journal → Type 0 = λ l. AllByRecursion (IsFormed (S.steps + 1)) l in
+    record {
+      says = ap (map state_of) is ∙ map-set Js i [] ∙ ap (λ t. slice_set t i (state_of [])) before.says ∙ ap (slice_set runs i) none-stands;
+      formed = subst P (sym is) (all-set (IsFormed (S.steps + 1)) Js i [] before.formed (formed-none (S.steps + 1)));
+    }
+
 pub created-stands : {T : Type 0} (S : Content) (v : ShardView) (moment : ℕ) (n : NewRun T) (b : NewBeginning) → IsMade v moment n b → Stands (S.steps + 1) (entries (S.steps + 1) moment 0 (first_facts b)) (new_run moment b)
 created-stands S v moment n b made = stands-begun S.steps moment b.request_id b.started b.facts (made.begins.fits IsLater)
 
@@ -137,9 +160,9 @@ created-done S v moment (Some n) o Js runs before (b, created, made) =
       formed = subst P (sym is) (all-push (IsFormed (S.steps + 1)) Js J before.formed stands.formed);
     }
 
-done : {T : Type 0} (S : Content) (v : ShardView) (moment : ℕ) (c : Change T) (o : Outcome) → StandsFor v S → FitsChange v moment c o → DoneRuns S (runs_of_step S moment o) (runs_created c.created (runs_added c.added (states v.runs)))
+done : {T : Type 0} (S : Content) (v : ShardView) (moment : ℕ) (c : Change T) (o : Outcome) → StandsFor v S → FitsChange v moment c o → DoneRuns S (runs_of_step S moment o) (runs_created c.created (runs_taken c.taken (runs_added c.added (states v.runs))))
 unfolding runs_of_step
-done S v moment c o h fits = created-done S v moment c.created o.created _ _ (added-done S v moment c.added o.added h fits.added) fits.created
+done S v moment c o h fits = created-done S v moment c.created o.created _ _ (taken-done S v c c.taken o.removed _ _ (added-done S v moment c.added o.added h fits.added) fits.taken) fits.created
 
 -- counts change nothing else
 record SameBut (S T : Content) : Type 0 where
@@ -221,6 +244,10 @@ length-added : (m : Option MoreOf) (runs : List RunState) → length (runs_added
 length-added None runs = refl
 length-added (Some m) runs = length-set runs m.index (grown m runs)
 
+length-taken : (i : Option ℕ) (runs : List RunState) → length (runs_taken i runs) ≡ length runs
+length-taken None runs = refl
+length-taken (Some i) runs = length-set runs i no_run
+
 -- what waits after a step
 record Waits (S : Content) (w : Waiting) : Type 0 where
   says : waiting_in S ≡ w
@@ -271,12 +298,12 @@ all-waits : {T : Type 0} (S : Content) (v : ShardView) (moment : ℕ) (c : Chang
 all-waits S v moment c o B h fits all so_far =
     let w = counted_by c.count v.waiting in
     let s = after_count c.count (state v) in
-    let t = after_answer c.answer (after_added c.added s) in
+    let t = after_taken c.taken (after_answer c.answer (after_added c.added s)) in
     let X = issued_added c.added s in
     let Y = issued_created c.created t in
     let known-runs : length (states v.runs) ≡ length S.runs = ap (λ s. length s.runs) h.says ∙ length-map S.runs state_of in
     let first : dispatched_for S (S.steps + 1) moment o.added ≡ X = issued-added S v moment c.added o.added h fits.added ∙ sym (issued-counted c.added c.count (state v)) in
-    let second : dispatched_new S (S.steps + 1) moment o.created ≡ Y = issued-created S v moment c.created o.created t (ap (λ s. s.setup) h.says) (length-added c.added (states v.runs) ∙ known-runs) fits.created in
+    let second : dispatched_new S (S.steps + 1) moment o.created ≡ Y = issued-created S v moment c.created o.created t (ap (λ s. s.setup) h.says) (length-taken c.taken (runs_added c.added (states v.runs)) ∙ length-added c.added (states v.runs) ∙ known-runs) fits.created in
     let issued : B.dispatches ≡ S.dispatches ++ (X ++ Y) = all ∙ ap (λ l. S.dispatches ++ (l ++ dispatched_new S (S.steps + 1) moment o.created)) first ∙ ap (λ l. S.dispatches ++ (X ++ l)) second in
     let is : (after_change c (state v)).waiting ≡ with_issued w (X ++ Y) =
     waiting-created c.created t ∙ ap (λ x. with_issued x Y) (waiting-added c.added s) ∙ ap (λ l. record { dispatches = l; counted = w.counted }) (append_assoc w.dispatches X Y) in
@@ -353,9 +380,9 @@ step_content : Content → ℕ → Outcome → Content
 step_content S moment o = content_after S moment (record o { counting = CountsNothing })
 
 -- the shard stands for the content after the step that was planned
-pub stands-after : {T : Type 0} (v w : ShardView) (S : Content) (m : ℕ) (o : Outcome) (plan : Plan T) → StandsFor v S → FitsStep v plan m o → state w ≡ state_after plan (state v) → StandsFor w (content_after S m o)
+pub stands-after : {T : Type 0} (v w : ShardView) (S : Content) (m : ℕ) (o : Outcome) (plan : Plan T) → StandsFor v S → FitsStep v plan m o → KeepsHistories S (content_after S m o) → state w ≡ state_after plan (state v) → StandsFor w (content_after S m o)
 unfolding runs_of_step step_content
-stands-after v w S m o plan stands fits did =
+stands-after v w S m o plan stands fits kept did =
     let B = step_content S m o in
     let C = content_after S m o in
     let D = after_change plan.change (state v) in
@@ -378,6 +405,8 @@ stands-after v w S m o plan stands fits did =
           ∙ ap (λ t. K C.setup (map state_of C.runs) C.last_moment (waiting_in C) C.outgoing t) (sym accepts);
       formed = subst P (sym keeps.runs) (subst Q (sym keeps.steps) runs.formed);
       counted = waits.counted;
+      one = kept.one stands.one;
+      aged = (kept.aged stands.one stands.aged).0;
     }
 
 -- a run of this workflow ID keeps its ID in each step
@@ -388,17 +417,17 @@ id-of-begun at more request a = ap (λ (o : Option Beginning). unwrap_or (option
 pub there-begun : (at : ℕ) (more : List Fact) (request : Option (List ℕ)) (a : StartedAttributes) → is_there (after_step at more (begun at request a)) ≡ true
 there-begun at more request a = ap (λ (o : Option Beginning). is_some o) (beginning-stays at more (begun at request a))
 
-grows-same : (n : ℕ) (runs : List RunState) (s : RunState) → slice_get runs n ≡ Some s → (t : RunState) × (more : List Event) × (slice_get runs n ≡ Some t) × (t.shown ≡ s.shown ++ more)
-grows-same n runs s h = (s, [], h, sym (append-nil s.shown))
+grows-same : (n : ℕ) (runs : List RunState) (s : RunState) → slice_get runs n ≡ Some s → (t : RunState) × (more : List Event) × (slice_get runs n ≡ Some t) × ((t ≡ no_run) ⊎ (t.shown ≡ s.shown ++ more))
+grows-same n runs s h = (s, [], h, inr (sym (append-nil s.shown)))
 
 get-push : (n : ℕ) (runs : List RunState) (r s : RunState) → slice_get runs n ≡ Some s → slice_get (runs ++ r ∷ []) n ≡ Some s
 get-push n [] r s h = absurd (cc)
 get-push zero (x ∷ runs) r s h = h
 get-push (suc n) (x ∷ runs) r s h = get-push n runs r s h
 
-grows-set : (n i : ℕ) (runs : List RunState) (new s : RunState) → ((d : RunState) → Begins (slice_index_or runs i d).shown new.shown) → slice_get runs n ≡ Some s → (t : RunState) × (more : List Event) × (slice_get (slice_set runs i new) n ≡ Some t) × (t.shown ≡ s.shown ++ more)
+grows-set : (n i : ℕ) (runs : List RunState) (new s : RunState) → ((d : RunState) → Begins (slice_index_or runs i d).shown new.shown) → slice_get runs n ≡ Some s → (t : RunState) × (more : List Event) × (slice_get (slice_set runs i new) n ≡ Some t) × ((t ≡ no_run) ⊎ (t.shown ≡ s.shown ++ more))
 grows-set n i [] new s begins h = absurd (cc)
-grows-set zero zero (x ∷ runs) new s begins h = let b = begins x in (new, b.more, refl, b.is ∙ ap (λ l. l ++ b.more) (ap (λ (y : RunState). y.shown) (some-same x s h)))
+grows-set zero zero (x ∷ runs) new s begins h = let b = begins x in (new, b.more, refl, inr (b.is ∙ ap (λ l. l ++ b.more) (ap (λ (y : RunState). y.shown) (some-same x s h))))
   where
     some-same : (a b : RunState) → Some a ≡ Some b → a ≡ b
     some-same a b e = cc
@@ -425,12 +454,31 @@ stays-created : {T : Type 0} (n : Option (NewRun T)) (runs : List RunState) (k :
 stays-created None runs k s there = there
 stays-created (Some n) runs k s there = get-push k runs n.run.state s there
 
--- each older run showed before what it shows first after
+stays-taken : (i : Option ℕ) (runs : List RunState) (k : ℕ) (s : RunState) → slice_get runs k ≡ Some s → (t : RunState) × (slice_get (runs_taken i runs) k ≡ Some t) × ((t ≡ no_run) ⊎ (t ≡ s))
+stays-taken None runs k s there = (s, there, inr refl)
+stays-taken (Some i) runs k s there = in_set runs i k there
+  where
+    in_set : (runs : List RunState) (i k : ℕ) → slice_get runs k ≡ Some s → (t : RunState) × (slice_get (slice_set runs i no_run) k ≡ Some t) × ((t ≡ no_run) ⊎ (t ≡ s))
+    in_set [] i k h = absurd (cc)
+    in_set (x ∷ runs) zero zero h = (no_run, refl, inl refl)
+    in_set (x ∷ runs) zero (suc k) h = (s, h, inr refl)
+    in_set (x ∷ runs) (suc i) zero h = (s, h, inr refl)
+    in_set (x ∷ runs) (suc i) (suc k) h = in_set runs i k h
+
+-- each older run showed before what it shows first after, or was taken away
 pub grows-after : {T : Type 0} (v : ShardView) (at : ℕ) (plan : Plan T) (o : Outcome) (w : ShardView) → FitsChange v at plan.change o → state w ≡ state_after plan (state v) → Grows (states v.runs) (states w.runs)
 grows-after v at plan o w fits did =
     let now = runs_added plan.change.added (states v.runs) in
+    let later = runs_taken plan.change.taken now in
     subst (λ runs. Grows (states v.runs) runs) (sym (ap (λ s. s.runs) did)) (record {
-      runs = λ n s there. let (t, more, found, is) = (grows-added v at plan.change.added o.added fits.added).runs n s there in (t, more, stays-created plan.change.created now n t found, is);
+      runs = λ n s there.
+          let (t, more, found, is) = (grows-added v at plan.change.added o.added fits.added).runs n s there in
+          let (u, kept, how) = stays-taken plan.change.taken now n t found in (
+            u,
+            more,
+            stays-created plan.change.created later n u kept,
+            ⊎_elim (λ e. inl e) (λ (e : u ≡ t). ⊎_elim (λ f. inl (e ∙ f)) (λ f. inr (ap (λ (x : RunState). x.shown) e ∙ f)) is) how,
+          );
     })
 
 -- nothing may come to a closed run

@@ -1,10 +1,11 @@
 -- PROOF: a plan that was made for a step on a shard as it is
-use Rattle.std.specs.Prelude.{◌≡◌, ℕ, ◌+◌, ◌-◌, ◌<◌, ◌≤◌, ◌^◌, true, false, IfSome, ◌∷◌, ◌++◌, [], List, Option, None, Some, length, slice_index_or, slice_set}
+use Rattle.std.specs.Prelude.{◌≡◌, ℕ, ◌+◌, ◌-◌, ◌<◌, ◌≤◌, ◌^◌, ◌==◌, cond, true, false, IfSome, ◌∷◌, ◌++◌, [], List, Option, None, Some, length, slice_index_or, slice_set}
 use Rattle.std.specs.Prelude.{string_bytes}
 use Rattle.service_model_types.specs.declared.content.Dispatch.{Dispatch}
 use Rattle.service_model_types.specs.declared.content.Outgoing.{Outgoing}
 use Rattle.service_model_types.specs.declared.journal.Fact.{Fact}
 use Rattle.service_model_types.specs.declared.transfer.Sent.{Sent}
+use Rattle.service_model.specs.Aging.{AreAged, IsOldestRun}
 use Rattle.service_model.specs.Counts.{outgoing_to}
 use Rattle.service_model.specs.Deliveries.{accepted_from}
 use Rattle.service_model.specs.RunState.{RunState, no_run, id_of, is_open, is_there}
@@ -17,6 +18,7 @@ use Rattle.shard_steps.specs.Issuing.{Waiting, issued_first, one_counted, with_i
 use Rattle.shard_steps.specs.Kept.{IsNoted}
 use Rattle.shard_steps.specs.Starts.{MayBegin, first_facts, new_run}
 use Rattle.shard_steps.specs.declared.starts.Beginning.{Beginning}
+use Rattle.shard_store.specs.Places.{empty_place}
 use Rattle.shard_store.specs.View.{ShardView, ShardState, ordinal_of, states}
 use Rattle.shard_store.specs.Open.{HasClosed, IsOneOpen}
 use Rattle.shard_store.specs.declared.plan.Change.{Change}
@@ -32,7 +34,7 @@ state_at runs n = slice_index_or runs n no_run
 
 -- the run at a place, with its room
 abbrev pub view_at : List RunView → ℕ → RunView
-view_at runs n = slice_index_or runs n (record { state = no_run; room = 0 })
+view_at runs n = slice_index_or runs n empty_place
 
 -- the room of the run at a place
 abbrev pub room_at : List RunView → ℕ → ℕ
@@ -93,6 +95,13 @@ pub record CountsAcknowledged (v : ShardView) (to : ℕ) : Type 0 where
   pub there : to < v.setup.shards
   pub issued : (outgoing_to v.outgoing to).acknowledged < length (outgoing_to v.outgoing to).issued
 
+-- the run at that place may be taken away: it is there and has closed, all was looked up, and the older runs of its workflow ID went before
+pub record MayTake (v : ShardView) (index : ℕ) : Type 0 where
+  pub begun : is_there (state_at (states v.runs) index) ≡ true
+  pub over : is_open (state_at (states v.runs) index) ≡ false
+  pub noted : IsNoted v.changed
+  pub oldest : IsOneOpen (states v.runs) → AreAged v.last (states v.runs) → IsOldestRun (states v.runs) index
+
 -- the plan for an older run is what is added
 abbrev pub FitsAdded : ShardView → ℕ → Option MoreOf → Option Added → Type 0
 FitsAdded v at None o = o ≡ None
@@ -102,6 +111,15 @@ FitsAdded v at (Some m) o = (facts : List Fact) × (o ≡ Some (record { run = o
 abbrev pub FitsCreated : {T : Type 0} → ShardView → ℕ → Option (NewRun T) → Option (List Fact) → Type 0
 FitsCreated v at None o = o ≡ None
 FitsCreated v at (Some n) o = (b : Beginning) × (o ≡ Some (first_facts b)) × IsMade v at n b
+
+-- a change that takes a run away alone
+abbrev pub taking : {T : Type 0} → ℕ → Change T
+taking index = record { added = None; created = None; taken = Some index; count = count.Nothing; answer = None }
+
+-- the place in the plan is that of the run that is removed, and the plan does nothing else
+abbrev pub FitsTaken : {T : Type 0} → ShardView → Change T → Option ℕ → Option ℕ → Type 0
+FitsTaken v c None o = o ≡ None
+FitsTaken v c (Some index) o = (o ≡ Some (ordinal_of index)) × MayTake v index × (c ≡ taking index)
 
 -- the count in the plan is the one that is moved on
 abbrev pub FitsCount : ShardView → Count → Counting → Type 0
@@ -129,6 +147,11 @@ abbrev pub runs_created : {T : Type 0} → Option (NewRun T) → List RunState �
 runs_created None runs = runs
 runs_created (Some n) runs = runs ++ n.run.state ∷ []
 
+-- the runs without one that is taken away: its place stays
+abbrev pub runs_taken : Option ℕ → List RunState → List RunState
+runs_taken None runs = runs
+runs_taken (Some index) runs = slice_set runs index no_run
+
 -- all runs of a new run's workflow ID have closed
 abbrev pub IsFreeFor : {T : Type 0} → Option (NewRun T) → List RunState → Type 0
 IsFreeFor None runs = Unit {0}
@@ -138,6 +161,7 @@ IsFreeFor (Some n) runs = HasClosed runs (id_of n.run.state)
 pub record FitsChange {T : Type 0} (v : ShardView) (at : ℕ) (c : Change T) (o : Outcome) : Type 0 where
   pub added : FitsAdded v at c.added o.added
   pub created : FitsCreated v at c.created o.created
+  pub taken : FitsTaken v c c.taken o.removed
   pub count : FitsCount v c.count o.counting
   pub answer : FitsAnswer v c.answer o.answers
   pub free : IsOneOpen (states v.runs) → IsFreeFor c.created (runs_added c.added (states v.runs))
@@ -150,11 +174,11 @@ pub record FitsStep {T : Type 0} (v : ShardView) (plan : Plan T) (at : ℕ) (o :
 
 -- a change that changes nothing
 abbrev pub nothing : {T : Type 0} → Change T
-nothing = record { added = None; created = None; count = count.Nothing; answer = None }
+nothing = record { added = None; created = None; taken = None; count = count.Nothing; answer = None }
 
 -- a change that adds to an older run alone
 abbrev pub adding : {T : Type 0} → MoreOf → Change T
-adding m = record { added = Some m; created = None; count = count.Nothing; answer = None }
+adding m = record { added = Some m; created = None; taken = None; count = count.Nothing; answer = None }
 
 -- the dispatches that are issued for the run to which a step adds
 abbrev pub issued_for : MoreOf → ShardState → List Dispatch
@@ -216,13 +240,17 @@ after_added m s = record s { runs = runs_added m s.runs; waiting = waiting_added
 abbrev pub after_answer : Option Sent → ShardState → ShardState
 after_answer a s = record s { outgoing = outgoing_answered a s.outgoing }
 
+-- and once a run was taken away
+abbrev pub after_taken : Option ℕ → ShardState → ShardState
+after_taken i s = record s { runs = runs_taken i s.runs }
+
 -- and once a new run was added
 abbrev pub after_created : {T : Type 0} → Option (NewRun T) → ShardState → ShardState
 after_created n s = record s { runs = runs_created n s.runs; waiting = waiting_created n s }
 
 -- and after a change
 abbrev pub after_change : {T : Type 0} → Change T → ShardState → ShardState
-after_change c s = after_created c.created (after_answer c.answer (after_added c.added (after_count c.count s)))
+after_change c s = after_created c.created (after_taken c.taken (after_answer c.answer (after_added c.added (after_count c.count s))))
 
 -- and after a plan was done
 abbrev pub state_after : {T : Type 0} → Plan T → ShardState → ShardState
@@ -246,3 +274,8 @@ MayAnswer v (Some a) = v.changed.answer ≡ None
 abbrev pub MayAdd : {T : Type 0} → ShardView → Option (NewRun T) → Type 0
 MayAdd v None = Unit {0}
 MayAdd v (Some n) = HasPlace v n
+
+-- the place that the index knows, but for one that it is to forget
+abbrev pub without : ℕ → Option ℕ → Option ℕ
+without index None = None
+without index (Some n) = cond (n == index) None (Some n)

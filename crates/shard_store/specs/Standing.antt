@@ -1,9 +1,11 @@
 -- PROOF: what it is for a shard to stand for a content
-use Rattle.std.specs.Prelude.{◌≡◌, ℕ, ◌≤◌, List, ◌++◌, length, map, slice_get, Some}
+use Rattle.std.specs.Prelude.{◌≡◌, ◌⊎◌, ℕ, ◌≤◌, List, ◌++◌, length, map, slice_get, Some}
 use Rattle.std.specs.List.{AllByRecursion}
 use Rattle.wf_event.specs.declared.event.Event.{Event}
 use Rattle.service_model_types.specs.declared.content.Content.{Content}
-use Rattle.service_model.specs.RunState.{RunState, state_of}
+use Rattle.service_model.specs.Aging.{IsAged}
+use Rattle.service_model.specs.Growth.{HasOneOpen}
+use Rattle.service_model.specs.RunState.{RunState, no_run, state_of}
 use Rattle.mutable_state.specs.Formed.{IsFormed}
 use Rattle.shard_steps.specs.Issuing.{waiting_in}
 use Rattle.shard_store.specs.View.{ShardView, ShardState, state}
@@ -17,7 +19,10 @@ pub record StandsFor (v : ShardView) (S : Content) : Type 0 where
   pub says : state v ≡ known S
   pub formed : AllByRecursion (IsFormed S.steps) S.runs
   pub counted : S.dispatched ≤ length S.dispatches
+  -- of two runs of one workflow ID the older closes first
+  pub one : HasOneOpen S
+  pub aged : IsAged S
 
--- each run showed before what it shows first after
+-- each run showed before what it shows first after, or was taken away
 pub record Grows (old new : List RunState) : Type 0 where
-  pub runs : (n : ℕ) (s : RunState) → slice_get old n ≡ Some s → (t : RunState) × (more : List Event) × (slice_get new n ≡ Some t) × (t.shown ≡ s.shown ++ more)
+  pub runs : (n : ℕ) (s : RunState) → slice_get old n ≡ Some s → (t : RunState) × (more : List Event) × (slice_get new n ≡ Some t) × ((t ≡ no_run) ⊎ (t.shown ≡ s.shown ++ more))

@@ -8,7 +8,7 @@ use Rattle.mutable_state.specs.View.{RunView}
 use Rattle.shard_steps.specs.Issuing.{Waiting}
 use Rattle.shard_steps.specs.Kept.{Unnoted}
 
--- a shard: its setup, its runs in the order of their ordinals, what was not looked up since the last step, its last moment, for how many more runs there is room, its dispatches, all transfers that it issued to each shard, and how many it accepted from each
+-- a shard: its setup, its runs in the order of their ordinals, with that of no run at the place of one that was taken away, what was not looked up since the last step, its last moment, for how many more runs there is room, its dispatches, all transfers that it issued to each shard, and how many it accepted from each
 pub record ShardView : Type 0 where
   pub setup : Setup
   pub runs : List RunView

@@ -1,25 +1,43 @@
 //! How a plan is carried out. Nothing here takes memory.
 
-ghost use Rattle.std.specs.Prelude.{◌≡◌, ℕ, Some, length};
+ghost use Rattle.std.specs.Prelude.{◌≡◌, ℕ, List, None, Some, IfSome, bytes_eq, cond, length};
+ghost use Rattle.indexmap.specs.IndexMap.{get_by_text};
+ghost use Rattle.service_model.specs.Aging.{IsOldestRun};
 ghost use Rattle.service_model.specs.Outcome.{Outcome};
-ghost use Rattle.shard_store.specs.View.{state};
-ghost use Rattle.shard_store.specs.Fitting.{FitsChange, after_added, after_answer, after_change, after_count, after_created, HasPlace, HasRoom, MayAdd, MayAnswer, MayCount, MayGrow};
+ghost use Rattle.shard_store.specs.View.{state, states};
+ghost use Rattle.shard_store.specs.Fitting.{FitsChange, after_added, after_answer, after_change, after_count, after_created, after_taken, without, HasPlace, HasRoom, MayAdd, MayAnswer, MayCount, MayGrow, MayTake};
 
 use crate::plan::{Change, Count, MoreOf, NewRun};
 use crate::store::Store;
+use indexmap::IndexMap;
 use mutable_state_keeper::KeepsRun;
 use service_model_types::transfer::Sent;
 use shard_steps::{Changed, readied};
+use wf_event_values::Id;
 
 impl<T: KeepsRun> Store<T> {
-    /// Moves on a count, adds to an older run, answers a transfer, and adds a new run.
+    /// Takes a run away, or does all else.
     pub(crate) fn carry_out(&mut self, change: Change<T>)
-        requires { (at : ℕ) × (o : Outcome) × FitsChange self.old at change o }
+        requires fits { (at : ℕ) × (o : Outcome) × FitsChange self.old at change o }
+        requires oldest { IfSome change.taken (IsOldestRun (states self.old.runs)) }
+        ensures { state self.new ≡ after_change change (state self.old) }
+    {
+        match change.taken {
+            Some(index) => self.take_away(index),
+            None => self.carry_on(change),
+        }
+    }
+
+    /// Moves on a count, adds to an older run, answers a transfer, and adds a new run.
+    fn carry_on(&mut self, change: Change<T>)
+        requires fits { (at : ℕ) × (o : Outcome) × FitsChange self.old at change o }
+        requires none { change.taken ≡ None }
         ensures { state self.new ≡ after_change change (state self.old) }
     {
         let Change {
             added,
             created,
+            taken: _,
             count,
             answer,
         } = change;
@@ -86,8 +104,8 @@ impl<T: KeepsRun> Store<T> {
         let MoreOf { index, plan } = more;
         let ready = readied(plan.change.facts.as_slice());
         let shown = self.dispatches.shown(index);
-        let run = &mut self.runs[index];
-        run.commit(plan);
+        let place = &mut self.runs[index];
+        place.commit(plan);
         self.dispatches.note(ready);
         self.transfers.note_grown(index, shown);
         self.changed = Changed {
@@ -119,5 +137,34 @@ impl<T: KeepsRun> Store<T> {
         self.deadlines.push_none();
         self.dispatches.add_run();
         self.changed.made = Some(index);
+    }
+
+    /// Takes a run away. Its place stays.
+    fn take_away(&mut self, index: usize)
+        requires may { MayTake self.old index }
+        requires oldest { IsOldestRun (states self.old.runs) index }
+        ensures { state self.new ≡ after_taken (Some index) (state self.old) }
+    {
+        let place = &self.runs[index];
+        let run = place.get();
+        let id = run.workflow_id();
+        forget_latest(&mut self.index, id, index);
+        let place = &mut self.runs[index];
+        place.take();
+        self.deadlines.clear(index);
+        self.dispatches.forget(index);
+    }
+}
+
+/// Forgets that a workflow ID's latest run is at a place, if it is there.
+fn forget_latest(index: &mut IndexMap<String, usize>, id: &Id, place: usize)
+    ensures { (w : List ℕ) → get_by_text index.new w ≡ cond (bytes_eq id.now w)
+        (without place (get_by_text index.old id.now)) (get_by_text index.old w) }
+{
+    let Some(latest) = index.get(id.as_str()).copied() else {
+        return;
+    };
+    if latest == place {
+        let _ = index.swap_remove(id.as_str());
     }
 }

@@ -33,12 +33,12 @@ impl<T: KeepsRun> Store<T> {
         let Some(index) = self.changed.grown else {
             return Ok(());
         };
-        let run = &self.runs[index];
-        let due = run.first_due(self.alloc, self.setup.retention, index as u64 + 1)?;
-        let issued = self.dispatches.issued(self.alloc, &self.setup, run, index)?;
-        let shown = run.shown(self.alloc)?;
+        let place = &self.runs[index];
+        let due = place.first_due(self.alloc, self.setup.retention, index as u64 + 1)?;
+        let issued = place.issued(self.alloc, &self.setup, &self.dispatches, index)?;
+        let shown = place.shown(self.alloc)?;
+        self.deadlines.set(index, due)?;
         self.dispatches.issue(index, shown, issued)?;
-        self.deadlines.set(index, due);
         self.changed.grown = None;
         Ok(())
     }
@@ -54,12 +54,12 @@ impl<T: KeepsRun> Store<T> {
         let Some(index) = self.changed.made else {
             return Ok(());
         };
-        let run = &self.runs[index];
-        let due = run.first_due(self.alloc, self.setup.retention, index as u64 + 1)?;
-        let issued = run.dispatches(self.alloc, &self.setup, index as u64 + 1, 0)?;
-        let shown = run.shown(self.alloc)?;
+        let place = &self.runs[index];
+        let due = place.first_due(self.alloc, self.setup.retention, index as u64 + 1)?;
+        let issued = place.dispatches(self.alloc, &self.setup, index as u64 + 1)?;
+        let shown = place.shown(self.alloc)?;
+        self.deadlines.set(index, due)?;
         self.dispatches.issue(index, shown, issued)?;
-        self.deadlines.set(index, due);
         self.changed.made = None;
         Ok(())
     }
@@ -67,6 +67,7 @@ impl<T: KeepsRun> Store<T> {
     /// The first deadline of the shard, where its moment has come.
     pub fn due_now(&mut self, moment: Moment) -> Result<Option<Due>, AllocError>
         ensures same { state self.new ≡ state self.old }
+        ensures noted { OnOk result (IsNoted self.new.changed) }
         ensures due { IfOk result (λ due. option_map run_due due
             ≡ due_now moment (least (all_dues self.old.setup.retention (states self.old.runs)))) }
     {

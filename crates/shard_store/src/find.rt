@@ -3,7 +3,7 @@
 ghost use Rattle.std.specs.Prelude.{◌≡◌, ◌≤◌, ◌<◌, length, IfSome, Some, is_some, option_map, true};
 ghost use Rattle.service_model.specs.Deliveries.{own_run};
 ghost use Rattle.service_model.specs.Outcome.{has_run, named_run, latest_run, open_run, run_id};
-ghost use Rattle.service_model.specs.RunState.{is_open};
+ghost use Rattle.service_model.specs.RunState.{is_open, is_there};
 ghost use Rattle.shard_steps.specs.Attempts.{has_run_of};
 ghost use Rattle.shard_store.specs.View.{ordinal_of, run_in, runs_in, states};
 
@@ -16,6 +16,7 @@ impl<T: KeepsRun> Store<T> {
     pub fn latest(&self, id: &Id) -> Option<usize>
         ensures found { option_map ordinal_of result ≡ latest_run (states self.now.runs) id.now }
         ensures there { IfSome result (λ index. index < length self.now.runs) }
+        ensures begun { IfSome result (λ index. is_there (run_in self.now index) ≡ true) }
     {
         self.index.get(id.as_str()).copied()
     }
@@ -24,6 +25,7 @@ impl<T: KeepsRun> Store<T> {
     pub fn named(&self, id: &Id, run: Option<RunId>) -> Option<usize>
         ensures found { option_map ordinal_of result ≡ named_run (runs_in self.now) id.now run }
         ensures there { IfSome result (λ index. index < length self.now.runs) }
+        ensures begun { IfSome result (λ index. is_there (run_in self.now index) ≡ true) }
     {
         match run {
             Some(run) => self.own_named(id, run),
@@ -35,6 +37,7 @@ impl<T: KeepsRun> Store<T> {
     pub fn named_open(&self, id: &Id, run: Option<RunId>) -> Option<usize>
         ensures found { option_map ordinal_of result ≡ open_run (runs_in self.now) id.now run }
         ensures there { IfSome result (λ index. index < length self.now.runs) }
+        ensures begun { IfSome result (λ index. is_there (run_in self.now index) ≡ true) }
         ensures open { IfSome result (λ index. is_open (run_in self.now index) ≡ true) }
     {
         let index = self.named(id, run)?;
@@ -49,6 +52,7 @@ impl<T: KeepsRun> Store<T> {
     pub fn own(&self, run: RunId) -> Option<usize>
         ensures found { option_map ordinal_of result ≡ own_run (runs_in self.now) run }
         ensures there { IfSome result (λ index. index < length self.now.runs) }
+        ensures begun { IfSome result (λ index. is_there (run_in self.now index) ≡ true) }
     {
         if run.service() != self.setup.service {
             return None;
@@ -61,6 +65,7 @@ impl<T: KeepsRun> Store<T> {
         ensures found { option_map ordinal_of result
             ≡ named_run (runs_in self.now) id.now (Some run) }
         ensures there { IfSome result (λ index. index < length self.now.runs) }
+        ensures begun { IfSome result (λ index. is_there (run_in self.now index) ≡ true) }
     {
         let index = self.own(run)?;
         if self.run(index).workflow_id() == id {
@@ -75,6 +80,7 @@ impl<T: KeepsRun> Store<T> {
         ensures some { has_run_of (runs_in self.now) shard ordinal ≡ is_some result }
         ensures found { IfSome result (λ index. ordinal_of index ≡ ordinal) }
         ensures there { IfSome result (λ index. index < length self.now.runs) }
+        ensures begun { IfSome result (λ index. is_there (run_in self.now index) ≡ true) }
     {
         if shard != self.setup.shard {
             return None;
@@ -88,13 +94,14 @@ impl<T: KeepsRun> Store<T> {
         ensures some { has_run (runs_in self.now) ordinal ≡ is_some result }
         ensures found { IfSome result (λ index. ordinal_of index ≡ ordinal) }
         ensures there { IfSome result (λ index. index < length self.now.runs) }
+        ensures begun { IfSome result (λ index. is_there (run_in self.now index) ≡ true) }
     {
         let n = ordinal as usize;
         if n < 1 || n > self.runs.len() {
             return None;
         }
         let index = n - 1;
-        if self.run(index).is_there() {
+        if self.is_there(index) {
             Some(index)
         } else {
             None

@@ -1,10 +1,11 @@
 //! Plans for one run, and room for them in it.
 
-ghost use Rattle.std.specs.Prelude.{◌≡◌, ◌≤◌, ◌<◌, ◌+◌, [], length, IfOk, OnOk};
+ghost use Rattle.std.specs.Prelude.{◌≡◌, ◌≤◌, ◌<◌, ◌+◌, [], length, true, IfOk, OnOk};
 ghost use Rattle.wf_event_values.specs.declared.policies.Cause.TheVariants.{WorkflowWorkerUnhandledFailure};
 ghost use Rattle.service_model.specs.Completion.{judge_all, failed_task};
 ghost use Rattle.service_model.specs.Outcome.{run_id};
 ghost use Rattle.service_model.specs.Pending.{IsStarted};
+ghost use Rattle.service_model.specs.RunState.{is_there};
 ghost use Rattle.task_completion.specs.Ends.{IsPlanned, IsCompletion};
 ghost use Rattle.shard_steps.specs.Kept.{IsNoted};
 ghost use Rattle.shard_store.specs.View.{run_in, state, states};
@@ -17,9 +18,9 @@ use mutable_state::Change as MoreFacts;
 use mutable_state_keeper::KeepsRun;
 use service_model_types::journal::Fact;
 use std::alloc::AllocError;
-use task_completion::{Completion, plan_completion, plan_failure};
+use task_completion::Completion;
 use wf_command::Command;
-use wf_event_values::{Cause, Items, Moment, Text};
+use wf_event_values::{Items, Moment, Text};
 
 impl<T: KeepsRun> Store<T> {
     /// Makes room for a step's facts in the run at a place.
@@ -28,7 +29,7 @@ impl<T: KeepsRun> Store<T> {
         index: usize,
         more: MoreFacts,
     ) -> Result<mutable_state::Plan, AllocError>
-        requires { index < length self.old.runs }
+        requires { is_there (run_in self.old index) ≡ true }
         ensures same { state self.new ≡ state self.old }
         ensures there { index < length self.new.runs }
         ensures noted { OnOk result (IsNoted self.new.changed) }
@@ -37,18 +38,18 @@ impl<T: KeepsRun> Store<T> {
             length plan.change.facts ≤ room_at self.new.runs index) }
     {
         self.note_change()?;
-        let run = &mut self.runs[index];
-        run.prepare(more)
+        let place = &mut self.runs[index];
+        place.prepare(more)
     }
 
     /// The history of the run at a place, of which others may have a share.
     pub fn share_events(&mut self, index: usize) -> Result<SharedEvents, AllocError>
-        requires { index < length self.old.runs }
+        requires { is_there (run_in self.old index) ≡ true }
         ensures same { state self.new ≡ state self.old }
         ensures events { IfOk result (λ events. events ≡ (run_in self.old index).shown) }
     {
-        let run = &mut self.runs[index];
-        run.share_events(self.alloc)
+        let place = &mut self.runs[index];
+        place.share_events(self.alloc)
     }
 
     /// What a step's facts add to the run at a place, with room for them.
@@ -58,7 +59,7 @@ impl<T: KeepsRun> Store<T> {
         moment: Moment,
         facts: Items<Fact>,
     ) -> Result<MoreOf, AllocError>
-        requires { index < length self.old.runs }
+        requires { is_there (run_in self.old index) ≡ true }
         ensures same { state self.new ≡ state self.old }
         ensures more { IfOk result (λ more. IsPrepared self.new moment index facts more) }
     {
@@ -84,8 +85,8 @@ impl<T: KeepsRun> Store<T> {
     {
         self.note_change()?;
         let next = self.run_id(self.runs.len());
-        let run = &mut self.runs[index];
-        plan_completion(self.alloc, run, &self.setup, next, commands, moment)
+        let place = &mut self.runs[index];
+        place.complete(self.alloc, &self.setup, next, commands, moment)
     }
 
     /// Plans the failure of the started task of the run at a place.
@@ -105,8 +106,7 @@ impl<T: KeepsRun> Store<T> {
             WorkflowWorkerUnhandledFailure message) plan) }
     {
         self.note_change()?;
-        let run = &mut self.runs[index];
-        let cause = Cause::WorkflowWorkerUnhandledFailure;
-        plan_failure(self.alloc, run, cause, message, moment)
+        let place = &mut self.runs[index];
+        place.fail(self.alloc, message, moment)
     }
 }

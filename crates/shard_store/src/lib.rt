@@ -10,10 +10,12 @@ mod deadlines;
 mod find;
 mod in_run;
 mod made;
+mod place;
 mod plan;
 mod store;
 mod transfers;
 mod waiting;
 
-pub use plan::{Change, Count, MoreOf, NewRun, Plan, adding, answered, refused};
+pub use place::Place;
+pub use plan::{Change, Count, MoreOf, NewRun, Plan, adding, answered, refused, taking};
 pub use store::Store;

@@ -6,6 +6,7 @@ ghost use Rattle.shard_steps.specs.Starts.{MayBegin};
 ghost use Rattle.shard_store.specs.View.{state};
 ghost use Rattle.shard_store.specs.Fitting.{IsMade};
 
+use crate::place::Place;
 use crate::plan::NewRun;
 use crate::store::Store;
 use mutable_state_keeper::KeepsRun;
@@ -29,7 +30,8 @@ impl<T: KeepsRun> Store<T> {
     {
         let id = beginning.started.workflow_id.as_str();
         let key = String::from_str(self.alloc, id)?;
-        let run = new_run(self.alloc, moment, beginning)?;
+        let begun = new_run(self.alloc, moment, beginning)?;
+        let run = Place::new(self.alloc, begun)?;
         self.reserve_run()?;
         Ok(NewRun { run, key })
     }

@@ -2,9 +2,10 @@
 
 ghost use Rattle.std.specs.Prelude.{◌≡◌, Ok};
 ghost use Rattle.service_model.specs.Outcome.{answered, refused};
-ghost use Rattle.shard_store.specs.Fitting.{adding, nothing};
+ghost use Rattle.shard_store.specs.Fitting.{adding, nothing, taking};
 
-use mutable_state_keeper::{KeepsRun, Run};
+use crate::place::Place;
+use mutable_state_keeper::KeepsRun;
 use service_model_types::answer::{Answer, Reply};
 use service_model_types::transfer::Sent;
 use wf_event_values::{Moment, Refusal};
@@ -12,7 +13,7 @@ use wf_event_values::{Moment, Refusal};
 /// A run that a step makes, and its workflow ID as the index keeps it.
 #[derive(Drop)]
 pub struct NewRun<T: KeepsRun> {
-    pub run: Run<T>,
+    pub run: Place<T>,
     pub key: String,
 }
 
@@ -35,12 +36,13 @@ pub enum Count {
     Acknowledges(u16),
 }
 
-/// What a step does to a shard: what an older run gets, the run that is made, the count that is
-/// moved on, and the transfer that answers another one.
+/// What a step does to a shard: what an older run gets, the run that is made, the place of the run
+/// that is taken away, the count that is moved on, and the transfer that answers another one.
 #[derive(Drop)]
 pub struct Change<T: KeepsRun> {
     pub added: Option<MoreOf>,
     pub created: Option<NewRun<T>>,
+    pub taken: Option<usize>,
     pub count: Count,
     pub answer: Option<Sent>,
 }
@@ -114,6 +116,24 @@ pub fn adding<T: KeepsRun>(moment: Moment, more: MoreOf, answer: Answer) -> Plan
         change: Change {
             added: Some(more),
             created: None,
+            taken: None,
+            count: Count::Nothing,
+            answer: None,
+        },
+        reply: Ok(answer),
+    }
+}
+
+/// A step that takes away the run at a place, and answers.
+pub fn taking<T: KeepsRun>(moment: Moment, index: usize, answer: Answer) -> Plan<T>
+    ensures { result ≡ record { moment = moment; change = taking index; reply = Ok answer } }
+{
+    Plan {
+        moment,
+        change: Change {
+            added: None,
+            created: None,
+            taken: Some(index),
             count: Count::Nothing,
             answer: None,
         },
@@ -127,6 +147,7 @@ fn nothing<T: KeepsRun>() -> Change<T>
     Change {
         added: None,
         created: None,
+        taken: None,
         count: Count::Nothing,
         answer: None,
     }

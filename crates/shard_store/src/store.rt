@@ -1,15 +1,19 @@
 //! What a shard keeps in memory.
 
-ghost use Rattle.std.specs.Prelude.{◌≡◌, ◌<◌, ◌^◌, ◌==◌, [], IfOk, length, option_copied, replicate, slice_get};
+ghost use Rattle.std.specs.Prelude.{◌≡◌, ◌<◌, ◌^◌, ◌==◌, [], IfOk, length, option_copied, replicate, slice_get, true};
+ghost use Rattle.service_model.specs.Aging.{AreAged};
 ghost use Rattle.service_model.specs.Outcome.{Outcome};
 ghost use Rattle.service_model_types.specs.Routing.{shard_of};
+ghost use Rattle.service_model.specs.RunState.{is_there};
 ghost use Rattle.service_model.specs.Service.{opening};
 ghost use Rattle.shard_steps.specs.Kept.{IsNoted};
 ghost use Rattle.shard_store.specs.View.{IsSetup, run_in, state, states};
 ghost use Rattle.shard_store.specs.Fitting.{FitsChange, state_after};
+ghost use Rattle.shard_store.specs.Open.{IsOneOpen};
 ghost use Rattle.shard_store.specs.Standing.{Grows, StandsFor};
 ghost use Rattle.transfer.specs.Outboxes.{nothing};
 
+use crate::place::Place;
 use crate::plan::Plan;
 use indexmap::IndexMap;
 use mutable_state_keeper::{KeepsRun, Run};
@@ -25,7 +29,8 @@ use wf_event_values::{Id, Moment};
 pub struct Store<T: KeepsRun> {
     pub(crate) alloc: Global,
     pub(crate) setup: Setup,
-    pub(crate) runs: Vec<Run<T>>,
+    /// A place for each run that was ever made.
+    pub(crate) runs: Vec<Place<T>>,
     /// The place of each workflow ID's latest run.
     pub(crate) index: IndexMap<String, usize>,
     /// The first deadline of each run, at the run's place.
@@ -153,10 +158,20 @@ impl<T: KeepsRun> Store<T> {
 
     /// The run at a place.
     pub fn run(&self, index: usize) -> &Run<T>
-        requires { index < length self.now.runs }
+        requires { is_there (run_in self.now index) ≡ true }
         ensures { result.now.state ≡ run_in self.now index }
     {
-        &self.runs[index]
+        let place = &self.runs[index];
+        place.get()
+    }
+
+    /// Whether a run is at a place.
+    pub(crate) fn is_there(&self, index: usize) -> bool
+        requires { index < length self.now.runs }
+        ensures { result ≡ is_there (run_in self.now index) }
+    {
+        let place = &self.runs[index];
+        place.is_there()
     }
 
     /// The first dispatch that waits.
@@ -184,10 +199,14 @@ impl<T: KeepsRun> Store<T> {
 
     /// Does what was planned. It takes no memory.
     pub fn commit(&mut self, plan: Plan<T>) -> Reply
-        requires { (o : Outcome) × FitsChange self.old plan.moment plan.change o }
+        requires fits { (o : Outcome) × FitsChange self.old plan.moment plan.change o }
+
+        // Of two runs of one workflow ID the older has closed, and closed no later.
+        requires one { IsOneOpen (states self.old.runs) }
+        requires aged { AreAged self.old.last (states self.old.runs) }
         ensures state { state self.new ≡ state_after plan (state self.old) }
 
-        // Each older run showed before what it shows first after.
+        // Each older run showed before what it shows first after, or was taken away.
         ensures grows { Grows (states self.old.runs) (states self.new.runs) }
 
         ensures reply { result ≡ plan.reply }
@@ -196,7 +215,9 @@ impl<T: KeepsRun> Store<T> {
     }
 
     fn finish(&mut self, plan: Plan<T>) -> Reply
-        requires { (o : Outcome) × FitsChange self.old plan.moment plan.change o }
+        requires fits { (o : Outcome) × FitsChange self.old plan.moment plan.change o }
+        requires one { IsOneOpen (states self.old.runs) }
+        requires aged { AreAged self.old.last (states self.old.runs) }
         ensures state { state self.new ≡ state_after plan (state self.old) }
         ensures reply { result ≡ plan.reply }
     {

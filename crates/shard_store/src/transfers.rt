@@ -39,8 +39,8 @@ impl<T: KeepsRun> Store<T> {
             return Ok(());
         };
         let id = self.run_id(unsent.index);
-        let run = &self.runs[unsent.index];
-        let sent = run.transfers(self.alloc, &self.setup, id, unsent.shown)?;
+        let place = &self.runs[unsent.index];
+        let sent = place.transfers(self.alloc, &self.setup, id, unsent.shown)?;
         self.transfers.send(sent)?;
         Ok(())
     }

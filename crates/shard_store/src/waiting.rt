@@ -4,10 +4,10 @@ ghost use Rattle.std.specs.Prelude.{◌≡◌, ◌<◌, ◌^◌, IfOk, length};
 ghost use Rattle.service_model.specs.Waiting.{all_waiting};
 ghost use Rattle.shard_store.specs.View.{states};
 
+use crate::place::Place;
 use crate::store::Store;
-use mutable_state_keeper::{KeepsRun, Run};
+use mutable_state_keeper::KeepsRun;
 use service_model_types::content::{Dispatch, Setup};
-use shard_steps::waiting_tasks;
 use std::alloc::{AllocError, Global};
 
 impl<T: KeepsRun> Store<T> {
@@ -24,14 +24,14 @@ impl<T: KeepsRun> Store<T> {
 fn waiting_in<T: KeepsRun>(
     alloc: Global,
     setup: &Setup,
-    runs: &[Run<T>],
+    runs: &[Place<T>],
 ) -> Result<Vec<Dispatch>, AllocError>
     requires { length runs.now < 2 ^ 60 }
     ensures { IfOk result (λ waiting. waiting.items ≡ all_waiting setup.now (states runs.now)) }
 {
     let mut waiting = Vec::new(alloc);
-    for (index, run) in runs.iter().enumerate() {
-        let mut found = waiting_tasks(alloc, setup, run, index as u64 + 1)?;
+    for (index, place) in runs.iter().enumerate() {
+        let mut found = place.waiting(alloc, setup, index as u64 + 1)?;
         waiting.append(&mut found)?;
     }
     Ok(waiting)

@@ -22,6 +22,7 @@ pub(crate) fn open(alloc: Global) -> io::Result<(Service, Pass)>
         service: 1,
         queues: main_queue(alloc)?,
         capacity: DEFAULT_CAPACITY,
+        retention: 0,
     };
     let Ok((service, mut passes)) = Service::open(alloc, &settings, Vec::new(alloc)) else {
         return Err(unexpected());

@@ -13,9 +13,13 @@ use Rattle.wf_event_values.specs.declared.policies.DeadlineClass.TheVariants.{Ex
 use Rattle.service_model.specs.Deadlines.{Due, closed_dues, dues, is_closing_event, retention_dues, due_after, deadline_dues, execution_dues, run_timeout_dues, workflow_task_dues, task_timeout, activity_dues, row_dues, by_phase, timer_dues, pending_rows, scheduled_fields}
 use Rattle.service_model.specs.Pending.{Phase, IsQueued, IsRunning, IsWaiting, Task, NoTask, IsScheduled, IsStarted}
 use Rattle.service_model.specs.RunState.{RunState, ActivityRow, Beginning, is_open, is_open_status, is_there, last_task, pending}
-use Rattle.service_model.specs.TimerTurns.{RunDue}
+use Rattle.service_model.specs.TimerTurns.{RunDue, is_retention}
 use Rattle.timeouts.specs.Firsts.{of_run, HasTimer, HasActivity}
 use Rattle.timeouts.specs.Slots.{IsOneOf}
+
+-- the deadlines of a run that is open
+abbrev pub open_dues : RunState → List Due
+open_dues s = execution_dues s.beginning ++ run_timeout_dues s.beginning ++ workflow_task_dues s s.task ++ flat_map activity_dues (pending_rows s) ++ flat_map timer_dues (pending Timer s)
 
 module _ (P : Due → Type 0) where
   Are : List Due → Type 0
@@ -106,23 +110,21 @@ module _ (P : Due → Type 0) where
       by_event true None = tt
       by_event true (Some e) = after e.at retention Retention e.id (kept _ _)
 
+  opens : (s : RunState) → OfClass ExecutionTimeout → OfClass RunTimeout → (s.task ≡ IsStarted → OfClass WorkflowTask) → Are (flat_map activity_dues (pending_rows s)) → Are (flat_map timer_dues (pending Timer s)) → Are (open_dues s)
+  opens s whole_over over task_over rows timer_rows =
+      both (execution_dues s.beginning ++ run_timeout_dues s.beginning ++ workflow_task_dues s s.task ++ flat_map activity_dues (pending_rows s)) (flat_map timer_dues (pending Timer s))
+      (both (execution_dues s.beginning ++ run_timeout_dues s.beginning ++ workflow_task_dues s s.task) (flat_map activity_dues (pending_rows s))
+      (both (execution_dues s.beginning ++ run_timeout_dues s.beginning) (workflow_task_dues s s.task)
+      (both (execution_dues s.beginning) (run_timeout_dues s.beginning) (whole whole_over s.beginning) (own over s.beginning)) (task s s.task task_over)) rows)
+      timer_rows
+
   all-dues : (retention : ℕ) (s : RunState) → OfClass ExecutionTimeout → OfClass RunTimeout → (s.task ≡ IsStarted → OfClass WorkflowTask) → Are (flat_map activity_dues (pending_rows s)) → Are (flat_map timer_dues (pending Timer s)) → OfClass Retention → Are (dues retention s)
   unfolding Are dues
   all-dues retention s whole_over over task_over rows timer_rows kept = by_test (is_open s)
     where
-      by_test : (b : Bool) → AllByRecursion P (cond b (execution_dues s.beginning ++ run_timeout_dues s.beginning ++ workflow_task_dues s s.task ++ flat_map activity_dues (pending_rows s) ++ flat_map timer_dues (pending Timer s)) (closed_dues retention s))
+      by_test : (b : Bool) → AllByRecursion P (cond b (open_dues s) (closed_dues retention s))
       by_test false = closed retention s kept
-      by_test true =
-          both (execution_dues s.beginning ++ run_timeout_dues s.beginning ++ workflow_task_dues s s.task ++ flat_map activity_dues (pending_rows s)) (flat_map timer_dues (pending Timer s))
-          (both (execution_dues s.beginning ++ run_timeout_dues s.beginning ++ workflow_task_dues s s.task) (flat_map activity_dues (pending_rows s))
-          (both (execution_dues s.beginning ++ run_timeout_dues s.beginning) (workflow_task_dues s s.task)
-          (both (execution_dues s.beginning) (run_timeout_dues s.beginning) (whole whole_over s.beginning) (own over s.beginning)) (task s s.task task_over)) rows)
-          timer_rows
-
--- whether it is the class of a run that has closed
-abbrev pub is_retention : DeadlineClass → Bool
-is_retention Retention = true
-is_retention _ = false
+      by_test true = opens s whole_over over task_over rows timer_rows
 
 -- a run with a deadline of another class is open
 pub due-open : (retention : ℕ) (s : RunState) (n : ℕ) (d : RunDue) → is_retention d.at.class ≡ false → IsOneOf d (of_run n (dues retention s)) → is_open s ≡ true
@@ -132,7 +134,7 @@ due-open retention s n d class is = by_test (is_open s) is
     P : Due → Type 0
     P x = is_retention x.class ≡ false → ⊥
 
-    by_test : (b : Bool) → IsOneOf d (of_run n (cond b (execution_dues s.beginning ++ run_timeout_dues s.beginning ++ workflow_task_dues s s.task ++ flat_map activity_dues (pending_rows s) ++ flat_map timer_dues (pending Timer s)) (closed_dues retention s))) → b ≡ true
+    by_test : (b : Bool) → IsOneOf d (of_run n (cond b (open_dues s) (closed_dues retention s))) → b ≡ true
     by_test true h = refl
     by_test false h = absurd (one P n (closed_dues retention s) d (closed P retention s (λ due event other. absurd (cc))) h class)
 
@@ -141,12 +143,48 @@ pub due-there : (retention : ℕ) (s : RunState) (n : ℕ) (d : RunDue) → IsOn
 unfolding dues
 due-there retention s n d is = by_test (is_there s) refl is
   where
-    Own : List Due
-    Own = execution_dues s.beginning ++ run_timeout_dues s.beginning ++ workflow_task_dues s s.task ++ flat_map activity_dues (pending_rows s) ++ flat_map timer_dues (pending Timer s)
-
     by_test : (b : Bool) → is_there s ≡ b → IsOneOf d (of_run n (dues retention s)) → is_there s ≡ true
     by_test true e h = e
-    by_test false e h = absurd (subst (λ t. IsOneOf d (of_run n (cond (t && is_open_status s.status) Own (cond t (retention_dues retention (find is_closing_event s.shown)) [])))) e h)
+    by_test false e h = absurd (subst (λ t. IsOneOf d (of_run n (cond (t && is_open_status s.status) (open_dues s) (cond t (retention_dues retention (find is_closing_event s.shown)) [])))) e h)
+
+-- a run that has closed is kept no longer than so
+abbrev pub retention_due : ℕ → ℕ → Event → RunDue
+retention_due retention n e = record { run = n; at = record { due = e.at + retention; class = Retention; event = e.id } }
+
+-- the end of a retention is that of a run that has closed
+pub record IsEndOf (retention n : ℕ) (s : RunState) (d : RunDue) : Type 0 where
+  pub over : is_open s ≡ false
+  pub event : Event
+  pub closing : find is_closing_event s.shown ≡ Some event
+  pub some : (retention == 0) ≡ false
+  pub is : d ≡ retention_due retention n event
+
+pub due-closed : (retention : ℕ) (s : RunState) (n : ℕ) (d : RunDue) → is_retention d.at.class ≡ true → IsOneOf d (of_run n (dues retention s)) → IsEndOf retention n s d
+unfolding dues Are OfClass OfRow
+due-closed retention s n d class is = by_open (is_open s) refl is
+  where
+    P : Due → Type 0
+    P x = is_retention x.class ≡ true → ⊥
+
+    none : (c : DeadlineClass) → is_retention c ≡ false → (due event : ℕ) → is_retention c ≡ true → ⊥
+    none c h due event e = let clash : true ≡ false = sym e ∙ h in cc
+
+    by_some : is_open s ≡ false → (e : Event) → find is_closing_event s.shown ≡ Some e → (b : Bool) → (retention == 0) ≡ b → IsOneOf d (of_run n (cond b [] (record { due = e.at + retention; class = Retention; event = e.id } ∷ []))) → IsEndOf retention n s d
+    by_some over e closing true some h = absurd h
+    by_some over e closing false some (inl is) = record { over = over; event = e; closing = closing; some = some; is = is }
+    by_some over e closing false some (inr rest) = absurd rest
+
+    by_event : is_open s ≡ false → (b : Bool) (o : Option Event) → find is_closing_event s.shown ≡ o → IsOneOf d (of_run n (cond b (retention_dues retention o) [])) → IsEndOf retention n s d
+    by_event over false o closing h = absurd h
+    by_event over true None closing h = absurd h
+    by_event over true (Some e) closing h = by_some over e closing (retention == 0) refl h
+
+    by_open : (b : Bool) → is_open s ≡ b → IsOneOf d (of_run n (cond b (open_dues s) (closed_dues retention s))) → IsEndOf retention n s d
+    by_open true opened h =
+        let rows = flat P activity_dues (pending_rows s) (λ _ r _. activities P r (λ due. none ScheduleToClose refl due r.opened.id) (λ due. none ScheduleToStart refl due r.opened.id) (λ due. none Heartbeat refl due r.opened.id) (λ due. none StartToClose refl due r.opened.id) (λ due. none RetryReady refl due r.opened.id)) in
+        let users = flat P timer_dues (pending Timer s) (λ _ e _. timers P e (λ _ due _. none UserTimer refl due e.id)) in
+        absurd (one P n (open_dues s) d (opens P s (none ExecutionTimeout refl) (none RunTimeout refl) (λ _. none WorkflowTask refl) rows users) h class)
+    by_open false over h = by_event over (is_there s) (find is_closing_event s.shown) refl h
 
 is_task_class : DeadlineClass → Bool
 is_task_class WorkflowTask = true

@@ -109,7 +109,8 @@ found r n (s ∷ states) d one =
     record { place = suc more.place; there = omega (arith, more.there); run = more.run ∙ next; its = subst (λ k. IsOneOf d (of_run k (dues r (slice_index_or states more.place no_run)))) next more.its })
     one
 
-not-later : (moment : ℕ) (o : Option RunDue) (d : RunDue) → due_now moment o ≡ Some d → o ≡ Some d
+-- what is due now is the least of all
+pub not-later : (moment : ℕ) (o : Option RunDue) (d : RunDue) → due_now moment o ≡ Some d → o ≡ Some d
 not-later moment None d is = absurd (cc)
 not-later moment (Some e) d is = by_test (nat_le e.at.due moment) is
   where

@@ -8,3 +8,4 @@ pub mod NameLemmas
 pub mod CostLemmas
 pub mod MemberLemmas
 pub mod PlaceLemmas
+pub mod AgeLemmas

@@ -1,5 +1,5 @@
 -- deadlines by numbers, as one comes and one goes
-use Rattle.std.proofs.Common.{◌≡◌, ◌≢◌, ℕ, zero, suc, ◌+◌, ◌-◌, ◌<◌, ◌≤◌, ◌⊎◌, inl, inr, List, [], ◌∷◌, ◌++◌, length, slice_index_or, slice_set, map, refl, sym, ap, arith, ◌∙◌}
+use Rattle.std.proofs.Common.{◌≡◌, ◌≢◌, ℕ, zero, suc, ◌<◌, ◌⊎◌, inl, inr, List, [], ◌∷◌, ◌++◌, length, slice_index_or, slice_set, map, refl, sym, ap, arith, ◌∙◌}
 use Rattle.std.specs.FinMap.{FinMap, get, insert, remove, empty, get-empty}
 use Rattle.std.specs.Ordering.{nat_cmp}
 use Rattle.std.specs.Prelude.{Option, Some, None, IfSome, IfNone, Result, Ok, Err, OnOk}
@@ -7,7 +7,7 @@ use Rattle.std.proofs.Math.ListN.{get_or-map}
 use Rattle.std.proofs.lemmas.Bool.{cases_eq}
 use Rattle.std.proofs.lemmas.List.{ext_get_or, get_or-set_same, get_or-set_other, length-set, length-map, get_or_default}
 use Rattle.timeouts.specs.Slots.{IsNotAfter, IsLeastAt}
-use Rattle.timeouts.specs.Places.{known_by, count_none, IsByPlace}
+use Rattle.timeouts.specs.Places.{known_by, IsByPlace}
 use Rattle.timeouts.specs.declared.due.Due.{Due}
 use Rattle.timeouts.specs.declared.deadlines.DueId.{DueId}
 use Rattle.timeouts.proofs.MemberLemmas.{get-there, get-elsewhere, get-gone, get-left}
@@ -20,8 +20,8 @@ pub known-at : (m : FinMap nat_cmp Due) (ids : List (Option DueId)) (k : ℕ) �
 known-at m ids k = get_or-map (known_by m) ids k None
 
 -- at a number where none is there is no id
-pub no-id : (m : FinMap nat_cmp Due) (ids : List (Option DueId)) (free room k : ℕ) → IsByPlace m ids free room → slice_index_or (map (known_by m) ids) k None ≡ None → slice_index_or ids k None ≡ None
-no-id m ids free room k kept none = by (slice_index_or ids k None) refl
+pub no-id : (m : FinMap nat_cmp Due) (ids : List (Option DueId)) (k : ℕ) → IsByPlace m ids → slice_index_or (map (known_by m) ids) k None ≡ None → slice_index_or ids k None ≡ None
+no-id m ids k kept none = by (slice_index_or ids k None) refl
   where
     by : (o : Option DueId) → slice_index_or ids k None ≡ o → o ≡ None
     by None is = refl
@@ -39,43 +39,7 @@ same-id a b e = cc
 id-of : (a : DueId) (q : ℕ) → a.number ≡ q → a ≡ record { number = q }
 id-of a q e = ap (λ (n : ℕ). let r : DueId = record { number = n } in r) e
 
--- how many numbers are free as one is taken, and as one is given up
-count-step : (o : Option DueId) (ids : List (Option DueId)) → count_none (o ∷ ids) ≡ count_none (o ∷ []) + count_none ids
-count-step None ids = omega arith
-count-step (Some id) ids = omega arith
-
-pub count-set : (ids : List (Option DueId)) (k : ℕ) (o : Option DueId) → k < length ids → count_none (slice_set ids k o) + count_none (slice_index_or ids k None ∷ []) ≡ count_none ids + count_none (o ∷ [])
-count-set [] k o within = absurd (omega arith)
-count-set (x ∷ ids) zero o within =
-    let one = count-step o ids in
-    let two = count-step x ids in
-    omega arith
-count-set (x ∷ ids) (suc k) o within =
-    let below = count-set ids k o (omega arith) in
-    let one = count-step x (slice_set ids k o) in
-    let two = count-step x ids in
-    omega arith
-
--- at most as many are free as there are
-pub count-few : (ids : List (Option DueId)) → count_none ids ≤ length ids
-count-few [] = omega arith
-count-few (None ∷ ids) = let below = count-few ids in omega arith
-count-few (Some id ∷ ids) = let below = count-few ids in omega arith
-
-count-push : (ids : List (Option DueId)) → count_none (ids ++ None ∷ []) ≡ count_none ids + 1
-count-push [] = refl
-count-push (None ∷ ids) = let below = count-push ids in omega arith
-count-push (Some id ∷ ids) = let below = count-push ids in omega arith
-
--- one that is free is counted
-pub some-free : (m : FinMap nat_cmp Due) (ids : List (Option DueId)) (free room k : ℕ) → IsByPlace m ids free room → k < length ids → slice_index_or ids k None ≡ None → 1 ≤ free
-some-free m ids free room k kept within none =
-    let counted = kept.counted in
-    let all = count-set ids k (Some (record { number = 0 })) within in
-    let one : count_none (slice_index_or ids k None ∷ []) ≡ 1 = ap (λ o. count_none (o ∷ [])) none in
-    omega arith
-
-module _ (m : FinMap nat_cmp Due) (ids : List (Option DueId)) (free room k : ℕ) (kept : IsByPlace m ids free room) (within : k < length ids) where
+module _ (m : FinMap nat_cmp Due) (ids : List (Option DueId)) (k : ℕ) (kept : IsByPlace m ids) (within : k < length ids) where
   same-at : (o : Option DueId) → slice_index_or (slice_set ids k o) k None ≡ o
   same-at o = get_or-set_same ids k o None within
 
@@ -104,7 +68,7 @@ module _ (m : FinMap nat_cmp Due) (ids : List (Option DueId)) (free room k : ℕ
             let apart : found.0 ≢ k = (λ same. other (ap (λ (x : DueId). x.number) (same-id (record { number = q }) id (sym found.1 ∙ ap (λ x. slice_index_or ids x None) same ∙ is)))) in
             (found.0, other-at None found.0 apart ∙ found.1)
 
-    pub taken-away : IsByPlace (remove m id.number) (slice_set ids k None) (free + 1) (room + 1)
+    pub taken-away : IsByPlace (remove m id.number) (slice_set ids k None)
     taken-away = record {
       there = λ j jd at.
           let o = away-other j jd at in
@@ -112,12 +76,6 @@ module _ (m : FinMap nat_cmp Due) (ids : List (Option DueId)) (free room k : ℕ
           (d.0, get-left m id.number jd.number (away-apart j jd o.0 o.1) ∙ d.1);
       apart = λ i j jd a b. kept.apart i j jd (away-other i jd a).1 (away-other j jd b).1;
       only = away-only;
-      counted =
-          let counted = kept.counted in
-          let all = count-set ids k None within in
-          let none : count_none (slice_index_or ids k None ∷ []) ≡ 0 = ap (λ o. count_none (o ∷ [])) is in
-          omega arith;
-      fits = let fits = kept.fits in omega arith;
     }
 
     away-at : (j : ℕ) → (j ≡ k) ⊎ (j ≢ k) → known_by (remove m id.number) (slice_index_or (slice_set ids k None) j None) ≡ slice_index_or (slice_set (map (known_by m) ids) k None) j None
@@ -180,17 +138,11 @@ module _ (m : FinMap nat_cmp Due) (ids : List (Option DueId)) (free room k : ℕ
             let apart : found.0 ≢ k = (λ same. some-none (record { number = q }) (sym found.1 ∙ ap (λ x. slice_index_or ids x None) same ∙ none)) in
             (found.0, other-at (Some id) found.0 apart ∙ found.1)
 
-    pub put-there : (room' : ℕ) → room' + 1 ≡ room → IsByPlace (insert m id.number d) (slice_set ids k (Some id)) (free - 1) room'
-    put-there room' less = record {
+    pub put-there : IsByPlace (insert m id.number d) (slice_set ids k (Some id))
+    put-there = record {
       there = new-there;
       apart = new-one;
       only = new-only;
-      counted =
-          let counted = kept.counted in
-          let all = count-set ids k (Some id) within in
-          let one : count_none (slice_index_or ids k None ∷ []) ≡ 1 = ap (λ o. count_none (o ∷ [])) none in
-          omega arith;
-      fits = let fits = kept.fits in omega arith;
     }
 
     new-at : (j : ℕ) → (j ≡ k) ⊎ (j ≢ k) → known_by (insert m id.number d) (slice_index_or (slice_set ids k (Some id)) j None) ≡ slice_index_or (slice_set (map (known_by m) ids) k (Some d)) j None
@@ -212,13 +164,11 @@ module _ (m : FinMap nat_cmp Due) (ids : List (Option DueId)) (free room k : ℕ
         lengths = length-map (slice_set ids k (Some id)) (known_by (insert m id.number d)) ∙ length-set ids k (Some id) ∙ sym (length-map ids (known_by m)) ∙ sym (length-set (map (known_by m) ids) k (Some d))
 
 -- one more number
-pub pushed : (m : FinMap nat_cmp Due) (ids : List (Option DueId)) (free room : ℕ) → IsByPlace m ids free room → free < room → IsByPlace m (ids ++ None ∷ []) (free + 1) room
-pushed m ids free room kept some = record {
+pub pushed : (m : FinMap nat_cmp Due) (ids : List (Option DueId)) → IsByPlace m ids → IsByPlace m (ids ++ None ∷ [])
+pushed m ids kept = record {
   there = λ k id at. kept.there k id (old k id at);
   apart = λ j k id a b. kept.apart j k id (old j id a) (old k id b);
   only = λ q d at. let found = kept.only q d at in (found.0, new found.0 (record { number = q }) found.1);
-  counted = let counted = kept.counted in let more = count-push ids in omega arith;
-  fits = omega arith;
 }
   where
     same : (ids : List (Option DueId)) (k : ℕ) → slice_index_or (ids ++ None ∷ []) k None ≡ slice_index_or ids k None
@@ -234,8 +184,8 @@ pushed m ids free room kept some = record {
     new k id at = same ids k ∙ at
 
 -- the first of the members is the first of those at numbers
-pub least-at : (m : FinMap nat_cmp Due) (ids : List (Option DueId)) (free room : ℕ) (d : Due) → IsByPlace m ids free room → IsLeastAt (get m) d → IsLeastAt (λ k. slice_index_or (map (known_by m) ids) k None) d
-least-at m ids free room d kept h = record {
+pub least-at : (m : FinMap nat_cmp Due) (ids : List (Option DueId)) (d : Due) → IsByPlace m ids → IsLeastAt (get m) d → IsLeastAt (λ k. slice_index_or (map (known_by m) ids) k None) d
+least-at m ids d kept h = record {
   there = there;
   least = λ k e at. by k e (slice_index_or ids k None) refl (sym (known-at m ids k) ∙ at);
 }
@@ -265,13 +215,11 @@ all-none m ids none k = known-at m ids k ∙ by (slice_index_or ids k None)
     by (Some id) = none id.number
 
 -- no number
-pub empty-by-place : (m : FinMap nat_cmp Due) (ids : List (Option DueId)) (room : ℕ) → m ≡ empty → ids ≡ [] → IsByPlace m ids 0 room
-empty-by-place m ids room none nil = record {
+pub empty-by-place : (m : FinMap nat_cmp Due) (ids : List (Option DueId)) → m ≡ empty → ids ≡ [] → IsByPlace m ids
+empty-by-place m ids none nil = record {
   there = λ k id at. absurd (some-none id (sym at ∙ nothing k));
   apart = λ j k id a b. absurd (some-none id (sym a ∙ nothing j));
   only = λ q d at. absurd (let clash : Some d ≡ None = sym at ∙ ap (λ (x : FinMap nat_cmp Due). get x q) none ∙ get-empty nat_cmp q in cc);
-  counted = sym (ap count_none nil);
-  fits = omega arith;
 }
   where
     nothing : (k : ℕ) → slice_index_or ids k None ≡ None
@@ -280,11 +228,6 @@ empty-by-place m ids room none nil = record {
         past : (k : ℕ) → slice_index_or {A = Option DueId} [] k None ≡ None
         past zero = refl
         past (suc k) = refl
-
--- what holds where a call went well
-pub room-ok : {E : Type 0} (r : Result (Unit {0}) E) (P Q : Type 0) → (P → Q) → OnOk r P → OnOk r Q
-room-ok (Ok tt) P Q f p = f p
-room-ok (Err e) P Q f p = tt
 
 pub if-some : (r : Option Due) (P Q : Due → Type 0) → ((d : Due) → P d → Q d) → IfSome r P → IfSome r Q
 if-some None P Q f p = tt
@@ -316,3 +259,11 @@ pub set-twice : (xs : List (Option Due)) (k : ℕ) (x y : Option Due) → slice_
 set-twice [] k x y = refl
 set-twice (z ∷ xs) zero x y = refl
 set-twice (z ∷ xs) (suc k) x y = ap (λ ys. z ∷ ys) (set-twice xs k x y)
+
+pub put-on : (xs ys : List (Option Due)) (k : ℕ) (y : Option Due) → ys ≡ slice_set xs k None → slice_set ys k y ≡ slice_set xs k y
+put-on xs ys k y is = ap (λ l. slice_set l k y) is ∙ set-twice xs k None y
+
+-- what holds where a call went well
+pub on-ok : {E : Type 0} (r : Result (Unit {0}) E) (P Q : Type 0) → (P → Q) → OnOk r P → OnOk r Q
+on-ok (Ok tt) P Q f p = f p
+on-ok (Err e) P Q f p = tt

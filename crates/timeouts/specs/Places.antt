@@ -1,5 +1,5 @@
 -- PROOF: deadlines by numbers, of which each is known by an id
-use Rattle.std.specs.Prelude.{◌≡◌, ℕ, ◌+◌, ◌≤◌, List, [], ◌∷◌, Option, Some, None, slice_index_or}
+use Rattle.std.specs.Prelude.{◌≡◌, ℕ, List, Option, Some, None, slice_index_or}
 use Rattle.std.specs.FinMap.{FinMap, get}
 use Rattle.std.specs.Ordering.{nat_cmp}
 use Rattle.timeouts.specs.declared.due.Due.{Due}
@@ -10,16 +10,8 @@ abbrev pub known_by : FinMap nat_cmp Due → Option DueId → Option Due
 known_by m None = None
 known_by m (Some id) = get m id.number
 
--- at how many numbers no deadline is
-abbrev pub count_none : List (Option DueId) → ℕ
-count_none [] = 0
-count_none (None ∷ ids) = count_none ids + 1
-count_none (Some id ∷ ids) = count_none ids
-
--- each id is one number's, the deadlines are those of the ids, and at each number that has none there is room for one
-pub record IsByPlace (m : FinMap nat_cmp Due) (ids : List (Option DueId)) (free room : ℕ) : Type 0 where
+-- each id is one number's, and the deadlines are those of the ids
+pub record IsByPlace (m : FinMap nat_cmp Due) (ids : List (Option DueId)) : Type 0 where
   pub there : (k : ℕ) (id : DueId) → slice_index_or ids k None ≡ Some id → (d : Due) × (get m id.number ≡ Some d)
   pub apart : (j k : ℕ) (id : DueId) → slice_index_or ids j None ≡ Some id → slice_index_or ids k None ≡ Some id → j ≡ k
   pub only : (q : ℕ) (d : Due) → get m q ≡ Some d → (k : ℕ) × (slice_index_or ids k None ≡ Some (record { number = q }))
-  pub counted : free ≡ count_none ids
-  pub fits : free ≤ room

@@ -1,6 +1,6 @@
 //! Deadlines by numbers, and the first of them.
 
-ghost use Rattle.std.specs.Prelude.{◌≡◌, ℕ, ◌+◌, ◌<◌, ◌≤◌, ◌∷◌, ◌++◌, [], OnOk, IfSome, IfNone, None, Some, length, slice_set};
+ghost use Rattle.std.specs.Prelude.{◌≡◌, ℕ, ◌+◌, ◌<◌, ◌≤◌, ◌∷◌, ◌++◌, [], OnErr, OnOk, IfSome, IfNone, None, Some, length, slice_set};
 ghost use Rattle.timeouts.specs.Slots.{due_at, IsLeastAt};
 ghost use Rattle.timeouts.specs.declared.due.Due.{Due};
 
@@ -16,12 +16,10 @@ pub struct ByPlace {
     heap: Deadlines,
     /// The id of the deadline at each number.
     ids: Vec<Option<DueId>>,
-    /// At how many numbers no deadline is.
-    free: usize,
 }
 
 impl Model for ByPlace {
-    ghost use Rattle.std.specs.Prelude.{◌-◌, length, map, min, vec_capacity};
+    ghost use Rattle.std.specs.Prelude.{◌-◌, length, map, vec_capacity};
     ghost use Rattle.timeouts.specs.Slots.{Slots};
     ghost use Rattle.timeouts.specs.Places.{known_by, IsByPlace};
 
@@ -29,10 +27,10 @@ impl Model for ByPlace {
 
     ghost view = { λ a. record {
       slots = map (known_by a.heap.members) a.ids.items;
-      room = min (vec_capacity a.ids - length a.ids.items) (a.heap.room - a.free);
+      room = vec_capacity a.ids - length a.ids.items;
     } };
 
-    ghost invariant = { λ a. IsByPlace a.heap.members a.ids.items a.free a.heap.room };
+    ghost invariant = { λ a. IsByPlace a.heap.members a.ids.items };
 }
 
 impl ByPlace {
@@ -43,7 +41,6 @@ impl ByPlace {
         ByPlace {
             heap: Deadlines::new(alloc),
             ids: Vec::new(alloc),
-            free: 0,
         }
     }
 
@@ -54,8 +51,7 @@ impl ByPlace {
         ensures ok { OnOk result (additional ≤ self.new.room) }
         ensures room { self.old.room ≤ self.new.room }
     {
-        self.ids.reserve(additional)?;
-        self.heap.reserve(self.free.saturating_add(additional))
+        self.ids.reserve(additional)
     }
 
     /// The next number, at which no deadline is. It takes no memory.
@@ -65,23 +61,25 @@ impl ByPlace {
         ensures room { self.old.room ≤ self.new.room + 1 }
     {
         self.ids.push_reserved(None);
-        self.free += 1;
     }
 
-    /// Puts a deadline, or none, at a number in the place of what was there. It takes no memory.
-    pub fn set(&mut self, number: usize, due: Option<Due>)
+    /// Puts a deadline, or none, at a number in the place of what was there. Where memory is refused,
+    /// none is there.
+    pub fn set(&mut self, number: usize, due: Option<Due>) -> Result<(), AllocError>
         requires { number < length self.old.slots }
-        ensures slots { self.new.slots ≡ slice_set self.old.slots number due }
+        ensures ok { OnOk result (self.new.slots ≡ slice_set self.old.slots number due) }
+        ensures err { OnErr result (self.new.slots ≡ slice_set self.old.slots number None) }
         ensures room { self.new.room ≡ self.old.room }
     {
-        self.take_away(number);
-        if let Some(due) = due {
-            self.put(number, due);
+        self.clear(number);
+        match due {
+            Some(due) => self.put(number, due),
+            None => Ok(()),
         }
     }
 
-    /// Takes away what is at a number.
-    fn take_away(&mut self, number: usize)
+    /// Takes away what is at a number. It takes no memory.
+    pub fn clear(&mut self, number: usize)
         requires { number < length self.old.slots }
         ensures slots { self.new.slots ≡ slice_set self.old.slots number None }
         ensures room { self.new.room ≡ self.old.room }
@@ -91,19 +89,20 @@ impl ByPlace {
         };
         self.heap.remove(id);
         self.ids[number] = None;
-        self.free += 1;
     }
 
-    /// Puts a deadline at a number at which none is.
-    fn put(&mut self, number: usize, due: Due)
+    /// Puts a deadline at a number at which none is. Where memory is refused, none is there still.
+    fn put(&mut self, number: usize, due: Due) -> Result<(), AllocError>
         requires there { number < length self.old.slots }
         requires none { due_at self.old number ≡ None }
-        ensures slots { self.new.slots ≡ slice_set self.old.slots number (Some due) }
+        ensures ok { OnOk result (self.new.slots ≡ slice_set self.old.slots number (Some due)) }
+        ensures err { OnErr result (self.new.slots ≡ self.old.slots) }
         ensures room { self.new.room ≡ self.old.room }
     {
+        self.heap.reserve(1)?;
         let id = self.heap.add(due);
         self.ids[number] = Some(id);
-        self.free -= 1;
+        Ok(())
     }
 
     /// The deadline that fires first.

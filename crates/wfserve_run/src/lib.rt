@@ -1,5 +1,5 @@
 //! The program `wfserve [--shards N] [--passes P] [--service K] [--queues NAMES] [--capacity C]
-//! [--load DIR] [--save DIR] [--trace] [FILE]`, over whatever gives it its arguments and takes what it writes.
+//! [--retention MS] [--load DIR] [--save DIR] [--trace] [FILE]`, over whatever gives it its arguments and takes what it writes.
 //!
 //! It serves each line of FILE, or of standard input, and prints one reply line for each but the
 //! barriers: one after another with one pass, in a lane for each pass where there are more. With

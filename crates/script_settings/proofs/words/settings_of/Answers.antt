@@ -13,6 +13,7 @@ returns-clause-sets c = record {
   service = rw (← c.in-Ok.ensures.rows) c.in_ok-service.ensures.set;
   queues = rw (← c.in-Ok.ensures.rows) c.in_ok-queues.ensures.set;
   capacity = rw (← c.in-Ok.ensures.rows) c.in_ok-capacity.ensures.set;
+  retention = rw (← c.in-Ok.ensures.rows) c.in_ok-retention.ensures.set;
   file = c.get_str.ensures ∙ first_value-rows (found_of c.in-Ok.matches) (codes "FILE") ∙ ap (first_of (codes "FILE")) c.in-Ok.ensures.rows;
   load = c.get_str-load.ensures ∙ first_value-rows (found_of c.in-Ok.matches) (codes "load") ∙ ap (first_of (codes "load")) c.in-Ok.ensures.rows;
   save = c.get_str-2.ensures ∙ first_value-rows (found_of c.in-Ok.matches) (codes "save") ∙ ap (first_of (codes "save")) c.in-Ok.ensures.rows;

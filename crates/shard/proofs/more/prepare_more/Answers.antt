@@ -12,4 +12,4 @@ returns-clause-plan g c =
     let v = c.prepare_in.new.self in
     let o = adds (ordinal_of c.args.index) c.args.facts c.args.answer in
     let P : Plan g.row.T.Denot → Type 0 = λ plan. FitsStep v plan c.args.moment o in
-    subst P (sym c.adding.ensures) (more-fits {T = g.row.T.Denot} v c.args.store.now c.args.moment c.args.index c.in_ok-more.more c.args.facts (Ok c.args.answer) o c.in_ok-more.ensures.same c.in_ok-more.ensures.more c.requires.fits refl refl refl refl refl)
+    subst P (sym c.adding.ensures) (more-fits {T = g.row.T.Denot} v c.args.store.now c.args.moment c.args.index c.in_ok-more.more c.args.facts (Ok c.args.answer) o c.in_ok-more.ensures.same c.in_ok-more.ensures.more c.requires.fits refl refl refl refl refl refl)

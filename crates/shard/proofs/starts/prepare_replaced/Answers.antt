@@ -41,4 +41,4 @@ returns-clause-plan g c =
     let id = c.run_id.ensures ∙ ap (λ s. run_id s.setup (c.count.result + 1)) same ∙ ap (λ k. run_id old.setup (k + 1)) count in
     both-fits v old at i more facts b c.in_ok-made.made (Ok (Started c.run_id.result)) (by_decision (runs_at old at) (ordinal_of i) (started_fact at q ∷ first_task q.task_queue ∷ []) TerminateThenNew) same prepared
     (terminate-fits at s reason c.requires.open) c.requires.open (terminated-behind at s reason) (c.requires.named ∙ sym (ap (λ (x : Beginning). x.started.workflow_id) c.in_ok-beginning.ensures)) c.in_ok-made.ensures.made
-    refl (ap (λ x. Some (first_facts x)) (sym c.in_ok-beginning.ensures)) (ap (λ r. Ok (Started r)) id) refl refl
+    refl (ap (λ x. Some (first_facts x)) (sym c.in_ok-beginning.ensures)) refl (ap (λ r. Ok (Started r)) id) refl refl

@@ -31,4 +31,4 @@ returns-clause-plan g c =
     let o : Outcome = adds q.task.run (map plain (failed q.task.run q.message)) Failed in
     let P : Plan g.row.T.Denot → Type 0 = λ plan. FitsStep v plan c.args.moment o in
     subst P (sym c.adding.ensures) (ended-fits {T = g.row.T.Denot} v old c.args.moment i c.in_ok-plan.plan (failed (ordinal_of i) q.message) (Ok Failed) o c.in_ok-plan.ensures.same c.in_ok-plan.ensures.there c.in_ok-plan.ensures.noted planned
-    (ap (λ k. Some (record { run = k; facts = map plain (failed k q.message) })) (sym c.requires.run)) refl refl refl refl)
+    (ap (λ k. Some (record { run = k; facts = map plain (failed k q.message) })) (sym c.requires.run)) refl refl refl refl refl)

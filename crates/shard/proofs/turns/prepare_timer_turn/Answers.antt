@@ -1,12 +1,11 @@
-use Rattle.std.proofs.Common.{sym, ap, subst, ◌∙◌}
-use Rattle.std.specs.Prelude.{option_map}
-use Rattle.timeouts.specs.Firsts.{IsOfRun}
+use Rattle.std.proofs.Common.{◌≡◌, sym, ap, subst, ◌∙◌}
+use Rattle.std.specs.Prelude.{Some, option_map}
+use Rattle.service_model.specs.TimerTurns.{all_dues, due_now, least}
 use Rattle.timeouts.specs.Slots.{run_due}
-use Rattle.timeouts.proofs.FirstLemmas.{due-of-run}
-use Rattle.shard_store.specs.View.{ShardState, states}
+use Rattle.shard_store.specs.View.{ShardState}
 use Rattle.shard.proofs.turns.prepare_timer_turn.Goals as goal
 
-pub prepare_fired-requires : goal.prepare_fired-requires
-prepare_fired-requires g c =
+pub prepare_fired-requires-clause-first : goal.prepare_fired-requires-clause-first
+prepare_fired-requires-clause-first g c =
     let fires = sym c.in_ok-due.ensures.due ∙ ap (option_map run_due) c.in-Some.is in
-    subst (λ (s : ShardState). IsOfRun s.setup.retention (run_due c.in-Some.due) s.runs) (sym c.in_ok-due.ensures.same) (due-of-run c.args.store.now.setup.retention (states c.args.store.now.runs) c.args.moment (run_due c.in-Some.due) fires)
+    subst (λ (s : ShardState). due_now c.args.moment (least (all_dues s.setup.retention s.runs)) ≡ Some (run_due c.in-Some.due)) (sym c.in_ok-due.ensures.same) fires

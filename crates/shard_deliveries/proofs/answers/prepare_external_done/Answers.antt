@@ -5,6 +5,7 @@ use Rattle.wf_event.specs.declared.role.Class.{Class}
 use Rattle.service_model.specs.Deliveries.{accepts, adds_outside, answers_pending, effect, external_class, external_event, own_run, pending_id}
 use Rattle.service_model.specs.Outcome.{run_at}
 use Rattle.service_model.specs.RunState.{pending}
+use Rattle.service_model.proofs.ThereLemmas.{open-there}
 use Rattle.mutable_state.specs.Steps.{has_id}
 use Rattle.shard_store.specs.Fitting.{FitsStep}
 use Rattle.shard_store.specs.View.{ordinal_of, runs_at, runs_in}
@@ -13,6 +14,12 @@ use Rattle.shard_deliveries.specs.Pending.{IsPending, said}
 use Rattle.shard_deliveries.specs.declared.pending.PendingRequest.{PendingRequest}
 use Rattle.shard_deliveries.proofs.FitLemmas.{external-comes}
 use Rattle.shard_deliveries.proofs.answers.prepare_external_done.Goals as goal
+
+pub accept_event-requires-clause-begun : goal.accept_event-requires-clause-begun
+accept_event-requires-clause-begun g c =
+    let P : Option PendingRequest → Type 0 = λ o. IfSome o (λ (p : PendingRequest). IsPending c.args.store.now c.external_class-class.result c.args.done.now.initiated p.index) in
+    let p : IsPending c.args.store.now c.external_class-class.result c.args.done.now.initiated c.in-Some.asked.index = subst P c.in-Some.is c.in_ok-asked.ensures.pending in
+    open-there (run_at (runs_in c.args.store.now) (ordinal_of c.in-Some.asked.index)) p.opened
 
 pub accept_event-requires-clause-outside : goal.accept_event-requires-clause-outside
 accept_event-requires-clause-outside g c =

@@ -23,9 +23,9 @@ use Rattle.shard_store.proofs.store.Store.grow.Goals as goal
 pub invariant_of-self : goal.invariant_of-self
 invariant_of-self g c =
     let there : c.args.more.index < length c.self.inside.runs.items = rw (ap (λ v. v.runs) c.self.view_is) c.requires.there in
-    let was = c.index_mut-run.result.now in
+    let was = c.index_mut-place.result.now in
     let here : slice_index_or (states c.self.inside.runs.items) c.args.more.index no_run ≡ was.state =
-    states-at c.self.inside.runs.items c.args.more.index was there ∙ ap (λ (v : RunView). v.state) (sym c.index_mut-run.ensures.value) in
+    states-at c.self.inside.runs.items c.args.more.index was there ∙ ap (λ (v : RunView). v.state) (sym c.index_mut-place.ensures.value) in
     let began : c.commit.new.self.state.beginning ≡ was.state.beginning =
     ap (λ s. s.beginning) c.commit.ensures.state ∙ (beginning-stays c.args.more.plan.change.moment c.args.more.plan.change.facts was.state) in (
       c.self.invariant.0,
@@ -48,11 +48,11 @@ pub returns-clause-state : goal.returns-clause-state
 returns-clause-state g c =
     let before = c.self.inside in
     let there : c.args.more.index < length before.runs.items = rw (ap (λ v. v.runs) c.self.view_is) c.requires.there in
-    let was = c.index_mut-run.result.now in
+    let was = c.index_mut-place.result.now in
     let m = c.args.more.plan.change in
     let k = c.args.more.index in
     let runs = states before.runs.items in
-    let here : slice_index_or runs k no_run ≡ was.state = states-at before.runs.items k was there ∙ ap (λ (v : RunView). v.state) (sym c.index_mut-run.ensures.value) in
+    let here : slice_index_or runs k no_run ≡ was.state = states-at before.runs.items k was there ∙ ap (λ (v : RunView). v.state) (sym c.index_mut-place.ensures.value) in
     let now : states (slice_set before.runs.items k c.commit.new.self) ≡ slice_set runs k (after_step m.moment m.facts (slice_index_or runs k no_run)) =
     states-set before.runs.items k c.commit.new.self ∙ ap (λ s. slice_set runs k s) (c.commit.ensures.state ∙ ap (after_step m.moment m.facts) (sym here)) in
     let fits : FitStep m.moment (slice_index_or runs k no_run) m.facts = subst (λ (v : ShardView). FitStep m.moment (state_at (states v.runs) k) m.facts) (sym c.self.view_is) c.requires.fits in

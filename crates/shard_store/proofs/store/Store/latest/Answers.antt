@@ -4,6 +4,7 @@ use Rattle.indexmap.specs.IndexMap.{get_by_text}
 use Rattle.service_model.specs.Outcome.{latest_run}
 use Rattle.shard_store.specs.View.{ordinal_of, states}
 use Rattle.shard_store.proofs.IndexLemmas.{latest_run-within, place-within}
+use Rattle.shard_store.proofs.OpenLemmas.{run-latest}
 use Rattle.shard_store.proofs.store.Store.latest.Goals as goal
 
 pub returns-clause-found : goal.returns-clause-found
@@ -13,3 +14,6 @@ returns-clause-found g c =
 
 pub returns-clause-there : goal.returns-clause-there
 returns-clause-there g c = place-within _ c.copied.result _ (returns-clause-found g c) (latest_run-within c.args.id.now c.args.self.now.runs)
+
+pub returns-clause-begun : goal.returns-clause-begun
+returns-clause-begun g c = run-latest c.args.self.now c.args.id.now c.copied.result (returns-clause-found g c)

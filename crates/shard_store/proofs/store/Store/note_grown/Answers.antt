@@ -17,18 +17,18 @@ pub invariant_of-self-2 : goal.invariant_of-self-2
 invariant_of-self-2 g c =
     let n = c.in-Some.index in
     let runs = states c.self.inside.runs.items in
-    let s = c.index-run.result.now.state in
+    let s = c.index-place.result.now.state in
     let made = c.self.inside.changed.made in
     let now : Changed = record { grown = None; made = made } in
     let C : Option ℕ → Changed = λ o. record { grown = o; made = made } in
     let firsts : HasFirsts c.self.inside.setup.retention c.self.inside.deadlines.slots (C (Some n)) runs = subst (λ o. HasFirsts c.self.inside.setup.retention c.self.inside.deadlines.slots (C o) runs) c.in-Some.is c.self.invariant.3 in
     let counts : HasShown c.self.inside.dispatches.shown (C (Some n)) runs = subst (λ o. HasShown c.self.inside.dispatches.shown (C o) runs) c.in-Some.is c.self.invariant.4 in
     let low : n < length c.self.inside.runs.items = omega (arith, firsts.grown, length-states c.self.inside.runs.items) in
-    let there : slice_get runs n ≡ Some s = get-at runs n firsts.grown ∙ ap (λ x. Some x) (states-at c.self.inside.runs.items n c.index-run.result.now low ∙ ap (λ (v : RunView). v.state) (sym c.index-run.ensures)) in (
+    let there : slice_get runs n ≡ Some s = get-at runs n firsts.grown ∙ ap (λ x. Some x) (states-at c.self.inside.runs.items n c.index-place.result.now low ∙ ap (λ (v : RunView). v.state) (sym c.index-place.ensures)) in (
       c.self.invariant.0,
       c.self.invariant.1,
       c.self.invariant.2,
-      subst (λ (l : List (Option Due)). HasFirsts c.self.inside.setup.retention l now runs) (sym c.set.ensures.slots) (grown-noted c.self.inside.deadlines.slots n made runs s c.in_ok-due.due there c.in_ok-due.ensures firsts),
+      subst (λ (l : List (Option Due)). HasFirsts c.self.inside.setup.retention l now runs) (sym c.in_ok-set.ensures.ok) (grown-noted c.self.inside.deadlines.slots n made runs s c.in_ok-due.due there c.in_ok-due.ensures firsts),
       subst (λ l. HasShown l now runs) (sym c.in_ok-issue.ensures.shown) (grown-noted c.self.inside.dispatches.shown n made runs s c.in_ok-shown.shown there c.in_ok-shown.ensures.count counts),
       c.self.invariant.5,
     )
@@ -43,7 +43,7 @@ returns-clause-same g c =
     let C : Option ℕ → Changed = λ o. record { grown = o; made = made } in
     let firsts : HasFirsts c.self.inside.setup.retention c.self.inside.deadlines.slots (C (Some n)) runs = subst (λ o. HasFirsts c.self.inside.setup.retention c.self.inside.deadlines.slots (C o) runs) c.in-Some.is c.self.invariant.3 in
     let low : n < length c.self.inside.runs.items = omega (arith, firsts.grown, length-states c.self.inside.runs.items) in
-    let here : slice_index_or runs n no_run ≡ c.index-run.result.now.state = states-at c.self.inside.runs.items n c.index-run.result.now low ∙ ap (λ (v : RunView). v.state) (sym c.index-run.ensures) in
+    let here : slice_index_or runs n no_run ≡ c.index-place.result.now.state = states-at c.self.inside.runs.items n c.index-place.result.now low ∙ ap (λ (v : RunView). v.state) (sym c.index-place.ensures) in
     let issued = c.in_ok-issued.ensures ∙ ap (issued_since setup (slice_index_or d.shown n 0) d.ready (n + 1)) (sym here) in
     let waits = grown-looked-up setup d c.issue.new.self made runs n c.in_ok-issued.issued.items issued c.in_ok-issue.ensures.waiting ∙ ap (λ o. all_waiting setup d (C o) runs) (sym c.in-Some.is) in
     ap (λ w. record { setup = setup; runs = runs; last = c.self.inside.last; waiting = w; outgoing = all_outgoing setup c.self.inside.transfers runs; accepted = c.self.inside.transfers.accepted }) waits ∙ ap state c.self.view_is

@@ -31,10 +31,10 @@ returns-clause-same g c =
     let t = c.self.inside in
     let runs = states t.runs.items in
     let u = c.in-Some.unsent in
-    let s = c.index-run.result.now.state in
+    let s = c.index-place.result.now.state in
     let unsent : t.transfers.unsent ≡ Some u = sym c.unsent.ensures ∙ c.in-Some.is in
     let low : u.index < length t.runs.items = subst (λ (o : Option Unsent). IfSome o (λ u. u.index < length t.runs.items)) unsent c.self.invariant.5.unsent in
-    let here : slice_index_or runs u.index no_run ≡ s = states-at t.runs.items u.index c.index-run.result.now low ∙ ap (λ (v : RunView). v.state) (sym c.index-run.ensures) in
+    let here : slice_index_or runs u.index no_run ≡ s = states-at t.runs.items u.index c.index-place.result.now low ∙ ap (λ (v : RunView). v.state) (sym c.index-place.ensures) in
     let named = c.run_id-id.ensures ∙ ap (λ (v : ShardView). run_id v.setup (u.index + 1)) (sym c.self.view_is) in
     let found : c.in_ok-sent.sent.items ≡ sent_since t.setup u.shown (u.index + 1) (slice_index_or runs u.index no_run) =
     c.in_ok-sent.ensures ∙ ap (λ r. transfers_by t.setup r s (drop u.shown s.shown)) named ∙ ap (sent_since t.setup u.shown (u.index + 1)) (sym here) in

@@ -1,5 +1,6 @@
 use Rattle.std.proofs.Common.{◌∙◌, ap, sym}
 use Rattle.service_model.specs.RunState.{id_of, is_there}
+use Rattle.mutable_state.specs.View.{RunView}
 use Rattle.shard_store.proofs.StepLemmas.{id-of-begun, there-begun}
 use Rattle.shard_store.proofs.store.Store.prepare_made.Goals as goal
 
@@ -11,9 +12,9 @@ returns-clause-made g c =
         room = c.in_ok-reserve_run.ensures.room;
         noted = c.in_ok-reserve_run.ensures.noted.made;
         few = c.in_ok-reserve_run.ensures.few;
-        there = ap is_there c.in_ok-run.ensures ∙ there-begun c.args.moment b.facts b.request_id b.started;
-        named = ap id_of c.in_ok-run.ensures ∙ id-of-begun c.args.moment b.facts b.request_id b.started ∙ sym (c.in_ok-key.ensures.ok ∙ c.as_str-id.ensures.value);
+        there = ap (λ (v : RunView). is_there v.state) c.in_ok-run.ensures ∙ ap is_there c.in_ok-begun.ensures ∙ there-begun c.args.moment b.facts b.request_id b.started;
+        named = ap (λ (v : RunView). id_of v.state) c.in_ok-run.ensures ∙ ap id_of c.in_ok-begun.ensures ∙ id-of-begun c.args.moment b.facts b.request_id b.started ∙ sym (c.in_ok-key.ensures.ok ∙ c.as_str-id.ensures.value);
       };
-      made = c.in_ok-run.ensures;
+      made = ap (λ (v : RunView). v.state) c.in_ok-run.ensures ∙ c.in_ok-begun.ensures;
       begins = c.requires;
     }

@@ -10,7 +10,7 @@ returns-clause-least c =
     if-some c.due.result _ (λ d. IsLeastAt (due_at c.args.self.now) d × (d.due ≤ c.args.moment))
     (λ d h. (
       subst (λ s. IsLeastAt (λ k. slice_index_or s k None) d) (ap (λ (s : Slots). s.slots) c.self.view_is)
-          (least-at c.self.inside.heap.members c.self.inside.ids.items c.self.inside.free c.self.inside.heap.room d c.self.invariant h.0),
+          (least-at c.self.inside.heap.members c.self.inside.ids.items d c.self.invariant h.0),
       h.1,
     )) c.due.ensures.least
 

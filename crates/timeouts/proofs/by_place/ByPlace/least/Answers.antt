@@ -8,7 +8,7 @@ pub returns-clause-least : goal.returns-clause-least
 returns-clause-least c =
     if-some c.least.result _ (IsLeastAt (due_at c.args.self.now))
     (λ d h. subst (λ s. IsLeastAt (λ k. slice_index_or s k None) d) (ap (λ (s : Slots). s.slots) c.self.view_is)
-    (least-at c.self.inside.heap.members c.self.inside.ids.items c.self.inside.free c.self.inside.heap.room d c.self.invariant h)) c.least.ensures.least
+    (least-at c.self.inside.heap.members c.self.inside.ids.items d c.self.invariant h)) c.least.ensures.least
 
 pub returns-clause-empty : goal.returns-clause-empty
 returns-clause-empty c =

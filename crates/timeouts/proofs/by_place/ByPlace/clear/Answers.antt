@@ -1,12 +1,12 @@
-use Rattle.std.proofs.Common.{arith, ap, sym, ◌≡◌, ◌+◌, ◌∙◌, subst, slice_set, map}
+use Rattle.std.proofs.Common.{ap, sym, ◌≡◌, ◌∙◌, subst, slice_set, map}
 use Rattle.std.specs.Prelude.{None}
 use Rattle.std.specs.FinMap.{FinMap}
 use Rattle.std.specs.Ordering.{nat_cmp}
 use Rattle.timeouts.specs.declared.due.Due.{Due}
 use Rattle.timeouts.specs.Places.{known_by, IsByPlace}
 use Rattle.timeouts.specs.Slots.{Slots}
-use Rattle.timeouts.proofs.PlaceLemmas.{taken-away, slots-away, cleared, count-few, read-id, as-many}
-use Rattle.timeouts.proofs.by_place.ByPlace.take_away.Goals as goal
+use Rattle.timeouts.proofs.PlaceLemmas.{taken-away, slots-away, cleared, read-id, as-many}
+use Rattle.timeouts.proofs.by_place.ByPlace.clear.Goals as goal
 
 pub returns-in_default-clause-slots : goal.returns-in_default-clause-slots
 returns-in_default-clause-slots c =
@@ -21,20 +21,13 @@ remove-requires c =
     let within = as-many c.self.inside.heap.members c.self.inside.ids.items c.args.self.now.slots c.args.number slots c.requires in
     c.self.invariant.there c.args.number c.in-Some.id (read-id c.self.inside.ids.items c.args.number c.index.result.now within c.index.ensures ∙ c.in-Some.is)
 
-pub overflow_add-self : goal.overflow_add-self
-overflow_add-self c =
-    let few = count-few c.self.inside.ids.items in
-    let counted = c.self.invariant.counted in
-    omega arith
-
 pub invariant_of-self : goal.invariant_of-self
 invariant_of-self c =
     let slots = ap (λ (s : Slots). s.slots) c.self.view_is in
     let within = as-many c.self.inside.heap.members c.self.inside.ids.items c.args.self.now.slots c.args.number slots c.requires in
     let is = read-id c.self.inside.ids.items c.args.number c.index.result.now within c.index.ensures ∙ c.in-Some.is in
-    subst (λ n. IsByPlace c.remove.new.self.members (slice_set c.self.inside.ids.items c.args.number None) (c.self.inside.free + 1) n) (sym c.remove.ensures.room)
-    (subst (λ (m : FinMap nat_cmp Due). IsByPlace m (slice_set c.self.inside.ids.items c.args.number None) (c.self.inside.free + 1) (c.self.inside.heap.room + 1)) (sym c.remove.ensures.removed)
-    (taken-away c.self.inside.heap.members c.self.inside.ids.items c.self.inside.free c.self.inside.heap.room c.args.number c.self.invariant within c.in-Some.id is))
+    subst (λ (m : FinMap nat_cmp Due). IsByPlace m (slice_set c.self.inside.ids.items c.args.number None)) (sym c.remove.ensures.removed)
+    (taken-away c.self.inside.heap.members c.self.inside.ids.items c.args.number c.self.invariant within c.in-Some.id is)
 
 pub returns-clause-slots : goal.returns-clause-slots
 returns-clause-slots c =
@@ -42,5 +35,5 @@ returns-clause-slots c =
     let within = as-many c.self.inside.heap.members c.self.inside.ids.items c.args.self.now.slots c.args.number slots c.requires in
     let is = read-id c.self.inside.ids.items c.args.number c.index.result.now within c.index.ensures ∙ c.in-Some.is in
     ap (λ (m : FinMap nat_cmp Due). map (known_by m) (slice_set c.self.inside.ids.items c.args.number None)) c.remove.ensures.removed
-    ∙ slots-away c.self.inside.heap.members c.self.inside.ids.items c.self.inside.free c.self.inside.heap.room c.args.number c.self.invariant within c.in-Some.id is
+    ∙ slots-away c.self.inside.heap.members c.self.inside.ids.items c.args.number c.self.invariant within c.in-Some.id is
     ∙ ap (λ s. slice_set s c.args.number None) slots
