@@ -13,7 +13,7 @@ ghost use Rattle.shard_steps.specs.Attempts.{task_for};
 ghost use Rattle.shard_store.specs.Fitting.{FitsStep};
 ghost use Rattle.shard_store.specs.View.{ordinal_of, run_in, runs_at, runs_in, state};
 
-use crate::more::prepare_more;
+use crate::more::add_facts;
 use mutable_state_keeper::KeepsRun;
 use service_model_types::answer::{ActivityTask, Answer};
 use service_model_types::journal::Note;
@@ -88,6 +88,6 @@ fn take_attempt<T: KeepsRun>(
         (adds wanted.run (noted wanted.event Taken ∷ []) (an_activity_task task))) }
 {
     let facts = note_facts(store.alloc(), wanted.event, Note::Taken)?;
-    let plan = prepare_more(store, moment, index, facts, Answer::ActivityTask(task))?;
+    let plan = add_facts(store, moment, index, facts, Answer::ActivityTask(task))?;
     Ok(plan)
 }

@@ -11,7 +11,7 @@ ghost use Rattle.shard_store.specs.Fitting.{FitsStep};
 ghost use Rattle.shard_store.specs.View.{run_in, runs_at, runs_in, state};
 ghost use Rattle.shard_steps.specs.Attempts.{ended_activity};
 
-use crate::more::prepare_more;
+use crate::more::add_facts;
 use mutable_state::Activity;
 use mutable_state_keeper::KeepsRun;
 use service_model_types::answer::Answer;
@@ -32,7 +32,7 @@ pub(crate) struct RunningAttempt {
 
 /// An activity is completed.
 #[tactic(auto, unfolding(service_model::specs::Activities::complete_activity))]
-pub(crate) fn prepare_complete_activity<T: KeepsRun>(
+pub(crate) fn complete_activity<T: KeepsRun>(
     store: &mut Store<T>,
     moment: Moment,
     request: &ActivityText,
@@ -55,7 +55,7 @@ pub(crate) fn prepare_complete_activity<T: KeepsRun>(
 
 /// An activity that was asked to cancel is canceled.
 #[tactic(auto, unfolding(service_model::specs::Activities::cancel_activity))]
-pub(crate) fn prepare_cancel_activity<T: KeepsRun>(
+pub(crate) fn cancel_activity<T: KeepsRun>(
     store: &mut Store<T>,
     moment: Moment,
     request: &ActivityText,
@@ -98,7 +98,7 @@ pub(crate) fn end_activity<T: KeepsRun>(
 {
     let run = store.run(attempt.index);
     let facts = ended_facts(store.alloc(), run, &attempt.activity, last)?;
-    let plan = prepare_more(store, moment, attempt.index, facts, answer)?;
+    let plan = add_facts(store, moment, attempt.index, facts, answer)?;
     Ok(plan)
 }
 

@@ -14,7 +14,7 @@ use std::alloc::AllocError;
 use wf_event_values::Moment;
 
 /// The first dispatch that is not counted.
-pub(crate) fn prepare_next_dispatch<T: KeepsRun>(
+pub(crate) fn read_next_dispatch<T: KeepsRun>(
     store: &mut Store<T>,
     moment: Moment,
 ) -> Result<Plan<T>, AllocError>
@@ -26,7 +26,7 @@ pub(crate) fn prepare_next_dispatch<T: KeepsRun>(
     let Some(first) = store.first_dispatch() else {
         return Ok(answered(moment, Answer::NoDispatch));
     };
-    let dispatch = copied(first)?;
+    let dispatch = copy_of(first)?;
     let Some(number) = store.counted_dispatches().checked_add(1) else {
         return Err(AllocError);
     };
@@ -35,7 +35,7 @@ pub(crate) fn prepare_next_dispatch<T: KeepsRun>(
 }
 
 /// A dispatch was pushed: it is counted, where it is the first that was not.
-pub(crate) fn prepare_dispatched<T: KeepsRun>(
+pub(crate) fn count_dispatch<T: KeepsRun>(
     store: &mut Store<T>,
     moment: Moment,
     number: u64,
@@ -65,7 +65,8 @@ pub(crate) fn prepare_dispatched<T: KeepsRun>(
     })
 }
 
-fn copied(dispatch: &Dispatch) -> Result<Dispatch, AllocError>
+/// A copy of a dispatch, with texts of its own.
+fn copy_of(dispatch: &Dispatch) -> Result<Dispatch, AllocError>
     ensures { IfOk result (λ copy. copy ≡ dispatch.now) }
 {
     Ok(Dispatch {

@@ -6,7 +6,7 @@ ghost use Rattle.service_model.specs.RunState.{is_open, is_there};
 ghost use Rattle.shard_store.specs.View.{ordinal_of, run_in, runs_at, state};
 ghost use Rattle.shard_store.specs.Fitting.{FitsStep};
 
-use crate::more::prepare_more;
+use crate::more::add_facts;
 use mutable_state_keeper::KeepsRun;
 use service_model_types::answer::Answer;
 use service_model_types::journal::CancelRequest;
@@ -16,8 +16,9 @@ use shard_store::{Plan, Store, answered, refused};
 use std::alloc::AllocError;
 use wf_event_values::{Field, Moment, Refusal};
 
+/// A request to cancel a workflow, or the run that it names.
 #[tactic(auto, unfolding(service_model::specs::Cancels::request_cancel))]
-pub(crate) fn prepare_request_cancel<T: KeepsRun>(
+pub(crate) fn request_cancel<T: KeepsRun>(
     store: &mut Store<T>,
     moment: Moment,
     request: &RequestCancel,
@@ -30,13 +31,13 @@ pub(crate) fn prepare_request_cancel<T: KeepsRun>(
         return Ok(refused(moment, Refusal::InvalidArgument(Field::WorkflowId)));
     }
     match store.named_open(&request.workflow_id, request.run) {
-        Some(index) => prepare_cancel_of(store, moment, index, request),
+        Some(index) => request_cancel_of_run(store, moment, index, request),
         None => Ok(refused(moment, Refusal::NotFound)),
     }
 }
 
 /// A request to cancel the open run at a place.
-fn prepare_cancel_of<T: KeepsRun>(
+fn request_cancel_of_run<T: KeepsRun>(
     store: &mut Store<T>,
     moment: Moment,
     index: usize,
@@ -52,14 +53,14 @@ fn prepare_cancel_of<T: KeepsRun>(
 {
     let before = store.run(index).cancel_request()?;
     if let Some(before) = before {
-        return Ok(prepare_cancel_again(store, moment, request, before));
+        return Ok(request_cancel_again(store, moment, request, before));
     }
     let facts = cancel_facts(store.alloc(), store.run(index), &request.request_id)?;
-    prepare_more(store, moment, index, facts, Answer::CancelRequested)
+    add_facts(store, moment, index, facts, Answer::CancelRequested)
 }
 
 /// A request to cancel a run that was asked before.
-fn prepare_cancel_again<T: KeepsRun>(
+fn request_cancel_again<T: KeepsRun>(
     store: &Store<T>,
     moment: Moment,
     request: &RequestCancel,
@@ -73,8 +74,9 @@ fn prepare_cancel_again<T: KeepsRun>(
     refused(moment, Refusal::CancellationAlreadyRequested)
 }
 
+/// The termination of a workflow, or of the run that it names.
 #[tactic(auto, unfolding(service_model::specs::Cancels::terminate))]
-pub(crate) fn prepare_terminate<T: KeepsRun>(
+pub(crate) fn terminate_workflow<T: KeepsRun>(
     store: &mut Store<T>,
     moment: Moment,
     request: &Terminate,
@@ -87,13 +89,13 @@ pub(crate) fn prepare_terminate<T: KeepsRun>(
         return Ok(refused(moment, Refusal::InvalidArgument(Field::WorkflowId)));
     }
     match store.named_open(&request.workflow_id, request.run) {
-        Some(index) => prepare_termination(store, moment, index, request),
+        Some(index) => terminate_run(store, moment, index, request),
         None => Ok(refused(moment, Refusal::NotFound)),
     }
 }
 
 /// The termination of the open run at a place.
-fn prepare_termination<T: KeepsRun>(
+fn terminate_run<T: KeepsRun>(
     store: &mut Store<T>,
     moment: Moment,
     index: usize,
@@ -108,5 +110,5 @@ fn prepare_termination<T: KeepsRun>(
 {
     let reason = request.reason.clone()?;
     let facts = terminated_facts(store.alloc(), reason)?;
-    prepare_more(store, moment, index, facts, Answer::Terminated)
+    add_facts(store, moment, index, facts, Answer::Terminated)
 }

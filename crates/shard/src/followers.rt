@@ -22,7 +22,7 @@ use wf_event_values::{Cause, Id, Items, Moment, RunId};
 
 /// The run that follows the one at a place, where its completion has no fault and continues
 /// as new.
-pub(crate) fn prepare_follower<T: KeepsRun>(
+pub(crate) fn make_follower<T: KeepsRun>(
     store: &mut Store<T>,
     moment: Moment,
     index: usize,
@@ -42,12 +42,12 @@ pub(crate) fn prepare_follower<T: KeepsRun>(
     let Some(command) = continuing(fault, commands) else {
         return Ok(None);
     };
-    let made = prepare_following(store, moment, index, command)?;
+    let made = make_follower_by(store, moment, index, command)?;
     Ok(Some(made))
 }
 
 /// The run that follows the one at a place by this command.
-fn prepare_following<T: KeepsRun>(
+fn make_follower_by<T: KeepsRun>(
     store: &mut Store<T>,
     moment: Moment,
     index: usize,
@@ -102,13 +102,13 @@ fn following(
             parent: started.parent,
             execution_deadline: started.execution_deadline,
         },
-        request_id: owned(request_id)?,
+        request_id: copy_of(request_id)?,
         facts: Items::from_vec(facts),
     })
 }
 
 /// A copy of an id that is lent.
-fn owned(id: Option<&Id>) -> Result<Option<Id>, AllocError>
+fn copy_of(id: Option<&Id>) -> Result<Option<Id>, AllocError>
     ensures { IfOk result (λ copy. copy ≡ option_copied id.entry) }
 {
     let Some(id) = id else {

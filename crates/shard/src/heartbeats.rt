@@ -10,7 +10,7 @@ ghost use Rattle.shard.specs.Running.{HasAttempt};
 ghost use Rattle.shard_store.specs.View.{run_in, runs_at, state};
 
 use crate::attempts::attempt_running;
-use crate::more::prepare_more;
+use crate::more::add_facts;
 use mutable_state_keeper::KeepsRun;
 use service_model_types::answer::Answer;
 use service_model_types::journal::Note;
@@ -23,7 +23,7 @@ use wf_event_values::{Moment, Refusal};
 /// A heartbeat of a running attempt, which keeps its details, and answers whether the activity
 /// was asked to cancel.
 #[tactic(auto, unfolding(service_model::specs::Activities::heartbeat))]
-pub(crate) fn prepare_heartbeat<T: KeepsRun>(
+pub(crate) fn record_heartbeat<T: KeepsRun>(
     store: &mut Store<T>,
     moment: Moment,
     request: &ActivityText,
@@ -57,6 +57,6 @@ pub(crate) fn note_attempt<T: KeepsRun>(
         FitsStep store.new plan moment (adds task.run (noted task.event note ∷ []) answer)) }
 {
     let facts = note_facts(store.alloc(), task.event, note)?;
-    let plan = prepare_more(store, moment, index, facts, answer)?;
+    let plan = add_facts(store, moment, index, facts, answer)?;
     Ok(plan)
 }

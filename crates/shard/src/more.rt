@@ -15,7 +15,7 @@ use std::alloc::AllocError;
 use wf_event_values::{Items, Moment};
 
 /// A step that adds facts to the run at a place, and answers so.
-pub(crate) fn prepare_more<T: KeepsRun>(
+pub(crate) fn add_facts<T: KeepsRun>(
     store: &mut Store<T>,
     moment: Moment,
     index: usize,

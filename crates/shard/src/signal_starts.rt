@@ -9,8 +9,8 @@ ghost use Rattle.shard_store.specs.View.{ordinal_of, run_in, runs_at, state, sta
 ghost use Rattle.shard_store.specs.Fitting.{FitsStep, IsFree};
 ghost use Rattle.shard.specs.Deciding.{signaled_by, signaled_facts};
 
-use crate::signals::{SignalAnswers, prepare_signal_of};
-use crate::starts::{decision_by, prepare_new_run};
+use crate::signals::{SignalAnswers, add_signal};
+use crate::starts::{begin_run, decision_by};
 use id_policy::Decision;
 use mutable_state_keeper::KeepsRun;
 use service_model_types::answer::Answer;
@@ -20,8 +20,9 @@ use shard_store::{Plan, Store, answered, refused};
 use std::alloc::AllocError;
 use wf_event_values::{ConflictPolicy, Field, Moment, Refusal};
 
+/// A signal, with a start where no run is open.
 #[tactic(auto, unfolding(service_model::specs::Signals::signal_with_start))]
-pub(crate) fn prepare_signal_with_start<T: KeepsRun>(
+pub(crate) fn signal_with_start<T: KeepsRun>(
     store: &mut Store<T>,
     moment: Moment,
     request: &SignalWithStart,
@@ -36,11 +37,11 @@ pub(crate) fn prepare_signal_with_start<T: KeepsRun>(
     if !store.setup().knows_queue(&request.task_queue) {
         return Ok(refused(moment, Refusal::UnknownTaskQueue));
     }
-    prepare_signal_or_start(store, moment, request)
+    signal_or_start(store, moment, request)
 }
 
 /// By whether the workflow ID has an open run.
-fn prepare_signal_or_start<T: KeepsRun>(
+fn signal_or_start<T: KeepsRun>(
     store: &mut Store<T>,
     moment: Moment,
     request: &SignalWithStart,
@@ -51,13 +52,13 @@ fn prepare_signal_or_start<T: KeepsRun>(
         (open_run (runs_at store.old moment) request.now.workflow_id None))) }
 {
     match store.named_open(&request.workflow_id, None) {
-        Some(index) => prepare_signal_open(store, moment, index, request),
-        None => prepare_signal_start(store, moment, request),
+        Some(index) => signal_open_run(store, moment, index, request),
+        None => start_and_signal(store, moment, request),
     }
 }
 
 /// A signal of the open run at a place.
-fn prepare_signal_open<T: KeepsRun>(
+fn signal_open_run<T: KeepsRun>(
     store: &mut Store<T>,
     moment: Moment,
     index: usize,
@@ -75,7 +76,7 @@ fn prepare_signal_open<T: KeepsRun>(
         first: Answer::SignaledRun(run),
         again: Answer::RepeatedRun(run),
     };
-    prepare_signal_of(
+    add_signal(
         store,
         moment,
         index,
@@ -87,7 +88,7 @@ fn prepare_signal_open<T: KeepsRun>(
 }
 
 /// A start that is signaled, by the workflow ID's latest run, none being open.
-fn prepare_signal_start<T: KeepsRun>(
+fn start_and_signal<T: KeepsRun>(
     store: &mut Store<T>,
     moment: Moment,
     request: &SignalWithStart,
@@ -98,13 +99,13 @@ fn prepare_signal_start<T: KeepsRun>(
         (latest_run (states store.old.runs) request.now.workflow_id))) }
 {
     match store.latest(&request.workflow_id) {
-        Some(index) => prepare_signal_behind(store, moment, index, request),
-        None => prepare_signaled(store, moment, request),
+        Some(index) => start_and_signal_behind(store, moment, index, request),
+        None => start_and_signal_where_free(store, moment, request),
     }
 }
 
 /// A start that is signaled, of a workflow ID whose latest run is at that place.
-fn prepare_signal_behind<T: KeepsRun>(
+fn start_and_signal_behind<T: KeepsRun>(
     store: &mut Store<T>,
     moment: Moment,
     index: usize,
@@ -121,7 +122,7 @@ fn prepare_signal_behind<T: KeepsRun>(
     let run = store.run_id(index);
     let given = &request.request_id;
     match decision_by(store, index, given, request.reuse, ConflictPolicy::Fail) {
-        Decision::New => prepare_signaled(store, moment, request),
+        Decision::New => start_and_signal_where_free(store, moment, request),
         Decision::Same | Decision::Existing => Ok(answered(moment, Answer::Existing(run))),
         Decision::TerminateThenNew => unreachable!(),
         Decision::Refused => Ok(refused(moment, Refusal::AlreadyStarted(run))),
@@ -129,7 +130,7 @@ fn prepare_signal_behind<T: KeepsRun>(
 }
 
 /// The run of a start that is signaled, and that nothing stands in the way of.
-fn prepare_signaled<T: KeepsRun>(
+fn start_and_signal_where_free<T: KeepsRun>(
     store: &mut Store<T>,
     moment: Moment,
     request: &SignalWithStart,
@@ -140,5 +141,5 @@ fn prepare_signaled<T: KeepsRun>(
         (starts_new (runs_at store.old moment) None (signaled_facts moment request.now))) }
 {
     let beginning = signaled_beginning(store.alloc(), moment, request)?;
-    prepare_new_run(store, moment, beginning)
+    begin_run(store, moment, beginning)
 }

@@ -6,7 +6,7 @@ ghost use Rattle.service_model.specs.Signals.{signal, signal_at, signal_fact, si
 ghost use Rattle.shard_store.specs.View.{ordinal_of, run_in, runs_at, state};
 ghost use Rattle.shard_store.specs.Fitting.{FitsStep};
 
-use crate::more::prepare_more;
+use crate::more::add_facts;
 use mutable_state_keeper::KeepsRun;
 use service_model_types::answer::Answer;
 use service_model_types::request::Signal;
@@ -22,8 +22,9 @@ pub(crate) struct SignalAnswers {
     pub(crate) again: Answer,
 }
 
+/// A signal of a workflow, or of the run that it names.
 #[tactic(auto, unfolding(service_model::specs::Signals::signal))]
-pub(crate) fn prepare_signal<T: KeepsRun>(
+pub(crate) fn signal_workflow<T: KeepsRun>(
     store: &mut Store<T>,
     moment: Moment,
     request: &Signal,
@@ -36,12 +37,13 @@ pub(crate) fn prepare_signal<T: KeepsRun>(
         return Ok(refused(moment, Refusal::InvalidArgument(Field::WorkflowId)));
     }
     match store.named_open(&request.workflow_id, request.run) {
-        Some(index) => prepare_signal_here(store, moment, index, request),
+        Some(index) => signal_named_run(store, moment, index, request),
         None => Ok(refused(moment, Refusal::NotFound)),
     }
 }
 
-fn prepare_signal_here<T: KeepsRun>(
+/// A signal of the open run at a place, which the request names.
+fn signal_named_run<T: KeepsRun>(
     store: &mut Store<T>,
     moment: Moment,
     index: usize,
@@ -59,7 +61,7 @@ fn prepare_signal_here<T: KeepsRun>(
         again: Answer::Repeated,
     };
     let request_id = &request.request_id;
-    prepare_signal_of(
+    add_signal(
         store,
         moment,
         index,
@@ -71,7 +73,7 @@ fn prepare_signal_here<T: KeepsRun>(
 }
 
 /// A signal of the open run at a place.
-pub(crate) fn prepare_signal_of<T: KeepsRun>(
+pub(crate) fn add_signal<T: KeepsRun>(
     store: &mut Store<T>,
     moment: Moment,
     index: usize,
@@ -93,5 +95,5 @@ pub(crate) fn prepare_signal_of<T: KeepsRun>(
         return Ok(answered(moment, again));
     }
     let facts = signal_facts(store.alloc(), store.run(index), request_id, name, input)?;
-    prepare_more(store, moment, index, facts, first)
+    add_facts(store, moment, index, facts, first)
 }

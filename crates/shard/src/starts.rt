@@ -20,8 +20,9 @@ use shard_store::{Change, Count, Plan, Store, answered, refused};
 use std::alloc::AllocError;
 use wf_event_values::{ConflictPolicy, Field, Id, Moment, Refusal, ReusePolicy};
 
+/// A start of a workflow.
 #[tactic(auto, unfolding(service_model::specs::Starts::start))]
-pub(crate) fn prepare_start<T: KeepsRun>(
+pub(crate) fn start_workflow<T: KeepsRun>(
     store: &mut Store<T>,
     moment: Moment,
     request: &Start,
@@ -36,11 +37,11 @@ pub(crate) fn prepare_start<T: KeepsRun>(
     if !store.setup().knows_queue(&request.task_queue) {
         return Ok(refused(moment, Refusal::UnknownTaskQueue));
     }
-    prepare_decided(store, moment, request)
+    start_known_queue(store, moment, request)
 }
 
 /// A start, decided by the workflow ID's latest run.
-fn prepare_decided<T: KeepsRun>(
+fn start_known_queue<T: KeepsRun>(
     store: &mut Store<T>,
     moment: Moment,
     request: &Start,
@@ -50,13 +51,13 @@ fn prepare_decided<T: KeepsRun>(
         (decided (runs_at store.old moment) request.now)) }
 {
     match store.latest(&request.workflow_id) {
-        Some(index) => prepare_decided_by(store, moment, index, request),
-        None => prepare_started(store, moment, request),
+        Some(index) => start_behind(store, moment, index, request),
+        None => start_where_free(store, moment, request),
     }
 }
 
 /// A start of a workflow ID whose latest run is at that place.
-fn prepare_decided_by<T: KeepsRun>(
+fn start_behind<T: KeepsRun>(
     store: &mut Store<T>,
     moment: Moment,
     index: usize,
@@ -73,9 +74,9 @@ fn prepare_decided_by<T: KeepsRun>(
     let run = store.run_id(index);
     let given = &request.request_id;
     match decision_by(store, index, given, request.reuse, request.conflict) {
-        Decision::New => prepare_started(store, moment, request),
+        Decision::New => start_where_free(store, moment, request),
         Decision::Same | Decision::Existing => Ok(answered(moment, Answer::Existing(run))),
-        Decision::TerminateThenNew => prepare_replaced(store, moment, index, request),
+        Decision::TerminateThenNew => replace_open_run(store, moment, index, request),
         Decision::Refused => Ok(refused(moment, Refusal::AlreadyStarted(run))),
     }
 }
@@ -104,7 +105,7 @@ pub(crate) fn decision_by<T: KeepsRun>(
 }
 
 /// The run of a start that nothing stands in the way of.
-fn prepare_started<T: KeepsRun>(
+fn start_where_free<T: KeepsRun>(
     store: &mut Store<T>,
     moment: Moment,
     request: &Start,
@@ -116,11 +117,11 @@ fn prepare_started<T: KeepsRun>(
         (started_fact moment request.now ∷ first_task request.now.task_queue ∷ []))) }
 {
     let beginning = beginning_of(store.alloc(), moment, request)?;
-    prepare_new_run(store, moment, beginning)
+    begin_run(store, moment, beginning)
 }
 
 /// A run that begins so, where nothing stands in its way.
-pub(crate) fn prepare_new_run<T: KeepsRun>(
+pub(crate) fn begin_run<T: KeepsRun>(
     store: &mut Store<T>,
     moment: Moment,
     beginning: Beginning,
@@ -147,7 +148,7 @@ pub(crate) fn prepare_new_run<T: KeepsRun>(
 
 /// The termination of the workflow ID's open run, which is at that place, and the run of the start:
 /// both, or neither.
-fn prepare_replaced<T: KeepsRun>(
+fn replace_open_run<T: KeepsRun>(
     store: &mut Store<T>,
     moment: Moment,
     index: usize,

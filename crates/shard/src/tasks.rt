@@ -12,8 +12,8 @@ ghost use Rattle.shard_store.specs.View.{ordinal_of, run_in, runs_at, runs_in, s
 ghost use Rattle.shard_store.specs.Fitting.{FitsStep};
 
 use crate::activities::take_activity;
-use crate::followers::prepare_follower;
-use crate::more::prepare_more;
+use crate::followers::make_follower;
+use crate::more::add_facts;
 use mutable_state_keeper::KeepsRun;
 use service_model_types::answer::{Answer, WorkflowTask};
 use service_model_types::request::{
@@ -27,7 +27,7 @@ use wf_event_values::{Moment, Refusal, TaskKind};
 
 /// A task is taken, where it waits.
 #[tactic(auto, unfolding(service_model::specs::Tasks::start_task))]
-pub(crate) fn prepare_start_task<T: KeepsRun>(
+pub(crate) fn start_task<T: KeepsRun>(
     store: &mut Store<T>,
     moment: Moment,
     wanted: WaitingTask,
@@ -37,12 +37,13 @@ pub(crate) fn prepare_start_task<T: KeepsRun>(
         (start_task (runs_at store.old moment) wanted)) }
 {
     match wanted.kind {
-        TaskKind::Workflow => prepare_take(store, moment, wanted),
+        TaskKind::Workflow => take_workflow_task(store, moment, wanted),
         TaskKind::Activity => take_activity(store, moment, wanted),
     }
 }
 
-fn prepare_take<T: KeepsRun>(
+/// A workflow task is taken, where it waits.
+fn take_workflow_task<T: KeepsRun>(
     store: &mut Store<T>,
     moment: Moment,
     wanted: WaitingTask,
@@ -51,14 +52,14 @@ fn prepare_take<T: KeepsRun>(
     ensures plan { IfOk result (λ plan. FitsStep store.new plan moment
         (take_workflow (runs_at store.old moment) wanted)) }
 {
-    match waiting(store, wanted)? {
-        Some(index) => prepare_taken(store, moment, index, wanted),
+    match find_waiting(store, wanted)? {
+        Some(index) => take_waiting_task(store, moment, index, wanted),
         None => Ok(answered(moment, Answer::Stale)),
     }
 }
 
 /// The start of the scheduled task of the run at a place.
-fn prepare_taken<T: KeepsRun>(
+fn take_waiting_task<T: KeepsRun>(
     store: &mut Store<T>,
     moment: Moment,
     index: usize,
@@ -82,11 +83,14 @@ fn prepare_taken<T: KeepsRun>(
         workflow_id: store.run(index).workflow_id().clone()?,
     };
     let facts = started_facts(store.alloc(), wanted.event)?;
-    prepare_more(store, moment, index, facts, Answer::WorkflowTask(task))
+    add_facts(store, moment, index, facts, Answer::WorkflowTask(task))
 }
 
 /// The place of the run whose workflow task waits to be taken as it is named.
-fn waiting<T: KeepsRun>(store: &Store<T>, wanted: WaitingTask) -> Result<Option<usize>, AllocError>
+fn find_waiting<T: KeepsRun>(
+    store: &Store<T>,
+    wanted: WaitingTask,
+) -> Result<Option<usize>, AllocError>
     ensures waits { IfOk result (λ found. waits_workflow (runs_in store.now) wanted
         ≡ is_some found) }
     ensures found { IfOk result (λ found. IfSome found
@@ -110,7 +114,10 @@ fn waiting<T: KeepsRun>(store: &Store<T>, wanted: WaitingTask) -> Result<Option<
 }
 
 /// The place of the run whose workflow task is running at that attempt.
-fn running<T: KeepsRun>(store: &Store<T>, taken: TakenTask) -> Result<Option<usize>, AllocError>
+fn find_running<T: KeepsRun>(
+    store: &Store<T>,
+    taken: TakenTask,
+) -> Result<Option<usize>, AllocError>
     ensures runs { IfOk result (λ found. runs_workflow (runs_in store.now) taken
         ≡ is_some found) }
     ensures found { IfOk result (λ found. IfSome found
@@ -130,7 +137,7 @@ fn running<T: KeepsRun>(store: &Store<T>, taken: TakenTask) -> Result<Option<usi
 
 /// A workflow task is completed.
 #[tactic(auto, unfolding(service_model::specs::Tasks::complete_workflow_task))]
-pub(crate) fn prepare_completion<T: KeepsRun>(
+pub(crate) fn complete_workflow_task<T: KeepsRun>(
     store: &mut Store<T>,
     moment: Moment,
     request: &CompleteWorkflowTask,
@@ -139,15 +146,15 @@ pub(crate) fn prepare_completion<T: KeepsRun>(
     ensures plan { IfOk result (λ plan. FitsStep store.new plan moment
         (complete_workflow_task (runs_at store.old moment) request.now)) }
 {
-    match running(store, request.task)? {
-        Some(index) => prepare_completed(store, moment, index, request),
+    match find_running(store, request.task)? {
+        Some(index) => complete_running_task(store, moment, index, request),
         None => Ok(refused(moment, Refusal::NotFound)),
     }
 }
 
 /// The end of the started task of the run at a place, and the run that follows where it continues
 /// as new: both, or neither.
-fn prepare_completed<T: KeepsRun>(
+fn complete_running_task<T: KeepsRun>(
     store: &mut Store<T>,
     moment: Moment,
     index: usize,
@@ -165,7 +172,7 @@ fn prepare_completed<T: KeepsRun>(
 {
     let commands = request.commands.as_slice();
     let Completion { plan, fault } = store.complete_in(index, commands, moment)?;
-    let created = prepare_follower(store, moment, index, fault, commands)?;
+    let created = make_follower(store, moment, index, fault, commands)?;
     Ok(Plan {
         moment,
         change: Change {
@@ -181,7 +188,7 @@ fn prepare_completed<T: KeepsRun>(
 
 /// A workflow task is failed by its worker.
 #[tactic(auto, unfolding(service_model::specs::Tasks::fail_workflow_task))]
-pub(crate) fn prepare_failure<T: KeepsRun>(
+pub(crate) fn fail_workflow_task<T: KeepsRun>(
     store: &mut Store<T>,
     moment: Moment,
     request: &FailWorkflowTask,
@@ -190,14 +197,14 @@ pub(crate) fn prepare_failure<T: KeepsRun>(
     ensures plan { IfOk result (λ plan. FitsStep store.new plan moment
         (fail_workflow_task (runs_at store.old moment) request.now)) }
 {
-    match running(store, request.task)? {
-        Some(index) => prepare_failed(store, moment, index, request),
+    match find_running(store, request.task)? {
+        Some(index) => fail_running_task(store, moment, index, request),
         None => Ok(refused(moment, Refusal::NotFound)),
     }
 }
 
 /// The failure of the started task of the run at a place.
-fn prepare_failed<T: KeepsRun>(
+fn fail_running_task<T: KeepsRun>(
     store: &mut Store<T>,
     moment: Moment,
     index: usize,

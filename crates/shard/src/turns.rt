@@ -7,7 +7,7 @@ ghost use Rattle.timeouts.specs.Slots.{run_due};
 ghost use Rattle.shard_store.specs.View.{runs_at, state, states};
 ghost use Rattle.shard_store.specs.Fitting.{FitsStep};
 
-use crate::more::prepare_more;
+use crate::more::add_facts;
 use mutable_state_keeper::KeepsRun;
 use service_model_types::answer::{Answer, Fired};
 use shard_steps::fired_facts;
@@ -16,8 +16,9 @@ use std::alloc::AllocError;
 use timeouts::Due;
 use wf_event_values::{DeadlineClass, Moment};
 
+/// The first deadline fires, where it is due.
 #[tactic(auto, unfolding(service_model::specs::TimerTurns::timer_turn))]
-pub(crate) fn prepare_timer_turn<T: KeepsRun>(
+pub(crate) fn timer_turn<T: KeepsRun>(
     store: &mut Store<T>,
     moment: Moment,
 ) -> Result<Plan<T>, AllocError>
@@ -26,7 +27,7 @@ pub(crate) fn prepare_timer_turn<T: KeepsRun>(
         (timer_turn (runs_at store.old moment))) }
 {
     match store.due_now(moment)? {
-        Some(due) => prepare_fired(store, moment, due),
+        Some(due) => fire_first(store, moment, due),
         None => Ok(answered(moment, Answer::NothingDue)),
     }
 }
@@ -42,7 +43,7 @@ fn is_retention(class: DeadlineClass) -> bool
 }
 
 /// The first deadline fires: it takes its run away, or adds to it.
-fn prepare_fired<T: KeepsRun>(
+fn fire_first<T: KeepsRun>(
     store: &mut Store<T>,
     moment: Moment,
     due: Due,
@@ -67,6 +68,6 @@ fn prepare_fired<T: KeepsRun>(
         return Ok(taking(moment, index, answer));
     }
     let facts = fired_facts(store.alloc(), store.run(index), moment, due)?;
-    let plan = prepare_more(store, moment, index, facts, answer)?;
+    let plan = add_facts(store, moment, index, facts, answer)?;
     Ok(plan)
 }

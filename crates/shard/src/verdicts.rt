@@ -22,7 +22,7 @@ use wf_event_values::{Moment, Refusal};
 
 /// An activity's attempt fails.
 #[tactic(auto, unfolding(service_model::specs::Activities::fail_activity))]
-pub(crate) fn prepare_fail_activity<T: KeepsRun>(
+pub(crate) fn fail_activity<T: KeepsRun>(
     store: &mut Store<T>,
     moment: Moment,
     request: &FailActivity,
@@ -41,12 +41,12 @@ pub(crate) fn prepare_fail_activity<T: KeepsRun>(
     let Some(verdict) = verdict_of(&attempt.activity, ended, moment) else {
         return Ok(refused(moment, Refusal::NotFound));
     };
-    let plan = prepare_by_verdict(store, moment, request, &attempt, verdict)?;
+    let plan = fail_by_verdict(store, moment, request, &attempt, verdict)?;
     Ok(plan)
 }
 
 /// What a verdict makes of a running attempt that failed.
-fn prepare_by_verdict<T: KeepsRun>(
+fn fail_by_verdict<T: KeepsRun>(
     store: &mut Store<T>,
     moment: Moment,
     request: &FailActivity,

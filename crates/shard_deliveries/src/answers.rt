@@ -23,7 +23,7 @@ use wf_event_values::{Cause, Moment};
 
 /// A child was started.
 #[tactic(auto, unfolding(service_model::specs::Deliveries::effect))]
-pub(crate) fn prepare_child_started<T: KeepsRun>(
+pub(crate) fn tell_child_started<T: KeepsRun>(
     store: &mut Store<T>,
     moment: Moment,
     transfer: &Transfer,
@@ -49,7 +49,7 @@ pub(crate) fn prepare_child_started<T: KeepsRun>(
 
 /// A child was not started.
 #[tactic(auto, unfolding(service_model::specs::Deliveries::effect))]
-pub(crate) fn prepare_child_start_failed<T: KeepsRun>(
+pub(crate) fn tell_child_start_failed<T: KeepsRun>(
     store: &mut Store<T>,
     moment: Moment,
     transfer: &Transfer,
@@ -75,7 +75,7 @@ pub(crate) fn prepare_child_start_failed<T: KeepsRun>(
 
 /// A child closed.
 #[tactic(auto, unfolding(service_model::specs::Deliveries::effect))]
-pub(crate) fn prepare_child_closed<T: KeepsRun>(
+pub(crate) fn tell_child_closed<T: KeepsRun>(
     store: &mut Store<T>,
     moment: Moment,
     transfer: &Transfer,
@@ -96,7 +96,7 @@ pub(crate) fn prepare_child_closed<T: KeepsRun>(
 
 /// An external request was done, or failed.
 #[tactic(auto, unfolding(service_model::specs::Deliveries::effect))]
-pub(crate) fn prepare_external_done<T: KeepsRun>(
+pub(crate) fn tell_external_done<T: KeepsRun>(
     store: &mut Store<T>,
     moment: Moment,
     transfer: &Transfer,

@@ -21,7 +21,7 @@ use wf_event_values::{CancelSource, Moment, ParentClosePolicy, RunId};
 
 /// The parent closed: its child is closed by the policy, where it is still that parent's.
 #[tactic(auto, unfolding(service_model::specs::Deliveries::effect))]
-pub(crate) fn prepare_close_child<T: KeepsRun>(
+pub(crate) fn close_child_by_policy<T: KeepsRun>(
     store: &mut Store<T>,
     moment: Moment,
     transfer: &Transfer,
@@ -39,8 +39,8 @@ pub(crate) fn prepare_close_child<T: KeepsRun>(
         return Ok(accept_only(store, moment, transfer));
     }
     match child.policy {
-        ParentClosePolicy::Terminate => prepare_end(store, moment, transfer, index),
-        ParentClosePolicy::RequestCancel => prepare_cancel(store, moment, transfer, index),
+        ParentClosePolicy::Terminate => terminate_child(store, moment, transfer, index),
+        ParentClosePolicy::RequestCancel => ask_child_to_cancel(store, moment, transfer, index),
         ParentClosePolicy::Abandon => Ok(accept_only(store, moment, transfer)),
     }
 }
@@ -61,7 +61,7 @@ fn is_child_of<T: KeepsRun>(run: &Run<T>, parent: RunId, initiated: u64) -> bool
 }
 
 /// The child is terminated.
-fn prepare_end<T: KeepsRun>(
+fn terminate_child<T: KeepsRun>(
     store: &mut Store<T>,
     moment: Moment,
     transfer: &Transfer,
@@ -82,7 +82,7 @@ fn prepare_end<T: KeepsRun>(
 }
 
 /// The child is asked to cancel, unless it was before.
-fn prepare_cancel<T: KeepsRun>(
+fn ask_child_to_cancel<T: KeepsRun>(
     store: &mut Store<T>,
     moment: Moment,
     transfer: &Transfer,

@@ -17,7 +17,7 @@ use wf_event_values::{Field, Moment, Refusal};
 /// The first transfer to a shard that is not acknowledged. A shard that is not there is an invalid
 /// argument `to`.
 #[tactic(auto, unfolding(service_model::specs::Counts::next_transfer))]
-pub fn prepare_next_transfer<T: KeepsRun>(
+pub fn read_next_transfer<T: KeepsRun>(
     store: &mut Store<T>,
     moment: Moment,
     to: u16,
@@ -42,7 +42,7 @@ pub fn prepare_next_transfer<T: KeepsRun>(
 /// A transfer to a shard was delivered: it is counted, where it is the first that was not. A shard that
 /// is not there is an invalid argument `to`.
 #[tactic(auto, unfolding(service_model::specs::Counts::acknowledge))]
-pub fn prepare_acknowledge<T: KeepsRun>(
+pub fn acknowledge_transfer<T: KeepsRun>(
     store: &mut Store<T>,
     moment: Moment,
     request: &Acknowledge,

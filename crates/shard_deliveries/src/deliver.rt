@@ -7,12 +7,12 @@ ghost use Rattle.shard_store.specs.View.{runs_at, state};
 ghost use Rattle.shard_deliveries.specs.Accepting.{MayAccept};
 
 use crate::answers::{
-    prepare_child_closed, prepare_child_start_failed, prepare_child_started, prepare_external_done,
+    tell_child_closed, tell_child_start_failed, tell_child_started, tell_external_done,
 };
 use crate::checks::{comes_from, is_for_shard};
-use crate::children::prepare_close_child;
-use crate::externals::{prepare_cancel_external, prepare_signal_external};
-use crate::starts::prepare_start_child;
+use crate::children::close_child_by_policy;
+use crate::externals::{deliver_cancel_request, deliver_signal};
+use crate::starts::start_child;
 use mutable_state_keeper::KeepsRun;
 use service_model_types::answer::Answer;
 use service_model_types::transfer::{Delivery, Transfer, TransferContent};
@@ -24,7 +24,7 @@ use wf_event_values::{Field, Moment, Refusal};
 /// that asks isn't one of the source's (`InvalidArgument(from)`), and where the workflow ID that it
 /// asks something of belongs to another shard (`InvalidArgument(workflow_id)`).
 #[tactic(auto, unfolding(service_model::specs::Deliveries::deliver))]
-pub fn prepare_delivery<T: KeepsRun>(
+pub fn deliver_transfer<T: KeepsRun>(
     store: &mut Store<T>,
     moment: Moment,
     transfer: &Transfer,
@@ -40,11 +40,11 @@ pub fn prepare_delivery<T: KeepsRun>(
     if !is_for_shard(store, &transfer.content) {
         return Ok(refused(moment, Refusal::InvalidArgument(Field::WorkflowId)));
     }
-    prepare_judged(store, moment, transfer)
+    deliver_by_number(store, moment, transfer)
 }
 
 /// A transfer of one of the shards to this one.
-fn prepare_judged<T: KeepsRun>(
+fn deliver_by_number<T: KeepsRun>(
     store: &mut Store<T>,
     moment: Moment,
     transfer: &Transfer,
@@ -59,14 +59,14 @@ fn prepare_judged<T: KeepsRun>(
     store.note_change()?;
     let number = transfer.number;
     match store.judge_delivery(transfer) {
-        Delivery::Accepted => prepare_effect(store, moment, transfer),
+        Delivery::Accepted => take_effect(store, moment, transfer),
         Delivery::AlreadyDelivered => Ok(answered(moment, Answer::AlreadyDelivered(number))),
         Delivery::OutOfOrder => Ok(answered(moment, Answer::OutOfOrder(number))),
     }
 }
 
 /// What a transfer does that is the next one of its source.
-fn prepare_effect<T: KeepsRun>(
+fn take_effect<T: KeepsRun>(
     store: &mut Store<T>,
     moment: Moment,
     transfer: &Transfer,
@@ -77,25 +77,19 @@ fn prepare_effect<T: KeepsRun>(
         (effect (runs_at store.old moment) transfer.now transfer.now.content)) }
 {
     match &transfer.content {
-        TransferContent::StartChild(child) => prepare_start_child(store, moment, transfer, child),
+        TransferContent::StartChild(child) => start_child(store, moment, transfer, child),
         TransferContent::ChildStarted(child) => {
-            prepare_child_started(store, moment, transfer, child)
+            tell_child_started(store, moment, transfer, child)
         }
         TransferContent::ChildStartFailed(child) => {
-            prepare_child_start_failed(store, moment, transfer, child)
+            tell_child_start_failed(store, moment, transfer, child)
         }
-        TransferContent::ChildClosed(child) => {
-            prepare_child_closed(store, moment, transfer, child)
-        }
-        TransferContent::CloseChild(child) => prepare_close_child(store, moment, transfer, child),
-        TransferContent::SignalExternal(ask) => {
-            prepare_signal_external(store, moment, transfer, ask)
-        }
+        TransferContent::ChildClosed(child) => { tell_child_closed(store, moment, transfer, child) }
+        TransferContent::CloseChild(child) => close_child_by_policy(store, moment, transfer, child),
+        TransferContent::SignalExternal(ask) => { deliver_signal(store, moment, transfer, ask) }
         TransferContent::CancelExternal(ask) => {
-            prepare_cancel_external(store, moment, transfer, ask)
+            deliver_cancel_request(store, moment, transfer, ask)
         }
-        TransferContent::ExternalDone(done) => {
-            prepare_external_done(store, moment, transfer, done)
-        }
+        TransferContent::ExternalDone(done) => { tell_external_done(store, moment, transfer, done) }
     }
 }

@@ -38,16 +38,22 @@ pub(crate) fn child_closed_event(closed: &ChildClosed) -> Result<Attributes, All
         run: closed.run,
     };
     match closed.status {
-        ChildStatus::Completed => Ok(Attributes::ChildWorkflowExecutionCompleted(told(closed)?)),
-        ChildStatus::Failed => Ok(Attributes::ChildWorkflowExecutionFailed(told(closed)?)),
-        ChildStatus::Canceled => Ok(Attributes::ChildWorkflowExecutionCanceled(told(closed)?)),
+        ChildStatus::Completed => Ok(Attributes::ChildWorkflowExecutionCompleted(child_end_text(
+            closed,
+        )?)),
+        ChildStatus::Failed => Ok(Attributes::ChildWorkflowExecutionFailed(child_end_text(
+            closed,
+        )?)),
+        ChildStatus::Canceled => Ok(Attributes::ChildWorkflowExecutionCanceled(child_end_text(
+            closed,
+        )?)),
         ChildStatus::TimedOut => Ok(Attributes::ChildWorkflowExecutionTimedOut(end)),
         ChildStatus::Terminated => Ok(Attributes::ChildWorkflowExecutionTerminated(end)),
     }
 }
 
 /// Which child closed, with what it leaves.
-fn told(closed: &ChildClosed) -> Result<ChildEndText, AllocError>
+fn child_end_text(closed: &ChildClosed) -> Result<ChildEndText, AllocError>
     ensures { IfOk result (λ end. end ≡ record {
       initiated = closed.now.initiated;
       run = closed.now.run;

@@ -23,7 +23,7 @@ use wf_event_values::{CancelSource, Moment, RunId};
 
 /// A signal from another workflow.
 #[tactic(auto, unfolding(service_model::specs::Deliveries::effect))]
-pub(crate) fn prepare_signal_external<T: KeepsRun>(
+pub(crate) fn deliver_signal<T: KeepsRun>(
     store: &mut Store<T>,
     moment: Moment,
     transfer: &Transfer,
@@ -35,7 +35,7 @@ pub(crate) fn prepare_signal_external<T: KeepsRun>(
         (effect (runs_at store.old moment) transfer.now (content.SignalExternal ask.now))) }
 {
     match store.named_open(&ask.workflow_id, ask.run) {
-        Some(index) => prepare_signal_of(store, moment, transfer, index, ask),
+        Some(index) => deliver_signal_to_run(store, moment, transfer, index, ask),
         None => {
             let answer = external_done(ask.from_run, ask.initiated, ExternalKind::Signal, false);
             Ok(accept_with(store, moment, transfer, Some(answer)))
@@ -44,7 +44,7 @@ pub(crate) fn prepare_signal_external<T: KeepsRun>(
 }
 
 /// A signal from another workflow to the open run at a place.
-fn prepare_signal_of<T: KeepsRun>(
+fn deliver_signal_to_run<T: KeepsRun>(
     store: &mut Store<T>,
     moment: Moment,
     transfer: &Transfer,
@@ -70,7 +70,7 @@ fn prepare_signal_of<T: KeepsRun>(
 
 /// A request to cancel from another workflow.
 #[tactic(auto, unfolding(service_model::specs::Deliveries::effect))]
-pub(crate) fn prepare_cancel_external<T: KeepsRun>(
+pub(crate) fn deliver_cancel_request<T: KeepsRun>(
     store: &mut Store<T>,
     moment: Moment,
     transfer: &Transfer,
@@ -82,7 +82,7 @@ pub(crate) fn prepare_cancel_external<T: KeepsRun>(
         (effect (runs_at store.old moment) transfer.now (content.CancelExternal request.now))) }
 {
     match store.named_open(&request.workflow_id, request.run) {
-        Some(index) => prepare_cancel_of(store, moment, transfer, index, request),
+        Some(index) => deliver_cancel_request_to_run(store, moment, transfer, index, request),
         None => {
             let answer = external_done(
                 request.from_run,
@@ -96,7 +96,7 @@ pub(crate) fn prepare_cancel_external<T: KeepsRun>(
 }
 
 /// A request to cancel of the open run at a place. Where it was asked before, that counts as done.
-fn prepare_cancel_of<T: KeepsRun>(
+fn deliver_cancel_request_to_run<T: KeepsRun>(
     store: &mut Store<T>,
     moment: Moment,
     transfer: &Transfer,

@@ -4,6 +4,9 @@
 //! A delivery has an effect only under the number behind the last one that was accepted from its
 //! source. Then all that it does is one step: what a run gets, the run that is made, the transfer that
 //! answers, and the count.
+//!
+//! Functions are named by what they settle. Each makes the plan of it, and the shard stands for what it
+//! stood for.
 #![tactic(auto)]
 
 mod accepts;
@@ -17,5 +20,5 @@ mod externals;
 mod pending;
 mod starts;
 
-pub use counts::{prepare_acknowledge, prepare_next_transfer};
-pub use deliver::prepare_delivery;
+pub use counts::{acknowledge_transfer, read_next_transfer};
+pub use deliver::deliver_transfer;

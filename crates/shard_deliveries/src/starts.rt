@@ -24,7 +24,7 @@ use wf_event_values::{ConflictPolicy, Items, Moment};
 
 /// A child's start, by the decision on its workflow ID.
 #[tactic(auto, unfolding(service_model::specs::Deliveries::effect))]
-pub(crate) fn prepare_start_child<T: KeepsRun>(
+pub(crate) fn start_child<T: KeepsRun>(
     store: &mut Store<T>,
     moment: Moment,
     transfer: &Transfer,
@@ -36,7 +36,7 @@ pub(crate) fn prepare_start_child<T: KeepsRun>(
         (effect (runs_at store.old moment) transfer.now (content.StartChild child.now))) }
 {
     if store.setup().knows_queue(&child.task_queue) && is_free_for(store, child) {
-        return prepare_child(store, moment, transfer, child);
+        return start_child_where_free(store, moment, transfer, child);
     }
     let answer = Sent {
         to: child.parent_run.shard(),
@@ -66,7 +66,7 @@ fn is_free_for<T: KeepsRun>(store: &Store<T>, child: &StartChildTransfer) -> boo
 }
 
 /// A child's run, where nothing stands in its way.
-fn prepare_child<T: KeepsRun>(
+fn start_child_where_free<T: KeepsRun>(
     store: &mut Store<T>,
     moment: Moment,
     transfer: &Transfer,

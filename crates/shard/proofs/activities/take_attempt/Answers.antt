@@ -9,14 +9,14 @@ use Rattle.shard_store.specs.Fitting.{FitsStep}
 use Rattle.shard_steps.proofs.AttemptLemmas.{taken-fits}
 use Rattle.shard.proofs.activities.take_attempt.Goals as goal
 
-pub prepare_more-requires-clause-fits : goal.prepare_more-requires-clause-fits
-prepare_more-requires-clause-fits g c =
+pub add_facts-requires-clause-fits : goal.add_facts-requires-clause-fits
+add_facts-requires-clause-fits g c =
     let P : List Fact → Type 0 = λ l. FitStep c.args.moment (run_in c.args.store.now c.args.index) l in
     subst P (sym c.in_ok-facts.ensures) (taken-fits c.args.moment c.args.wanted.event (run_in c.args.store.now c.args.index) c.requires.open c.requires.in_use)
 
 pub returns-clause-plan : goal.returns-clause-plan
 returns-clause-plan g c =
     let h = c.args.wanted in
-    let P : List Fact → Type 0 = λ l. FitsStep {T = g.row.T.Denot} c.prepare_more.new.store c.in_ok-plan.plan c.args.moment (adds (ordinal_of c.args.index) l (ActivityTask c.args.task)) in
-    let Q : ℕ → Type 0 = λ k. FitsStep {T = g.row.T.Denot} c.prepare_more.new.store c.in_ok-plan.plan c.args.moment (adds k (noted h.event Taken ∷ []) (ActivityTask c.args.task)) in
+    let P : List Fact → Type 0 = λ l. FitsStep {T = g.row.T.Denot} c.add_facts.new.store c.in_ok-plan.plan c.args.moment (adds (ordinal_of c.args.index) l (ActivityTask c.args.task)) in
+    let Q : ℕ → Type 0 = λ k. FitsStep {T = g.row.T.Denot} c.add_facts.new.store c.in_ok-plan.plan c.args.moment (adds k (noted h.event Taken ∷ []) (ActivityTask c.args.task)) in
     subst Q c.requires.run (subst P c.in_ok-facts.ensures c.in_ok-plan.ensures.plan)

@@ -9,8 +9,8 @@ use Rattle.shard.specs.Running.{row_of}
 use Rattle.shard_steps.proofs.EndingLemmas.{ending-fits}
 use Rattle.shard.proofs.attempts.end_activity.Goals as goal
 
-pub prepare_more-requires-clause-fits : goal.prepare_more-requires-clause-fits
-prepare_more-requires-clause-fits g c =
+pub add_facts-requires-clause-fits : goal.add_facts-requires-clause-fits
+add_facts-requires-clause-fits g c =
     let t = c.args.task in
     let s = run_in c.args.store.now c.args.attempt.now.index in
     let row = row_of c.args.attempt.now in
@@ -25,5 +25,5 @@ returns-clause-plan g c =
     let row = row_of c.args.attempt.now in
     let last = c.args.last in
     let made : c.in_ok-facts.facts ≡ ends_activity (run_at R n) row last = c.in_ok-facts.ensures ∙ ap (λ x. ends_activity x row last) c.run-run.ensures in
-    let P : Outcome → Type 0 = λ o. FitsStep {T = g.row.T.Denot} c.prepare_more.new.store c.in_ok-plan.plan c.args.moment o in
+    let P : Outcome → Type 0 = λ o. FitsStep {T = g.row.T.Denot} c.add_facts.new.store c.in_ok-plan.plan c.args.moment o in
     subst P (ap (λ l. adds n l c.args.answer) made ∙ ap (λ k. adds k (ends_activity (run_at R k) row last) c.args.answer) c.requires.running.place) c.in_ok-plan.ensures.plan

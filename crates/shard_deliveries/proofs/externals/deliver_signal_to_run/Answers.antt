@@ -1,0 +1,7 @@
+use Rattle.service_model.specs.Outcome.{run_at}
+use Rattle.shard_store.specs.View.{ordinal_of, runs_in}
+use Rattle.shard_deliveries.proofs.FitLemmas.{signal-comes}
+use Rattle.shard_deliveries.proofs.externals.deliver_signal_to_run.Goals as goal
+
+pub accept_event-requires-clause-outside : goal.accept_event-requires-clause-outside
+accept_event-requires-clause-outside g c = signal-comes (run_at (runs_in c.args.store.now) (ordinal_of c.args.index)) _ _ c.requires.open

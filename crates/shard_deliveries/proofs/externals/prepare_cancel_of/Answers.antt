@@ -1,8 +1,0 @@
-use Rattle.wf_event_values.specs.declared.policies.CancelSource.TheVariants.{External}
-use Rattle.service_model.specs.Outcome.{run_at}
-use Rattle.shard_store.specs.View.{ordinal_of, runs_in}
-use Rattle.shard_deliveries.proofs.FitLemmas.{cancel-comes}
-use Rattle.shard_deliveries.proofs.externals.prepare_cancel_of.Goals as goal
-
-pub accept_event-requires-clause-outside : goal.accept_event-requires-clause-outside
-accept_event-requires-clause-outside g c = cancel-comes (run_at (runs_in c.args.store.now) (ordinal_of c.args.index)) External c.requires.open

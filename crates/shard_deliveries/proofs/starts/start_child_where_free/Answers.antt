@@ -1,0 +1,16 @@
+use Rattle.std.proofs.Common.{◌∙◌, ◌+◌, None, ap, subst, sym}
+use Rattle.service_model.specs.Outcome.{run_id}
+use Rattle.shard_steps.specs.Starts.{MayBegin}
+use Rattle.shard_steps.proofs.StartLemmas.{first-fits}
+use Rattle.shard_deliveries.specs.Children.{child_beginning}
+use Rattle.shard_deliveries.proofs.ChildLemmas.{child-fits}
+use Rattle.shard_deliveries.proofs.starts.start_child_where_free.Goals as goal
+
+pub prepare_made-requires : goal.prepare_made-requires
+prepare_made-requires g c = subst (MayBegin c.args.moment) (sym c.in_ok-beginning.ensures) (first-fits c.args.moment None (child_beginning c.args.child.now).started c.args.child.now.task_queue)
+
+pub returns-clause-plan : goal.returns-clause-plan
+returns-clause-plan g c =
+    let same = c.in_ok-made.ensures.same in
+    let id = c.run_id.ensures ∙ ap (λ s. run_id s.setup (c.count.result + 1)) same ∙ ap (λ k. run_id c.args.store.now.setup (k + 1)) c.count.ensures.count in
+    child-fits c.prepare_made.new.self c.args.store.now c.args.moment c.args.transfer.now c.args.child.now c.in_ok-beginning.beginning c.in_ok-made.made c.shard.result c.run_id.result same c.in_ok-made.ensures.noted c.requires.accepts.counts c.in_ok-beginning.ensures c.in_ok-made.ensures.made c.requires.free c.shard.ensures.value id
