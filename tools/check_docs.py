@@ -9,7 +9,8 @@ file of definitions says in its first line whether it is meaning or proof, and d
 there is of the former, and where.
 
 Beside a rule of docs/PROFILE.md stand its definition, an example, a case and a wrong body, in the last four
-columns of its table or in a line below it. Each of these has to be there, under its name in its file. What
+columns of its table or in a line below it. Each of these has to be there, under its name in its file. So have
+the part of PROFILE, the definitions, examples and cases that the head of a source file of rules names. What
 else the documents claim of crates, calls, clauses and options is looked up by docs_claims.py. A note says
 where they name another toolchain than the one that is here. No text of the tree may hold what a merge
 leaves where two sides differ.
@@ -235,6 +236,8 @@ def main() -> int:
     words = words_of([file for file in files if file.suffix != ".md"]).union(known)
     faults = [f"{file.relative_to(TOP)}: {fault}" for file in files for fault in left_of_merges(file)]
     faults += wrong_markers(files) + faults_of_claims()
+    faults += [f"{file.relative_to(TOP)}: {fault}" for file in files if file.suffix == ".rt"
+               for fault in docs_claims.wrong_heads(file.read_text(), TOP)]
     faults += [f"{document.relative_to(TOP)}: {fault}"
                for document in documents for fault in missing_in(document, words)]
     for note in other_kits(documents):

@@ -309,6 +309,37 @@ def wrong_lemmas(text: str, top: Path) -> list[str]:
     return faults
 
 
+HEAD_OF_RULES = re.compile(r"Rule: PROFILE, (.+?)\. Definition: (.+?)\. Rows: (.+?)\. Cases: (.+?)\.$")
+STANDS_IN = {
+    "definition": "crates/{}/specs/{}.antt",
+    "row": "crates/service_model/proofs/{}.antt",
+    "case": "crates/cases/data/{}.cases",
+}
+
+
+@functools.lru_cache(maxsize=None)
+def rules_of(top: Path) -> set[str]:
+    """The parts of PROFILE, without what stands behind their names in brackets."""
+    return set(re.findall(r"^## (.+?)(?: \(.*)?$", (top / "docs/PROFILE.md").read_text(), re.MULTILINE))
+
+
+def wrong_heads(text: str, top: Path) -> list[str]:
+    """What a source's head says of its rule, and isn't there. A definition without a crate is one of service_model."""
+    head = " ".join(line[4:] for line in text.splitlines() if line.startswith("//! "))
+    if "Rule:" not in head:
+        return []
+    said = HEAD_OF_RULES.search(head)
+    if not said:
+        return ["its head names no rule, definition, rows and cases"]
+    faults = [f"no such part of PROFILE: {rule}" for rule in parts_of(said[1]) if rule not in rules_of(top)]
+    for kind, names in zip(STANDS_IN, said.groups()[1:]):
+        for name in parts_of(names) if names != "-" else []:
+            place = ("service_model/" + name).split("/")[-2:] if kind == "definition" else [name]
+            if not (top / STANDS_IN[kind].format(*place)).is_file():
+                faults.append(f"no such {kind}: {name}")
+    return faults
+
+
 def other_kits(text: str, version: str) -> list[str]:
     """The kits that a text names beside the one that is there."""
     kits = set(re.findall(r"rattle-kit-\w+", text)) - set(re.findall(r"rattle-kit-\w+", version))

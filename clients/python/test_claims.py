@@ -95,6 +95,14 @@ class Claims(unittest.TestCase):
             with self.subTest(line=line):
                 self.assertEqual(len(docs_claims.wrong_lemmas(line, ROOT)), 1)
 
+    def test_the_head_of_a_file_of_rules(self):
+        look, path = docs_claims.wrong_heads, "crates/shard/src/starts.rt"
+        self.assertEqual(self.faults(look, path, "PROFILE, Workflow IDs", "PROFILE, IDs"), ["no such part of PROFILE: IDs"])
+        self.assertEqual(self.faults(look, path, "Definition: Starts", "Definition: Begins"), ["no such definition: Begins"])
+        self.assertEqual(self.faults(look, path, "Rows: TaskRows", "Rows: StartRows"), ["no such row: StartRows"])
+        self.assertEqual(self.faults(look, path, "starts, policies", "starts, policy"), ["no such case: policy"])
+        self.assertEqual(self.faults(look, path, "Cases:", "Tests:"), ["its head names no rule, definition, rows and cases"])
+
     def test_another_kit(self):
         self.assertEqual(docs_claims.other_kits("With rattle-kit-1a.", "rattle-kit-1a logic 0\n"), [])
         self.assertEqual(len(docs_claims.other_kits("With rattle-kit-1a.", "rattle-kit-1b logic 0\n")), 1)

@@ -1,4 +1,6 @@
 //! The run that follows one which continues as new.
+//!
+//! Rule: PROFILE, Workflow tasks. Definition: Tasks. Rows: PolicyRows. Cases: continued_runs.
 
 ghost use Rattle.std.specs.Prelude.{◌≡◌, ◌<◌, length, IfOk, OnOk, option_copied, true};
 ghost use Rattle.service_model.specs.RunState.{is_there};

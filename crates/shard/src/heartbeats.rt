@@ -1,4 +1,7 @@
 //! Heartbeats of activities, and notes on their running attempts.
+//!
+//! Rule: PROFILE, Attempts of activities. Definition: Activities. Rows: ActivityRows. Cases:
+//! attempts, activity_timeouts.
 
 ghost use Rattle.std.specs.Prelude.{◌≡◌, ◌∷◌, [], IfOk};
 ghost use Rattle.service_model.specs.Activities.{heartbeat};

@@ -1,4 +1,6 @@
 //! Signaling a run.
+//!
+//! Rule: PROFILE, Histories. Definition: Signals. Rows: TaskRows. Cases: signals.
 
 ghost use Rattle.std.specs.Prelude.{◌≡◌, ◌<◌, length, IfOk, None, Some, true};
 ghost use Rattle.service_model.specs.RunState.{is_open, is_there};

@@ -1,4 +1,8 @@
-//! Starting a run.
+//! Starting a run. Each function is a layer of the definition: what is refused before the workflow
+//! ID's runs are looked at, what the latest of them decides, the run that is made.
+//!
+//! Rule: PROFILE, Workflow IDs. Definition: Starts, IdPolicy. Rows: TaskRows, PolicyRows. Cases:
+//! starts, policies, continued_runs.
 
 ghost use Rattle.std.specs.Prelude.{◌≡◌, ◌<◌, length, IfOk, Some, None, ◌∷◌, [], true};
 ghost use Rattle.id_policy.specs.Decisions.{says};

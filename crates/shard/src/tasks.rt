@@ -1,4 +1,7 @@
 //! Taking a workflow task, and its end.
+//!
+//! Rule: PROFILE, Workflow tasks. Definition: Tasks, Completion. Rows: TaskRows. Cases:
+//! workflow_tasks, tokens.
 
 ghost use Rattle.std.specs.Prelude.{◌≡◌, ◌<◌, [], length, map, true, is_some, IfOk, IfSome};
 ghost use Rattle.wf_event_values.specs.declared.policies.Cause.TheVariants.{WorkflowWorkerUnhandledFailure};
@@ -172,6 +175,7 @@ fn complete_running_task<T: KeepsRun>(
 {
     let commands = request.commands.as_slice();
     let Completion { plan, fault } = store.complete_in(index, commands, moment)?;
+    // Only a completion that was judged without a fault begins another run.
     let created = make_follower(store, moment, index, fault, commands)?;
     Ok(Plan {
         moment,

@@ -1,4 +1,7 @@
 //! Timer turns: the first deadline of the shard fires, if it is due.
+//!
+//! Rule: PROFILE, Deadlines and timer turns, Runs that are taken away. Definition: TimerTurns,
+//! Deadlines. Rows: TimerRows, RetentionRows. Cases: timer_turns, retention.
 
 ghost use Rattle.std.specs.Prelude.{◌≡◌, IfOk, Some};
 ghost use Rattle.service_model.specs.TimerTurns.{all_dues, due_now, fire_due, is_retention, least, timer_turn};

@@ -1,4 +1,7 @@
 //! The failures of attempts that workers report, and the verdicts on them.
+//!
+//! Rule: PROFILE, Attempts of activities. Definition: Activities, Retry. Rows: ActivityRows. Cases:
+//! attempts.
 
 ghost use Rattle.std.specs.Prelude.{◌≡◌, IfOk};
 ghost use Rattle.service_model.specs.Activities.{by_verdict, fail_activity};

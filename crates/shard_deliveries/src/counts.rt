@@ -1,4 +1,6 @@
 //! Reading and counting the transfers that a shard issued.
+//!
+//! Rule: PROFILE, Children and other workflows. Definition: Counts. Rows: -. Cases: transfer_turns.
 
 ghost use Rattle.std.specs.Prelude.{◌≡◌, ◌<◌, IfOk};
 ghost use Rattle.service_model.specs.Counts.{acknowledge, next_transfer};

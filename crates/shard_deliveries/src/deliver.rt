@@ -1,4 +1,7 @@
 //! A transfer is delivered.
+//!
+//! Rule: PROFILE, Children and other workflows. Definition: Deliveries. Rows: TransferRows. Cases:
+//! transfer_turns.
 
 ghost use Rattle.std.specs.Prelude.{◌≡◌, ◌<◌, IfOk};
 ghost use Rattle.service_model.specs.Deliveries.{by_delivery, deliver, delivery_of, accepted_from, effect};

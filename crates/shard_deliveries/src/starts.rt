@@ -1,4 +1,7 @@
 //! Starting a child.
+//!
+//! Rule: PROFILE, Children and other workflows. Definition: Deliveries. Rows: TransferRows,
+//! ChildRows. Cases: children.
 
 ghost use Rattle.std.specs.Prelude.{◌≡◌, IfOk, true};
 ghost use Rattle.service_model.specs.Deliveries.{effect};
@@ -22,7 +25,8 @@ use std::alloc::{AllocError, Global};
 use wf_event::payloads::{Parent, WorkflowExecutionStarted};
 use wf_event_values::{ConflictPolicy, Items, Moment};
 
-/// A child's start, by the decision on its workflow ID.
+/// A child's start, by the decision on its workflow ID. Where its queue is not known here the parent
+/// is told the same as of an ID that is taken.
 #[tactic(auto, unfolding(service_model::specs::Deliveries::effect))]
 pub(crate) fn start_child<T: KeepsRun>(
     store: &mut Store<T>,
