@@ -13,7 +13,7 @@ use Rattle.timeouts.specs.declared.due.Due.{Due}
 use Rattle.timeouts.proofs.AgeLemmas.{oldest-goes}
 use Rattle.timeouts.proofs.ClassLemmas.{due-closed, due-there}
 use Rattle.timeouts.proofs.FirstLemmas.{due-of-run}
-use Rattle.shard_steps.specs.Kept.{IsNoted}
+use Rattle.shard_steps.specs.Kept.{IsCaughtUp}
 use Rattle.shard_store.specs.Fitting.{FitsStep, state_at, taking}
 use Rattle.shard_store.specs.View.{ShardView, ordinal_of, runs_at, states}
 use Rattle.shard_store.specs.declared.plan.Plan.{Plan}
@@ -24,9 +24,9 @@ abbrev pub fired_as : Due → Run → Answer
 fired_as d id = Fired (record { class = d.class; due = d.due; event = d.event; run = id })
 
 -- a plan that takes the run at a place away, where the first deadline is the end of its retention
-pub taking-fits : {T : Type 0} (v : ShardView) (at : ℕ) (d : Due) (i : ℕ) (id : Run) → IsNoted v.changed → due_now at (least (all_dues v.setup.retention (states v.runs))) ≡ Some (run_due d) → is_retention d.class ≡ true
+pub taking-fits : {T : Type 0} (v : ShardView) (at : ℕ) (d : Due) (i : ℕ) (id : Run) → IsCaughtUp v.changed → due_now at (least (all_dues v.setup.retention (states v.runs))) ≡ Some (run_due d) → is_retention d.class ≡ true
     → ordinal_of i ≡ d.run → id ≡ run_id v.setup (ordinal_of i) → FitsStep {T = T} v (record { moment = at; change = taking i; reply = Ok (fired_as d id) }) at (fire_due (runs_at v at) (Some (run_due d)))
-taking-fits {T} v at d i id noted fires class place is =
+taking-fits {T} v at d i id caught_up fires class place is =
     let R = runs_at v at in
     let x = run_due d in
     let runs = states v.runs in
@@ -44,7 +44,7 @@ taking-fits {T} v at d i id noted fires class place is =
     subst P is_so (fits-taking {T = T} v at i (fired_as d id) (record {
       begun = ap is_there here ∙ begun;
       over = ap is_open here ∙ end.over;
-      noted = noted;
+      caught_up = caught_up;
       oldest = λ one aged. subst (IsOldestRun runs) before
           (oldest-goes retention v.last at runs x aged (λ m n a b pair. one.earlier m n a b pair.older pair.at_m pair.at_n pair.is_t pair.same) fires class);
     }))

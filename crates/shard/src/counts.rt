@@ -24,7 +24,7 @@ pub(crate) fn read_next_dispatch<T: KeepsRun>(
     ensures plan { IfOk result (λ plan. FitsStep store.new plan moment
         (next_waiting store.old.waiting)) }
 {
-    store.note_change()?;
+    store.catch_up()?;
     let Some(first) = store.first_dispatch() else {
         return Ok(answered(moment, Answer::NoDispatch));
     };
@@ -46,7 +46,7 @@ pub(crate) fn count_dispatch<T: KeepsRun>(
     ensures plan { IfOk result (λ plan. FitsStep store.new plan moment
         (count_waiting store.old.waiting number)) }
 {
-    store.note_change()?;
+    store.catch_up()?;
     let counted = store.counted_dispatches();
     if number <= counted {
         return Ok(answered(moment, Answer::Counted(Acknowledged::Already)));

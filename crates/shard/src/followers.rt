@@ -6,7 +6,7 @@ ghost use Rattle.std.specs.Prelude.{◌≡◌, ◌<◌, length, IfOk, OnOk, opti
 ghost use Rattle.service_model.specs.RunState.{is_there};
 ghost use Rattle.service_model.specs.Journal.{latest};
 ghost use Rattle.service_model.specs.Tasks.{continue_part, continued};
-ghost use Rattle.shard_steps.specs.Kept.{IsNoted};
+ghost use Rattle.shard_steps.specs.Kept.{IsCaughtUp};
 ghost use Rattle.shard_store.specs.Fitting.{FitsCreated};
 ghost use Rattle.shard.specs.Following.{continuing, following};
 ghost use Rattle.shard_store.specs.View.{ordinal_of, run_in, runs_at, state};
@@ -33,10 +33,10 @@ pub(crate) fn make_follower<T: KeepsRun>(
 ) -> Result<Option<NewRun<T>>, AllocError>
     requires there { index < length store.old.runs }
     requires begun { is_there (run_in store.old index) ≡ true }
-    requires noted { IsNoted store.old.changed }
+    requires caught_up { IsCaughtUp store.old.changed }
     ensures same { state store.new ≡ state store.old }
     ensures runs { store.new.runs ≡ store.old.runs }
-    ensures noted { OnOk result (IsNoted store.new.changed) }
+    ensures caught_up { OnOk result (IsCaughtUp store.new.changed) }
     ensures made { IfOk result (λ created. FitsCreated store.new moment created
         (continued (runs_at store.old moment) (ordinal_of index) (continuing fault commands.now)
         (run_in store.old index).beginning)) }
@@ -59,7 +59,7 @@ fn make_follower_by<T: KeepsRun>(
     requires begun { is_there (run_in store.old index) ≡ true }
     ensures same { state store.new ≡ state store.old }
     ensures runs { store.new.runs ≡ store.old.runs }
-    ensures noted { OnOk result (IsNoted store.new.changed) }
+    ensures caught_up { OnOk result (IsCaughtUp store.new.changed) }
     ensures made { IfOk result (λ made. FitsCreated store.new moment (Some made)
         (continued (runs_at store.old moment) (ordinal_of index) (Some command.now)
         (run_in store.old index).beginning)) }

@@ -5,7 +5,7 @@
 
 ghost use Rattle.std.specs.Prelude.{◌≡◌, IfOk, Some};
 ghost use Rattle.service_model.specs.TimerTurns.{all_dues, due_now, fire_due, is_retention, least, timer_turn};
-ghost use Rattle.shard_steps.specs.Kept.{IsNoted};
+ghost use Rattle.shard_steps.specs.Kept.{IsCaughtUp};
 ghost use Rattle.timeouts.specs.Slots.{run_due};
 ghost use Rattle.shard_store.specs.View.{runs_at, state, states};
 ghost use Rattle.shard_store.specs.Fitting.{FitsStep};
@@ -51,7 +51,7 @@ fn fire_first<T: KeepsRun>(
     moment: Moment,
     due: Due,
 ) -> Result<Plan<T>, AllocError>
-    requires noted { IsNoted store.old.changed }
+    requires caught_up { IsCaughtUp store.old.changed }
     requires first { due_now moment (least (all_dues store.old.setup.retention
         (states store.old.runs))) ≡ Some (run_due due) }
     ensures same { state store.new ≡ state store.old }

@@ -23,8 +23,8 @@ still-counts v old from same counts = record {
 }
 
 answer-fits : (v : ShardView) (a : Option Sent) → v.changed.answer ≡ None → FitsAnswer v a (option_to_list a)
-answer-fits v None noted = refl
-answer-fits v (Some a) noted = (refl, noted)
+answer-fits v None caught_up = refl
+answer-fits v (Some a) caught_up = (refl, caught_up)
 
 -- a delivery that adds facts to the run at a place
 pub more-accepted : {T : Type 0} (v old : ShardView) (at i : ℕ) (t : Transfer) (m : MoreOf) (facts : List Fact) (answer : Option Sent) → state v ≡ state old → MayAccept old t → IsPrepared v at i facts m → FitStep at (run_at (runs_in old) (ordinal_of i)) facts →
@@ -37,7 +37,7 @@ more-accepted v old at i t m facts answer same may made fits = record {
     created = refl;
     taken = refl;
     count = (refl, still-counts v old t.from same may.counts);
-    answer = answer-fits v answer made.noted.answer;
+    answer = answer-fits v answer made.caught_up.answer;
     free = λ one. tt;
   };
 }

@@ -15,7 +15,7 @@ use Rattle.service_model.specs.IdPolicy.{decide}
 use Rattle.service_model.specs.Outcome.{Runs, latest_run, run_at, run_id}
 use Rattle.service_model.proofs.ThereLemmas.{closed-status}
 use Rattle.service_model.specs.RunState.{RunState, id_of, is_open, is_open_status}
-use Rattle.shard_steps.specs.Kept.{IsNoted}
+use Rattle.shard_steps.specs.Kept.{IsCaughtUp}
 use Rattle.shard_steps.specs.Starts.{first_facts}
 use Rattle.shard_steps.specs.declared.starts.Beginning.{Beginning}
 use Rattle.shard_store.specs.declared.plan.Count.TheVariants as count
@@ -48,9 +48,9 @@ child-free R c is = by_latest (latest_run R.states c.workflow_id) is
     by_latest (Some n) h = closed-status (run_at R n) (by_status (run_at R n).status h)
 
 -- where a child's run begins so, it is told that it started
-pub child-fits : {T : Type 0} (v old : ShardView) (at : ℕ) (t : Transfer) (c : StartChildTransfer) (b : Beginning) (n : NewRun T) (to : ℕ) (run : Run) → state v ≡ state old → IsNoted v.changed → CountsAccepted old t.from → b ≡ child_beginning c → IsMade v at n b → is_free_for (runs_in old) c ≡ true → to ≡ c.parent_run.shard → run ≡ run_id old.setup (length v.runs + 1) →
+pub child-fits : {T : Type 0} (v old : ShardView) (at : ℕ) (t : Transfer) (c : StartChildTransfer) (b : Beginning) (n : NewRun T) (to : ℕ) (run : Run) → state v ≡ state old → IsCaughtUp v.changed → CountsAccepted old t.from → b ≡ child_beginning c → IsMade v at n b → is_free_for (runs_in old) c ≡ true → to ≡ c.parent_run.shard → run ≡ run_id old.setup (length v.runs + 1) →
     FitsStep v (record { moment = at; change = record { added = None; created = Some n; taken = None; count = count.Accepts t.from; answer = Some (record { to = to; content = ChildStarted (record { parent_run = c.parent_run; initiated = c.initiated; run = run }) }) }; reply = Ok (Accepted t.number) }) at (starts_child (runs_at old at) t c)
-child-fits v old at t c b n to run same noted counts begins made free there is =
+child-fits v old at t c b n to run same caught_up counts begins made free there is =
     let total : length v.runs ≡ length (states old.runs) = sym (length-states v.runs) ∙ ap (λ s. length s.runs) same in
     let own : run ≡ run_id old.setup (length (states old.runs) + 1) = is ∙ ap (λ k. run_id old.setup (k + 1)) total in
     let named : id_of n.run.state ≡ c.workflow_id = ap id_of made.made ∙ id-of-begun at b.facts b.request_id b.started ∙ ap (λ (x : Beginning). x.started.workflow_id) begins in
@@ -64,7 +64,7 @@ child-fits v old at t c b n to run same noted counts begins made free there is =
         created = (b, ap (λ x. Some (first_facts x)) (sym begins), made);
         taken = refl;
         count = (refl, still-counts v old t.from same counts);
-        answer = (sym (ap (λ k. A k run ∷ []) there ∙ ap (λ r. A c.parent_run.shard r ∷ []) own), noted.answer);
+        answer = (sym (ap (λ k. A k run ∷ []) there ∙ ap (λ r. A c.parent_run.shard r ∷ []) own), caught_up.answer);
         free = λ one. subst (HasClosed (states v.runs)) (sym named) (free-closed (states v.runs) c.workflow_id here one);
       };
     }

@@ -5,14 +5,14 @@ use Rattle.wf_event.specs.Role.{ComesFromOutside, closing_status, role, settles}
 use Rattle.service_model.specs.RunState.{RunState, is_open, signal_request_by}
 use Rattle.service_model_types.specs.declared.transfer.Transfer.{Transfer}
 use Rattle.mutable_state.specs.Steps.{MaySettle, is_start, may_ask}
-use Rattle.shard_steps.specs.Kept.{IsNoted}
+use Rattle.shard_steps.specs.Kept.{IsCaughtUp}
 use Rattle.shard_store.specs.Fitting.{CountsAccepted}
 use Rattle.shard_store.specs.View.{ShardView}
 
 -- one more transfer of its source can be accepted, and all that the last step left was looked up
 pub record MayAccept (v : ShardView) (t : Transfer) : Type 0 where
   pub counts : CountsAccepted v t.from
-  pub noted : IsNoted v.changed
+  pub caught_up : IsCaughtUp v.changed
 
 -- an event from outside that an open run may get: what it settles is pending, and it is no request's
 pub record IsFromOutside (s : RunState) (a : Attributes) : Type 0 where

@@ -31,7 +31,7 @@ pub fn read_next_transfer<T: KeepsRun>(
     if to >= store.setup().shards {
         return Ok(refused(moment, Refusal::InvalidArgument(Field::To)));
     }
-    store.note_change()?;
+    store.catch_up()?;
     let Some((number, content)) = store.next_transfer(to) else {
         return Ok(answered(moment, Answer::NoTransfer));
     };
@@ -56,7 +56,7 @@ pub fn acknowledge_transfer<T: KeepsRun>(
     if request.to >= store.setup().shards {
         return Ok(refused(moment, Refusal::InvalidArgument(Field::To)));
     }
-    store.note_change()?;
+    store.catch_up()?;
     let judgement = store.judge_acknowledgement(request.to, request.number);
     let count = match judgement {
         Acknowledged::Acknowledged => Count::Acknowledges(request.to),

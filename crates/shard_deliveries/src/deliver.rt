@@ -59,7 +59,7 @@ fn deliver_by_number<T: KeepsRun>(
         (delivery_of (accepted_from store.old.accepted transfer.now.from)
         transfer.now.number))) }
 {
-    store.note_change()?;
+    store.catch_up()?;
     let number = transfer.number;
     match store.judge_delivery(transfer) {
         Delivery::Accepted => take_effect(store, moment, transfer),

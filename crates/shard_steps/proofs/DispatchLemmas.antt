@@ -20,7 +20,7 @@ use Rattle.service_model.specs.RunState.{RunState, no_run, row_of, held_attribut
 use Rattle.service_model.specs.Tasks.{is_started_task, pending_row}
 use Rattle.mutable_state.specs.Steps.{Place, IsFirst, FitFrom, FitStep, MayQueue, after_step, all_written, noted_of, place_after, step_ended, with_event, with_noted}
 use Rattle.shard_steps.specs.Issuing.{DispatchesView, Waiting, all_waiting, count_waiting, issued_first, issued_since, next_waiting, of_grown, of_made, queued_dispatch, readied, waiting_in, with_issued}
-use Rattle.shard_steps.specs.Kept.{AreNoted, HasShown, unchanged}
+use Rattle.shard_steps.specs.Kept.{AreCaughtUp, HasShown, unchanged}
 use Rattle.shard_steps.specs.declared.changed.Changed.{Changed}
 use Rattle.shard_steps.proofs.EachLemmas.{index-push, shown-at}
 
@@ -101,11 +101,11 @@ count-is S number low =
     ap (λ n. acknowledges n S.dispatched number CountsDispatch) all
 
 -- where no run changed, all that waits was looked up
-pub all-looked-up : (setup : Setup) (d : DispatchesView) (changed : Changed) (runs : List RunState) → AreNoted changed → all_waiting setup d changed runs ≡ d.waiting
-all-looked-up setup d changed runs noted =
+pub all-looked-up : (setup : Setup) (d : DispatchesView) (changed : Changed) (runs : List RunState) → AreCaughtUp changed → all_waiting setup d changed runs ≡ d.waiting
+all-looked-up setup d changed runs caught_up =
     let W : List Dispatch → Waiting = λ l. record { dispatches = l; counted = d.waiting.counted } in
-    ap (λ g. with_issued (with_issued d.waiting (of_grown setup d g runs)) (of_made setup changed.made runs)) noted.grown
-    ∙ ap (λ m. with_issued (with_issued d.waiting []) (of_made setup m runs)) noted.made
+    ap (λ g. with_issued (with_issued d.waiting (of_grown setup d g runs)) (of_made setup changed.made runs)) caught_up.grown
+    ∙ ap (λ m. with_issued (with_issued d.waiting []) (of_made setup m runs)) caught_up.made
     ∙ ap W (append-nil (d.waiting.dispatches ++ [])) ∙ ap W (append-nil d.waiting.dispatches)
 
 pub get-at : (runs : List RunState) (n : ℕ) → n < length runs → slice_get runs n ≡ Some (slice_index_or runs n no_run)
@@ -114,16 +114,16 @@ get-at (r ∷ runs) zero h = refl
 get-at (r ∷ runs) (suc n) h = get-at runs n (omega arith)
 
 -- a run grew by the facts of a step
-pub grown-waits : (setup : Setup) (d d' : DispatchesView) (changed : Changed) (runs now : List RunState) (n at : ℕ) (facts : List Fact) → AreNoted changed → d'.waiting ≡ d.waiting → d'.shown ≡ d.shown → d'.ready ≡ readied facts → n < length runs → FitStep at (slice_index_or runs n no_run) facts →
+pub grown-waits : (setup : Setup) (d d' : DispatchesView) (changed : Changed) (runs now : List RunState) (n at : ℕ) (facts : List Fact) → AreCaughtUp changed → d'.waiting ≡ d.waiting → d'.shown ≡ d.shown → d'.ready ≡ readied facts → n < length runs → FitStep at (slice_index_or runs n no_run) facts →
     now ≡ slice_set runs n (after_step at facts (slice_index_or runs n no_run)) → HasShown d.shown changed runs →
     all_waiting setup d' (record { grown = Some n; made = None }) now ≡ with_issued (all_waiting setup d changed runs) (dispatches_of setup (n + 1) (slice_index_or runs n no_run) (after_step at facts (slice_index_or runs n no_run)) facts)
-grown-waits setup d d' changed runs now n at facts noted same counts readies there fits is h =
+grown-waits setup d d' changed runs now n at facts caught_up same counts readies there fits is h =
     let s = slice_index_or runs n no_run in
     let w = all_waiting setup d changed runs in
     let F : Waiting → List Dispatch → Waiting = λ x l. with_issued (with_issued x l) [] in
-    let shown : slice_index_or d'.shown n 0 ≡ length s.shown = ap (λ l. slice_index_or l n 0) counts ∙ shown-at d.shown changed runs n s noted (get-at runs n there) h in
+    let shown : slice_index_or d'.shown n 0 ≡ length s.shown = ap (λ l. slice_index_or l n 0) counts ∙ shown-at d.shown changed runs n s caught_up (get-at runs n there) h in
     let state : slice_index_or now n no_run ≡ after_step at facts s = ap (λ l. slice_index_or l n no_run) is ∙ get_or-set_same runs n (after_step at facts s) no_run there in
-    ap (λ x. F x (issued_since setup (slice_index_or d'.shown n 0) d'.ready (n + 1) (slice_index_or now n no_run))) (same ∙ sym (all-looked-up setup d changed runs noted))
+    ap (λ x. F x (issued_since setup (slice_index_or d'.shown n 0) d'.ready (n + 1) (slice_index_or now n no_run))) (same ∙ sym (all-looked-up setup d changed runs caught_up))
     ∙ ap (λ x. F w (issued_since setup x d'.ready (n + 1) (slice_index_or now n no_run))) shown
     ∙ ap (λ x. F w (issued_since setup (length s.shown) x (n + 1) (slice_index_or now n no_run))) readies
     ∙ ap (λ x. F w (issued_since setup (length s.shown) (readied facts) (n + 1) x)) state

@@ -6,7 +6,7 @@ use Rattle.std.specs.Prelude.{slice_get, unwrap_or}
 use Rattle.service_model.specs.RunState.{RunState}
 use Rattle.timeouts.specs.Firsts.{first_due, KeepsFirsts}
 use Rattle.timeouts.specs.declared.due.Due.{Due}
-use Rattle.shard_steps.specs.Kept.{AreNoted, KeepsEach, HasFirsts, HasShown, unchanged}
+use Rattle.shard_steps.specs.Kept.{AreCaughtUp, KeepsEach, HasFirsts, HasShown, unchanged}
 use Rattle.shard_steps.specs.declared.changed.Changed.{Changed}
 
 same-or-apart : (m n : ℕ) → (m ≡ n) ⊎ (m ≢ n)
@@ -41,10 +41,10 @@ no-place : (o : Option ℕ) (k : ℕ) → o ≡ None → o ≢ Some k
 no-place o k none e = let clash = sym none ∙ e in cc
 
 -- all first deadlines are kept, where no run changed
-pub firsts-kept : (retention : ℕ) (slots : List (Option Due)) (changed : Changed) (runs : List RunState) → AreNoted changed → HasFirsts retention slots changed runs → KeepsFirsts retention 1 slots runs
-firsts-kept retention slots changed runs noted h = record {
+pub firsts-kept : (retention : ℕ) (slots : List (Option Due)) (changed : Changed) (runs : List RunState) → AreCaughtUp changed → HasFirsts retention slots changed runs → KeepsFirsts retention 1 slots runs
+firsts-kept retention slots changed runs caught_up h = record {
   count = h.count;
-  first = λ k s there. let next : k + 1 ≡ 1 + k = omega arith in h.each k s there (no-place changed.grown k noted.grown) (no-place changed.made k noted.made) ∙ ap (λ n. first_due retention n s) next;
+  first = λ k s there. let next : k + 1 ≡ 1 + k = omega arith in h.each k s there (no-place changed.grown k caught_up.grown) (no-place changed.made k caught_up.made) ∙ ap (λ n. first_due retention n s) next;
 }
 
 -- what stands at a place where this was put, and elsewhere
@@ -59,9 +59,9 @@ put-there says fact none slots n runs s x low there is k t at before = elim (sam
 ]
 
 -- the run that grew was looked up
-pub grown-noted : {A B : Type 0} {says : A → B} {fact : ℕ → RunState → B} {none : A} (slots : List A) (n : ℕ) (made : Option ℕ) (runs : List RunState) (s : RunState) (x : A) → slice_get runs n ≡ Some s → says x ≡ fact n s →
+pub grown-caught-up : {A B : Type 0} {says : A → B} {fact : ℕ → RunState → B} {none : A} (slots : List A) (n : ℕ) (made : Option ℕ) (runs : List RunState) (s : RunState) (x : A) → slice_get runs n ≡ Some s → says x ≡ fact n s →
     KeepsEach says fact none slots (record { grown = Some n; made = made }) runs → KeepsEach says fact none (slice_set slots n x) (record { grown = None; made = made }) runs
-grown-noted {says = says} {fact = fact} {none = none} slots n made runs s x there is h = record {
+grown-caught-up {says = says} {fact = fact} {none = none} slots n made runs s x there is h = record {
   count = length-set slots n x ∙ h.count;
   grown = tt;
   made = h.made;
@@ -69,9 +69,9 @@ grown-noted {says = says} {fact = fact} {none = none} slots n made runs s x ther
 }
 
 -- the run that was made was looked up
-pub made-noted : {A B : Type 0} {says : A → B} {fact : ℕ → RunState → B} {none : A} (slots : List A) (n : ℕ) (runs : List RunState) (s : RunState) (x : A) → slice_get runs n ≡ Some s → says x ≡ fact n s →
+pub made-caught-up : {A B : Type 0} {says : A → B} {fact : ℕ → RunState → B} {none : A} (slots : List A) (n : ℕ) (runs : List RunState) (s : RunState) (x : A) → slice_get runs n ≡ Some s → says x ≡ fact n s →
     KeepsEach says fact none slots (record { grown = None; made = Some n }) runs → KeepsEach says fact none (slice_set slots n x) unchanged runs
-made-noted {says = says} {fact = fact} {none = none} slots n runs s x there is h = record {
+made-caught-up {says = says} {fact = fact} {none = none} slots n runs s x there is h = record {
   count = length-set slots n x ∙ h.count;
   grown = tt;
   made = tt;
@@ -79,13 +79,13 @@ made-noted {says = says} {fact = fact} {none = none} slots n runs s x there is h
 }
 
 -- a run grew
-pub each-grown : {A B : Type 0} {says : A → B} {fact : ℕ → RunState → B} {d : A} (slots : List A) (changed : Changed) (n : ℕ) (runs : List RunState) (s : RunState) → AreNoted changed → n < length runs →
+pub each-grown : {A B : Type 0} {says : A → B} {fact : ℕ → RunState → B} {d : A} (slots : List A) (changed : Changed) (n : ℕ) (runs : List RunState) (s : RunState) → AreCaughtUp changed → n < length runs →
     KeepsEach says fact d slots changed runs → KeepsEach says fact d slots (record { grown = Some n; made = None }) (slice_set runs n s)
-each-grown slots changed n runs s noted there h = record {
+each-grown slots changed n runs s caught_up there h = record {
   count = h.count ∙ sym (length-set runs n s);
   grown = subst (λ k. n < k) (sym (length-set runs n s)) there;
   made = tt;
-  each = λ k t at apart _. h.each k t (get-set-other runs n k s t (λ e. apart (ap Some (sym e))) at) (no-place changed.grown k noted.grown) (no-place changed.made k noted.made);
+  each = λ k t at apart _. h.each k t (get-set-other runs n k s t (λ e. apart (ap Some (sym e))) at) (no-place changed.grown k caught_up.grown) (no-place changed.made k caught_up.made);
 }
 
 within-more : (o : Option ℕ) (a b : ℕ) → a ≤ b → IfSome o (λ n. n < a) → IfSome o (λ n. n < b)
@@ -127,5 +127,5 @@ pub each-same : {A B : Type 0} {says : A → B} {fact : ℕ → RunState → B} 
 each-same {says = says} {fact = fact} {d = d} slots changed runs now is h = subst (λ l. KeepsEach says fact d slots changed l) (sym is) h
 
 -- so many events as a run showed, that had not changed
-pub shown-at : (counts : List ℕ) (changed : Changed) (runs : List RunState) (n : ℕ) (s : RunState) → AreNoted changed → slice_get runs n ≡ Some s → HasShown counts changed runs → slice_index_or counts n 0 ≡ length s.shown
-shown-at counts changed runs n s noted there h = h.each n s there (no-place changed.grown n noted.grown) (no-place changed.made n noted.made)
+pub shown-at : (counts : List ℕ) (changed : Changed) (runs : List RunState) (n : ℕ) (s : RunState) → AreCaughtUp changed → slice_get runs n ≡ Some s → HasShown counts changed runs → slice_index_or counts n 0 ≡ length s.shown
+shown-at counts changed runs n s caught_up there h = h.each n s there (no-place changed.grown n caught_up.grown) (no-place changed.made n caught_up.made)

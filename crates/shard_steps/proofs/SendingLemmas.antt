@@ -10,7 +10,7 @@ use Rattle.service_model.specs.RunState.{RunState, no_run}
 use Rattle.service_model.specs.Service.{one_more_acknowledged, with_all_sent}
 use Rattle.transfer.specs.Outboxes.{issued_to}
 use Rattle.transfer.proofs.ContentLemmas.{acknowledged-sent, with_all_sent-behind, with_all_sent-cons, with_all_sent-nil}
-use Rattle.shard_steps.specs.Kept.{AreNoted, HasShown, IsNoted, unnoted}
+use Rattle.shard_steps.specs.Kept.{AreCaughtUp, HasShown, IsCaughtUp, outstanding}
 use Rattle.shard_steps.specs.Sending.{TransfersView, KeepsTransfers, all_outgoing, of_unsent, sent_since}
 use Rattle.shard_steps.specs.declared.changed.Changed.{Changed}
 use Rattle.shard_steps.specs.declared.transfers.Unsent.{Unsent}
@@ -30,9 +30,9 @@ length-acknowledged (o ∷ all) to = by_test (to == 0) (length-acknowledged all 
     by_test true h = refl
     by_test false h = ap suc h
 
--- of what was noted, the runs were
-pub runs-noted : (c : Changed) (t : TransfersView) → IsNoted (unnoted c t) → AreNoted c
-runs-noted c t noted = record { grown = noted.grown; made = noted.made }
+-- of what was caught_up, the runs were
+pub runs-caught-up : (c : Changed) (t : TransfersView) → IsCaughtUp (outstanding c t) → AreCaughtUp c
+runs-caught-up c t caught_up = record { grown = caught_up.grown; made = caught_up.made }
 
 -- where all was looked up, all that was issued is in the outbox
 pub all-sent : (setup : Setup) (t : TransfersView) (runs : List RunState) → t.unsent ≡ None → t.answer ≡ None → all_outgoing setup t runs ≡ t.sent
@@ -41,19 +41,19 @@ all-sent setup t runs no_events no_answer =
     ∙ ap (λ a. with_all_sent (option_to_list a) 0 t.sent) no_answer ∙ with_all_sent-nil 0 t.sent
 
 -- a run grew
-pub grown-sends : (setup : Setup) (t t' : TransfersView) (counts : List ℕ) (changed : Changed) (runs now : List RunState) (n shown : ℕ) (s' : RunState) → IsNoted (unnoted changed t) → t' ≡ record t { unsent = Some (record { index = n; shown = shown }) } → shown ≡ slice_index_or counts n 0 → n < length runs →
+pub grown-sends : (setup : Setup) (t t' : TransfersView) (counts : List ℕ) (changed : Changed) (runs now : List RunState) (n shown : ℕ) (s' : RunState) → IsCaughtUp (outstanding changed t) → t' ≡ record t { unsent = Some (record { index = n; shown = shown }) } → shown ≡ slice_index_or counts n 0 → n < length runs →
     now ≡ slice_set runs n s' → HasShown counts changed runs → all_outgoing setup t' now ≡ with_all_sent (transfers_of setup (n + 1) (slice_index_or runs n no_run) s') 0 (all_outgoing setup t runs)
-grown-sends setup t t' counts changed runs now n shown s' noted is was there grown h =
+grown-sends setup t t' counts changed runs now n shown s' caught_up is was there grown h =
     let s = slice_index_or runs n no_run in
     let F : List Sent → List Outgoing = λ l. with_all_sent l 0 t.sent in
-    let before : shown ≡ length s.shown = was ∙ shown-at counts changed runs n s (runs-noted changed t noted) (get-at runs n there) h in
+    let before : shown ≡ length s.shown = was ∙ shown-at counts changed runs n s (runs-caught-up changed t caught_up) (get-at runs n there) h in
     let state : slice_index_or now n no_run ≡ s' = ap (λ l. slice_index_or l n no_run) grown ∙ get_or-set_same runs n s' no_run there in
     ap (λ (x : TransfersView). all_outgoing setup x now) is
-    ∙ ap (λ a. F (sent_since setup shown (n + 1) (slice_index_or now n no_run) ++ option_to_list a)) noted.answer
+    ∙ ap (λ a. F (sent_since setup shown (n + 1) (slice_index_or now n no_run) ++ option_to_list a)) caught_up.answer
     ∙ ap F (append-nil (sent_since setup shown (n + 1) (slice_index_or now n no_run)))
     ∙ ap (λ k. F (sent_since setup k (n + 1) (slice_index_or now n no_run))) before
     ∙ ap (λ x. F (sent_since setup (length s.shown) (n + 1) x)) state
-    ∙ ap (with_all_sent (transfers_of setup (n + 1) s s') 0) (sym (all-sent setup t runs noted.unsent noted.answer))
+    ∙ ap (with_all_sent (transfers_of setup (n + 1) s s') 0) (sym (all-sent setup t runs caught_up.unsent caught_up.answer))
 
 -- a run was added
 unsent-behind : (setup : Setup) (u : Option Unsent) (runs : List RunState) (s : RunState) → IfSome u (λ u. u.index < length runs) → of_unsent setup u (runs ++ s ∷ []) ≡ of_unsent setup u runs

@@ -10,7 +10,7 @@ use Rattle.service_model.specs.Windows.{placed}
 use Rattle.timeouts.specs.Firsts.{first_due}
 use Rattle.timeouts.specs.declared.due.Due.{Due}
 use Rattle.shard_steps.specs.Issuing.{DispatchesView, all_waiting}
-use Rattle.shard_steps.specs.Kept.{AreNoted, HasFirsts, HasShown, IsNoted, unnoted}
+use Rattle.shard_steps.specs.Kept.{AreCaughtUp, HasFirsts, HasShown, IsCaughtUp, outstanding}
 use Rattle.shard_steps.specs.Sending.{TransfersView, all_outgoing}
 use Rattle.shard_steps.specs.declared.changed.Changed.{Changed}
 use Rattle.shard_steps.proofs.DispatchLemmas.{all-looked-up}
@@ -39,8 +39,8 @@ pub shown-taken : (counts : List ℕ) (changed : Changed) (runs : List RunState)
 shown-taken counts changed runs n low h = each-set counts changed runs n no_run 0 low (sym no-event) h
 
 -- where all was looked up, what waits and what was sent hangs on no run
-pub taken-waits : (setup : Setup) (d d' : DispatchesView) (changed : Changed) (runs now : List RunState) → AreNoted changed → d'.waiting ≡ d.waiting → all_waiting setup d' changed now ≡ all_waiting setup d changed runs
-taken-waits setup d d' changed runs now noted same = all-looked-up setup d' changed now noted ∙ same ∙ sym (all-looked-up setup d changed runs noted)
+pub taken-waits : (setup : Setup) (d d' : DispatchesView) (changed : Changed) (runs now : List RunState) → AreCaughtUp changed → d'.waiting ≡ d.waiting → all_waiting setup d' changed now ≡ all_waiting setup d changed runs
+taken-waits setup d d' changed runs now caught_up same = all-looked-up setup d' changed now caught_up ∙ same ∙ sym (all-looked-up setup d changed runs caught_up)
 
-pub taken-sends : (setup : Setup) (t : TransfersView) (changed : Changed) (runs now : List RunState) → IsNoted (unnoted changed t) → all_outgoing setup t now ≡ all_outgoing setup t runs
-taken-sends setup t changed runs now noted = all-sent setup t now noted.unsent noted.answer ∙ sym (all-sent setup t runs noted.unsent noted.answer)
+pub taken-sends : (setup : Setup) (t : TransfersView) (changed : Changed) (runs now : List RunState) → IsCaughtUp (outstanding changed t) → all_outgoing setup t now ≡ all_outgoing setup t runs
+taken-sends setup t changed runs now caught_up = all-sent setup t now caught_up.unsent caught_up.answer ∙ sym (all-sent setup t runs caught_up.unsent caught_up.answer)

@@ -14,23 +14,23 @@ abbrev pub unchanged : Changed
 unchanged = record { grown = None; made = None }
 
 -- all runs that changed were looked up
-pub record AreNoted (c : Changed) : Type 0 where
+pub record AreCaughtUp (c : Changed) : Type 0 where
   pub grown : c.grown ≡ None
   pub made : c.made ≡ None
 
 -- what was not looked up since the last step: the run to which it added, the run that it made, the events whose transfers were not issued, and the answer to a transfer that was not issued
-pub record Unnoted : Type 0 where
+pub record Outstanding : Type 0 where
   pub grown : Option ℕ
   pub made : Option ℕ
   pub unsent : Option Unsent
   pub answer : Option Sent
 
 -- the same, of the runs that changed and of the transfers
-abbrev pub unnoted : Changed → TransfersView → Unnoted
-unnoted c t = record { grown = c.grown; made = c.made; unsent = t.unsent; answer = t.answer }
+abbrev pub outstanding : Changed → TransfersView → Outstanding
+outstanding c t = record { grown = c.grown; made = c.made; unsent = t.unsent; answer = t.answer }
 
 -- all was looked up
-pub record IsNoted (u : Unnoted) : Type 0 where
+pub record IsCaughtUp (u : Outstanding) : Type 0 where
   pub grown : u.grown ≡ None
   pub made : u.made ≡ None
   pub unsent : u.unsent ≡ None

@@ -85,7 +85,7 @@ impl Transfers {
     }
 
     /// A step added to the run at a place, which had shown so many events.
-    pub fn note_grown(&mut self, index: usize, shown: usize)
+    pub fn mark_grown(&mut self, index: usize, shown: usize)
         ensures { self.new ≡ record self.old {
           unsent = Some (record { index = index; shown = shown });
         } }
@@ -94,7 +94,7 @@ impl Transfers {
     }
 
     /// A step answers a transfer by this one.
-    pub fn note_answer(&mut self, answer: Sent)
+    pub fn mark_answer(&mut self, answer: Sent)
         ensures { self.new ≡ record self.old { answer = Some answer } }
     {
         self.answer = Some(answer);

@@ -7,4 +7,4 @@ pub mod KeptLemmas
 pub mod OutgoingLemmas
 pub mod PlanLemmas
 pub mod WaitingLemmas
-mod NotedLemmas
+mod CaughtUpLemmas

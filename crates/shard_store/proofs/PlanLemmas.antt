@@ -7,7 +7,7 @@ use Rattle.service_model.specs.RunState.{RunState, no_run}
 use Rattle.mutable_state.specs.declared.change.Change.{Change as MoreFacts}
 use Rattle.mutable_state.specs.Steps.{FitStep}
 use Rattle.mutable_state.specs.View.{RunView}
-use Rattle.shard_steps.specs.Kept.{IsNoted}
+use Rattle.shard_steps.specs.Kept.{IsCaughtUp}
 use Rattle.shard_store.specs.declared.plan.MoreOf.{MoreOf}
 use Rattle.shard_store.specs.Fitting.{FitsAdded, FitsMore, FitsStep, IsPrepared, MayTake, room_at, state_at, taking}
 use Rattle.shard_store.specs.View.{ShardView, ordinal_of, runs_in, state, states}
@@ -20,7 +20,7 @@ fits-more v old at i m facts same made fits =
     let here : FitStep at (state_at (states old.runs) m.index) facts = subst (λ k. FitStep at (state_at (states old.runs) k) facts) (sym made.place) now in
     let there : FitStep at (state_at (states v.runs) m.index) facts = subst (λ (l : List RunState). FitStep at (slice_index_or l m.index no_run) facts) (sym (ap (λ s. s.runs) same)) here in
     record {
-      has_room = record { there = made.there; noted = made.noted; room = made.room; fits = subst (λ (c : MoreFacts). FitStep c.moment (state_at (states v.runs) m.index) c.facts) (sym made.change) there };
+      has_room = record { there = made.there; caught_up = made.caught_up; room = made.room; fits = subst (λ (c : MoreFacts). FitStep c.moment (state_at (states v.runs) m.index) c.facts) (sym made.change) there };
       change = made.change;
     }
 
@@ -28,11 +28,11 @@ pub fits-added : (v old : ShardView) (at i : ℕ) (m : MoreOf) (facts : List Fac
 fits-added v old at i m facts same made fits = (facts, ap (λ k. Some (record { run = ordinal_of k; facts = facts })) (sym made.place), fits-more v old at i m facts same made fits)
 
 -- it stays so where the runs stay as they are, and all was looked up
-pub stays-prepared : (v w : ShardView) (at i : ℕ) (facts : List Fact) (m : MoreOf) → w.runs ≡ v.runs → IsNoted w.changed → IsPrepared v at i facts m → IsPrepared w at i facts m
-stays-prepared v w at i facts m same noted made = record {
+pub stays-prepared : (v w : ShardView) (at i : ℕ) (facts : List Fact) (m : MoreOf) → w.runs ≡ v.runs → IsCaughtUp w.changed → IsPrepared v at i facts m → IsPrepared w at i facts m
+stays-prepared v w at i facts m same caught_up made = record {
   place = made.place;
   there = subst (λ (l : List RunView). m.index < length l) (sym same) made.there;
-  noted = noted;
+  caught_up = caught_up;
   room = subst (λ (l : List RunView). length m.plan.change.facts ≤ room_at l m.index) (sym same) made.room;
   change = made.change;
 }

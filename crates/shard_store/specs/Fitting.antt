@@ -15,7 +15,7 @@ use Rattle.service_model.specs.Service.{one_more_acknowledged, with_all_sent}
 use Rattle.mutable_state.specs.View.{RunView}
 use Rattle.mutable_state.specs.Steps.{after_step, FitStep}
 use Rattle.shard_steps.specs.Issuing.{Waiting, issued_first, one_counted, with_issued}
-use Rattle.shard_steps.specs.Kept.{IsNoted}
+use Rattle.shard_steps.specs.Kept.{IsCaughtUp}
 use Rattle.shard_steps.specs.Starts.{MayBegin, first_facts, new_run}
 use Rattle.shard_steps.specs.declared.starts.Beginning.{Beginning}
 use Rattle.shard_store.specs.Places.{empty_place}
@@ -47,7 +47,7 @@ IsFree runs id = IfSome (latest_run runs id) (λ n. is_open (state_at runs (n - 
 -- there is room for a new run, the last one that was made was looked up, and the new one is kept under its workflow ID
 pub record HasPlace {T : Type 0} (v : ShardView) (n : NewRun T) : Type 0 where
   pub room : 0 < v.room
-  pub noted : v.changed.made ≡ None
+  pub caught_up : v.changed.made ≡ None
   pub few : length v.runs + 1 < 2 ^ 60
   pub there : is_there n.run.state ≡ true
   pub named : id_of n.run.state ≡ string_bytes n.key
@@ -61,7 +61,7 @@ pub record IsMade {T : Type 0} (v : ShardView) (at : ℕ) (n : NewRun T) (b : Be
 -- the run at that place has room for the facts in the plan, they may come, and all was looked up
 pub record HasRoom (v : ShardView) (m : MoreOf) : Type 0 where
   pub there : m.index < length v.runs
-  pub noted : IsNoted v.changed
+  pub caught_up : IsCaughtUp v.changed
   pub room : length m.plan.change.facts ≤ room_at v.runs m.index
   pub fits : FitStep m.plan.change.moment (state_at (states v.runs) m.index) m.plan.change.facts
 
@@ -69,7 +69,7 @@ pub record HasRoom (v : ShardView) (m : MoreOf) : Type 0 where
 pub record IsPrepared (v : ShardView) (at index : ℕ) (facts : List Fact) (m : MoreOf) : Type 0 where
   pub place : m.index ≡ index
   pub there : m.index < length v.runs
-  pub noted : IsNoted v.changed
+  pub caught_up : IsCaughtUp v.changed
   pub room : length m.plan.change.facts ≤ room_at v.runs m.index
   pub change : m.plan.change ≡ record { moment = at; facts = facts }
 
@@ -80,7 +80,7 @@ pub record FitsMore (v : ShardView) (at : ℕ) (m : MoreOf) (facts : List Fact) 
 
 -- there is a dispatch to be counted, and all was looked up
 pub record CountsFirst (v : ShardView) : Type 0 where
-  pub noted : IsNoted v.changed
+  pub caught_up : IsCaughtUp v.changed
   pub some : 0 < length v.waiting.dispatches
   pub few : v.waiting.counted + 1 < 2 ^ 64
 
@@ -91,7 +91,7 @@ pub record CountsAccepted (v : ShardView) (from : ℕ) : Type 0 where
 
 -- there is a shard of this number, a transfer to it is not acknowledged, and all was looked up
 pub record CountsAcknowledged (v : ShardView) (to : ℕ) : Type 0 where
-  pub noted : IsNoted v.changed
+  pub caught_up : IsCaughtUp v.changed
   pub there : to < v.setup.shards
   pub issued : (outgoing_to v.outgoing to).acknowledged < length (outgoing_to v.outgoing to).issued
 
@@ -99,7 +99,7 @@ pub record CountsAcknowledged (v : ShardView) (to : ℕ) : Type 0 where
 pub record MayTake (v : ShardView) (index : ℕ) : Type 0 where
   pub begun : is_there (state_at (states v.runs) index) ≡ true
   pub over : is_open (state_at (states v.runs) index) ≡ false
-  pub noted : IsNoted v.changed
+  pub caught_up : IsCaughtUp v.changed
   pub oldest : IsOneOpen (states v.runs) → AreAged v.last (states v.runs) → IsOldestRun (states v.runs) index
 
 -- the plan for an older run is what is added

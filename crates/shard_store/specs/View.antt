@@ -6,13 +6,13 @@ use Rattle.service_model.specs.RunState.{RunState}
 use Rattle.service_model.specs.Outcome.{Runs, latest_run, run_at}
 use Rattle.mutable_state.specs.View.{RunView}
 use Rattle.shard_steps.specs.Issuing.{Waiting}
-use Rattle.shard_steps.specs.Kept.{Unnoted}
+use Rattle.shard_steps.specs.Kept.{Outstanding}
 
 -- a shard: its setup, its runs in the order of their ordinals, with that of no run at the place of one that was taken away, what was not looked up since the last step, its last moment, for how many more runs there is room, its dispatches, all transfers that it issued to each shard, and how many it accepted from each
 pub record ShardView : Type 0 where
   pub setup : Setup
   pub runs : List RunView
-  pub changed : Unnoted
+  pub changed : Outstanding
   pub last : ℕ
   pub room : ℕ
   pub waiting : Waiting

@@ -87,7 +87,7 @@ impl<T: KeepsRun> Store<T> {
         ensures room { self.new.room ≡ self.old.room }
     {
         match answer {
-            Some(answer) => self.transfers.note_answer(answer),
+            Some(answer) => self.transfers.mark_answer(answer),
             None => {}
         }
     }
@@ -106,8 +106,8 @@ impl<T: KeepsRun> Store<T> {
         let shown = self.dispatches.shown(index);
         let place = &mut self.runs[index];
         place.commit(plan);
-        self.dispatches.note(ready);
-        self.transfers.note_grown(index, shown);
+        self.dispatches.mark_ready(ready);
+        self.transfers.mark_grown(index, shown);
         self.changed = Changed {
             grown: Some(index),
             made: None,

@@ -3,7 +3,7 @@
 ghost use Rattle.std.specs.Prelude.{◌≡◌, None, option_map, IfOk, OnOk};
 ghost use Rattle.service_model.specs.TimerTurns.{all_dues, due_now, least};
 ghost use Rattle.timeouts.specs.Slots.{run_due};
-ghost use Rattle.shard_steps.specs.Kept.{IsNoted};
+ghost use Rattle.shard_steps.specs.Kept.{IsCaughtUp};
 ghost use Rattle.shard_store.specs.View.{state, states};
 
 use crate::store::Store;
@@ -14,21 +14,21 @@ use wf_event_values::Moment;
 
 impl<T: KeepsRun> Store<T> {
     /// Looks up the first deadlines, the dispatches and the transfers of the runs that changed since.
-    pub fn note_change(&mut self) -> Result<(), AllocError>
+    pub fn catch_up(&mut self) -> Result<(), AllocError>
         ensures same { state self.new ≡ state self.old }
         ensures runs { self.new.runs ≡ self.old.runs }
-        ensures noted { OnOk result (IsNoted self.new.changed) }
+        ensures caught_up { OnOk result (IsCaughtUp self.new.changed) }
     {
-        self.note_grown()?;
-        self.note_made()?;
-        self.note_sent()
+        self.catch_up_grown()?;
+        self.catch_up_made()?;
+        self.catch_up_sent()
     }
 
     /// Looks up those of the run to which the last step added.
-    fn note_grown(&mut self) -> Result<(), AllocError>
+    fn catch_up_grown(&mut self) -> Result<(), AllocError>
         ensures same { state self.new ≡ state self.old }
         ensures runs { self.new.runs ≡ self.old.runs }
-        ensures noted { OnOk result (self.new.changed.grown ≡ None) }
+        ensures caught_up { OnOk result (self.new.changed.grown ≡ None) }
     {
         let Some(index) = self.changed.grown else {
             return Ok(());
@@ -44,7 +44,7 @@ impl<T: KeepsRun> Store<T> {
     }
 
     /// Looks up those of the run that the last step made.
-    fn note_made(&mut self) -> Result<(), AllocError>
+    fn catch_up_made(&mut self) -> Result<(), AllocError>
         requires { self.old.changed.grown ≡ None }
         ensures same { state self.new ≡ state self.old }
         ensures runs { self.new.runs ≡ self.old.runs }
@@ -67,11 +67,11 @@ impl<T: KeepsRun> Store<T> {
     /// The first deadline of the shard, where its moment has come.
     pub fn due_now(&mut self, moment: Moment) -> Result<Option<Due>, AllocError>
         ensures same { state self.new ≡ state self.old }
-        ensures noted { OnOk result (IsNoted self.new.changed) }
+        ensures caught_up { OnOk result (IsCaughtUp self.new.changed) }
         ensures due { IfOk result (λ due. option_map run_due due
             ≡ due_now moment (least (all_dues self.old.setup.retention (states self.old.runs)))) }
     {
-        self.note_change()?;
+        self.catch_up()?;
         Ok(self.deadlines.due(moment))
     }
 }

@@ -7,7 +7,7 @@ ghost use Rattle.service_model.specs.Outcome.{run_id};
 ghost use Rattle.service_model.specs.Pending.{IsStarted};
 ghost use Rattle.service_model.specs.RunState.{is_there};
 ghost use Rattle.task_completion.specs.Ends.{IsPlanned, IsCompletion};
-ghost use Rattle.shard_steps.specs.Kept.{IsNoted};
+ghost use Rattle.shard_steps.specs.Kept.{IsCaughtUp};
 ghost use Rattle.shard_store.specs.View.{run_in, state, states};
 ghost use Rattle.shard_store.specs.Fitting.{IsPrepared, room_at, state_at, view_at};
 
@@ -32,12 +32,12 @@ impl<T: KeepsRun> Store<T> {
         requires { is_there (run_in self.old index) ≡ true }
         ensures same { state self.new ≡ state self.old }
         ensures there { index < length self.new.runs }
-        ensures noted { OnOk result (IsNoted self.new.changed) }
+        ensures caught_up { OnOk result (IsCaughtUp self.new.changed) }
         ensures made { IfOk result (λ plan. plan.change ≡ more) }
         ensures room { IfOk result (λ plan.
             length plan.change.facts ≤ room_at self.new.runs index) }
     {
-        self.note_change()?;
+        self.catch_up()?;
         let place = &mut self.runs[index];
         place.prepare(more)
     }
@@ -78,12 +78,12 @@ impl<T: KeepsRun> Store<T> {
         requires started { (state_at (states self.old.runs) index).task ≡ IsStarted }
         ensures same { state self.new ≡ state self.old }
         ensures there { index < length self.new.runs }
-        ensures noted { OnOk result (IsNoted self.new.changed) }
+        ensures caught_up { OnOk result (IsCaughtUp self.new.changed) }
         ensures plan { IfOk result (λ c. IsCompletion (view_at self.new.runs index) moment
             (judge_all self.old.setup (run_id self.old.setup (length self.old.runs + 1))
             (state_at (states self.old.runs) index) [] commands.now) c) }
     {
-        self.note_change()?;
+        self.catch_up()?;
         let next = self.run_id(self.runs.len());
         let place = &mut self.runs[index];
         place.complete(self.alloc, &self.setup, next, commands, moment)
@@ -100,12 +100,12 @@ impl<T: KeepsRun> Store<T> {
         requires started { (state_at (states self.old.runs) index).task ≡ IsStarted }
         ensures same { state self.new ≡ state self.old }
         ensures there { index < length self.new.runs }
-        ensures noted { OnOk result (IsNoted self.new.changed) }
+        ensures caught_up { OnOk result (IsCaughtUp self.new.changed) }
         ensures plan { IfOk result (λ plan. IsPlanned (view_at self.new.runs index) moment
             (failed_task (state_at (states self.old.runs) index)
             WorkflowWorkerUnhandledFailure message) plan) }
     {
-        self.note_change()?;
+        self.catch_up()?;
         let place = &mut self.runs[index];
         place.fail(self.alloc, message, moment)
     }

@@ -1,7 +1,7 @@
 //! The runs that steps make, with room for them.
 
 ghost use Rattle.std.specs.Prelude.{◌≡◌, ◌+◌, ◌<◌, ◌^◌, length, OnOk, IfOk};
-ghost use Rattle.shard_steps.specs.Kept.{IsNoted};
+ghost use Rattle.shard_steps.specs.Kept.{IsCaughtUp};
 ghost use Rattle.shard_steps.specs.Starts.{MayBegin};
 ghost use Rattle.shard_store.specs.View.{state};
 ghost use Rattle.shard_store.specs.Fitting.{IsMade};
@@ -25,7 +25,7 @@ impl<T: KeepsRun> Store<T> {
         requires { MayBegin moment beginning }
         ensures same { state self.new ≡ state self.old }
         ensures runs { self.new.runs ≡ self.old.runs }
-        ensures noted { OnOk result (IsNoted self.new.changed) }
+        ensures caught_up { OnOk result (IsCaughtUp self.new.changed) }
         ensures made { IfOk result (λ made. IsMade self.new moment made beginning) }
     {
         let id = beginning.started.workflow_id.as_str();
@@ -41,13 +41,13 @@ impl<T: KeepsRun> Store<T> {
         ensures same { state self.new ≡ state self.old }
         ensures runs { self.new.runs ≡ self.old.runs }
         ensures room { OnOk result (0 < self.new.room) }
-        ensures noted { OnOk result (IsNoted self.new.changed) }
+        ensures caught_up { OnOk result (IsCaughtUp self.new.changed) }
         ensures few { OnOk result (length self.new.runs + 1 < 2 ^ 60) }
     {
         if self.runs.len() >= MOST_MEMBERS {
             return Err(AllocError);
         }
-        self.note_change()?;
+        self.catch_up()?;
         self.runs.reserve(1)?;
         self.deadlines.reserve(1)?;
         self.dispatches.reserve(1)?;

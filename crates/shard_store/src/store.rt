@@ -6,7 +6,7 @@ ghost use Rattle.service_model.specs.Outcome.{Outcome};
 ghost use Rattle.service_model_types.specs.Routing.{shard_of};
 ghost use Rattle.service_model.specs.RunState.{is_there};
 ghost use Rattle.service_model.specs.Service.{opening};
-ghost use Rattle.shard_steps.specs.Kept.{IsNoted};
+ghost use Rattle.shard_steps.specs.Kept.{IsCaughtUp};
 ghost use Rattle.shard_store.specs.View.{IsSetup, run_in, state, states};
 ghost use Rattle.shard_store.specs.Fitting.{FitsChange, state_after};
 ghost use Rattle.shard_store.specs.Open.{IsOneOpen};
@@ -66,7 +66,7 @@ impl<T: KeepsRun> Model for Store<T> {
     ghost use Rattle.indexmap.specs.IndexMap.{get_by_text, spare};
     ghost use Rattle.shard_store.specs.View.{ShardView, IsIndexed, IsSetup, states};
     ghost use Rattle.shard_steps.specs.Issuing.{all_waiting};
-    ghost use Rattle.shard_steps.specs.Kept.{HasFirsts, HasShown, unnoted};
+    ghost use Rattle.shard_steps.specs.Kept.{HasFirsts, HasShown, outstanding};
     ghost use Rattle.shard_steps.specs.Sending.{all_outgoing, KeepsTransfers};
 
     ghost Value = { ShardView };
@@ -74,7 +74,7 @@ impl<T: KeepsRun> Model for Store<T> {
     ghost view = { λ a. record {
       setup = a.setup;
       runs = a.runs.items;
-      changed = unnoted a.changed a.transfers;
+      changed = outstanding a.changed a.transfers;
       last = a.last;
       room = min (vec_capacity a.runs - vec_len a.runs)
           (min (spare a.index) (min a.deadlines.room a.dispatches.room));
@@ -176,7 +176,7 @@ impl<T: KeepsRun> Store<T> {
 
     /// The first dispatch that waits.
     pub fn first_dispatch(&self) -> Option<&Dispatch>
-        requires { IsNoted self.now.changed }
+        requires { IsCaughtUp self.now.changed }
         ensures { option_copied result ≡ slice_get self.now.waiting.dispatches 0 }
     {
         self.dispatches.first()
@@ -184,7 +184,7 @@ impl<T: KeepsRun> Store<T> {
 
     /// How many dispatches wait.
     pub fn waiting_dispatches(&self) -> usize
-        requires { IsNoted self.now.changed }
+        requires { IsCaughtUp self.now.changed }
         ensures { result ≡ length self.now.waiting.dispatches }
     {
         self.dispatches.count()

@@ -4,7 +4,7 @@ ghost use Rattle.std.specs.Prelude.{◌≡◌, ◌+◌, ◌<◌, ◌^◌, None, 
 ghost use Rattle.service_model.specs.Counts.{acknowledgement_of, outgoing_to};
 ghost use Rattle.service_model.specs.Deliveries.{accepted_from, delivery_of};
 ghost use Rattle.service_model_types.specs.declared.transfer.Delivery.TheVariants.{Accepted as IsNext};
-ghost use Rattle.shard_steps.specs.Kept.{IsNoted};
+ghost use Rattle.shard_steps.specs.Kept.{IsCaughtUp};
 ghost use Rattle.shard_store.specs.View.{state};
 
 use crate::store::Store;
@@ -15,25 +15,25 @@ use std::alloc::AllocError;
 
 impl<T: KeepsRun> Store<T> {
     /// Issues the transfers of the last step.
-    pub(crate) fn note_sent(&mut self) -> Result<(), AllocError>
+    pub(crate) fn catch_up_sent(&mut self) -> Result<(), AllocError>
         requires grown { self.old.changed.grown ≡ None }
         requires made { self.old.changed.made ≡ None }
         ensures same { state self.new ≡ state self.old }
         ensures runs { self.new.runs ≡ self.old.runs }
-        ensures noted { OnOk result (IsNoted self.new.changed) }
+        ensures caught_up { OnOk result (IsCaughtUp self.new.changed) }
     {
-        self.note_unsent()?;
+        self.catch_up_unsent()?;
         self.transfers.send_answer()?;
         Ok(())
     }
 
     /// Issues those of the run to which it added.
-    fn note_unsent(&mut self) -> Result<(), AllocError>
+    fn catch_up_unsent(&mut self) -> Result<(), AllocError>
         ensures same { state self.new ≡ state self.old }
         ensures runs { self.new.runs ≡ self.old.runs }
         ensures grown { self.new.changed.grown ≡ self.old.changed.grown }
         ensures made { self.new.changed.made ≡ self.old.changed.made }
-        ensures noted { OnOk result (self.new.changed.unsent ≡ None) }
+        ensures caught_up { OnOk result (self.new.changed.unsent ≡ None) }
     {
         let Some(unsent) = self.transfers.unsent() else {
             return Ok(());
@@ -47,7 +47,7 @@ impl<T: KeepsRun> Store<T> {
 
     /// The first transfer to a shard that is not acknowledged, with its number.
     pub fn next_transfer(&self, to: u16) -> Option<(u64, &TransferContent)>
-        requires noted { IsNoted self.now.changed }
+        requires caught_up { IsCaughtUp self.now.changed }
         requires there { to < self.now.setup.shards }
         ensures content { let o = outgoing_to self.now.outgoing to in
             option_map (λ f. f.1.now) result ≡ slice_get o.issued o.acknowledged }
@@ -59,7 +59,7 @@ impl<T: KeepsRun> Store<T> {
 
     /// What an acknowledgement of this number by a shard would be.
     pub fn judge_acknowledgement(&self, to: u16, number: u64) -> Acknowledged
-        requires noted { IsNoted self.now.changed }
+        requires caught_up { IsCaughtUp self.now.changed }
         requires there { to < self.now.setup.shards }
         ensures { let o = outgoing_to self.now.outgoing to in
             result ≡ acknowledgement_of (length o.issued) o.acknowledged number }

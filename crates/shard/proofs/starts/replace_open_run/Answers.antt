@@ -36,7 +36,7 @@ returns-clause-plan g c =
     let made : c.in_ok-facts.facts ≡ facts = c.in_ok-facts.ensures ∙ ap (λ r. plain (WorkflowExecutionTerminated r) ∷ []) c.in_ok-replaced_reason.ensures in
     let same = c.in_ok-made.ensures.same ∙ c.in_ok-more.ensures.same in
     let first : IsPrepared c.prepare_in.new.self at i facts more = subst (λ l. IsPrepared c.prepare_in.new.self at i l more) made c.in_ok-more.ensures.more in
-    let prepared = stays-prepared c.prepare_in.new.self v at i facts more c.in_ok-made.ensures.runs c.in_ok-made.ensures.noted first in
+    let prepared = stays-prepared c.prepare_in.new.self v at i facts more c.in_ok-made.ensures.runs c.in_ok-made.ensures.caught_up first in
     let count = c.count.ensures.count ∙ sym (length-states v.runs) ∙ ap (λ s. length s.runs) same in
     let id = c.run_id.ensures ∙ ap (λ s. run_id s.setup (c.count.result + 1)) same ∙ ap (λ k. run_id old.setup (k + 1)) count in
     both-fits v old at i more facts b c.in_ok-made.made (Ok (Started c.run_id.result)) (by_decision (runs_at old at) (ordinal_of i) (started_fact at q ∷ first_task q.task_queue ∷ []) TerminateThenNew) same prepared

@@ -43,7 +43,7 @@ returns-clause-plan g c =
     let known : runs_at v at ≡ R = ap (λ s. record { setup = s.setup; moment = at; states = s.runs }) same in
     let M : Runs → List Command → Type 0 = λ r l. FitsCreated w at created (continued r n (continuing done.fault l) (run_at r n).beginning) in
     let made : M R q.commands = subst (λ l. M R l) c.as_slice-commands.ensures (subst (λ r. M r c.as_slice-commands.result.now) known c.in_ok-created.ensures.made) in
-    let fits = completion-fits {T = g.row.T.Denot} v w old at i q next all done created same (c.in_ok-created.ensures.same ∙ same) c.in_ok-created.ensures.runs c.in_ok-plan.ensures.there c.in_ok-plan.ensures.noted c.in_ok-created.ensures.noted c.requires.run
+    let fits = completion-fits {T = g.row.T.Denot} v w old at i q next all done created same (c.in_ok-created.ensures.same ∙ same) c.in_ok-created.ensures.runs c.in_ok-plan.ensures.there c.in_ok-plan.ensures.caught_up c.in_ok-created.ensures.caught_up c.requires.run
     (ap (λ k. judge_all setup next (run_at R k) [] q.commands) (sym c.requires.run)) (subst J judged c.in_ok-plan.ensures.plan) made in
     let P : Answer → Type 0 = λ a. FitsStep {T = g.row.T.Denot} w (record { moment = at; change = record { added = Some (record { index = i; plan = done.plan }); created = created; taken = None; count = count.Nothing; answer = None }; reply = Ok a }) at (complete_judged R q all) in
     subst P (sym c.ended.ensures) fits

@@ -30,5 +30,5 @@ returns-clause-plan g c =
     (subst (λ s. IsPlanned (view_at v.runs i) c.args.moment (failed_task s WorkflowWorkerUnhandledFailure c.in_ok-message.message) c.in_ok-plan.plan) (sym (at-place R i)) c.in_ok-plan.ensures.plan) in
     let o : Outcome = adds q.task.run (map plain (failed q.task.run q.message)) Failed in
     let P : Plan g.row.T.Denot → Type 0 = λ plan. FitsStep v plan c.args.moment o in
-    subst P (sym c.adding.ensures) (ended-fits {T = g.row.T.Denot} v old c.args.moment i c.in_ok-plan.plan (failed (ordinal_of i) q.message) (Ok Failed) o c.in_ok-plan.ensures.same c.in_ok-plan.ensures.there c.in_ok-plan.ensures.noted planned
+    subst P (sym c.adding.ensures) (ended-fits {T = g.row.T.Denot} v old c.args.moment i c.in_ok-plan.plan (failed (ordinal_of i) q.message) (Ok Failed) o c.in_ok-plan.ensures.same c.in_ok-plan.ensures.there c.in_ok-plan.ensures.caught_up planned
     (ap (λ k. Some (record { run = k; facts = map plain (failed k q.message) })) (sym c.requires.run)) refl refl refl refl refl)

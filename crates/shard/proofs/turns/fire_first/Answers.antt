@@ -63,7 +63,7 @@ returns-then-is_retention-clause-plan g c =
     let m = c.args.moment in
     let v = c.args.store.now in
     let P : Plan g.row.T.Denot → Type 0 = λ p. FitsStep v p m (fire_due (runs_at v m) (Some (run_due d))) in
-    subst P (sym c.taking.ensures) (taking-fits {T = g.row.T.Denot} v m d c.in-Some.index c.run_id.result c.requires.noted c.requires.first (sym c.is_retention.ensures ∙ c.if-is_retention.true) c.in-Some.ensures.found c.run_id.ensures)
+    subst P (sym c.taking.ensures) (taking-fits {T = g.row.T.Denot} v m d c.in-Some.index c.run_id.result c.requires.caught_up c.requires.first (sym c.is_retention.ensures ∙ c.if-is_retention.true) c.in-Some.ensures.found c.run_id.ensures)
 
 pub returns-clause-plan : goal.returns-clause-plan
 returns-clause-plan g c =

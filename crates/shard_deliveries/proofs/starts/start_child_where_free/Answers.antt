@@ -13,4 +13,4 @@ pub returns-clause-plan : goal.returns-clause-plan
 returns-clause-plan g c =
     let same = c.in_ok-made.ensures.same in
     let id = c.run_id.ensures ∙ ap (λ s. run_id s.setup (c.count.result + 1)) same ∙ ap (λ k. run_id c.args.store.now.setup (k + 1)) c.count.ensures.count in
-    child-fits c.prepare_made.new.self c.args.store.now c.args.moment c.args.transfer.now c.args.child.now c.in_ok-beginning.beginning c.in_ok-made.made c.shard.result c.run_id.result same c.in_ok-made.ensures.noted c.requires.accepts.counts c.in_ok-beginning.ensures c.in_ok-made.ensures.made c.requires.free c.shard.ensures.value id
+    child-fits c.prepare_made.new.self c.args.store.now c.args.moment c.args.transfer.now c.args.child.now c.in_ok-beginning.beginning c.in_ok-made.made c.shard.result c.run_id.result same c.in_ok-made.ensures.caught_up c.requires.accepts.counts c.in_ok-beginning.ensures c.in_ok-made.ensures.made c.requires.free c.shard.ensures.value id

@@ -41,11 +41,11 @@ invariant_of-self g c =
       subst (λ (l : List (Option Due)). HasFirsts c.self.inside.setup.retention l (record { grown = c.self.inside.changed.grown; made = Some c.len-index.result }) (states c.push.new.self.items)) (sym c.push_none.ensures.slots)
           (subst (λ n. HasFirsts c.self.inside.setup.retention (c.self.inside.deadlines.slots ++ None ∷ []) (record { grown = c.self.inside.changed.grown; made = Some n }) (states c.push.new.self.items)) (sym states-count)
           (each-same _ _ _ _ (ap states pushed ∙ states-push c.self.inside.runs.items c.args.created.run)
-          (each-added _ _ (states c.self.inside.runs.items) c.args.created.run.state (ap (λ v. v.changed.made) c.self.view_is ∙ c.requires.noted) c.self.invariant.3))),
+          (each-added _ _ (states c.self.inside.runs.items) c.args.created.run.state (ap (λ v. v.changed.made) c.self.view_is ∙ c.requires.caught_up) c.self.invariant.3))),
       subst (λ (l : List ℕ). HasShown l (record { grown = c.self.inside.changed.grown; made = Some c.len-index.result }) (states c.push.new.self.items)) (sym c.add_run.ensures.shown)
           (subst (λ n. HasShown (c.self.inside.dispatches.shown ++ 0 ∷ []) (record { grown = c.self.inside.changed.grown; made = Some n }) (states c.push.new.self.items)) (sym states-count)
           (each-same _ _ _ _ (ap states pushed ∙ states-push c.self.inside.runs.items c.args.created.run)
-          (each-added _ _ (states c.self.inside.runs.items) c.args.created.run.state (ap (λ v. v.changed.made) c.self.view_is ∙ c.requires.noted) c.self.invariant.4))),
+          (each-added _ _ (states c.self.inside.runs.items) c.args.created.run.state (ap (λ v. v.changed.made) c.self.view_is ∙ c.requires.caught_up) c.self.invariant.4))),
       keeps-more _ _ (length c.push.new.self.items) c.self.inside.transfers (omega (arith, ap length pushed, length-append c.self.inside.runs.items (c.args.created.run ∷ []))) c.self.invariant.5,
     )
 
@@ -58,7 +58,7 @@ returns g c =
     let pushed = rw c.unwrap.ensures at c.push.ensures.items in
     let now = ap states pushed ∙ states-push before.runs.items c.args.created.run in
     let waits = added-waits before.setup before.dispatches c.add_run.new.self before.changed runs (states c.push.new.self.items) c.len-index.result s
-    (ap (λ v. v.changed.made) c.self.view_is ∙ c.requires.noted) c.add_run.ensures.waiting c.add_run.ensures.shown c.add_run.ensures.ready count now c.self.invariant.4 in
+    (ap (λ v. v.changed.made) c.self.view_is ∙ c.requires.caught_up) c.add_run.ensures.waiting c.add_run.ensures.shown c.add_run.ensures.ready count now c.self.invariant.4 in
     let low : IfSome before.transfers.unsent (λ u. u.index < length runs) = subst (λ n. IfSome before.transfers.unsent (λ (u : Unsent). u.index < n)) (sym (length-states before.runs.items)) c.self.invariant.5.unsent in
     let sends = added-sends before.setup before.transfers runs (states c.push.new.self.items) s now low in
     let S : List RunState → Waiting → List Outgoing → ShardState = λ r w o. record { setup = before.setup; runs = r; last = before.last; waiting = w; outgoing = o; accepted = before.transfers.accepted } in

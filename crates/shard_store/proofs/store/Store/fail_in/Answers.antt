@@ -7,7 +7,7 @@ use Rattle.shard_store.proofs.store.Store.fail_in.Goals as goal
 
 pub invariant_of-self : goal.invariant_of-self
 invariant_of-self g c =
-    let there : c.args.index < length c.self.inside.runs.items = rw (ap (λ v. v.runs) c.self.view_is ∙ c.in_ok-note_change.ensures.runs) c.requires.there in
+    let there : c.args.index < length c.self.inside.runs.items = rw (ap (λ v. v.runs) c.self.view_is ∙ c.in_ok-catch_up.ensures.runs) c.requires.there in
     let was = c.index_mut-place.ensures.value in (
       c.self.invariant.0,
       indexed-same _ c.self.inside.runs.items c.args.index _ c.fail.new.self there was c.fail.ensures.same c.self.invariant.1,
@@ -19,5 +19,5 @@ invariant_of-self g c =
 
 pub returns-clause-same : goal.returns-clause-same
 returns-clause-same g c =
-    let there : c.args.index < length c.self.inside.runs.items = rw (ap (λ v. v.runs) c.self.view_is ∙ c.in_ok-note_change.ensures.runs) c.requires.there in
-    rw (← c.in_ok-note_change.ensures.same, ← c.self.view_is) (ap (λ t. record { setup = c.self.inside.setup; runs = t; last = c.self.inside.last; waiting = all_waiting c.self.inside.setup c.self.inside.dispatches c.self.inside.changed t; outgoing = all_outgoing c.self.inside.setup c.self.inside.transfers t; accepted = c.self.inside.transfers.accepted }) (states-same c.self.inside.runs.items c.args.index _ c.fail.new.self there c.index_mut-place.ensures.value c.fail.ensures.same))
+    let there : c.args.index < length c.self.inside.runs.items = rw (ap (λ v. v.runs) c.self.view_is ∙ c.in_ok-catch_up.ensures.runs) c.requires.there in
+    rw (← c.in_ok-catch_up.ensures.same, ← c.self.view_is) (ap (λ t. record { setup = c.self.inside.setup; runs = t; last = c.self.inside.last; waiting = all_waiting c.self.inside.setup c.self.inside.dispatches c.self.inside.changed t; outgoing = all_outgoing c.self.inside.setup c.self.inside.transfers t; accepted = c.self.inside.transfers.accepted }) (states-same c.self.inside.runs.items c.args.index _ c.fail.new.self there c.index_mut-place.ensures.value c.fail.ensures.same))

@@ -12,9 +12,9 @@ use Rattle.shard_store.specs.Fitting.{after_added, state_at}
 use Rattle.shard_steps.specs.Issuing.{Waiting, all_waiting, readied, with_issued}
 use Rattle.shard_steps.specs.declared.changed.Changed.{Changed}
 use Rattle.shard_steps.proofs.DispatchLemmas.{grown-waits}
-use Rattle.shard_steps.specs.Kept.{HasShown, IsNoted}
+use Rattle.shard_steps.specs.Kept.{HasShown, IsCaughtUp}
 use Rattle.shard_steps.specs.Sending.{TransfersView, KeepsTransfers, all_outgoing}
-use Rattle.shard_steps.proofs.SendingLemmas.{grown-sends, runs-noted}
+use Rattle.shard_steps.proofs.SendingLemmas.{grown-sends, runs-caught-up}
 use Rattle.shard_store.specs.View.{ShardState, ShardView, state, states}
 use Rattle.shard_steps.proofs.EachLemmas.{each-grown, each-same}
 use Rattle.shard_store.proofs.IndexLemmas.{length-states, states-at, states-set, latest_run-set}
@@ -36,11 +36,11 @@ invariant_of-self g c =
       },
       rw length-set c.self.invariant.2,
       each-same _ _ _ _ (states-set c.self.inside.runs.items c.args.more.index c.commit.new.self)
-          (each-grown _ _ c.args.more.index (states c.self.inside.runs.items) c.commit.new.self.state (runs-noted c.self.inside.changed c.self.inside.transfers (subst (λ (v : ShardView). IsNoted v.changed) (sym c.self.view_is) c.requires.noted)) (omega (arith, there, length-states c.self.inside.runs.items)) c.self.invariant.3),
-      subst (λ l. HasShown l (record { grown = Some c.args.more.index; made = None }) (states (slice_set c.self.inside.runs.items c.args.more.index c.commit.new.self))) (sym c.note.ensures.shown)
+          (each-grown _ _ c.args.more.index (states c.self.inside.runs.items) c.commit.new.self.state (runs-caught-up c.self.inside.changed c.self.inside.transfers (subst (λ (v : ShardView). IsCaughtUp v.changed) (sym c.self.view_is) c.requires.caught_up)) (omega (arith, there, length-states c.self.inside.runs.items)) c.self.invariant.3),
+      subst (λ l. HasShown l (record { grown = Some c.args.more.index; made = None }) (states (slice_set c.self.inside.runs.items c.args.more.index c.commit.new.self))) (sym c.mark_ready.ensures.shown)
           (each-same _ _ _ _ (states-set c.self.inside.runs.items c.args.more.index c.commit.new.self)
-          (each-grown _ _ c.args.more.index (states c.self.inside.runs.items) c.commit.new.self.state (runs-noted c.self.inside.changed c.self.inside.transfers (subst (λ (v : ShardView). IsNoted v.changed) (sym c.self.view_is) c.requires.noted)) (omega (arith, there, length-states c.self.inside.runs.items)) c.self.invariant.4)),
-      subst (KeepsTransfers c.self.inside.setup.shards (length (slice_set c.self.inside.runs.items c.args.more.index c.commit.new.self))) (sym c.note_grown.ensures)
+          (each-grown _ _ c.args.more.index (states c.self.inside.runs.items) c.commit.new.self.state (runs-caught-up c.self.inside.changed c.self.inside.transfers (subst (λ (v : ShardView). IsCaughtUp v.changed) (sym c.self.view_is) c.requires.caught_up)) (omega (arith, there, length-states c.self.inside.runs.items)) c.self.invariant.4)),
+      subst (KeepsTransfers c.self.inside.setup.shards (length (slice_set c.self.inside.runs.items c.args.more.index c.commit.new.self))) (sym c.mark_grown.ensures)
           (record { sent = c.self.invariant.5.sent; accepted = c.self.invariant.5.accepted; unsent = omega (arith, there, length-set c.self.inside.runs.items c.args.more.index c.commit.new.self) }),
     )
 
@@ -57,16 +57,16 @@ returns-clause-state g c =
     states-set before.runs.items k c.commit.new.self ∙ ap (λ s. slice_set runs k s) (c.commit.ensures.state ∙ ap (after_step m.moment m.facts) (sym here)) in
     let fits : FitStep m.moment (slice_index_or runs k no_run) m.facts = subst (λ (v : ShardView). FitStep m.moment (state_at (states v.runs) k) m.facts) (sym c.self.view_is) c.requires.fits in
     let changed : Changed = record { grown = Some k; made = None } in
-    let waits = grown-waits before.setup before.dispatches c.note.new.self before.changed runs _ k m.moment m.facts
-    (runs-noted c.self.inside.changed c.self.inside.transfers (subst (λ (v : ShardView). IsNoted v.changed) (sym c.self.view_is) c.requires.noted)) c.note.ensures.waiting c.note.ensures.shown (c.note.ensures.ready ∙ c.readied-ready.ensures ∙ ap readied c.as_slice.ensures) (omega (arith, there, length-states before.runs.items)) fits now c.self.invariant.4 in
-    let sends = grown-sends before.setup before.transfers c.note_grown.new.self before.dispatches.shown before.changed runs _ k c.shown-shown.result (after_step m.moment m.facts (slice_index_or runs k no_run))
-    (subst (λ (v : ShardView). IsNoted v.changed) (sym c.self.view_is) c.requires.noted) c.note_grown.ensures c.shown-shown.ensures (omega (arith, there, length-states before.runs.items)) now c.self.invariant.4 in
-    let kept = ap (λ (t : TransfersView). t.accepted) c.note_grown.ensures in
+    let waits = grown-waits before.setup before.dispatches c.mark_ready.new.self before.changed runs _ k m.moment m.facts
+    (runs-caught-up c.self.inside.changed c.self.inside.transfers (subst (λ (v : ShardView). IsCaughtUp v.changed) (sym c.self.view_is) c.requires.caught_up)) c.mark_ready.ensures.waiting c.mark_ready.ensures.shown (c.mark_ready.ensures.ready ∙ c.readied-ready.ensures ∙ ap readied c.as_slice.ensures) (omega (arith, there, length-states before.runs.items)) fits now c.self.invariant.4 in
+    let sends = grown-sends before.setup before.transfers c.mark_grown.new.self before.dispatches.shown before.changed runs _ k c.shown-shown.result (after_step m.moment m.facts (slice_index_or runs k no_run))
+    (subst (λ (v : ShardView). IsCaughtUp v.changed) (sym c.self.view_is) c.requires.caught_up) c.mark_grown.ensures c.shown-shown.ensures (omega (arith, there, length-states before.runs.items)) now c.self.invariant.4 in
+    let kept = ap (λ (t : TransfersView). t.accepted) c.mark_grown.ensures in
     let later = states (slice_set before.runs.items k c.commit.new.self) in
     let issued = with_issued (all_waiting before.setup before.dispatches before.changed runs) (dispatches_of before.setup (k + 1) (slice_index_or runs k no_run) (after_step m.moment m.facts (slice_index_or runs k no_run)) m.facts) in
     let S : List RunState → Waiting → List Outgoing → List ℕ → ShardState = λ r w o a. record { setup = before.setup; runs = r; last = before.last; waiting = w; outgoing = o; accepted = a } in
-    ap (λ w. S later w (all_outgoing before.setup c.note_grown.new.self later) c.note_grown.new.self.accepted) waits
-    ∙ ap (λ o. S later issued o c.note_grown.new.self.accepted) sends
+    ap (λ w. S later w (all_outgoing before.setup c.mark_grown.new.self later) c.mark_grown.new.self.accepted) waits
+    ∙ ap (λ o. S later issued o c.mark_grown.new.self.accepted) sends
     ∙ ap (λ a. S later issued (with_all_sent (transfers_of before.setup (k + 1) (slice_index_or runs k no_run) (after_step m.moment m.facts (slice_index_or runs k no_run))) 0 (all_outgoing before.setup before.transfers runs)) a) kept
     ∙ ap (λ r. S r issued (with_all_sent (transfers_of before.setup (k + 1) (slice_index_or runs k no_run) (after_step m.moment m.facts (slice_index_or runs k no_run))) 0 (all_outgoing before.setup before.transfers runs)) before.transfers.accepted) now
     ∙ ap (λ (v : ShardView). after_added (Some c.args.more) (state v)) c.self.view_is

@@ -9,4 +9,4 @@ returns g c =
     let t = c.self.inside in
     c.judge_acknowledgement.ensures
     ∙ ap (λ l. acknowledgement_of (length (outgoing_to l c.args.to).issued) (outgoing_to l c.args.to).acknowledged c.args.number)
-    (all-issued t.setup t.transfers (states t.runs.items) (ap (λ v. v.changed) c.self.view_is) (ap (λ v. v.outgoing) c.self.view_is) c.requires.noted)
+    (all-issued t.setup t.transfers (states t.runs.items) (ap (λ v. v.changed) c.self.view_is) (ap (λ v. v.outgoing) c.self.view_is) c.requires.caught_up)

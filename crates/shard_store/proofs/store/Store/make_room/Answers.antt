@@ -16,7 +16,7 @@ use Rattle.shard_store.proofs.store.Store.make_room.Goals as goal
 
 pub invariant_of-self : goal.invariant_of-self
 invariant_of-self g c =
-    let there : c.args.index < length c.self.inside.runs.items = run-within c.args.self.now c.self.inside.runs.items c.args.index (ap (λ v. v.runs) c.self.view_is ∙ c.in_ok-note_change.ensures.runs) c.requires in
+    let there : c.args.index < length c.self.inside.runs.items = run-within c.args.self.now c.self.inside.runs.items c.args.index (ap (λ v. v.runs) c.self.view_is ∙ c.in_ok-catch_up.ensures.runs) c.requires in
     let was = c.index_mut-place.ensures.value in (
       c.self.invariant.0,
       indexed-same _ c.self.inside.runs.items c.args.index _ c.prepare.new.self there was c.prepare.ensures.same c.self.invariant.1,
@@ -28,27 +28,27 @@ invariant_of-self g c =
 
 pub returns-clause-same : goal.returns-clause-same
 returns-clause-same g c =
-    let there : c.args.index < length c.self.inside.runs.items = run-within c.args.self.now c.self.inside.runs.items c.args.index (ap (λ v. v.runs) c.self.view_is ∙ c.in_ok-note_change.ensures.runs) c.requires in
-    rw (← c.in_ok-note_change.ensures.same, ← c.self.view_is) (ap (λ t. record { setup = c.self.inside.setup; runs = t; last = c.self.inside.last; waiting = all_waiting c.self.inside.setup c.self.inside.dispatches c.self.inside.changed t; outgoing = all_outgoing c.self.inside.setup c.self.inside.transfers t; accepted = c.self.inside.transfers.accepted }) (states-same c.self.inside.runs.items c.args.index _ c.prepare.new.self there c.index_mut-place.ensures.value c.prepare.ensures.same))
+    let there : c.args.index < length c.self.inside.runs.items = run-within c.args.self.now c.self.inside.runs.items c.args.index (ap (λ v. v.runs) c.self.view_is ∙ c.in_ok-catch_up.ensures.runs) c.requires in
+    rw (← c.in_ok-catch_up.ensures.same, ← c.self.view_is) (ap (λ t. record { setup = c.self.inside.setup; runs = t; last = c.self.inside.last; waiting = all_waiting c.self.inside.setup c.self.inside.dispatches c.self.inside.changed t; outgoing = all_outgoing c.self.inside.setup c.self.inside.transfers t; accepted = c.self.inside.transfers.accepted }) (states-same c.self.inside.runs.items c.args.index _ c.prepare.new.self there c.index_mut-place.ensures.value c.prepare.ensures.same))
 
-pub returns-in_err-note_change-clause-there : goal.returns-in_err-note_change-clause-there
-returns-in_err-note_change-clause-there g c = run-within c.args.self.now c.note_change.new.self.runs c.args.index c.in_err-note_change.ensures.runs c.requires
+pub returns-in_err-catch_up-clause-there : goal.returns-in_err-catch_up-clause-there
+returns-in_err-catch_up-clause-there g c = run-within c.args.self.now c.catch_up.new.self.runs c.args.index c.in_err-catch_up.ensures.runs c.requires
 
 pub index_mut-place-requires : goal.index_mut-place-requires
 index_mut-place-requires g c =
-    let low = run-within c.args.self.now c.self.inside.runs.items c.args.index (ap (λ v. v.runs) c.self.view_is ∙ c.in_ok-note_change.ensures.runs) c.requires in
+    let low = run-within c.args.self.now c.self.inside.runs.items c.args.index (ap (λ v. v.runs) c.self.view_is ∙ c.in_ok-catch_up.ensures.runs) c.requires in
     omega (arith, low, c.self.inside.runs.ok.0)
 
 pub prepare-requires : goal.prepare-requires
 prepare-requires g c =
     let runs = c.self.inside.runs.items in
-    let is = ap (λ (v : ShardView). v.runs) c.self.view_is ∙ c.in_ok-note_change.ensures.runs in
+    let is = ap (λ (v : ShardView). v.runs) c.self.view_is ∙ c.in_ok-catch_up.ensures.runs in
     let low = run-within c.args.self.now runs c.args.index is c.requires in
     ap (λ (v : RunView). is_there v.state) c.index_mut-place.ensures.value ∙ ap is_there (run-at c.args.self.now runs c.args.index c.index_mut-place.result.now is low) ∙ c.requires
 
 pub returns-clause-there : goal.returns-clause-there
 returns-clause-there g c =
-    let low = run-within c.args.self.now c.self.inside.runs.items c.args.index (ap (λ (v : ShardView). v.runs) c.self.view_is ∙ c.in_ok-note_change.ensures.runs) c.requires in
+    let low = run-within c.args.self.now c.self.inside.runs.items c.args.index (ap (λ (v : ShardView). v.runs) c.self.view_is ∙ c.in_ok-catch_up.ensures.runs) c.requires in
     omega (arith, low, length-set c.self.inside.runs.items c.args.index c.prepare.new.self)
 
 -- the room at a place where this run was put
@@ -60,5 +60,5 @@ room-set (Err e) runs i x more low made room = tt
 
 pub returns-clause-room : goal.returns-clause-room
 returns-clause-room g c =
-    let low = run-within c.args.self.now c.self.inside.runs.items c.args.index (ap (λ (v : ShardView). v.runs) c.self.view_is ∙ c.in_ok-note_change.ensures.runs) c.requires in
+    let low = run-within c.args.self.now c.self.inside.runs.items c.args.index (ap (λ (v : ShardView). v.runs) c.self.view_is ∙ c.in_ok-catch_up.ensures.runs) c.requires in
     room-set c.prepare.result c.self.inside.runs.items c.args.index c.prepare.new.self c.args.more low c.prepare.ensures.made c.prepare.ensures.room

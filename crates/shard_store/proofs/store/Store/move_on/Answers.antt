@@ -15,7 +15,7 @@ acknowledge-requires-clause-issued g c =
     let t = c.self.inside in
     let to = c.in-Acknowledges.to in
     let may = subst (MayCount c.args.self.now) c.in-Acknowledges.is c.requires in
-    let all = all-issued t.setup t.transfers (states t.runs.items) (ap (λ v. v.changed) c.self.view_is) (ap (λ v. v.outgoing) c.self.view_is) may.noted in
+    let all = all-issued t.setup t.transfers (states t.runs.items) (ap (λ v. v.changed) c.self.view_is) (ap (λ v. v.outgoing) c.self.view_is) may.caught_up in
     subst (λ (l : List Outgoing). (outgoing_to l to).acknowledged < length (outgoing_to l to).issued) (sym all) may.issued
 
 pub invariant_of-self-in-Acknowledges : goal.invariant_of-self-in-Acknowledges

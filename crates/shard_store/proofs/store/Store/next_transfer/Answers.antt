@@ -9,11 +9,11 @@ use Rattle.shard_store.proofs.store.Store.next_transfer.Goals as goal
 pub returns-clause-content : goal.returns-clause-content
 returns-clause-content g c =
     let t = c.self.inside in
-    let all = all-issued t.setup t.transfers (states t.runs.items) (ap (λ v. v.changed) c.self.view_is) (ap (λ v. v.outgoing) c.self.view_is) c.requires.noted in
+    let all = all-issued t.setup t.transfers (states t.runs.items) (ap (λ v. v.changed) c.self.view_is) (ap (λ v. v.outgoing) c.self.view_is) c.requires.caught_up in
     c.first_to.ensures.content ∙ ap (λ l. slice_get (outgoing_to l c.args.to).issued (outgoing_to l c.args.to).acknowledged) all
 
 pub returns-clause-number : goal.returns-clause-number
 returns-clause-number g c =
     let t = c.self.inside in
-    let all = all-issued t.setup t.transfers (states t.runs.items) (ap (λ v. v.changed) c.self.view_is) (ap (λ v. v.outgoing) c.self.view_is) c.requires.noted in
+    let all = all-issued t.setup t.transfers (states t.runs.items) (ap (λ v. v.changed) c.self.view_is) (ap (λ v. v.outgoing) c.self.view_is) c.requires.caught_up in
     subst (λ (l : List Outgoing). IfSome c.first_to.result (λ f. f.0 ≡ (outgoing_to l c.args.to).acknowledged + 1)) all c.first_to.ensures.number

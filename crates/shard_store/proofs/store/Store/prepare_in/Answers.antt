@@ -5,7 +5,7 @@ pub returns-clause-more : goal.returns-clause-more
 returns-clause-more g c = record {
   place = refl;
   there = c.in_ok-plan.ensures.there;
-  noted = c.in_ok-plan.ensures.noted;
+  caught_up = c.in_ok-plan.ensures.caught_up;
   room = c.in_ok-plan.ensures.room;
   change = c.in_ok-plan.ensures.made;
 }

@@ -6,10 +6,10 @@ use Rattle.mutable_state.specs.View.{RunView}
 use Rattle.timeouts.specs.declared.due.Due.{Due}
 use Rattle.indexmap.specs.IndexMap.{get_by_text}
 use Rattle.shard_steps.specs.Issuing.{Waiting, all_waiting}
-use Rattle.shard_steps.specs.Kept.{HasFirsts, HasShown, IsNoted, unnoted}
+use Rattle.shard_steps.specs.Kept.{HasFirsts, HasShown, IsCaughtUp, outstanding}
 use Rattle.shard_steps.specs.Sending.{all_outgoing}
 use Rattle.shard_steps.proofs.EachLemmas.{each-same}
-use Rattle.shard_steps.proofs.SendingLemmas.{runs-noted}
+use Rattle.shard_steps.proofs.SendingLemmas.{runs-caught-up}
 use Rattle.shard_steps.proofs.TakenLemmas.{firsts-taken, shown-taken, taken-sends, taken-waits}
 use Rattle.shard_store.specs.Fitting.{after_taken, state_at}
 use Rattle.shard_store.specs.View.{IsIndexed, ShardState, ShardView, state, states}
@@ -80,11 +80,11 @@ returns g c =
     let i = c.args.index in
     let runs = b.runs.items in
     let rs = states runs in
-    let noted : IsNoted (unnoted b.changed b.transfers) = subst (λ (v : ShardView). IsNoted v.changed) (sym c.self.view_is) c.requires.may.noted in
+    let caught_up : IsCaughtUp (outstanding b.changed b.transfers) = subst (λ (v : ShardView). IsCaughtUp v.changed) (sym c.self.view_is) c.requires.may.caught_up in
     let later = states (slice_set runs i c.take.new.self) in
     let now : later ≡ slice_set rs i no_run = states-set runs i c.take.new.self ∙ ap (λ (v : RunView). slice_set rs i v.state) c.take.ensures in
     let S : List RunState → Waiting → List Outgoing → ShardState = λ r w o. record { setup = b.setup; runs = r; last = b.last; waiting = w; outgoing = o; accepted = b.transfers.accepted } in
-    ap (λ w. S later w (all_outgoing b.setup b.transfers later)) (taken-waits b.setup b.dispatches c.forget.new.self b.changed rs later (runs-noted b.changed b.transfers noted) c.forget.ensures.waiting)
-    ∙ ap (λ o. S later (all_waiting b.setup b.dispatches b.changed rs) o) (taken-sends b.setup b.transfers b.changed rs later noted)
+    ap (λ w. S later w (all_outgoing b.setup b.transfers later)) (taken-waits b.setup b.dispatches c.forget.new.self b.changed rs later (runs-caught-up b.changed b.transfers caught_up) c.forget.ensures.waiting)
+    ∙ ap (λ o. S later (all_waiting b.setup b.dispatches b.changed rs) o) (taken-sends b.setup b.transfers b.changed rs later caught_up)
     ∙ ap (λ r. S r (all_waiting b.setup b.dispatches b.changed rs) (all_outgoing b.setup b.transfers rs)) now
     ∙ ap (λ (v : ShardView). after_taken (Some i) (state v)) c.self.view_is

@@ -8,10 +8,10 @@ use Rattle.shard_steps.specs.Kept.{HasFirsts, HasShown}
 use Rattle.shard_steps.specs.Sending.{all_outgoing}
 use Rattle.shard_steps.specs.declared.changed.Changed.{Changed}
 use Rattle.shard_store.specs.View.{state, states}
-use Rattle.shard_steps.proofs.EachLemmas.{made-noted}
+use Rattle.shard_steps.proofs.EachLemmas.{made-caught-up}
 use Rattle.shard_steps.proofs.DispatchLemmas.{get-at, made-looked-up}
 use Rattle.shard_store.proofs.IndexLemmas.{length-states, states-at}
-use Rattle.shard_store.proofs.store.Store.note_made.Goals as goal
+use Rattle.shard_store.proofs.store.Store.catch_up_made.Goals as goal
 
 pub invariant_of-self-2 : goal.invariant_of-self-2
 invariant_of-self-2 g c =
@@ -29,8 +29,8 @@ invariant_of-self-2 g c =
       c.self.invariant.0,
       c.self.invariant.1,
       c.self.invariant.2,
-      subst (λ o. P c.set.new.self.slots o) (sym grown) (subst (λ l. P l None) (sym c.in_ok-set.ensures.ok) (made-noted c.self.inside.deadlines.slots n runs s c.in_ok-due.due there c.in_ok-due.ensures firsts)),
-      subst (λ o. Q c.issue.new.self.shown o) (sym grown) (subst (λ l. Q l None) (sym c.in_ok-issue.ensures.shown) (made-noted c.self.inside.dispatches.shown n runs s c.in_ok-shown.shown there c.in_ok-shown.ensures.count counts)),
+      subst (λ o. P c.set.new.self.slots o) (sym grown) (subst (λ l. P l None) (sym c.in_ok-set.ensures.ok) (made-caught-up c.self.inside.deadlines.slots n runs s c.in_ok-due.due there c.in_ok-due.ensures firsts)),
+      subst (λ o. Q c.issue.new.self.shown o) (sym grown) (subst (λ l. Q l None) (sym c.in_ok-issue.ensures.shown) (made-caught-up c.self.inside.dispatches.shown n runs s c.in_ok-shown.shown there c.in_ok-shown.ensures.count counts)),
       c.self.invariant.5,
     )
 

@@ -5,7 +5,7 @@ use Rattle.shard_steps.specs.Sending.{TransfersView, KeepsTransfers}
 use Rattle.shard_steps.proofs.SendingLemmas.{answer-looked-up, length-sent}
 use Rattle.shard_store.specs.View.{ShardView, state, states}
 use Rattle.shard_store.proofs.OutgoingLemmas.{both-moved}
-use Rattle.shard_store.proofs.store.Store.note_sent.Goals as goal
+use Rattle.shard_store.proofs.store.Store.catch_up_sent.Goals as goal
 
 pub invariant_of-self-2 : goal.invariant_of-self-2
 invariant_of-self-2 g c =
@@ -24,6 +24,6 @@ pub returns-clause-same : goal.returns-clause-same
 returns-clause-same g c =
     let t = c.self.inside in
     let runs = states t.runs.items in
-    let none = ap (λ (v : ShardView). v.changed.unsent) c.self.view_is ∙ c.in_ok-note_unsent.ensures.noted in
+    let none = ap (λ (v : ShardView). v.changed.unsent) c.self.view_is ∙ c.in_ok-catch_up_unsent.ensures.caught_up in
     both-moved t.setup runs t.last (all_waiting t.setup t.dispatches t.changed runs) (answer-looked-up t.setup t.transfers c.send_answer.new.self runs none c.in_ok-send_answer.ensures.ok) (ap (λ (x : TransfersView). x.accepted) c.in_ok-send_answer.ensures.ok)
-    ∙ ap state c.self.view_is ∙ c.in_ok-note_unsent.ensures.same
+    ∙ ap state c.self.view_is ∙ c.in_ok-catch_up_unsent.ensures.same

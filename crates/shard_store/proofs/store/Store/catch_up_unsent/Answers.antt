@@ -11,7 +11,7 @@ use Rattle.shard_steps.proofs.SendingLemmas.{length-sent, sent-looked-up}
 use Rattle.shard_store.specs.View.{ShardView, state, states}
 use Rattle.shard_store.proofs.IndexLemmas.{states-at}
 use Rattle.shard_store.proofs.OutgoingLemmas.{both-moved}
-use Rattle.shard_store.proofs.store.Store.note_unsent.Goals as goal
+use Rattle.shard_store.proofs.store.Store.catch_up_unsent.Goals as goal
 
 pub invariant_of-self-2 : goal.invariant_of-self-2
 invariant_of-self-2 g c =

@@ -8,10 +8,10 @@ use Rattle.shard_steps.specs.Kept.{HasFirsts, HasShown}
 use Rattle.shard_steps.specs.Sending.{all_outgoing}
 use Rattle.shard_steps.specs.declared.changed.Changed.{Changed}
 use Rattle.shard_store.specs.View.{state, states}
-use Rattle.shard_steps.proofs.EachLemmas.{grown-noted}
+use Rattle.shard_steps.proofs.EachLemmas.{grown-caught-up}
 use Rattle.shard_steps.proofs.DispatchLemmas.{get-at, grown-looked-up}
 use Rattle.shard_store.proofs.IndexLemmas.{length-states, states-at}
-use Rattle.shard_store.proofs.store.Store.note_grown.Goals as goal
+use Rattle.shard_store.proofs.store.Store.catch_up_grown.Goals as goal
 
 pub invariant_of-self-2 : goal.invariant_of-self-2
 invariant_of-self-2 g c =
@@ -28,8 +28,8 @@ invariant_of-self-2 g c =
       c.self.invariant.0,
       c.self.invariant.1,
       c.self.invariant.2,
-      subst (λ (l : List (Option Due)). HasFirsts c.self.inside.setup.retention l now runs) (sym c.in_ok-set.ensures.ok) (grown-noted c.self.inside.deadlines.slots n made runs s c.in_ok-due.due there c.in_ok-due.ensures firsts),
-      subst (λ l. HasShown l now runs) (sym c.in_ok-issue.ensures.shown) (grown-noted c.self.inside.dispatches.shown n made runs s c.in_ok-shown.shown there c.in_ok-shown.ensures.count counts),
+      subst (λ (l : List (Option Due)). HasFirsts c.self.inside.setup.retention l now runs) (sym c.in_ok-set.ensures.ok) (grown-caught-up c.self.inside.deadlines.slots n made runs s c.in_ok-due.due there c.in_ok-due.ensures firsts),
+      subst (λ l. HasShown l now runs) (sym c.in_ok-issue.ensures.shown) (grown-caught-up c.self.inside.dispatches.shown n made runs s c.in_ok-shown.shown there c.in_ok-shown.ensures.count counts),
       c.self.invariant.5,
     )
 
