@@ -30,7 +30,7 @@ length-acknowledged (o ∷ all) to = by_test (to == 0) (length-acknowledged all 
     by_test true h = refl
     by_test false h = ap suc h
 
--- of what was caught_up, the runs were
+-- where all was caught up with, the runs were
 pub runs-caught-up : (c : Changed) (t : TransfersView) → IsCaughtUp (outstanding c t) → AreCaughtUp c
 runs-caught-up c t caught_up = record { grown = caught_up.grown; made = caught_up.made }
 
