@@ -1,4 +1,7 @@
 //! The decision on a workflow ID.
+//!
+//! Rule: PROFILE, Workflow IDs. Definition: IdPolicy. Rows: TaskRows, PolicyRows. Cases: policies,
+//! workflow_ids.
 
 ghost use Rattle.std.specs.Prelude.{◌≡◌, ◌≢◌, Some, option_copied};
 ghost use Rattle.service_model.specs.IdPolicy.{decide, is_same_request, is_failed, on_open, on_closed, New as NewRun};

@@ -1,4 +1,7 @@
 //! When a run's time is over.
+//!
+//! Rule: PROFILE, Deadlines and timer turns, Runs that are taken away. Definition: Deadlines. Rows:
+//! TimerRows, RetentionRows. Cases: timer_turns, activity_timeouts, retention.
 
 ghost use Rattle.std.specs.Prelude.{◌≡◌, find, option_and_then, option_copied, option_map};
 ghost use Rattle.timeouts.specs.Firsts.{first_of, first_due, HasTimer};

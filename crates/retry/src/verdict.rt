@@ -1,4 +1,6 @@
 //! Verdicts on attempts that ended.
+//!
+//! Rule: PROFILE, Attempts of activities. Definition: Retry. Rows: ActivityRows. Cases: attempts.
 
 ghost use Rattle.std.specs.Prelude.{◌≡◌, ◌==◌, ◌&&◌, ◌||◌, not, nat_le, option_copied};
 ghost use Rattle.service_model.specs.Retry.{verdict, is_non_retryable, is_listed};

@@ -1,4 +1,7 @@
 //! How long an activity waits before it is tried again.
+//!
+//! Rule: PROFILE, Attempts of activities. Definition: Retry. Rows: ActivityRows. Cases: attempts,
+//! whole_workflows.
 
 ghost use Rattle.std.specs.Prelude.{◌≡◌, ◌≤◌, IsTrue};
 ghost use Rattle.wf_event.specs.RetryPolicies.{good_policy};

@@ -1,4 +1,6 @@
 //! The task of an activity's attempt that waits to be taken.
+//!
+//! Rule: PROFILE, Attempts of activities. Definition: Tasks. Rows: ActivityRows. Cases: attempts.
 
 ghost use Rattle.std.specs.Prelude.{◌≡◌, IfOk};
 ghost use Rattle.mutable_state.specs.Activities.{row_said};

@@ -1,4 +1,7 @@
 //! What the deadlines of activities do to their runs.
+//!
+//! Rule: PROFILE, Deadlines and timer turns. Definition: TimerTurns. Rows: ActivityRows. Cases:
+//! activity_timeouts.
 
 ghost use Rattle.std.specs.Prelude.{◌≡◌, cond, ◌∷◌, [], IfOk};
 ghost use Rattle.service_model.specs.Activities.{attempt_started};

@@ -1,4 +1,7 @@
 //! The attempt of an activity that a worker has, and what its end adds to the run.
+//!
+//! Rule: PROFILE, Attempts of activities. Definition: Activities. Rows: ActivityRows. Cases:
+//! attempts.
 
 ghost use Rattle.std.specs.Prelude.{◌≡◌, IfOk};
 ghost use Rattle.service_model.specs.Activities.{attempt_started, ends_activity};

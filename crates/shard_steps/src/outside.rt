@@ -1,4 +1,6 @@
 //! Facts from outside a worker.
+//!
+//! Rule: PROFILE, Workflow tasks. Definition: Outcome. Rows: TaskRows. Cases: workflow_tasks.
 
 ghost use Rattle.std.specs.Prelude.{◌≡◌, IfOk};
 ghost use Rattle.service_model.specs.Outcome.{outside, is_no_task};

@@ -1,4 +1,7 @@
 //! The runs that steps make.
+//!
+//! Rule: PROFILE, Histories, Workflow IDs. Definition: Starts, Signals. Rows: TaskRows, PolicyRows.
+//! Cases: starts, workflow_ids.
 
 ghost use Rattle.std.specs.Prelude.{◌≡◌, IfOk};
 ghost use Rattle.service_model.specs.Signals.{start_in};

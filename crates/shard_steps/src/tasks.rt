@@ -1,4 +1,7 @@
 //! The start of a workflow task, and what its end asks and answers.
+//!
+//! Rule: PROFILE, Workflow tasks. Definition: Tasks, Completion. Rows: TaskRows. Cases:
+//! workflow_tasks.
 
 ghost use Rattle.std.specs.Prelude.{◌≡◌, ◌∷◌, [], IfOk};
 ghost use Rattle.wf_event.specs.declared.attributes.Attributes.TheVariants.{WorkflowTaskStarted};

@@ -1,4 +1,7 @@
 //! The transfers that a shard issued to the others, and those that it accepted from them.
+//!
+//! Rule: PROFILE, Children and other workflows. Definition: Issued, Counts, Deliveries. Rows:
+//! TransferRows. Cases: transfer_turns.
 
 ghost use Rattle.std.specs.Prelude.{◌≡◌, ◌+◌, ◌<◌, ◌^◌, None, Some, IfOk, IfSome, OnErr, OnOk, length, option_map, option_to_list, replicate, slice_get, slice_index_or, slice_set};
 ghost use Rattle.service_model.specs.Counts.{acknowledgement_of, outgoing_to};

@@ -1,4 +1,7 @@
 //! What a deadline that fires writes.
+//!
+//! Rule: PROFILE, Deadlines and timer turns. Definition: TimerTurns. Rows: TimerRows,
+//! ExecutionRows. Cases: timer_turns, firings.
 
 ghost use Rattle.std.specs.Prelude.{◌≡◌, ℕ, ◌∷◌, [], IfOk};
 ghost use Rattle.wf_event.specs.declared.attributes.Attributes.TheVariants.{WorkflowExecutionTimedOut};

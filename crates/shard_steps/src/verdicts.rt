@@ -1,4 +1,7 @@
 //! The verdicts on attempts that ended without success.
+//!
+//! Rule: PROFILE, Attempts of activities. Definition: Retry, Activities. Rows: ActivityRows. Cases:
+//! attempts, activity_timeouts.
 
 ghost use Rattle.std.specs.Prelude.{◌≡◌, ◌==◌, ◌+◌, cond, None, Some, option_map, IfOk, IfSome};
 ghost use Rattle.wf_event.specs.declared.attributes.Attributes.TheVariants.{ActivityTaskFailed as a_failure};

@@ -1,4 +1,7 @@
 //! What is kept while commands are judged.
+//!
+//! Rule: PROFILE, Workflow tasks. Definition: Completion. Rows: TaskRows, TimerRows, ActivityRows.
+//! Cases: commands, activity_commands, firings.
 
 ghost use Rattle.std.specs.Prelude.{◌≡◌, ◌+◌, [], false, length, IfOk, IsTrue, OnOk};
 ghost use Rattle.std.specs.List.{list_any};

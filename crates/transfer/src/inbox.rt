@@ -1,4 +1,7 @@
 //! The transfers that a shard accepted.
+//!
+//! Rule: PROFILE, Children and other workflows. Definition: Deliveries. Rows: TransferRows. Cases:
+//! transfer_turns, records.
 
 ghost use Rattle.std.specs.Prelude.{◌≡◌, ◌+◌, ◌<◌, ◌^◌, length, replicate, slice_set, IfOk};
 ghost use Rattle.service_model.specs.Deliveries.{accepted_from, delivery_of};

@@ -1,4 +1,6 @@
 //! Replies as lines.
+//!
+//! Rule: PROFILE, Lines. Definition: wire_replies/Replies. Rows: -. Cases: starts.
 #![tactic(auto)]
 
 mod answers;

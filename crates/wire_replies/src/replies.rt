@@ -1,4 +1,6 @@
 //! Replies as lines.
+//!
+//! Rule: PROFILE, Lines. Definition: wire_replies/Replies. Rows: -. Cases: starts.
 
 ghost use Rattle.std.specs.Prelude.{◌≡◌, ◌++◌, ◌∷◌, [], OnOk, IfOk, string_bytes};
 ghost use Rattle.wire_events.specs.Pages.{sheet_of, text_of, blank, add_members, add_value};

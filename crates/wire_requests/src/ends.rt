@@ -1,4 +1,6 @@
 //! Lines that ask a run to cancel, and that terminate it.
+//!
+//! Rule: PROFILE, Lines. Definition: wire_requests/Ends. Rows: -. Cases: workflow_ids.
 
 ghost use Rattle.wf_event_values.specs.Gives.{Gives};
 ghost use Rattle.wire_requests.specs.Ends.{request_cancel_of, terminate_of};

@@ -1,4 +1,6 @@
 //! A line, read as what it asks of a service.
+//!
+//! Rule: PROFILE, Lines. Definition: wire_requests/Calls. Rows: -. Cases: lines, fields.
 #![tactic(auto)]
 
 mod activities;
