@@ -34,7 +34,8 @@ pub enum Decision {
 
 /// What a start does where the ID's latest run is this one, or none.
 ///
-/// The request id is looked at first (this service's rule), then the conflict policy where the run is open, and the reuse policy where it is closed.
+/// The request id is looked at first (this service's rule), then the conflict policy where the run
+/// is open, and the reuse policy where it is closed.
 #[tactic(auto, unfolding(service_model::specs::IdPolicy::decide))]
 pub fn decide(
     latest: Option<&Latest>,

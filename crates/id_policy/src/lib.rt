@@ -1,4 +1,5 @@
-//! What a start does with a workflow ID that was used before (Temporal, Workflow ID reuse policy and Workflow ID conflict policy).
+//! What a start does with a workflow ID that was used before (Temporal, Workflow ID reuse policy
+//! and Workflow ID conflict policy).
 #![tactic(auto)]
 
 mod decision;

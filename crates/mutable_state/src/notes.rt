@@ -76,7 +76,7 @@ impl Notes {
         matches!(self.phase, ActivityPhase::Running)
     }
 
-    /// A copy.
+    /// The same notes, with details of their own.
     pub fn copy(&self) -> Result<Notes, AllocError>
         ensures { IfOk result (λ notes. notes ≡ self.now) }
     {

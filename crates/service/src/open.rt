@@ -42,8 +42,8 @@ impl<S: KeepsShard> Service<S> {
     ///
     /// # Errors
     /// `InvalidArgument` with the first setting out of its range, in the order shards, passes,
-    /// service, queues, capacity, retention, and then with `records` where there is neither none nor one of each
-    /// shard; `QueueFull` where the hints don't fit; `NoMemory`.
+    /// service, queues, capacity, retention, and then with `records` where there is neither none
+    /// nor one of each shard; `QueueFull` where the hints don't fit; `NoMemory`.
     pub fn open(
         alloc: Global,
         settings: &Settings,

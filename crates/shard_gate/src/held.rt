@@ -41,7 +41,7 @@ impl<S: KeepsShard> ShardGate<S> {
     /// done, and the reply, are known from then on, and handed over by `leave`.
     ///
     /// # Errors
-    /// Those of `try_step`, with the pass and the request.
+    /// Busy or no memory, as `try_step`. The pass and the request come back.
     pub fn try_enter(
         &self,
         pass: ShardPass<S>,

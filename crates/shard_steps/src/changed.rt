@@ -14,7 +14,7 @@ pub struct Changed {
 }
 
 impl Changed {
-    /// None.
+    /// A step that changed no run.
     pub fn none() -> Changed
         ensures { result ≡ unchanged }
     {

@@ -1,6 +1,6 @@
 //! What a shard keeps in memory: its runs, the index of their workflow IDs, their first deadlines,
-//! the dispatches that wait, and its transfers. A plan says what a step does to it, with all that it needs made;
-//! `commit` only moves what was made, so it can't fail.
+//! the dispatches that wait, and its transfers. A plan says what a step does to it, with all that
+//! it needs made; `commit` only moves what was made, so it can't fail.
 //!
 //! What a request asks for, the crate above decides.
 #![tactic(auto)]

@@ -11,7 +11,7 @@ use wf_event::payloads::{WorkflowExecutionContinuedAsNew, WorkflowExecutionStart
 use wf_event::{Attributes, Boxed};
 use wf_event_values::{Id, RunId, Text};
 
-/// The queue of its workflow tasks.
+/// The queue of the workflow tasks of the run that follows: the command's, or that of the run before.
 pub fn queue_after<'a>(command: &'a ContinueAsNew, started: &'a WorkflowExecutionStarted) -> &'a Id
     ensures { result.now ≡ unwrap_or command.now.task_queue started.now.task_queue }
 {
@@ -21,7 +21,7 @@ pub fn queue_after<'a>(command: &'a ContinueAsNew, started: &'a WorkflowExecutio
     }
 }
 
-/// Its workflow type.
+/// The workflow type of the run that follows: the command's, or that of the run before.
 pub fn type_after<'a>(command: &'a ContinueAsNew, started: &'a WorkflowExecutionStarted) -> &'a Text
     ensures { result.now ≡ unwrap_or command.now.workflow_type started.now.workflow_type }
 {

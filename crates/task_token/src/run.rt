@@ -62,7 +62,9 @@ fn run_named(text: &str) -> Option<RunId>
 
 /// A run id's text, and back.
 ///
-/// The text is that of a UUID of version 8 (RFC 9562) in lower case with hyphens, 36 bytes: 48 bits of service number, 4 bits of version, 12 bits of shard, 2 bits of variant, 62 bits of run ordinal.
+/// The text is that of a UUID of version 8 (RFC 9562) in lower case with hyphens, 36 bytes: 48 bits
+/// of service number, 4 bits of version, 12 bits of shard, 2 bits of variant, 62 bits of run
+/// ordinal.
 pub trait RunText: Sized {
     ghost use Rattle.std.specs.Prelude.{List, ℕ, Option};
 
@@ -93,7 +95,8 @@ impl RunText for RunId {
         uuid_of(*self).hyphenated().encode_lower(buffer)
     }
 
-    /// The run id whose text this is, whatever service, shard and ordinal it names; every other text is `NotFound`.
+    /// The run id whose text this is, whatever service, shard and ordinal it names; every other
+    /// text is `NotFound`.
     fn read(text: &str) -> Result<RunId, Refusal>
         ensures value { result ≡ ok_or (run_named text.now) NotFound }
         ensures exact { (r : Run) → IsRun r → (result ≡ Ok r) ↔ (text.now ≡ run_text r) }

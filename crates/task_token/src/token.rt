@@ -183,9 +183,11 @@ fn any_token_named(alloc: Global, text: &str) -> Result<Option<TaskToken>, Alloc
 }
 
 impl TaskToken {
-    /// The token's text: its 24 bytes in base64 (RFC 4648, the standard alphabet, no padding), 32 characters.
+    /// The token's text: its 24 bytes in base64 (RFC 4648, the standard alphabet, no padding), 32
+    /// characters.
     ///
-    /// The bytes are the version 1, the kind (1 for workflow, 2 for activity), and then shard, run, event and attempt, each with its high byte first.
+    /// The bytes are the version 1, the kind (1 for workflow, 2 for activity), and then shard, run,
+    /// event and attempt, each with its high byte first.
     pub fn write(&self, alloc: Global) -> Result<String, AllocError>
         ensures { IfOk result (λ s. string_bytes s ≡ token_text self.now) }
     {

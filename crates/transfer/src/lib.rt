@@ -1,6 +1,9 @@
-//! Transfers between shards: what a shard issued to each destination, and what it accepted from each source.
+//! Transfers between shards: what a shard issued to each destination, and what it accepted from
+//! each source.
 //!
-//! The transfers of one shard to another are numbered 1, 2, 3, .. (this service's rule; a shard may also send to itself). The destination accepts each number once and in order, and the source then acknowledges it.
+//! The transfers of one shard to another are numbered 1, 2, 3, .. (this service's rule; a shard may
+//! also send to itself). The destination accepts each number once and in order, and the source then
+//! acknowledges it.
 #![tactic(auto)]
 
 mod copies;

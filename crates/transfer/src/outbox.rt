@@ -11,7 +11,8 @@ use service_model_types::transfer::{Sent, TransferContent};
 use std::alloc::{AllocError, Global};
 use std::marker::Model;
 
-/// All transfers that a shard ever issued to each destination, by the destination's number, and how many of them are acknowledged.
+/// All transfers that a shard ever issued to each destination, by the destination's number, and how
+/// many of them are acknowledged.
 pub struct Outbox {
     logs: Vec<IssueLog<TransferContent>>,
 }
@@ -45,7 +46,8 @@ impl Outbox {
         Ok(Outbox { logs })
     }
 
-    /// Makes room for so many more transfers to a destination. Where memory is refused, the transfers stay as they were.
+    /// Makes room for so many more transfers to a destination. Where memory is refused, the
+    /// transfers stay as they were.
     pub fn reserve(&mut self, to: u16, additional: usize) -> Result<(), AllocError>
         requires { to < length self.old }
         ensures same { outgoing self.new ≡ outgoing self.old }

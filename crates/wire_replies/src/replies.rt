@@ -1,4 +1,5 @@
-//! Replies as lines.
+//! The line of a reply: an answer with its members, or a refusal with its name and its number, and
+//! what it names besides.
 //!
 //! Rule: PROFILE, Lines. Definition: wire_replies/Replies. Rows: -. Cases: starts.
 

@@ -202,7 +202,8 @@ impl Model for Commands {
 impl FieldValue for Commands {
     ghost value_of = { commands_of };
 
-    /// Too many commands are found before any of them is looked at; of a faulty command its own field is named.
+    /// Too many commands are found before any of them is looked at; of a faulty command its own
+    /// field is named.
     fn from_value<V: Tree>(alloc: Global, field: Field, value: &V) -> Result<Commands, Refusal> {
         let all = each_command(alloc, elements(field, MOST_COMMANDS, value)?)?;
         Ok(Commands { all })

@@ -1,4 +1,6 @@
-//! A line, read as what it asks of a service.
+//! A line, read as what it asks of a service: a barrier, a call in its lane, or the refusal that
+//! names its first faulty field. The fields of each operation are read in the order in which PROFILE
+//! lists them.
 //!
 //! Rule: PROFILE, Lines. Definition: wire_requests/Calls. Rows: -. Cases: lines, fields.
 #![tactic(auto)]

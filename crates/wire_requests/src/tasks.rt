@@ -55,7 +55,8 @@ fn task_in(settings: &Settings, is_right: bool, token: TaskToken) -> Result<Take
     shard_is_there(settings, task)
 }
 
-/// The workflow task that a token names. A token of the other kind, or of a shard that is not there, is `InvalidToken`.
+/// The workflow task that a token names. A token of the other kind, or of a shard that is not
+/// there, is `InvalidToken`.
 pub(crate) fn workflow_task_in(settings: &Settings, token: TaskToken) -> Result<TakenTask, Refusal>
     ensures { result ≡ workflow_task_in settings.now token }
 {
