@@ -52,6 +52,7 @@ impl<'a> Case<'a> {
         })
     }
 
+    /// What the case is called.
     pub fn name(&self) -> &str {
         self.name
     }
@@ -61,6 +62,7 @@ impl<'a> Case<'a> {
         &self.words
     }
 
+    /// What is given and asked, in order.
     pub fn steps(&self) -> &[Step] {
         &self.steps
     }

@@ -25,6 +25,7 @@ impl Model for Line {
 }
 
 impl Line {
+    /// A line of no bytes so far.
     pub fn new(alloc: Global) -> Line
         ensures { result ≡ Some [] }
     {
@@ -61,6 +62,7 @@ impl Line {
         }
     }
 
+    /// Whether it has no byte so far.
     pub fn is_empty(&self) -> bool
         ensures { result ≡ is_empty_line self.now }
     {

@@ -41,12 +41,14 @@ impl<'a> Model for NamedRows<'a> {
 }
 
 impl<'a> NamedRows<'a> {
+    /// What is in use, with no names collected yet.
     pub fn new(rows: Vec<Used<'a>>) -> NamedRows<'a>
         ensures { result ≡ rows.entry.items }
     {
         NamedRows { rows, names: None }
     }
 
+    /// What is in use, in the order in which it was opened.
     pub fn rows(&self) -> &[Used<'a>]
         ensures { result.now ≡ self.now }
     {

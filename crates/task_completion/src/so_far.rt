@@ -399,6 +399,7 @@ impl<'a> SoFar<'a> {
         self.held.len() > 0
     }
 
+    /// Whether a command has closed the run.
     pub fn is_closed(&self) -> bool
         ensures { result ≡ self.now.is_closed }
     {

@@ -18,6 +18,7 @@ pub struct Counted<T> {
 }
 
 impl<T> Counted<T> {
+    /// A reader or a writer of which no call has failed yet.
     pub fn new(inner: T) -> Counted<T>
         ensures { result ≡ record { inner = inner; failures = 0 } }
     {

@@ -30,6 +30,7 @@ impl Drop for LaneCall {
 }
 
 impl LaneCall {
+    /// The call, without its lane.
     pub fn into_call(self) -> Call
         ensures { result ≡ self.call }
     {
@@ -116,6 +117,7 @@ pub struct LineReader {
 }
 
 impl LineReader {
+    /// A reader whose window takes no memory yet.
     pub fn new(alloc: Global) -> LineReader {
         LineReader {
             scratch: Scratch::new(alloc),

@@ -9,6 +9,7 @@ use std::alloc::AllocError;
 use wf_event_values::{Id, RunId, Span, Text};
 use wire_events::Page;
 
+/// Writes a text under a key, where there is one.
 pub fn put_if_text(page: &mut Page, key: &str, text: &Option<Text>) -> Result<(), AllocError>
     ensures { OnOk result (sheet_of page.new
         ≡ add_row (if_text key.now text.now) (sheet_of page.old)) }
@@ -19,6 +20,7 @@ pub fn put_if_text(page: &mut Page, key: &str, text: &Option<Text>) -> Result<()
     }
 }
 
+/// Writes an ID under a key, where there is one.
 pub fn put_if_id(page: &mut Page, key: &str, id: &Option<Id>) -> Result<(), AllocError>
     ensures { OnOk result (sheet_of page.new
         ≡ add_row (if_text key.now id.now) (sheet_of page.old)) }
@@ -29,6 +31,7 @@ pub fn put_if_id(page: &mut Page, key: &str, id: &Option<Id>) -> Result<(), Allo
     }
 }
 
+/// Writes a duration under a key in milliseconds, where there is one.
 pub fn put_if_count(page: &mut Page, key: &str, span: Option<Span>) -> Result<(), AllocError>
     ensures { OnOk result (sheet_of page.new
         ≡ add_row (if_count key.now span) (sheet_of page.old)) }
@@ -50,6 +53,7 @@ pub fn put_if_span(page: &mut Page, key: &str, span: Span) -> Result<(), AllocEr
     page.number(key, span.millis())
 }
 
+/// Writes a run id under a key, where there is one.
 pub fn put_if_run(page: &mut Page, key: &str, run: Option<RunId>) -> Result<(), AllocError>
     ensures { OnOk result (sheet_of page.new ≡ add_row (if_run key.now run) (sheet_of page.old)) }
 {
@@ -59,6 +63,7 @@ pub fn put_if_run(page: &mut Page, key: &str, run: Option<RunId>) -> Result<(), 
     }
 }
 
+/// Writes a number under a key, where there is one.
 pub fn put_if_number(page: &mut Page, key: &str, number: Option<u64>) -> Result<(), AllocError>
     ensures { OnOk result (sheet_of page.new
         ≡ add_row (if_count key.now number) (sheet_of page.old)) }
