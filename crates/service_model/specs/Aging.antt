@@ -45,4 +45,5 @@ IsOldest S n = IsOldestRun (map state_of S.runs) n
 
 -- where the younger of two runs of one workflow ID was taken away, the older was too
 pub record OlderFirst (old new : Content) : Type 0 where
-  pub gone : (m n : ℕ) (s t : RunState) → AreOfOne (map state_of old.runs) m n s t → slice_get new.runs n ≡ Some [] → slice_get new.runs m ≡ Some []
+  pub gone : (m n : ℕ) (s t : RunState) → AreOfOne (map state_of old.runs) m n s t → slice_get new.runs n ≡ Some []
+      → slice_get new.runs m ≡ Some []

@@ -19,29 +19,36 @@ abbrev pub Grew : List TransferContent → List TransferContent → Type 0
 Grew xs ys = (more : List TransferContent) × (ys ≡ xs ++ more)
 
 -- a count that moves on leaves what was issued
-acknowledged-issued : (all : List Outgoing) (at to : ℕ) → (outgoing_to (one_more_acknowledged all at) to).issued ≡ (outgoing_to all to).issued
+acknowledged-issued : (all : List Outgoing) (at to : ℕ)
+    → (outgoing_to (one_more_acknowledged all at) to).issued ≡ (outgoing_to all to).issued
 acknowledged-issued [] at to = refl
 acknowledged-issued (o ∷ os) at to = go (at == 0) to (λ n. acknowledged-issued os (at - 1) n)
   where
     go : (b : Bool) (to : ℕ) → ((n : ℕ) → (outgoing_to (one_more_acknowledged os (at - 1)) n).issued ≡ (outgoing_to os n).issued)
-        → (outgoing_to (cond b (record { issued = o.issued; acknowledged = o.acknowledged + 1 } ∷ os) (o ∷ one_more_acknowledged os (at - 1))) to).issued ≡ (outgoing_to (o ∷ os) to).issued
+        → (outgoing_to (cond b (record {
+          issued = o.issued;
+          acknowledged = o.acknowledged + 1;
+        } ∷ os) (o ∷ one_more_acknowledged os (at - 1))) to).issued ≡ (outgoing_to (o ∷ os) to).issued
     go true zero rest = refl
     go true (suc n) rest = refl
     go false zero rest = refl
     go false (suc n) rest = rest n
 
-counted-issued : (c : Counting) (T : Content) (to : ℕ) → (outgoing_to (with_count c T).outgoing to).issued ≡ (outgoing_to T.outgoing to).issued
+counted-issued : (c : Counting) (T : Content) (to : ℕ)
+    → (outgoing_to (with_count c T).outgoing to).issued ≡ (outgoing_to T.outgoing to).issued
 counted-issued CountsNothing T to = refl
 counted-issued (AcceptsFrom from) T to = refl
 counted-issued (AcknowledgesTo at) T to = acknowledged-issued T.outgoing at to
 counted-issued CountsDispatch T to = refl
 
-sending-issued : (sent : List Sent) (base : ℕ) (all : List Outgoing) (to : ℕ) → Grew (outgoing_to all to).issued (outgoing_to (with_all_sent sent base all) to).issued
+sending-issued : (sent : List Sent) (base : ℕ) (all : List Outgoing) (to : ℕ)
+    → Grew (outgoing_to all to).issued (outgoing_to (with_all_sent sent base all) to).issued
 sending-issued sent base [] to = ([], refl)
 sending-issued sent base (o ∷ os) zero = (_, refl)
 sending-issued sent base (o ∷ os) (suc n) = sending-issued sent (base + 1) os n
 
-pub outcome-issued : (S : Content) (m : ℕ) (o : Outcome) (to : ℕ) → Grew (outgoing_to S.outgoing to).issued (outgoing_to (content_after S m o).outgoing to).issued
+pub outcome-issued : (S : Content) (m : ℕ) (o : Outcome) (to : ℕ)
+    → Grew (outgoing_to S.outgoing to).issued (outgoing_to (content_after S m o).outgoing to).issued
 outcome-issued S m o to =
     let sent = sending-issued (sent_for S (S.steps + 1) m o.added ++ o.answers) 0 S.outgoing to in
     (sent.0, counted-issued o.counting _ to ∙ sent.1)
@@ -64,7 +71,8 @@ counted-accepted (AcceptsFrom at) T from = moved-on T.accepted at from
 counted-accepted (AcknowledgesTo at) T from = le_refl (accepted_from T.accepted from)
 counted-accepted CountsDispatch T from = le_refl (accepted_from T.accepted from)
 
-pub outcome-accepted : (S : Content) (m : ℕ) (o : Outcome) (from : ℕ) → accepted_from S.accepted from ≤ accepted_from (content_after S m o).accepted from
+pub outcome-accepted : (S : Content) (m : ℕ) (o : Outcome) (from : ℕ)
+    → accepted_from S.accepted from ≤ accepted_from (content_after S m o).accepted from
 outcome-accepted S m o from = counted-accepted o.counting _ from
 
 step-accepted : (S : Content) (q : Request) (from : ℕ) → accepted_from S.accepted from ≤ accepted_from (after S q).accepted from

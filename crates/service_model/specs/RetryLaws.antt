@@ -5,4 +5,5 @@ use Rattle.service_model.specs.Retry.{maximum_of, wait}
 
 -- nothing is ever rounded: the wait is the initial interval times a power of the factor
 abbrev pub GrowsByWholeFactors : Type 0
-GrowsByWholeFactors = (p : PolicyFields) (f k : ℕ) → p.coefficient ≡ 100 * f → 1 ≤ f → wait p k ≡ min (maximum_of p) (p.initial * f ^ (k - 1))
+GrowsByWholeFactors = (p : PolicyFields) (f k : ℕ) → p.coefficient ≡ 100 * f → 1 ≤ f
+    → wait p k ≡ min (maximum_of p) (p.initial * f ^ (k - 1))

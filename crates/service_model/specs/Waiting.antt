@@ -20,7 +20,8 @@ abbrev pub waiting_task : Setup → ℕ → RunState → Event → Option Dispat
 waiting_task setup run s e = by_kind e.attributes
   where
     by_kind : Attributes → Option Dispatch
-    by_kind (WorkflowTaskScheduled a) = cond (is_scheduled_task s.task && ((last_task s).scheduled == e.id)) (task_dispatch setup run e) None
+    by_kind (WorkflowTaskScheduled a) =
+        cond (is_scheduled_task s.task && ((last_task s).scheduled == e.id)) (task_dispatch setup run e) None
     by_kind (ActivityTaskScheduled a) = option_and_then (queued_dispatch setup run) (pending_row s e.id)
     by_kind _ = None
 

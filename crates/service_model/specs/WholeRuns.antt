@@ -41,7 +41,8 @@ Grounded S s _ = Unit {0}
 
 -- what comes before each step grounds it
 abbrev pub IsWhole : (ℕ → Setup) → Whole → Type 0
-IsWhole setups W = (front rest : Whole) (s : ℕ) (e : Entry) → W ≡ front ++ (s, e) ∷ rest → Grounded (content_at setups front) s e.request.operation
+IsWhole setups W =
+    (front rest : Whole) (s : ℕ) (e : Entry) → W ≡ front ++ (s, e) ∷ rest → Grounded (content_at setups front) s e.request.operation
 
 -- what a step accepts of a source: nothing where its count stays, else what it delivers
 abbrev pub delivered : Bool → Operation → List TransferContent
@@ -69,4 +70,5 @@ InOrder setups W from to =
 
 -- at every place of a run, for every pair of shards
 abbrev pub TransfersInOrder : Type 0
-TransfersInOrder = (setups : ℕ → Setup) (W : Whole) → IsWhole setups W → (front rest : Whole) → W ≡ front ++ rest → (from to : ℕ) → InOrder setups front from to
+TransfersInOrder = (setups : ℕ → Setup) (W : Whole) → IsWhole setups W → (front rest : Whole) → W ≡ front ++ rest → (from to : ℕ)
+    → InOrder setups front from to
