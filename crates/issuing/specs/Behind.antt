@@ -9,7 +9,8 @@ use Rattle.service_model.specs.Issued.{requests_of, close_transfer, children_lef
 
 -- those of its closing, where these are all its events, and those the later ones
 abbrev pub closings_behind : Setup → Run → Option Parent → List Event → List Event → List Sent
-closings_behind setup run parent events later = filter_map (close_transfer setup run) (children_left events) ++ filter_map (closed_transfer run parent) later
+closings_behind setup run parent events later =
+    filter_map (close_transfer setup run) (children_left events) ++ filter_map (closed_transfer run parent) later
 
 -- as the definitions have it of the run's state
 abbrev pub transfers_behind : Setup → Run → Bool → Option Parent → List Event → List Event → List Sent

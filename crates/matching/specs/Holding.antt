@@ -18,14 +18,16 @@ pushed capacity all None hint = Err UnknownTaskQueue
 pushed capacity all (Some place) hint = pushed_at capacity all (slot_of place hint.kind) hint
 
 -- what follows a push, unless it was refused
-abbrev pub then_push : Result (List (List Hint)) Refusal → (List (List Hint) → Result (List (List Hint)) Refusal) → Result (List (List Hint)) Refusal
+abbrev pub then_push : Result (List (List Hint)) Refusal → (List (List Hint) → Result (List (List Hint)) Refusal)
+    → Result (List (List Hint)) Refusal
 then_push (Err refusal) rest = Err refusal
 then_push (Ok all) rest = rest all
 
 -- these dispatches, one after another, till one is refused
 abbrev pub all_pushed : List (List ℕ) → ℕ → List (List Hint) → List Dispatch → Result (List (List Hint)) Refusal
 all_pushed names capacity all [] = Ok all
-all_pushed names capacity all (d ∷ ds) = then_push (pushed capacity all (place_in names d.queue) d.hint) (λ more. all_pushed names capacity more ds)
+all_pushed names capacity all (d ∷ ds) =
+    then_push (pushed capacity all (place_in names d.queue) d.hint) (λ more. all_pushed names capacity more ds)
 
 -- what queues of these names, each with that capacity, hold once these dispatches were pushed
 abbrev pub held_by : List (List ℕ) → ℕ → List Dispatch → Result (List (List Hint)) Refusal

@@ -27,7 +27,22 @@ maker given shards capacity waiting = record {
 
 -- what nobody knows
 abbrev pub nobody : View
-nobody = record { kind = Nobody; number = 0; made = 0; given = 0; shards = 0; capacity = 0; opened = []; put = []; taken = []; pushed = []; popped = []; told_put = []; told_taken = []; handed = [] }
+nobody = record {
+  kind = Nobody;
+  number = 0;
+  made = 0;
+  given = 0;
+  shards = 0;
+  capacity = 0;
+  opened = [];
+  put = [];
+  taken = [];
+  pushed = [];
+  popped = [];
+  told_put = [];
+  told_taken = [];
+  handed = [];
+}
 
 -- the maker after a pass was made
 abbrev pub made_one : View → View
@@ -35,7 +50,16 @@ made_one v = record v { made = v.made + 1 }
 
 -- what the new pass knows
 abbrev pub newcomer : View → View
-newcomer v = record v { kind = Pass; number = v.made; made = 0; pushed = own_of v.made v.put; popped = []; told_put = []; told_taken = []; handed = [] }
+newcomer v = record v {
+  kind = Pass;
+  number = v.made;
+  made = 0;
+  pushed = own_of v.made v.put;
+  popped = [];
+  told_put = [];
+  told_taken = [];
+  handed = [];
+}
 
 -- a new pass: it has seen what the queue was opened with, which pass 0 has pushed
 abbrev pub fresh : ℕ → ℕ → ℕ → List Hint → ℕ → View

@@ -17,7 +17,9 @@ use Rattle.matching.specs.Told.{Compares}
 
 -- whatever a queue holds and whatever the others know, the rule stays when this pass's view becomes some w
 abbrev pub Tells : (List Hint → List View → Type 0) → ℕ → View → (List Hint → View → Type 0) → Type 0
-Tells holds seat v then = (items : List Hint) (views : List View) → holds items views → get_elem? views seat ≡ some v → (w : View) × holds items (slice_set views seat w) × then items w
+Tells holds seat v then =
+    (items : List Hint) (views : List View) → holds items views → get_elem? views seat ≡ some v → (w : View)
+    × holds items (slice_set views seat w) × then items w
 
 -- the seat is one at this queue, and no slot is out with it
 abbrev pub IsSeatOf : Line → Pass Hint View → Type 0
@@ -41,7 +43,8 @@ saw_full_queue st m r m' = (m'.1 ≡ m.1) × (IsLapBehind st m r → SawMany st.
 
 -- a look whether it is empty: the tail is at the head that was seen
 abbrev pub saw_empty_queue : Step (Option Hint) → Sat → ℕ → Sat → Type 0
-saw_empty_queue st m r m' = (m'.1 ≡ m.1) × (r ≡ stamp st.slots m.0.at → SawMany 0 m m') × (r ≢ stamp st.slots m.0.at → m'.0.client ≡ m.0.client)
+saw_empty_queue st m r m' =
+    (m'.1 ≡ m.1) × (r ≡ stamp st.slots m.0.at → SawMany 0 m m') × (r ≢ stamp st.slots m.0.at → m'.0.client ≡ m.0.client)
 
 -- a look that compares what was told
 abbrev pub saw_told : Step (Option Hint) → Sat → ℕ → Sat → Type 0

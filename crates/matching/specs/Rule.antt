@@ -17,7 +17,8 @@ pub record IsHanded (made : ℕ) (holder : ℕ → ℕ) (views : List View) (put
   pub spent : (u : View) × (get_elem? views (holder t.number) ≡ some u) × (u.kind ≡ Nobody)
 
 -- what is true of a pass: its entries are its own pushes and pops
-pub record IsPass (waiting : List Hint) (all width made : ℕ) (holder : ℕ → ℕ) (views : List View) (put taken : List Entry) (id : ℕ) (v : View) : Type 0 where
+pub record IsPass (waiting : List Hint) (all width made : ℕ) (holder : ℕ → ℕ) (views : List View) (put taken : List Entry) (id : ℕ)
+    (v : View) : Type 0 where
   pub sits : holder v.number ≡ id
   pub known : v.number < made
   pub told : (v.given ≡ all) × (v.shards ≡ width) × (v.opened ≡ waiting)
@@ -32,7 +33,8 @@ pub record IsMaker (waiting : List Hint) (all width made id : ℕ) (v : View) : 
   pub put : v.put ≡ by_first waiting
 
 -- what is true of each seat: it has seen, and was told, a beginning of what was put and of what was taken
-pub record IsSeat (waiting : List Hint) (all width made : ℕ) (holder : ℕ → ℕ) (views : List View) (put taken : List Entry) (id : ℕ) (v : View) : Type 0 where
+pub record IsSeat (waiting : List Hint) (all width made : ℕ) (holder : ℕ → ℕ) (views : List View) (put taken : List Entry) (id : ℕ)
+    (v : View) : Type 0 where
   pub seen_put : Begins v.put put
   pub seen_taken : Begins v.taken taken
   pub told_put : Begins v.told_put put

@@ -17,7 +17,16 @@ phase_said kept.Waiting = IsWaiting
 
 -- before the first note
 abbrev pub no_notes : Notes
-no_notes = record { phase = kept.Queued; attempt = 1; ready = None; taken = None; sign_of_life = None; ended = None; details = None; cancel_requested = false }
+no_notes = record {
+  phase = kept.Queued;
+  attempt = 1;
+  ready = None;
+  taken = None;
+  sign_of_life = None;
+  ended = None;
+  details = None;
+  cancel_requested = false;
+}
 
 -- and one more note, at this moment
 abbrev pub noted : ℕ → Note → Notes → Notes

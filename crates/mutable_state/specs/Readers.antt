@@ -37,7 +37,11 @@ used_row c s e = record { event = e.id; name = name_of e.attributes; is_settled 
 
 -- what is kept of a thing in use, where it is of the class and the history has its event
 abbrev pub used_at : Class → List Event → Open → Option UsedRow
-used_at c es o = cond (is_of c o) (option_map (λ (e : Event). record { event = o.opener.event; name = name_of e.attributes; is_settled = o.is_settled }) (event_at o.opener.event es)) None
+used_at c es o = cond (is_of c o) (option_map (λ (e : Event). record {
+  event = o.opener.event;
+  name = name_of e.attributes;
+  is_settled = o.is_settled;
+}) (event_at o.opener.event es)) None
 
 -- what is in use of a class
 abbrev pub used_rows : Class → RunState → List UsedRow

@@ -21,7 +21,8 @@ use Rattle.service_model_types.specs.declared.settings.Settings.{Settings}
 use Rattle.service.specs.Reopening.{opens}
 
 -- the input was read to its end, just its output was written, `refused` says whether a reply in it is a refusal, and the shards' records are those after its lines
-pub record Ran (K : Settings) (trace : Bool) (W : World) (unread held unread' held' : Option (List ℕ)) (refused : Bool) (records : List (List Entry)) : Type 0 where
+pub record Ran (K : Settings) (trace : Bool) (W : World) (unread held unread' held' : Option (List ℕ)) (refused : Bool)
+    (records : List (List Entry)) : Type 0 where
   pub text : List ℕ
   pub read : Consumes unread unread' text
   pub at_end : IsAtEnd unread'

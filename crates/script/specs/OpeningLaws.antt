@@ -7,7 +7,8 @@ use Rattle.script.specs.World.{World, opening_world}
 
 -- each shard is as at its opening, no hint waits, no step is recorded, and none was made
 abbrev pub empty_world : Settings → World
-empty_world K = record { contents = opening_contents K; waiting = replicate (2 * length K.queues) []; records = replicate K.shards []; steps = [] }
+empty_world K =
+    record { contents = opening_contents K; waiting = replicate (2 * length K.queues) []; records = replicate K.shards []; steps = [] }
 
 -- where the settings are in their ranges, that is what a service without records is opened with
 abbrev pub OpensEmpty : Type 0

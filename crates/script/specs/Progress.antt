@@ -7,13 +7,15 @@ use Rattle.script.specs.Lines.{Line}
 use Rattle.script.specs.Pending.{ended, left}
 
 -- text was served behind a line so far: from a cursor, that line and what the writer held, to those after it
-pub record Served (c : Cursor) (line : Line) (held : Option (List ℕ)) (text : List ℕ) (c' : Cursor) (line' : Line) (held' : Option (List ℕ)) : Type 0 where
+pub record Served (c : Cursor) (line : Line) (held : Option (List ℕ)) (text : List ℕ) (c' : Cursor) (line' : Line)
+    (held' : Option (List ℕ)) : Type 0 where
   pub line_is : line' ≡ left line text
   pub cursor_is : c' ≡ after_lines c (ended line text)
   pub written : Appends held held' (lines_text c (ended line text))
 
 -- some text was read and served
-pub record Progress (unread : Option (List ℕ)) (c : Cursor) (line : Line) (held unread' : Option (List ℕ)) (c' : Cursor) (line' : Line) (held' : Option (List ℕ)) : Type 0 where
+pub record Progress (unread : Option (List ℕ)) (c : Cursor) (line : Line) (held unread' : Option (List ℕ)) (c' : Cursor) (line' : Line)
+    (held' : Option (List ℕ)) : Type 0 where
   pub text : List ℕ
   pub read : Consumes unread unread' text
   pub served : Served c line held text c' line' held'

@@ -15,7 +15,8 @@ RecordsTellContents = (K : Settings) (R : List (List Entry)) (lines : List Line)
 
 -- no entry of a record is ever changed or lost
 abbrev pub RecordsGrow : Type 0
-RecordsGrow = (K : Settings) (W : World) (lines : List Line) (shard : ℕ) → Begins (record_at W.records shard) (record_at (records_after K W lines) shard)
+RecordsGrow = (K : Settings) (W : World) (lines : List Line) (shard : ℕ)
+    → Begins (record_at W.records shard) (record_at (records_after K W lines) shard)
 
 -- after any lines a shard's record is the one with which it was opened and, behind it, the steps on that shard among all that were made, in their order
 abbrev pub RecordsTellSteps : Type 0

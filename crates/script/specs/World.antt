@@ -131,9 +131,11 @@ behind W (Ok W') rest = rest W'
 abbrev pub handed : Settings → ADispatchTurn → Stop → NumberedDispatch → World → Came
 handed K t AfterFirstPart d W = record { reply = Ok (answered.Taken d.number); world = W }
 handed K t AfterSecondPart d W =
-    behind W (pushed K W (place_in K.queues d.dispatch.queue) d.dispatch.hint) (λ W'. record { reply = Ok (answered.Pushed d.number); world = W' })
+    behind W (pushed K W (place_in K.queues d.dispatch.queue) d.dispatch.hint)
+    (λ W'. record { reply = Ok (answered.Pushed d.number); world = W' })
 handed K t AtEnd d W =
-    behind W (pushed K W (place_in K.queues d.dispatch.queue) d.dispatch.hint) (λ W'. record { reply = Ok (answered.Dispatched d.number); world = (stepped K W' t.shard (to_dispatched t.at d.number)).world })
+    behind W (pushed K W (place_in K.queues d.dispatch.queue) d.dispatch.hint)
+    (λ W'. record { reply = Ok (answered.Dispatched d.number); world = (stepped K W' t.shard (to_dispatched t.at d.number)).world })
 
 -- what follows the first part: where its reply has no dispatch, that is the turn's
 abbrev pub after_next : Settings → ADispatchTurn → Reply → Option NumberedDispatch → World → Came

@@ -37,14 +37,17 @@ shard_refusal K shard = if nat_lt shard K.shards then None else Some (InvalidArg
 -- a transfer turn names the shard that sends and the one that receives: each has to be there
 abbrev pub ends_refusal : Settings → ℕ → ℕ → Option Refusal
 ends_refusal K from to =
-    if nat_lt from K.shards then (if nat_lt to K.shards then None else Some (InvalidArgument field.To)) else Some (InvalidArgument field.From)
+    if nat_lt from K.shards then (if nat_lt to K.shards then None else Some (InvalidArgument field.To))
+    else Some (InvalidArgument field.From)
 
 abbrev pub token_refusal : Settings → TakenTask → Option Refusal
 token_refusal K t = if is_token K t then None else Some InvalidToken
 
 -- the token is looked at before the commands are counted
 abbrev pub completion_refusal : Settings → CompleteWorkflowTask → Option Refusal
-completion_refusal K q = if is_token K q.task then (if nat_le (length q.commands) most_commands then None else Some (InvalidArgument field.Commands)) else Some InvalidToken
+completion_refusal K q =
+    if is_token K q.task then (if nat_le (length q.commands) most_commands then None else Some (InvalidArgument field.Commands))
+    else Some InvalidToken
 
 -- as what an operation is refused before any shard is entered, where it is; those that name none are served for a call that names their shard
 abbrev pub refusal_of : Settings → Operation → Option Refusal

@@ -98,7 +98,8 @@ ServedOn x p p' refusal shard q r = Answered refusal (IsServedOn x (known_by p) 
 
 -- the same, where it may have waited
 abbrev pub ServedOnAtLast : Service → Pass → Pass → Option Refusal → ℕ → Request → Reply → Type 0
-ServedOnAtLast x p p' refusal shard q r = Answered refusal (IsServedAtLast x (known_by p) (known_by p') shard q r) (known_by p) (known_by p') r
+ServedOnAtLast x p p' refusal shard q r =
+    Answered refusal (IsServedAtLast x (known_by p) (known_by p') shard q r) (known_by p) (known_by p') r
 
 -- the request was answered on its own shard
 abbrev pub Served : Service → Pass → Pass → Request → Reply → Type 0
@@ -110,7 +111,8 @@ ServedAtLast x p p' q r = ServedOnAtLast x p p' (refusal_of x.settings q.operati
 
 -- What a call that never waits made of a request for a shard: it was answered; or it comes back, nothing was seen or done,
 -- and another pass was found on that very shard, or a growth was refused
-pub record IsTriedOn (x : Service) (p p' : Pass) (refusal : Option Refusal) (shard : ℕ) (q : Request) (result : Result Reply (Refused × Request)) : Type 0 where
+pub record IsTriedOn (x : Service) (p p' : Pass) (refusal : Option Refusal) (shard : ℕ) (q : Request)
+    (result : Result Reply (Refused × Request)) : Type 0 where
   pub own : IsPassOf p' x
   pub named : gate.number (known_by p') ≡ gate.number (known_by p)
   pub hints : hints_by p' ≡ hints_by p
@@ -120,7 +122,8 @@ pub record IsTriedOn (x : Service) (p p' : Pass) (refusal : Option Refusal) (sha
 
 -- What a call that may wait made of a request for a shard: it was answered; or it comes back, nothing was seen or done,
 -- and a growth was refused
-pub record IsServedOnBy {E : Type 0} (x : Service) (p p' : Pass) (refusal : Option Refusal) (shard : ℕ) (q : Request) (result : Result Reply (E × Request)) : Type 0 where
+pub record IsServedOnBy {E : Type 0} (x : Service) (p p' : Pass) (refusal : Option Refusal) (shard : ℕ) (q : Request)
+    (result : Result Reply (E × Request)) : Type 0 where
   pub own : IsPassOf p' x
   pub named : gate.number (known_by p') ≡ gate.number (known_by p)
   pub hints : hints_by p' ≡ hints_by p

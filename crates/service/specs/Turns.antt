@@ -36,7 +36,8 @@ AnsweredOn x shard v w q r = Answered (shard_refusal x.settings shard) (IsServed
 abbrev pub Polls : Service → Option ℕ → TaskKind → ℕ → (v w : View Request Content) → (hs ws : List HintView) → Option Reply → Type 0
 Polls x None kind at v w hs ws r = (r ≡ Some (Err UnknownTaskQueue)) × (w ≡ v) × (ws ≡ hs)
 Polls x (Some place) kind at v w hs ws None = (w ≡ v) × StoodAt hs ws (slot_of place kind) 0
-Polls x (Some place) kind at v w hs ws (Some r) = (h : Hint) × TakenAt hs ws (slot_of place kind) h × IsServedAtLast x v w h.shard (to_start_task at h) r
+Polls x (Some place) kind at v w hs ws (Some r) =
+    (h : Hint) × TakenAt hs ws (slot_of place kind) h × IsServedAtLast x v w h.shard (to_start_task at h) r
 
 -- where memory was refused, this hint was popped and no step made
 abbrev pub PollKept : Option ℕ → TaskKind → (v w : View Request Content) → (hs ws : List HintView) → Hint → Type 0
@@ -44,7 +45,8 @@ PollKept None kind v w hs ws h = ⊥
 PollKept (Some place) kind v w hs ws h = TakenAt hs ws (slot_of place kind) h × Waited v w h.shard
 
 -- what a call made of a poll of the queue of that name
-pub record IsPolled {E : Type 0} (x : Service) (p p' : Pass) (queue : List ℕ) (kind : TaskKind) (at : ℕ) (result : Result (Option Reply) (E × Hint)) : Type 0 where
+pub record IsPolled {E : Type 0} (x : Service) (p p' : Pass) (queue : List ℕ) (kind : TaskKind) (at : ℕ)
+    (result : Result (Option Reply) (E × Hint)) : Type 0 where
   pub own : IsPassOf p' x
   pub named : gate.number (known_by p') ≡ gate.number (known_by p)
   pub ok : IfOk result (λ r. Polls x (place_of x queue) kind at (known_by p) (known_by p') (hints_by p) (hints_by p') r)
@@ -63,18 +65,21 @@ AfterPush x shard at AfterSecondPart number v w (Ok done) t = (t ≡ Pushed numb
 AfterPush x shard at stop number v w (Err e) t = (t ≡ Unpushed e) × (w ≡ v)
 
 -- the second part: the hint is pushed to its queue
-pub record Pushing (x : Service) (shard at : ℕ) (stop : Stop) (d : NumberedDispatch) (v w : View Request Content) (hs ws : List HintView) (t : Turned) : Type 0 where
+pub record Pushing (x : Service) (shard at : ℕ) (stop : Stop) (d : NumberedDispatch) (v w : View Request Content) (hs ws : List HintView)
+    (t : Turned) : Type 0 where
   pub pushed : Result (Unit {0}) Refusal
   pub push : Pushes (place_of x d.dispatch.queue) (matching.capacity_of x.queues) hs ws d.dispatch.hint pushed
   pub rest : AfterPush x shard at stop d.number v w pushed t
 
-abbrev pub AfterDispatch : Service → (shard at : ℕ) → Stop → NumberedDispatch → (v w : View Request Content) → (hs ws : List HintView) → Turned → Type 0
+abbrev pub AfterDispatch : Service → (shard at : ℕ) → Stop → NumberedDispatch → (v w : View Request Content) → (hs ws : List HintView)
+    → Turned → Type 0
 AfterDispatch x shard at AtEnd d v w hs ws t = Pushing x shard at AtEnd d v w hs ws t
 AfterDispatch x shard at AfterFirstPart d v w hs ws t = (t ≡ Taken d.number) × (w ≡ v) × (ws ≡ hs)
 AfterDispatch x shard at AfterSecondPart d v w hs ws t = Pushing x shard at AfterSecondPart d v w hs ws t
 
 -- what follows the first part: without a dispatch its reply is the turn's
-abbrev pub AfterNext : Service → (shard at : ℕ) → Stop → Reply → Option NumberedDispatch → (v w : View Request Content) → (hs ws : List HintView) → Turned → Type 0
+abbrev pub AfterNext : Service → (shard at : ℕ) → Stop → Reply → Option NumberedDispatch → (v w : View Request Content)
+    → (hs ws : List HintView) → Turned → Type 0
 AfterNext x shard at stop r None v w hs ws t = (t ≡ First r) × (w ≡ v) × (ws ≡ hs)
 AfterNext x shard at stop r (Some d) v w hs ws t = AfterDispatch x shard at stop d v w hs ws t
 

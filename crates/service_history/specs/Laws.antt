@@ -17,7 +17,8 @@ pub record IsClosed (x : Service) (records : List (List Entry)) (tickets : List 
 
 -- these records may be merged by these tickets
 abbrev pub ClosedMayBeMerged : Type 0
-ClosedMayBeMerged = (x : Service) (records : List (List Entry)) (tickets : List (List ℕ)) → IsClosed x records tickets → AreTicketed records tickets
+ClosedMayBeMerged = (x : Service) (records : List (List Entry)) (tickets : List (List ℕ)) → IsClosed x records tickets
+    → AreTicketed records tickets
 
 -- A list of steps is the history of the service: each shard's record is its part of it, what comes before each step grounds it, and at every place,
 -- for every pair of shards, of the transfers from one to the other those that are acknowledged begin those that are accepted, and these begin those that were issued
@@ -28,5 +29,6 @@ pub record IsTheHistory (x : Service) (records : List (List Entry)) (steps : Who
 
 -- what is merged of them, without its tickets, is the service's history
 abbrev pub MergedIsTheHistory : Type 0
-MergedIsTheHistory = (x : Service) (records : List (List Entry)) (tickets : List (List ℕ)) (steps : List (ℕ × (ℕ × Entry))) → IsClosed x records tickets
+MergedIsTheHistory = (x : Service) (records : List (List Entry)) (tickets : List (List ℕ)) (steps : List (ℕ × (ℕ × Entry)))
+    → IsClosed x records tickets
     → IsMerged steps records tickets → IsTheHistory x records (map (λ (s : ℕ × (ℕ × Entry)). s.1) steps)

@@ -20,7 +20,8 @@ use Rattle.shard_store.specs.View.{ShardState}
 
 -- what a start of a known queue does, by the workflow ID's latest run
 abbrev pub decided_by : Runs → Start → Option ℕ → Outcome
-decided_by R q latest_one = by_decision R (unwrap_or latest_one 0) (started_fact R.moment q ∷ first_task q.task_queue ∷ []) (decision R q latest_one)
+decided_by R q latest_one =
+    by_decision R (unwrap_or latest_one 0) (started_fact R.moment q ∷ first_task q.task_queue ∷ []) (decision R q latest_one)
 
 abbrev pub decided : Runs → Start → Outcome
 decided R q = decided_by R q (latest_run R.states q.workflow_id)

@@ -14,7 +14,17 @@ use Rattle.shard_steps.specs.declared.starts.Beginning.{Beginning}
 -- how its run begins
 abbrev pub child_beginning : StartChildTransfer → Beginning
 child_beginning c = record {
-  started = record { workflow_id = c.workflow_id; workflow_type = c.workflow_type; task_queue = c.task_queue; input = c.input; run_timeout = c.run_timeout; task_timeout = used_task_timeout c.task_timeout; continued_from = None; parent = Some (record { run = c.parent_run; event = c.initiated }); execution_deadline = None };
+  started = record {
+    workflow_id = c.workflow_id;
+    workflow_type = c.workflow_type;
+    task_queue = c.task_queue;
+    input = c.input;
+    run_timeout = c.run_timeout;
+    task_timeout = used_task_timeout c.task_timeout;
+    continued_from = None;
+    parent = Some (record { run = c.parent_run; event = c.initiated });
+    execution_deadline = None;
+  };
   request_id = None;
   facts = first_task c.task_queue ∷ [];
 }
@@ -25,4 +35,7 @@ is_free_for R c = is_new (decide (option_map (λ n. (run_at R n).status) (latest
 
 -- what its start does then
 abbrev pub starts_child : Runs → Transfer → StartChildTransfer → Outcome
-starts_child R t c = accepts t None (Some (child_facts c)) (record { to = c.parent_run.shard; content = ChildStarted (record { parent_run = c.parent_run; initiated = c.initiated; run = run_id R.setup (next_ordinal R) }) } ∷ [])
+starts_child R t c = accepts t None (Some (child_facts c)) (record {
+  to = c.parent_run.shard;
+  content = ChildStarted (record { parent_run = c.parent_run; initiated = c.initiated; run = run_id R.setup (next_ordinal R) });
+} ∷ [])

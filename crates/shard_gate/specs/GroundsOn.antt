@@ -22,15 +22,18 @@ accepted-replay : (s : ℕ) (a : Acknowledge) (S : Content) (R : List Entry) →
 accepted-replay s a S [] h = h
 accepted-replay s a S (e ∷ R) h = accepted-replay s a (after S e.request) R (accepted-on s a S e.request h)
 
-later-at : (cs ds : List Content) (k : ℕ) (c : Content) → Later after cs ds → slice_get cs k ≡ Some c → (log : List Entry) × (slice_get ds k ≡ Some (replay after c log))
+later-at : (cs ds : List Content) (k : ℕ) (c : Content) → Later after cs ds → slice_get cs k ≡ Some c
+    → (log : List Entry) × (slice_get ds k ≡ Some (replay after c log))
 later-at [] ds k c h e = absurd (no-some e)
 later-at (x ∷ cs) [] k c h e = absurd h
 later-at (x ∷ cs) (y ∷ ds) zero c h e = (h.0.0, ap Some (h.0.1 ∙ ap (λ (z : Content). replay after z h.0.0) (some-same e)))
 later-at (x ∷ cs) (y ∷ ds) (suc k) c h e = later-at cs ds k c h.1 e
 
 by-kind : (cs ds : List Content) (s : ℕ) (a : Operation) → Later after cs ds → Grounds cs s a → Grounds ds s a
-by-kind cs ds s (operation.Deliver t) h g = let l = later-at cs ds t.from g.0 h g.1 in (replay after g.0 l.0, l.1, holds-replay s t g.0 l.0 g.2)
-by-kind cs ds s (operation.Acknowledge a) h g = let l = later-at cs ds a.to g.0 h g.1 in (replay after g.0 l.0, l.1, accepted-replay s a g.0 l.0 g.2)
+by-kind cs ds s (operation.Deliver t) h g =
+    let l = later-at cs ds t.from g.0 h g.1 in (replay after g.0 l.0, l.1, holds-replay s t g.0 l.0 g.2)
+by-kind cs ds s (operation.Acknowledge a) h g =
+    let l = later-at cs ds a.to g.0 h g.1 in (replay after g.0 l.0, l.1, accepted-replay s a g.0 l.0 g.2)
 by-kind cs ds s (operation.Start x) h g = tt
 by-kind cs ds s (operation.Signal x) h g = tt
 by-kind cs ds s (operation.SignalWithStart x) h g = tt

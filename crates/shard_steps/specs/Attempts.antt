@@ -21,7 +21,16 @@ abbrev pub task_by : WaitingTask → Run → List ℕ → ActivityRow → Option
 task_by h run id r None = None
 task_by h run id r (Some a) =
     cond (waits_at h.attempt r)
-    (Some (record { activity_id = a.activity_id; activity_type = a.activity_type; attempt = h.attempt; details = r.details; input = a.input; run = run; scheduled = h.event; workflow_id = id }))
+    (Some (record {
+      activity_id = a.activity_id;
+      activity_type = a.activity_type;
+      attempt = h.attempt;
+      details = r.details;
+      input = a.input;
+      run = run;
+      scheduled = h.event;
+      workflow_id = id;
+    }))
     None
 
 abbrev pub task_of : WaitingTask → Run → List ℕ → ActivityRow → Option ActivityTask

@@ -45,7 +45,8 @@ queued_dispatch setup run s id = option_and_then (row_dispatch setup run) (pendi
 
 -- the dispatches that a step issued for the run with this ordinal, where the run had shown so many events before, and the step queued the attempt of this activity again
 abbrev pub issued_since : Setup → ℕ → Option ℕ → ℕ → RunState → List Dispatch
-issued_since setup shown ready run s = filter_map (task_dispatch setup run) (drop shown s.shown) ++ option_to_list (option_and_then (queued_dispatch setup run s) ready)
+issued_since setup shown ready run s =
+    filter_map (task_dispatch setup run) (drop shown s.shown) ++ option_to_list (option_and_then (queued_dispatch setup run s) ready)
 
 -- those that a step issued for the run with this ordinal that it made
 abbrev pub issued_first : Setup → ℕ → RunState → List Dispatch
@@ -63,7 +64,8 @@ of_made setup (Some n) runs = issued_first setup (n + 1) (slice_index_or runs n 
 
 -- all that waits, where these runs changed last
 abbrev pub all_waiting : Setup → DispatchesView → Changed → List RunState → Waiting
-all_waiting setup d changed runs = with_issued (with_issued d.waiting (of_grown setup d changed.grown runs)) (of_made setup changed.made runs)
+all_waiting setup d changed runs =
+    with_issued (with_issued d.waiting (of_grown setup d changed.grown runs)) (of_made setup changed.made runs)
 
 -- the first that waits, under its number
 abbrev pub next_waiting : Waiting → Outcome

@@ -37,11 +37,13 @@ pub record IsCaughtUp (u : Outstanding) : Type 0 where
   pub answer : u.answer ≡ None
 
 -- something of each run is kept at its place, but for the runs that changed
-pub record KeepsEach {A B : Type 0} (says : A → B) (fact : ℕ → RunState → B) (none : A) (slots : List A) (changed : Changed) (runs : List RunState) : Type 0 where
+pub record KeepsEach {A B : Type 0} (says : A → B) (fact : ℕ → RunState → B) (none : A) (slots : List A) (changed : Changed)
+    (runs : List RunState) : Type 0 where
   pub count : length slots ≡ length runs
   pub grown : IfSome changed.grown (λ n. n < length runs)
   pub made : IfSome changed.made (λ n. n < length runs)
-  pub each : (n : ℕ) (s : RunState) → slice_get runs n ≡ Some s → changed.grown ≢ Some n → changed.made ≢ Some n → says (slice_index_or slots n none) ≡ fact n s
+  pub each : (n : ℕ) (s : RunState) → slice_get runs n ≡ Some s → changed.grown ≢ Some n → changed.made ≢ Some n
+      → says (slice_index_or slots n none) ≡ fact n s
 
 -- the first deadline of each run is, with a retention
 abbrev pub HasFirsts : ℕ → List (Option Due) → Changed → List RunState → Type 0

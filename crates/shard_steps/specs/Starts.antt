@@ -16,7 +16,17 @@ use Rattle.shard_steps.specs.declared.starts.Beginning.{Beginning}
 
 -- what a start writes first in a run that is made at that moment
 abbrev pub started_by : ℕ → Start → StartedAttributes
-started_by moment q = record { workflow_id = q.workflow_id; workflow_type = q.workflow_type; task_queue = q.task_queue; input = q.input; run_timeout = q.run_timeout; task_timeout = used_task_timeout q.task_timeout; continued_from = None; parent = None; execution_deadline = deadline_of moment q.execution_timeout }
+started_by moment q = record {
+  workflow_id = q.workflow_id;
+  workflow_type = q.workflow_type;
+  task_queue = q.task_queue;
+  input = q.input;
+  run_timeout = q.run_timeout;
+  task_timeout = used_task_timeout q.task_timeout;
+  continued_from = None;
+  parent = None;
+  execution_deadline = deadline_of moment q.execution_timeout;
+}
 
 -- how the run of a start begins
 abbrev pub beginning_of : ℕ → Start → Beginning
@@ -24,7 +34,11 @@ beginning_of moment q = record { started = started_by moment q; request_id = q.r
 
 -- the same of a run that is signaled
 abbrev pub signaled_beginning : ℕ → SignalWithStart → Beginning
-signaled_beginning moment q = record { started = started_by moment (start_in q); request_id = q.request_id; facts = signal_fact q.request_id q.name q.signal_input ∷ first_task q.task_queue ∷ [] }
+signaled_beginning moment q = record {
+  started = started_by moment (start_in q);
+  request_id = q.request_id;
+  facts = signal_fact q.request_id q.name q.signal_input ∷ first_task q.task_queue ∷ [];
+}
 
 -- all that the first step adds to a run that begins so
 abbrev pub first_facts : Beginning → List Fact

@@ -230,7 +230,8 @@ outgoing_answered (Some a) all = with_all_sent (a ∷ []) 0 all
 
 -- what is known of a shard once a count was moved on
 abbrev pub after_count : Count → ShardState → ShardState
-after_count k s = record s { waiting = counted_by k s.waiting; outgoing = acknowledged_by k s.outgoing; accepted = accepted_by k s.accepted }
+after_count k s =
+    record s { waiting = counted_by k s.waiting; outgoing = acknowledged_by k s.outgoing; accepted = accepted_by k s.accepted }
 
 -- and once facts were added to an older run
 abbrev pub after_added : Option MoreOf → ShardState → ShardState

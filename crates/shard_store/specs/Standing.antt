@@ -12,7 +12,14 @@ use Rattle.shard_store.specs.View.{ShardView, ShardState, state}
 
 -- what can be known of a content
 abbrev pub known : Content → ShardState
-known S = record { setup = S.setup; runs = map state_of S.runs; last = S.last_moment; waiting = waiting_in S; outgoing = S.outgoing; accepted = S.accepted }
+known S = record {
+  setup = S.setup;
+  runs = map state_of S.runs;
+  last = S.last_moment;
+  waiting = waiting_in S;
+  outgoing = S.outgoing;
+  accepted = S.accepted;
+}
 
 -- the shard says what the content's journals, dispatches and transfers say, each journal is formed as steps form it, and what was counted was issued
 pub record StandsFor (v : ShardView) (S : Content) : Type 0 where
@@ -25,4 +32,5 @@ pub record StandsFor (v : ShardView) (S : Content) : Type 0 where
 
 -- each run showed before what it shows first after, or was taken away
 pub record Grows (old new : List RunState) : Type 0 where
-  pub runs : (n : ℕ) (s : RunState) → slice_get old n ≡ Some s → (t : RunState) × (more : List Event) × (slice_get new n ≡ Some t) × ((t ≡ no_run) ⊎ (t.shown ≡ s.shown ++ more))
+  pub runs : (n : ℕ) (s : RunState) → slice_get old n ≡ Some s
+      → (t : RunState) × (more : List Event) × (slice_get new n ≡ Some t) × ((t ≡ no_run) ⊎ (t.shown ≡ s.shown ++ more))

@@ -13,10 +13,20 @@ use Rattle.service_model.specs.Completion.{pending_so_far}
 use Rattle.task_completion.specs.declared.outward.Outward.{Outward}
 
 abbrev pub child_asked : StartChild → Attributes
-child_asked c = StartChildWorkflowExecutionInitiated (record { workflow_id = c.workflow_id; workflow_type = c.workflow_type; task_queue = c.task_queue; input = c.input; reuse = c.reuse; parent_close = c.parent_close; run_timeout = c.run_timeout; task_timeout = used_task_timeout c.task_timeout })
+child_asked c = StartChildWorkflowExecutionInitiated (record {
+  workflow_id = c.workflow_id;
+  workflow_type = c.workflow_type;
+  task_queue = c.task_queue;
+  input = c.input;
+  reuse = c.reuse;
+  parent_close = c.parent_close;
+  run_timeout = c.run_timeout;
+  task_timeout = used_task_timeout c.task_timeout;
+})
 
 abbrev pub external_signal : SignalExternal → Attributes
-external_signal c = SignalExternalWorkflowExecutionInitiated (record { workflow_id = c.workflow_id; run = c.run; name = c.name; input = c.input })
+external_signal c =
+    SignalExternalWorkflowExecutionInitiated (record { workflow_id = c.workflow_id; run = c.run; name = c.name; input = c.input })
 
 abbrev pub external_cancel : RequestCancelExternal → Attributes
 external_cancel c = RequestCancelExternalWorkflowExecutionInitiated (record { workflow_id = c.workflow_id; run = c.run })

@@ -15,7 +15,8 @@ kind_byte Activity = 2
 
 -- the version 1, the kind, and then the numbers, their high bytes first
 abbrev pub token_bytes : TaskToken → List ℕ
-token_bytes t = 1 ∷ kind_byte t.kind ∷ (to_be_bytes w16 t.shard ++ (to_be_bytes w64 t.run ++ (to_be_bytes w64 t.event ++ to_be_bytes w32 t.attempt)))
+token_bytes t =
+    1 ∷ kind_byte t.kind ∷ (to_be_bytes w16 t.shard ++ (to_be_bytes w64 t.run ++ (to_be_bytes w64 t.event ++ to_be_bytes w32 t.attempt)))
 
 -- the text of a token
 unfoldable pub token_text : TaskToken → List ℕ

@@ -52,4 +52,5 @@ pub record HasActivity (s : RunState) (id : ℕ) : Type 0 where
 -- of each run, where the ordinals count from n, its first deadline is kept at its place
 pub record KeepsFirsts (retention n : ℕ) (slots : List (Option Kept)) (states : List RunState) : Type 0 where
   pub count : length slots ≡ length states
-  pub first : (k : ℕ) (s : RunState) → slice_get states k ≡ Some s → option_map run_due (slice_index_or slots k None) ≡ first_due retention (n + k) s
+  pub first : (k : ℕ) (s : RunState) → slice_get states k ≡ Some s
+      → option_map run_due (slice_index_or slots k None) ≡ first_due retention (n + k) s

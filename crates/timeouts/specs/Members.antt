@@ -13,4 +13,5 @@ pub record Members : Type 0 where
 
 abbrev pub members_code : Coded Members
 members_code =
-    code_by (FinMap nat_cmp Due × ℕ) (coded× (code coded_ℕ due_row.coded) coded_ℕ) (λ m. (m.members, m.room)) (λ p. record { members = p.0; room = p.1 }) (λ _. refl)
+    code_by (FinMap nat_cmp Due
+    × ℕ) (coded× (code coded_ℕ due_row.coded) coded_ℕ) (λ m. (m.members, m.room)) (λ p. record { members = p.0; room = p.1 }) (λ _. refl)

@@ -25,11 +25,13 @@ room_to logs to = slice_index (map (λ (l : Log TransferContent). l.room) logs) 
 
 -- one more transfer to a destination
 abbrev pub issued_to : List Outgoing → ℕ → TransferContent → List Outgoing
-issued_to all to content = let o = outgoing_to all to in slice_set all to (record { issued = o.issued ++ content ∷ []; acknowledged = o.acknowledged })
+issued_to all to content =
+    let o = outgoing_to all to in slice_set all to (record { issued = o.issued ++ content ∷ []; acknowledged = o.acknowledged })
 
 -- a destination acknowledged a number
 abbrev pub acknowledged_to : List Outgoing → ℕ → Acknowledged → List Outgoing
-acknowledged_to all to answer = let o = outgoing_to all to in slice_set all to (record { issued = o.issued; acknowledged = counted answer o.acknowledged })
+acknowledged_to all to answer =
+    let o = outgoing_to all to in slice_set all to (record { issued = o.issued; acknowledged = counted answer o.acknowledged })
 
 -- those of these that are for a destination
 abbrev pub sent_to : List Sent → ℕ → List Sent

@@ -27,14 +27,17 @@ unless_factor (Some f) c = None
 -- a retry policy, by its coefficient or by a factor in its place
 unfoldable pub policy_rows : Option ℕ → PolicyFields → List Row
 policy_rows factor p =
-    count (codes "attempts") p.attempts ∷ if_count (codes "coefficient") (unless_factor factor p.coefficient) ∷ if_count (codes "factor") factor
+    count (codes "attempts") p.attempts ∷ if_count (codes "coefficient") (unless_factor factor p.coefficient)
+    ∷ if_count (codes "factor") factor
     ∷ count (codes "initial") p.initial ∷ count (codes "maximum") p.maximum ∷ whole (codes "non_retryable") (text_list p.non_retryable) ∷ []
 
 unfoldable pub activity_rows : Option ℕ → ScheduleActivityTask → List Row
 activity_rows factor c =
     text (codes "activity_id") c.activity_id ∷ text (codes "activity_type") c.activity_type ∷ count (codes "heartbeat") c.heartbeat
-    ∷ text (codes "input") c.input ∷ whole (codes "retry") (object_of (policy_rows factor c.retry)) ∷ count (codes "schedule_to_close") c.schedule_to_close
-    ∷ count (codes "schedule_to_start") c.schedule_to_start ∷ count (codes "start_to_close") c.start_to_close ∷ text (codes "task_queue") c.task_queue
+    ∷ text (codes "input") c.input ∷ whole (codes "retry") (object_of (policy_rows factor c.retry))
+    ∷ count (codes "schedule_to_close") c.schedule_to_close
+    ∷ count (codes "schedule_to_start") c.schedule_to_start ∷ count (codes "start_to_close") c.start_to_close
+    ∷ text (codes "task_queue") c.task_queue
     ∷ text (codes "type") (codes "ScheduleActivityTask") ∷ []
 
 unfoldable pub timer_rows : StartTimer → List Row
@@ -53,9 +56,11 @@ continue_rows c =
 
 unfoldable pub child_rows : StartChild → List Row
 child_rows c =
-    text (codes "input") c.input ∷ text (codes "parent_close") (parent_close_name c.parent_close) ∷ text (codes "reuse") (reuse_name c.reuse)
+    text (codes "input") c.input ∷ text (codes "parent_close") (parent_close_name c.parent_close)
+    ∷ text (codes "reuse") (reuse_name c.reuse)
     ∷ count (codes "run_timeout") c.run_timeout ∷ text (codes "task_queue") c.task_queue ∷ count (codes "task_timeout") c.task_timeout
-    ∷ text (codes "type") (codes "StartChildWorkflowExecution") ∷ text (codes "workflow_id") c.workflow_id ∷ text (codes "workflow_type") c.workflow_type ∷ []
+    ∷ text (codes "type") (codes "StartChildWorkflowExecution") ∷ text (codes "workflow_id") c.workflow_id
+    ∷ text (codes "workflow_type") c.workflow_type ∷ []
 
 unfoldable pub external_signal_rows : SignalExternal → List Row
 external_signal_rows c =
@@ -64,7 +69,8 @@ external_signal_rows c =
 
 unfoldable pub external_cancel_rows : RequestCancelExternal → List Row
 external_cancel_rows c =
-    if_run (codes "run") c.run ∷ text (codes "type") (codes "RequestCancelExternalWorkflowExecution") ∷ text (codes "workflow_id") c.workflow_id ∷ []
+    if_run (codes "run") c.run ∷ text (codes "type") (codes "RequestCancelExternalWorkflowExecution")
+    ∷ text (codes "workflow_id") c.workflow_id ∷ []
 
 -- a command of one field
 abbrev pub one_text : List ℕ → List ℕ → List ℕ → List Row

@@ -43,7 +43,8 @@ activity_failed_members state ms = ms ▸ ok_member (codes "failed") ▸ text_me
 
 -- a failure that is retried
 abbrev pub retrying_members : Retrying → Members → Members
-retrying_members r ms = ms ▸ ok_member (codes "retrying") ▸ number_member (codes "attempt") r.attempt ▸ number_member (codes "ready") r.ready
+retrying_members r ms =
+    ms ▸ ok_member (codes "retrying") ▸ number_member (codes "attempt") r.attempt ▸ number_member (codes "ready") r.ready
 
 -- a heartbeat
 abbrev pub heartbeat_members : Bool → Members → Members
@@ -56,7 +57,8 @@ history_members h ms = ms ▸ with_run (codes "history") h.run ▸ put (codes "e
 -- how many of each there are
 unfoldable pub count_members : Description → Members → Members
 count_members d ms =
-    ms ▸ number_member (codes "activities") d.activities ▸ number_member (codes "cancels") d.cancels ▸ number_member (codes "children") d.children
+    ms ▸ number_member (codes "activities") d.activities ▸ number_member (codes "cancels") d.cancels
+    ▸ number_member (codes "children") d.children
     ▸ number_member (codes "held") d.held ▸ number_member (codes "length") d.length ▸ number_member (codes "signals") d.signals
     ▸ number_member (codes "timers") d.timers
 

@@ -21,7 +21,8 @@ token_member kind run scheduled attempt ms = ms ▸ text_member (codes "token") 
 unfoldable pub workflow_task_members : WorkflowTask → Members → Members
 workflow_task_members t ms =
     ms ▸ text_member (codes "ok") (codes "task") ▸ number_member (codes "attempt") t.attempt ▸ run_member (codes "run") t.run
-    ▸ number_member (codes "started") t.started ▸ token_member Workflow t.run t.scheduled t.attempt ▸ text_member (codes "workflow_id") t.workflow_id
+    ▸ number_member (codes "started") t.started ▸ token_member Workflow t.run t.scheduled t.attempt
+    ▸ text_member (codes "workflow_id") t.workflow_id
 
 -- an activity, and what it is handed
 unfoldable pub activity_members : ActivityTask → Members → Members

@@ -37,7 +37,10 @@ type_name RequestCancelExternalWorkflowExecution = codes "RequestCancelExternalW
 
 -- the type that has this name
 abbrev pub type_named : List ℕ → Option CommandType
-type_named = named type_name (ScheduleActivityTask ∷ RequestCancelActivityTask ∷ StartTimer ∷ CancelTimer ∷ RecordMarker ∷ CompleteWorkflowExecution ∷ FailWorkflowExecution ∷ CancelWorkflowExecution ∷ ContinueAsNewWorkflowExecution ∷ StartChildWorkflowExecution ∷ SignalExternalWorkflowExecution ∷ RequestCancelExternalWorkflowExecution ∷ [])
+type_named =
+    named type_name (ScheduleActivityTask ∷ RequestCancelActivityTask ∷ StartTimer ∷ CancelTimer ∷ RecordMarker ∷ CompleteWorkflowExecution
+    ∷ FailWorkflowExecution ∷ CancelWorkflowExecution ∷ ContinueAsNewWorkflowExecution ∷ StartChildWorkflowExecution
+    ∷ SignalExternalWorkflowExecution ∷ RequestCancelExternalWorkflowExecution ∷ [])
 
 abbrev pub type_of : Field → Data → Result CommandType Refusal
 type_of field d = string_of field d >>= (λ text. ok_or (type_named text) (InvalidArgument field))
@@ -64,7 +67,13 @@ continue_of d = do
   input ← or_default text_of [] field.Input d
   run_timeout ← optional span_of field.RunTimeout d
   task_timeout ← optional span_of field.TaskTimeout d
-  Ok (record { workflow_type = workflow_type; task_queue = task_queue; input = input; run_timeout = run_timeout; task_timeout = task_timeout })
+  Ok (record {
+    workflow_type = workflow_type;
+    task_queue = task_queue;
+    input = input;
+    run_timeout = run_timeout;
+    task_timeout = task_timeout;
+  })
 
 -- the fields of each type of command: their faults are looked for in the order in which they stand here
 abbrev pub fields_of : CommandType → Data → Result Command Refusal

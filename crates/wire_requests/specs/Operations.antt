@@ -69,7 +69,8 @@ call_of settings op.Signal at line = signal_of line >>= (λ x. asks at (operatio
 call_of settings op.SignalWithStart at line = signal_with_start_of line >>= (λ x. asks at (operation.SignalWithStart x))
 call_of settings op.RequestCancel at line = request_cancel_of line >>= (λ x. asks at (operation.RequestCancel x))
 call_of settings op.Terminate at line = terminate_of line >>= (λ x. asks at (operation.Terminate x))
-call_of settings op.CompleteWorkflowTask at line = complete_workflow_task_of settings line >>= (λ x. asks at (operation.CompleteWorkflowTask x))
+call_of settings op.CompleteWorkflowTask at line =
+    complete_workflow_task_of settings line >>= (λ x. asks at (operation.CompleteWorkflowTask x))
 call_of settings op.FailWorkflowTask at line = fail_workflow_task_of settings line >>= (λ x. asks at (operation.FailWorkflowTask x))
 call_of settings op.CompleteActivity at line = activity_text_of settings field.Result line >>= (λ x. asks at (operation.CompleteActivity x))
 call_of settings op.FailActivity at line = fail_activity_of settings line >>= (λ x. asks at (operation.FailActivity x))

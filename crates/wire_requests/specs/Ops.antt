@@ -33,7 +33,10 @@ op_name TransferTurn = codes "transfer_turn"
 
 -- the operation that has this name
 abbrev pub op_named : List ℕ → Option Op
-op_named = named op_name (Start ∷ Signal ∷ SignalWithStart ∷ RequestCancel ∷ Terminate ∷ CompleteWorkflowTask ∷ FailWorkflowTask ∷ CompleteActivity ∷ FailActivity ∷ CancelActivity ∷ Heartbeat ∷ History ∷ Describe ∷ TimerTurn ∷ PollWorkflowTask ∷ PollActivityTask ∷ DispatchTurn ∷ TransferTurn ∷ [])
+op_named =
+    named op_name (Start ∷ Signal ∷ SignalWithStart ∷ RequestCancel ∷ Terminate ∷ CompleteWorkflowTask ∷ FailWorkflowTask ∷ CompleteActivity
+    ∷ FailActivity ∷ CancelActivity ∷ Heartbeat ∷ History ∷ Describe ∷ TimerTurn ∷ PollWorkflowTask ∷ PollActivityTask ∷ DispatchTurn
+    ∷ TransferTurn ∷ [])
 
 abbrev pub op_of : Field → Data → Result Op Refusal
 op_of field d = string_of field d >>= (λ text. ok_or (op_named text) (InvalidArgument field))

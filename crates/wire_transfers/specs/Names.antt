@@ -53,7 +53,9 @@ transfer_kind_name kind.CancelExternal = codes "cancel_external"
 transfer_kind_name kind.ExternalDone = codes "external_done"
 
 abbrev pub transfer_kind_named : List ℕ → Option TransferKind
-transfer_kind_named = named transfer_kind_name (kind.StartChild ∷ kind.ChildStarted ∷ kind.ChildStartFailed ∷ kind.ChildClosed ∷ kind.CloseChild ∷ kind.SignalExternal ∷ kind.CancelExternal ∷ kind.ExternalDone ∷ [])
+transfer_kind_named =
+    named transfer_kind_name (kind.StartChild ∷ kind.ChildStarted ∷ kind.ChildStartFailed ∷ kind.ChildClosed ∷ kind.CloseChild
+    ∷ kind.SignalExternal ∷ kind.CancelExternal ∷ kind.ExternalDone ∷ [])
 
 abbrev pub transfer_kind_of : Field → Data → Result TransferKind Refusal
 transfer_kind_of f d = string_of f d >>= (λ text. ok_or (transfer_kind_named text) (InvalidArgument f))

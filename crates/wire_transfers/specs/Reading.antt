@@ -33,7 +33,17 @@ start_child_of d = do
   task_timeout ← required span_of field.TaskTimeout d
   workflow_id ← required id_of field.WorkflowId d
   workflow_type ← required text_of field.WorkflowType d
-  Ok (record { parent_run = parent_run; initiated = initiated; workflow_id = workflow_id; workflow_type = workflow_type; task_queue = task_queue; input = input; reuse = reuse; run_timeout = run_timeout; task_timeout = task_timeout })
+  Ok (record {
+    parent_run = parent_run;
+    initiated = initiated;
+    workflow_id = workflow_id;
+    workflow_type = workflow_type;
+    task_queue = task_queue;
+    input = input;
+    reuse = reuse;
+    run_timeout = run_timeout;
+    task_timeout = task_timeout;
+  })
 
 unfoldable pub child_started_of : Data → Result ChildStarted Refusal
 child_started_of d = do

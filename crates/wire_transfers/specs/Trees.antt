@@ -20,7 +20,8 @@ unfoldable pub start_child_rows : StartChildTransfer → List Row
 start_child_rows c =
     count (codes "initiated") c.initiated ∷ text (codes "input") c.input ∷ run (codes "parent_run") c.parent_run
     ∷ text (codes "reuse") (reuse_name c.reuse) ∷ count (codes "run_timeout") c.run_timeout ∷ text (codes "task_queue") c.task_queue
-    ∷ count (codes "task_timeout") c.task_timeout ∷ text (codes "workflow_id") c.workflow_id ∷ text (codes "workflow_type") c.workflow_type ∷ []
+    ∷ count (codes "task_timeout") c.task_timeout ∷ text (codes "workflow_id") c.workflow_id ∷ text (codes "workflow_type") c.workflow_type
+    ∷ []
 
 unfoldable pub child_started_rows : ChildStarted → List Row
 child_started_rows c =
@@ -68,5 +69,6 @@ content_rows (content.ExternalDone c) = external_done_rows c
 
 unfoldable pub transfer_rows : Transfer → List Row
 transfer_rows t =
-    whole (codes "content") (object_of (content_rows t.content)) ∷ count (codes "from") t.from ∷ text (codes "kind") (transfer_kind_name (kind_of t.content))
+    whole (codes "content") (object_of (content_rows t.content)) ∷ count (codes "from") t.from
+    ∷ text (codes "kind") (transfer_kind_name (kind_of t.content))
     ∷ count (codes "number") t.number ∷ []
