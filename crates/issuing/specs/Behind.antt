@@ -7,7 +7,7 @@ use Rattle.service_model_types.specs.declared.content.Setup.{Setup}
 use Rattle.service_model_types.specs.declared.transfer.Sent.{Sent}
 use Rattle.service_model.specs.Issued.{requests_of, close_transfer, children_left, closed_transfer}
 
--- those of its closing, where these are all its events, and those the later ones
+-- the transfers of a run's closing, where these are all its events, and those the later ones
 abbrev pub closings_behind : Setup → Run → Option Parent → List Event → List Event → List Sent
 closings_behind setup run parent events later =
     filter_map (close_transfer setup run) (children_left events) ++ filter_map (closed_transfer run parent) later

@@ -12,7 +12,7 @@ pushed_at capacity all slot hint =
     let waiting = slice_index_or all slot [] in
     if nat_lt (length waiting) capacity then Ok (slice_set all slot (waiting ++ hint ∷ [])) else Err QueueFull
 
--- the same in the queue of a place, if there is one
+-- a hint is pushed to the queue of a place, if there is one
 abbrev pub pushed : ℕ → List (List Hint) → Option ℕ → Hint → Result (List (List Hint)) Refusal
 pushed capacity all None hint = Err UnknownTaskQueue
 pushed capacity all (Some place) hint = pushed_at capacity all (slot_of place hint.kind) hint
@@ -23,7 +23,7 @@ abbrev pub then_push : Result (List (List Hint)) Refusal → (List (List Hint) �
 then_push (Err refusal) rest = Err refusal
 then_push (Ok all) rest = rest all
 
--- these dispatches, one after another, till one is refused
+-- dispatches are pushed one after another, till one is refused
 abbrev pub all_pushed : List (List ℕ) → ℕ → List (List Hint) → List Dispatch → Result (List (List Hint)) Refusal
 all_pushed names capacity all [] = Ok all
 all_pushed names capacity all (d ∷ ds) =

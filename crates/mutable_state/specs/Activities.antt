@@ -9,7 +9,7 @@ use Rattle.mutable_state.specs.declared.open.Open.{Open}
 use Rattle.mutable_state.specs.Noted.{kept_row}
 use Rattle.mutable_state.specs.Opens.{event_at, activity_of, is_one, row_at}
 
--- its row
+-- the row of an activity that is in use
 abbrev pub row_said : Activity → ActivityRow
 row_said a = kept_row a.notes a.scheduled
 
@@ -32,7 +32,7 @@ noted_activity r = record { scheduled = r.opened.id; is_running = is_running_pha
 abbrev pub noted_activities : RunState → List NotedActivity
 noted_activities s = map noted_activity s.activities
 
--- the same of a thing that is kept, where it is an activity
+-- what is noted of a thing that is kept, where it is an activity
 abbrev pub activity_at : List Event → Open → Option NotedActivity
 activity_at es o = option_map noted_activity (row_at es o)
 

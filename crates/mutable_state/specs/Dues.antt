@@ -24,7 +24,7 @@ task_dues a t = cond (is_started_task (phase_in t.phase)) (due_after t.started_a
 abbrev pub own_dues : ℕ → StartedAttributes → WorkflowTask → List Due
 own_dues begun a t = deadline_dues a.execution_deadline ++ due_after begun a.run_timeout RunTimeout 1 ++ task_dues a t
 
--- those of a run's pending timers
+-- the deadlines of a run's pending timers
 abbrev pub pending_timer_dues : RunState → List Due
 pending_timer_dues s = flat_map timer_dues (pending Timer s)
 
@@ -36,7 +36,7 @@ dues_of (Some e) = timer_dues e
 abbrev pub kept_dues : List Event → Open → List Due
 kept_dues es o = cond (is_pending_of Timer o) (dues_of (event_at o.opener.event es)) []
 
--- those of a run's pending activities
+-- the deadlines of a run's pending activities
 abbrev pub pending_activity_dues : RunState → List Due
 pending_activity_dues s = flat_map activity_dues (pending_rows s)
 
@@ -44,7 +44,7 @@ abbrev pub activity_dues_of : Notes → Option Event → List Due
 activity_dues_of n None = []
 activity_dues_of n (Some e) = activity_dues (kept_row n e)
 
--- those of a thing that is kept, where it is a pending activity
+-- the deadlines of a thing that is kept, where it is a pending activity
 abbrev pub kept_activity_dues : List Event → Open → List Due
 kept_activity_dues es o = cond (is_pending_of Activity o) (activity_dues_of o.notes (event_at o.opener.event es)) []
 
@@ -52,6 +52,6 @@ kept_activity_dues es o = cond (is_pending_of Activity o) (activity_dues_of o.no
 abbrev pub row_dues : List Event → Open → List Due
 row_dues es o = kept_activity_dues es o ++ kept_dues es o
 
--- and the first of them, where the run's ordinal doesn't matter
+-- the first deadline of a thing that is kept, where the run's ordinal doesn't matter
 abbrev pub first_in : List Event → Open → Option RunDue
 first_in es o = first_of 0 (row_dues es o)

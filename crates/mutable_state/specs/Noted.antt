@@ -28,19 +28,19 @@ no_notes = record {
   cancel_requested = false;
 }
 
--- and one more note, at this moment
+-- notes with one more, at this moment
 abbrev pub noted : ℕ → Note → Notes → Notes
 noted at Taken n = record n { phase = kept.Running; taken = Some at; sign_of_life = Some at }
 noted at Ended n = record n { phase = kept.Waiting; attempt = n.attempt + 1; ended = Some at }
 noted at Ready n = record n { phase = kept.Queued; ready = Some at }
 noted at (Beat details) n = record n { sign_of_life = Some at; details = Some details }
 
--- it may be made: an attempt that ends has a number after it
+-- a note may be made: an attempt that ends has a number after it
 abbrev pub MayAdd : Note → Notes → Type 0
 MayAdd Ended n = (n.attempt == 4294967295) ≡ false
 MayAdd _ n = Unit {0}
 
--- and a request to cancel, where there is one
+-- notes with a request to cancel, where there is one
 abbrev pub asked : Bool → Notes → Notes
 asked here n = record n { cancel_requested = n.cancel_requested || here }
 

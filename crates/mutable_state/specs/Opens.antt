@@ -53,11 +53,11 @@ abbrev pub marked : Option Opener → List Open → List Open
 marked None os = os
 marked (Some k) os = map (mark k) os
 
--- those that have none
+-- what is kept that nothing held back settles
 abbrev pub unmarked : List Open → List Open
 unmarked os = filter is_unmarked os
 
--- and one more
+-- what is kept, and one more, where an event opens something
 abbrev pub added : Option Class → ℕ → List Open → List Open
 added None id os = os
 added (Some c) id os = os ++ new_open c id ∷ []
@@ -109,7 +109,7 @@ is_of c o = class_number c == class_number o.opener.class
 abbrev pub opened_at : Class → List Event → Open → Option Event
 opened_at c es o = cond (is_of c o) (event_at o.opener.event es) None
 
--- those events of a history that opened what is kept of a class
+-- the events of a history that opened what is kept of a class
 abbrev pub used_in : Class → List Open → List Event → List Event
 used_in c os es = filter_map (opened_at c es) os
 

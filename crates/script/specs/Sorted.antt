@@ -21,7 +21,7 @@ module _ {A : Type 0} where
   of_slot k [] = []
   of_slot k (p ∷ ps) = (p.0, (k, p.1)) ∷ of_slot k ps
 
-  -- those of m slots, from the slot n on
+  -- the steps of m slots, from the slot n on, put into order
   abbrev pub sorted : (ℕ → List (ℕ × A)) → ℕ → ℕ → List (ℕ × (ℕ × A))
   sorted f n zero = []
   sorted f n (suc m) = put_all (of_slot n (f n)) (sorted f (n + 1) m)

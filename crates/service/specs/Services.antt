@@ -76,7 +76,7 @@ pub record IsServedOn (x : Service) (v w : View Request Content) (shard : ℕ) (
   pub start : step.start ≡ opening (setup_of x.settings shard)
   pub ticket : gate.Stamped v w shard
 
--- the same on the request's own shard
+-- a request is served on its own shard
 abbrev pub IsServed : Service → View Request Content → View Request Content → Request → Reply → Type 0
 IsServed x v w q r = IsServedOn x v w (shard_of_request x q) q r
 

@@ -15,7 +15,7 @@ pub record IsClosed (x : Service) (records : List (List Entry)) (tickets : List 
   pub count : length records ≡ (settings_of x).shards
   pub history : IsHistoryOf x records tickets
 
--- these records may be merged by these tickets
+-- what a service left may be merged: its records, by its tickets
 abbrev pub ClosedMayBeMerged : Type 0
 ClosedMayBeMerged = (x : Service) (records : List (List Entry)) (tickets : List (List ℕ)) → IsClosed x records tickets
     → AreTicketed records tickets

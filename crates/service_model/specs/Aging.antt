@@ -36,7 +36,7 @@ pub record AreAged (last : ℕ) (runs : List RunState) : Type 0 where
 pub record IsOldestRun (runs : List RunState) (n : ℕ) : Type 0 where
   pub first : (m : ℕ) (s t : RunState) → AreOfOne runs m n s t → ⊥
 
--- the same of the runs of a content
+-- the runs of a content have closed by its last moment, and of two of one workflow ID the older no later
 abbrev pub IsAged : Content → Type 0
 IsAged S = AreAged S.last_moment (map state_of S.runs)
 

@@ -29,10 +29,10 @@ waiting_task setup run s e = by_kind e.attributes
 abbrev pub waiting_of : Setup → ℕ → RunState → List Dispatch
 waiting_of setup run s = filter_map (waiting_task setup run s) s.shown
 
--- those of all runs, in the order of the runs
+-- the tasks of all runs that wait, in the order of the runs
 abbrev pub all_waiting : Setup → List RunState → List Dispatch
 all_waiting setup states = flat_map (λ (p : ℕ × RunState). waiting_of setup p.0 p.1) (enumerate_from 1 states)
 
--- those of a shard
+-- the tasks of a shard that wait
 abbrev pub waiting : Content → List Dispatch
 waiting S = all_waiting S.setup (map state_of S.runs)

@@ -12,6 +12,6 @@ pub record IsNamed (setup : Setup) (d : Dispatch) : Type 0 where
   pub queue : knows_queue setup d.queue ≡ true
   pub shard : d.hint.shard ≡ setup.shard
 
--- so it is of each task that waits, whatever the shard was asked
+-- each task that waits is named so, whatever the shard was asked
 abbrev pub WaitingAreNamed : Type 0
 WaitingAreNamed = (setup : Setup) (R : List Entry) → AllByRecursion (IsNamed setup) (waiting (replay setup R))

@@ -16,7 +16,7 @@ use Rattle.service_model.specs.Tasks.{is_queued}
 abbrev pub waits_at : ℕ → ActivityRow → Bool
 waits_at attempt r = is_queued r.phase && (r.attempt == attempt)
 
--- its task, where it waits
+-- the task of an attempt, where it waits
 abbrev pub task_by : WaitingTask → Run → List ℕ → ActivityRow → Option ScheduledAttributes → Option ActivityTask
 task_by h run id r None = None
 task_by h run id r (Some a) =
@@ -36,7 +36,7 @@ task_by h run id r (Some a) =
 abbrev pub task_of : WaitingTask → Run → List ℕ → ActivityRow → Option ActivityTask
 task_of h run id r = task_by h run id r (scheduled_fields r.opened.attributes)
 
--- the same, where the activity is pending
+-- the task of a pending activity's attempt, where it waits
 abbrev pub task_for : Runs → WaitingTask → Option ActivityRow → Option ActivityTask
 task_for R h None = None
 task_for R h (Some r) = task_of h (run_id R.setup h.run) (id_of (run_at R h.run)) r

@@ -16,7 +16,7 @@ pub record Waiting : Type 0 where
   pub dispatches : List Dispatch
   pub counted : ℕ
 
--- those of a content
+-- the dispatches of a content that wait
 abbrev pub waiting_in : Content → Waiting
 waiting_in S = record { dispatches = drop S.dispatched S.dispatches; counted = S.dispatched }
 
@@ -48,16 +48,16 @@ abbrev pub issued_since : Setup → ℕ → Option ℕ → ℕ → RunState → 
 issued_since setup shown ready run s =
     filter_map (task_dispatch setup run) (drop shown s.shown) ++ option_to_list (option_and_then (queued_dispatch setup run s) ready)
 
--- those that a step issued for the run with this ordinal that it made
+-- the dispatches that a step issued for the run with this ordinal that it made
 abbrev pub issued_first : Setup → ℕ → RunState → List Dispatch
 issued_first setup run s = filter_map (task_dispatch setup run) s.shown
 
--- those of the run to which the last step added, if it added to one
+-- the dispatches of the run to which the last step added, if it added to one
 abbrev pub of_grown : Setup → DispatchesView → Option ℕ → List RunState → List Dispatch
 of_grown setup d None runs = []
 of_grown setup d (Some n) runs = issued_since setup (slice_index_or d.shown n 0) d.ready (n + 1) (slice_index_or runs n no_run)
 
--- those of the run that it made, if it made one
+-- the dispatches of the run that the last step made, if it made one
 abbrev pub of_made : Setup → Option ℕ → List RunState → List Dispatch
 of_made setup None runs = []
 of_made setup (Some n) runs = issued_first setup (n + 1) (slice_index_or runs n no_run)

@@ -25,7 +25,7 @@ pub record Outstanding : Type 0 where
   pub unsent : Option Unsent
   pub answer : Option Sent
 
--- the same, of the runs that changed and of the transfers
+-- what was not looked up, of the runs that changed and of the transfers
 abbrev pub outstanding : Changed → TransfersView → Outstanding
 outstanding c t = record { grown = c.grown; made = c.made; unsent = t.unsent; answer = t.answer }
 

@@ -20,7 +20,7 @@ pub record TransfersView : Type 0 where
 abbrev pub sent_since : Setup → ℕ → ℕ → RunState → List Sent
 sent_since setup shown run s = transfers_by setup (run_id setup run) s (drop shown s.shown)
 
--- those that were not looked up, where these are the runs
+-- the transfers that were not looked up, where these are the runs
 abbrev pub of_unsent : Setup → Option Unsent → List RunState → List Sent
 of_unsent setup None runs = []
 of_unsent setup (Some u) runs = sent_since setup u.shown (u.index + 1) (slice_index_or runs u.index no_run)

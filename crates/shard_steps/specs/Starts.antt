@@ -32,7 +32,7 @@ started_by moment q = record {
 abbrev pub beginning_of : ℕ → Start → Beginning
 beginning_of moment q = record { started = started_by moment q; request_id = q.request_id; facts = first_task q.task_queue ∷ [] }
 
--- the same of a run that is signaled
+-- how a run begins that is signaled
 abbrev pub signaled_beginning : ℕ → SignalWithStart → Beginning
 signaled_beginning moment q = record {
   started = started_by moment (start_in q);

@@ -184,7 +184,7 @@ adding m = record { added = Some m; created = None; taken = None; count = count.
 abbrev pub issued_for : MoreOf → ShardState → List Dispatch
 issued_for m s = dispatches_of s.setup (ordinal_of m.index) (state_at s.runs m.index) (grown m s.runs) m.plan.change.facts
 
--- those that are issued for a new run
+-- the dispatches that are issued for a new run
 abbrev pub issued_new : {T : Type 0} → NewRun T → ShardState → List Dispatch
 issued_new n s = issued_first s.setup (length s.runs + 1) n.run.state
 
@@ -233,7 +233,7 @@ abbrev pub after_count : Count → ShardState → ShardState
 after_count k s =
     record s { waiting = counted_by k s.waiting; outgoing = acknowledged_by k s.outgoing; accepted = accepted_by k s.accepted }
 
--- and once facts were added to an older run
+-- what is known of a shard once facts were added to an older run
 abbrev pub after_added : Option MoreOf → ShardState → ShardState
 after_added m s = record s { runs = runs_added m s.runs; waiting = waiting_added m s; outgoing = outgoing_added m s }
 
