@@ -27,10 +27,24 @@ def text_of(line):
 
 
 def come_and_go(count):
-    """The lines of so many runs, the nth of which begins and ends at the moment 2n."""
+    """The lines of so many runs, the nth of which begins, has its task taken and ends at the moment 2n."""
     for number in range(count):
         at = 2 * number
         yield text_of({**first_path.start(f"order-{number}"), "at": at})
+        yield text_of({"op": "dispatch_turn", "at": at, "shard": 0})
+        yield text_of({"op": "poll_workflow_task", "at": at, "task_queue": "main"})
+        yield text_of({"op": "terminate", "at": at, "workflow_id": f"order-{number}"})
+        yield text_of({"op": "timer_turn", "at": at, "shard": 0})
+
+
+def refused(count):
+    """As many steps with the same texts, of which none makes a run: what their record takes. A dispatch
+    turn and a poll are three steps without texts there, and timer turns have none either."""
+    for number in range(count):
+        at = 2 * number
+        yield text_of({**first_path.start(f"order-{number}"), "at": at, "task_queue": "none"})
+        for _ in range(3):
+            yield text_of({"op": "timer_turn", "at": at, "shard": 0})
         yield text_of({"op": "terminate", "at": at, "workflow_id": f"order-{number}"})
         yield text_of({"op": "timer_turn", "at": at, "shard": 0})
 
@@ -66,15 +80,15 @@ class Program:
     def end(self):
         self.process.stdin.close()
         self.process.stdout.read()
-        if self.process.wait() != 0:
+        if self.process.wait() > 1:
             sys.exit(f"retention: the program ended with status {self.process.returncode}")
 
 
-def take(count, options):
+def take(lines, count, options):
     """The memory behind so many runs, in bytes, and the seconds of a run."""
     program = Program(*options)
     begun = time.monotonic()
-    program.answer(come_and_go(count), 3 * count)
+    program.answer(lines(count), sum(1 for _ in lines(1)) * count)
     seconds = (time.monotonic() - begun) / count
     taken = program.resident()
     program.end()
@@ -102,10 +116,11 @@ def main():
     if not os.access(first_path.PROGRAM, os.X_OK):
         sys.exit(f"retention: {first_path.PROGRAM} is not built; run `rt run` in its folder")
     print(f"load {os.getloadavg()[0]:.2f} on {os.cpu_count()} processors", flush=True)
-    for name, options in (("kept", []), ("taken away", ["--retention", "1"])):
+    for name, lines, options in (("kept", come_and_go, []), ("taken away", come_and_go, ["--retention", "1"]),
+                                 ("their record alone", refused, [])):
         before = None
         for count in sizes:
-            taken, seconds = take(count, options)
+            taken, seconds = take(lines, count, options)
             each = f", {(taken - before[1]) / (count - before[0]):,.0f} bytes each" if before else ""
             print(f"{name}: {count:,} runs, {taken / 1e6:.1f} MB{each}, {seconds * 1e6:.1f} us each", flush=True)
             before = count, taken
