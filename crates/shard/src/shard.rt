@@ -12,9 +12,10 @@ use shard_store::Store;
 use std::alloc::{AllocError, Global};
 use std::marker::Model;
 
-/// A shard of a workflow service, whose runs are kept by `T`.
+/// A shard of a workflow service, whose runs are kept by `T`. What it keeps lies elsewhere, since
+/// each step takes the shard out of its slot and puts it back.
 pub struct Shard<T: KeepsRun> {
-    pub(crate) store: Store<T>,
+    pub(crate) store: Box<Store<T>>,
 }
 
 impl<T: KeepsRun> Drop for Shard<T> {
@@ -28,7 +29,7 @@ impl<T: KeepsRun> Model for Shard<T> {
 
     ghost Value = { ShardView };
 
-    ghost view = { λ a. a.store };
+    ghost view = { λ a. a.store.value };
 }
 
 impl<T: KeepsRun> Shard<T> {
@@ -47,8 +48,9 @@ impl<T: KeepsRun> Shard<T> {
         // It stands for the content that every shard opens with.
         ensures stands { IfOk result (λ shard. StandsFor shard (opening setup)) }
     {
+        let store = Store::new(alloc, setup)?;
         Ok(Shard {
-            store: Store::new(alloc, setup)?,
+            store: Box::new(alloc, store)?,
         })
     }
 }
