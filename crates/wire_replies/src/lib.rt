@@ -8,4 +8,4 @@ mod answers;
 mod replies;
 mod tasks;
 
-pub use replies::reply_text;
+pub use replies::{reply_text, reply_text_in};

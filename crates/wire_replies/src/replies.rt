@@ -4,7 +4,7 @@
 //! Rule: PROFILE, Lines. Definition: wire_replies/Replies. Rows: -. Cases: starts.
 
 ghost use Rattle.std.specs.Prelude.{◌≡◌, ◌++◌, ◌∷◌, [], OnOk, IfOk, string_bytes};
-ghost use Rattle.wire_events.specs.Pages.{sheet_of, text_of, blank, add_members, add_value};
+ghost use Rattle.wire_events.specs.Pages.{sheet_of, text_of, add_members, add_value};
 ghost use Rattle.wire_replies.specs.Answers.{line_member};
 ghost use Rattle.wire_replies.specs.Replies.{refusal_members, reply_tree, reply_line, line_of};
 
@@ -16,14 +16,6 @@ use wire_events::Page;
 
 /// The bytes that a reply's text has room for before it grows: most replies are shorter.
 const USUAL_LENGTH: usize = 256;
-
-/// A page with room for a usual reply.
-fn page(alloc: Global) -> Result<Page, AllocError>
-    ensures { IfOk result (λ p. sheet_of p ≡ blank []) }
-{
-    let text = String::with_capacity(alloc, USUAL_LENGTH)?;
-    Ok(Page::new(alloc, text))
-}
 
 /// What a refusal is, with what it says besides its name and number.
 #[tactic(auto, unfolding(wire_events::specs::Pages::add_members))]
@@ -68,11 +60,25 @@ fn ended(page: Page) -> Result<String, AllocError>
 /// The reply's line: compact JSON with its keys sorted by their bytes, and a line feed.
 ///
 /// `line` is the number, from 1, of the line that is answered.
-#[tactic(auto, using(wire_events::proofs::Printed::printed), unfolding(crate::specs::Replies::reply_line))]
 pub fn reply_text(alloc: Global, line: u64, reply: &Reply) -> Result<String, AllocError>
     ensures { IfOk result (λ s. string_bytes s ≡ reply_line line reply.now) }
 {
-    let mut page = page(alloc)?;
+    reply_text_in(alloc, String::new(alloc), line, reply)
+}
+
+/// The reply's line, as [`reply_text`] gives it, in the memory of another text.
+#[tactic(auto, using(wire_events::proofs::Printed::printed), unfolding(crate::specs::Replies::reply_line))]
+pub fn reply_text_in(
+    alloc: Global,
+    mut text: String,
+    line: u64,
+    reply: &Reply,
+) -> Result<String, AllocError>
+    ensures { IfOk result (λ s. string_bytes s ≡ reply_line line reply.now) }
+{
+    text.clear();
+    text.reserve(USUAL_LENGTH)?;
+    let mut page = Page::new(alloc, text);
     put_reply(&mut page, line, reply)?;
     ended(page)
 }
