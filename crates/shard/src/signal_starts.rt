@@ -11,7 +11,7 @@ ghost use Rattle.shard_store.specs.View.{ordinal_of, run_in, runs_at, state, sta
 ghost use Rattle.shard_store.specs.Fitting.{FitsStep, IsFree};
 ghost use Rattle.shard.specs.Deciding.{signaled_by, signaled_facts};
 
-use crate::signals::{SignalAnswers, add_signal};
+use crate::signals::add_signal;
 use crate::starts::{begin_run, decision_by};
 use id_policy::Decision;
 use mutable_state_keeper::KeepsRun;
@@ -74,10 +74,6 @@ fn signal_open_run<T: KeepsRun>(
         (signal_or_start (runs_at store.old moment) request.now (Some (ordinal_of index)))) }
 {
     let run = store.run_id(index);
-    let answers = SignalAnswers {
-        first: Answer::SignaledRun(run),
-        again: Answer::RepeatedRun(run),
-    };
     add_signal(
         store,
         moment,
@@ -85,7 +81,7 @@ fn signal_open_run<T: KeepsRun>(
         &request.request_id,
         &request.name,
         &request.signal_input,
-        answers,
+        Some(run),
     )
 }
 

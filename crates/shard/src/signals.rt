@@ -3,6 +3,8 @@
 //! Rule: PROFILE, Histories. Definition: Signals. Rows: TaskRows. Cases: signals.
 
 ghost use Rattle.std.specs.Prelude.{◌≡◌, ◌<◌, length, IfOk, None, Some, true};
+ghost use Rattle.std.specs.Option.{option_map_or};
+ghost use Rattle.service_model_types.specs.declared.answer.Answer.TheVariants.{Repeated, RepeatedRun, Signaled, SignaledRun};
 ghost use Rattle.service_model.specs.RunState.{is_open, is_there};
 ghost use Rattle.service_model.specs.Signals.{signal, signal_at, signal_fact, signals};
 ghost use Rattle.shard_store.specs.View.{ordinal_of, run_in, runs_at, state};
@@ -15,13 +17,26 @@ use service_model_types::request::Signal;
 use shard_steps::signal_facts;
 use shard_store::{Plan, Store, answered, refused};
 use std::alloc::AllocError;
-use wf_event_values::{Field, Id, Moment, Refusal, Text};
+use wf_event_values::{Field, Id, Moment, Refusal, RunId, Text};
 
-/// What a signal is answered: the first one of a request id, and a later one.
-#[derive(Drop)]
-pub(crate) struct SignalAnswers {
-    pub(crate) first: Answer,
-    pub(crate) again: Answer,
+/// The answer to the first signal of a request id, which names a run or none.
+fn first_answer(named: Option<RunId>) -> Answer
+    ensures { result ≡ option_map_or SignaledRun named Signaled }
+{
+    match named {
+        Some(run) => Answer::SignaledRun(run),
+        None => Answer::Signaled,
+    }
+}
+
+/// The answer to a later one.
+fn later_answer(named: Option<RunId>) -> Answer
+    ensures { result ≡ option_map_or RepeatedRun named Repeated }
+{
+    match named {
+        Some(run) => Answer::RepeatedRun(run),
+        None => Answer::Repeated,
+    }
 }
 
 /// A signal of a workflow, or of the run that it names.
@@ -58,23 +73,18 @@ fn signal_named_run<T: KeepsRun>(
     ensures plan { IfOk result (λ plan. FitsStep store.new plan moment
         (signal_at (runs_at store.old moment) request.now (Some (ordinal_of index)))) }
 {
-    let answers = SignalAnswers {
-        first: Answer::Signaled,
-        again: Answer::Repeated,
-    };
-    let request_id = &request.request_id;
     add_signal(
         store,
         moment,
         index,
-        request_id,
+        &request.request_id,
         &request.name,
         &request.input,
-        answers,
+        None,
     )
 }
 
-/// A signal of the open run at a place.
+/// A signal of the open run at a place. Its answer names the run that is given, if one is.
 pub(crate) fn add_signal<T: KeepsRun>(
     store: &mut Store<T>,
     moment: Moment,
@@ -82,7 +92,7 @@ pub(crate) fn add_signal<T: KeepsRun>(
     request_id: &Option<Id>,
     name: &Text,
     input: &Text,
-    answers: SignalAnswers,
+    named: Option<RunId>,
 ) -> Result<Plan<T>, AllocError>
     requires there { index < length store.old.runs }
     requires begun { is_there (run_in store.old index) ≡ true }
@@ -90,12 +100,12 @@ pub(crate) fn add_signal<T: KeepsRun>(
     ensures same { state store.new ≡ state store.old }
     ensures plan { IfOk result (λ plan. FitsStep store.new plan moment
         (signals (runs_at store.old moment) (ordinal_of index) request_id.now
-        (signal_fact request_id.now name.now input.now) answers.first answers.again)) }
+        (signal_fact request_id.now name.now input.now)
+        (option_map_or SignaledRun named Signaled) (option_map_or RepeatedRun named Repeated))) }
 {
-    let SignalAnswers { first, again } = answers;
     if store.run(index).was_signaled(request_id) {
-        return Ok(answered(moment, again));
+        return Ok(answered(moment, later_answer(named)));
     }
     let facts = signal_facts(store.alloc(), store.run(index), request_id, name, input)?;
-    add_facts(store, moment, index, facts, first)
+    add_facts(store, moment, index, facts, first_answer(named))
 }

@@ -1,4 +1,6 @@
 use Rattle.std.proofs.Common.{◌≡◌, ◌∙◌, sym, ap, subst, List, [], ◌∷◌, cond, false, IfOk}
+use Rattle.std.specs.Option.{option_map_or}
+use Rattle.service_model_types.specs.declared.answer.Answer.TheVariants.{Repeated, RepeatedRun, Signaled, SignaledRun}
 use Rattle.service_model_types.specs.declared.journal.Fact.{Fact}
 use Rattle.service_model.specs.Outcome.{Outcome, outside, adds, answered}
 use Rattle.service_model.specs.Signals.{was_signaled, signal_fact}
@@ -34,5 +36,6 @@ returns-clause-plan g c =
     sym c.run-2.ensures in
     let first : was_signaled s.signal_requests request ≡ false = ap (λ x. was_signaled x.signal_requests request) there ∙ sym c.was_signaled.ensures ∙ c.if-was_signaled.false in
     let facts : c.in_ok-facts.facts ≡ outside s (fact ∷ []) = c.in_ok-facts.ensures ∙ ap (λ x. outside x (fact ∷ [])) (sym again) in
+    let answer = option_map_or SignaledRun c.args.named Signaled in
     let P : Outcome → Type 0 = λ o. IfOk c.add_facts.result (λ plan. FitsStep c.add_facts.new.store plan c.args.moment o) in
-    subst P (ap (λ l. adds (ordinal_of c.args.index) l c.args.answers.first) facts ∙ sym (ap (λ b. cond b (answered c.args.answers.again) (adds (ordinal_of c.args.index) (outside s (fact ∷ [])) c.args.answers.first)) first)) c.add_facts.ensures.plan
+    subst P (ap (adds (ordinal_of c.args.index) c.in_ok-facts.facts) c.first_answer.ensures ∙ ap (λ l. adds (ordinal_of c.args.index) l answer) facts ∙ sym (ap (λ b. cond b (answered (option_map_or RepeatedRun c.args.named Repeated)) (adds (ordinal_of c.args.index) (outside s (fact ∷ [])) answer)) first)) c.add_facts.ensures.plan
