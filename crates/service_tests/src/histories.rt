@@ -111,18 +111,25 @@ fn read_often<R: Abort + AllocGlobal + Wait>(rt: &R, service: &Service, mut pass
     panic!(rt; "the signals didn't come to an end")
 }
 
+/// The passes of two threads.
+#[derive(Drop)]
+struct Two {
+    one: Pass,
+    two: Pass,
+}
+
 /// Two threads signal at the same time.
 fn signal_both<R: Abort + AllocGlobal + Wait + Threads + Sync>(
     rt: &R,
     service: &Service,
-    one: Pass,
-    two: Pass,
-) -> (Pass, Pass)
-    requires { IsPassOf one service.now × IsPassOf two service.now }
-    ensures one { ComesBack service.now one result.0 }
-    ensures two { ComesBack service.now two result.1 }
+    passes: Two,
+) -> Two
+    requires { IsPassOf passes.one service.now × IsPassOf passes.two service.now }
+    ensures one { ComesBack service.now passes.one result.one }
+    ensures two { ComesBack service.now passes.two result.two }
 {
-    thread::join(
+    let Two { one, two } = passes;
+    let (one, two) = thread::join(
         rt,
         move || -> Pass
             requires { IsSync R.row × IsPassOf one service.now }
@@ -132,30 +139,31 @@ fn signal_both<R: Abort + AllocGlobal + Wait + Threads + Sync>(
             requires { IsSync R.row × IsPassOf two service.now }
             ensures { ComesBack service.entry.now two result }
         { signal_often(rt, service, two) },
-    )
+    );
+    Two { one, two }
 }
 
 /// Two threads signal while a third one reads.
 fn signal_and_read<R: Abort + AllocGlobal + Wait + Threads + Sync>(
     rt: &R,
     service: &Service,
-    signals: (Pass, Pass),
+    signals: Two,
     reads: Pass,
-) -> ((Pass, Pass), Pass)
-    requires signals { IsPassOf signals.0 service.now × IsPassOf signals.1 service.now }
+) -> (Two, Pass)
+    requires signals { IsPassOf signals.one service.now × IsPassOf signals.two service.now }
     requires reads { IsPassOf reads service.now }
-    ensures signals { ComesBack service.now signals.0 result.0.0
-        × ComesBack service.now signals.1 result.0.1 }
+    ensures signals { ComesBack service.now signals.one result.0.one
+        × ComesBack service.now signals.two result.0.two }
     ensures reads { ComesBack service.now reads result.1 }
 {
     thread::join(
         rt,
-        move || -> (Pass, Pass)
-            requires { IsSync R.row × IsPassOf signals.0 service.now
-                × IsPassOf signals.1 service.now }
-            ensures { ComesBack service.entry.now signals.0 result.0
-                × ComesBack service.entry.now signals.1 result.1 }
-        { signal_both(rt, service, signals.0, signals.1) },
+        move || -> Two
+            requires { IsSync R.row × IsPassOf signals.one service.now
+                × IsPassOf signals.two service.now }
+            ensures { ComesBack service.entry.now signals.one result.one
+                × ComesBack service.entry.now signals.two result.two }
+        { signal_both(rt, service, signals) },
         move || -> Pass
             requires { IsSync R.row × IsPassOf reads service.now }
             ensures { ComesBack service.entry.now reads result }
@@ -167,31 +175,31 @@ fn signal_and_read<R: Abort + AllocGlobal + Wait + Threads + Sync>(
 fn write_and_read<R: Abort + AllocGlobal + Wait + Threads + Sync>(
     rt: &R,
     service: &Service,
-    one: (Pass, Pass),
-    two: (Pass, Pass),
+    one: Two,
+    two: Two,
     reads: Pass,
-) -> ((Pass, Pass), ((Pass, Pass), Pass))
-    requires one { IsPassOf one.0 service.now × IsPassOf one.1 service.now }
-    requires two { IsPassOf two.0 service.now × IsPassOf two.1 service.now }
+) -> (Two, (Two, Pass))
+    requires one { IsPassOf one.one service.now × IsPassOf one.two service.now }
+    requires two { IsPassOf two.one service.now × IsPassOf two.two service.now }
     requires reads { IsPassOf reads service.now }
-    ensures one { ComesBack service.now one.0 result.0.0
-        × ComesBack service.now one.1 result.0.1 }
-    ensures two { ComesBack service.now two.0 result.1.0.0
-        × ComesBack service.now two.1 result.1.0.1 }
+    ensures one { ComesBack service.now one.one result.0.one
+        × ComesBack service.now one.two result.0.two }
+    ensures two { ComesBack service.now two.one result.1.0.one
+        × ComesBack service.now two.two result.1.0.two }
     ensures reads { ComesBack service.now reads result.1.1 }
 {
     thread::join(
         rt,
-        move || -> (Pass, Pass)
-            requires { IsSync R.row × IsPassOf one.0 service.now × IsPassOf one.1 service.now }
-            ensures { ComesBack service.entry.now one.0 result.0
-                × ComesBack service.entry.now one.1 result.1 }
-        { signal_both(rt, service, one.0, one.1) },
-        move || -> ((Pass, Pass), Pass)
-            requires { IsSync R.row × IsPassOf two.0 service.now × IsPassOf two.1 service.now
+        move || -> Two
+            requires { IsSync R.row × IsPassOf one.one service.now × IsPassOf one.two service.now }
+            ensures { ComesBack service.entry.now one.one result.one
+                × ComesBack service.entry.now one.two result.two }
+        { signal_both(rt, service, one) },
+        move || -> (Two, Pass)
+            requires { IsSync R.row × IsPassOf two.one service.now × IsPassOf two.two service.now
                 × IsPassOf reads service.now }
-            ensures { ComesBack service.entry.now two.0 result.0.0
-                × ComesBack service.entry.now two.1 result.0.1
+            ensures { ComesBack service.entry.now two.one result.0.one
+                × ComesBack service.entry.now two.two result.0.two
                 × ComesBack service.entry.now reads result.1 }
         { signal_and_read(rt, service, two, reads) },
     )
@@ -230,7 +238,11 @@ fn a_history_is_read_while_four_threads_write_it(rt: HostRuntime) {
     let b = take_pass(&service, &mut passes);
     let mut a = take_pass(&service, &mut passes);
     start_one(&rt, &service, &mut a, "a");
-    let ((a, b), ((c, d), reads)) = write_and_read(&rt, &service, (a, b), (c, d), reads);
+    let one = Two { one: a, two: b };
+    let two = Two { one: c, two: d };
+    let (one, (two, reads)) = write_and_read(&rt, &service, one, two, reads);
+    let Two { one: a, two: b } = one;
+    let Two { one: c, two: d } = two;
     give_back(&rt, &service, &mut passes, a);
     give_back(&rt, &service, &mut passes, b);
     give_back(&rt, &service, &mut passes, c);
