@@ -85,7 +85,7 @@ class Claims(unittest.TestCase):
 
     def test_lemmas_and_files_that_are_not_there(self):
         there = ["- `gate.proofs`: `Growth`", "`wf_event/specs/Role.role`", "`Deciding.outcome_in`",
-                 "- `transfer.proofs`: `ContentLemmas.{with_all_sent-cons, acknowledged-sent}`"]
+                 "- `transfer.proofs`: `ContentLemmas.{with_all_sent-cons, with_all_sent-nil}`"]
         for line in there:
             self.assertEqual(docs_claims.wrong_lemmas(line, ROOT), [], line)
         wrong = ["`gate/specs/Pass`", "`gate/specs/{Passes, Pass}`", "`wf_event/specs/Role.rule`",

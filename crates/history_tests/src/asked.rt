@@ -9,6 +9,7 @@ use std::alloc::AllocGlobal;
 use std::process::Abort;
 use wf_command::Command;
 use wf_command::command::SignalExternal;
+use wf_event::Boxed;
 use wf_event_values::{ConflictPolicy, Field, Id, Items, ReusePolicy, Span, TaskKind, Text};
 
 /// Two shards, of which `a` lies on the first and `b` on the second, and four passes.
@@ -43,8 +44,8 @@ fn text<R: Abort + AllocGlobal>(rt: &R, text: &str) -> Text {
     }
 }
 
-pub(crate) fn start<R: Abort + AllocGlobal>(rt: &R, workflow_id: &str) -> Start {
-    Start {
+pub(crate) fn start<R: Abort + AllocGlobal>(rt: &R, workflow_id: &str) -> Boxed<Start> {
+    let start = Start {
         workflow_id: id(rt, workflow_id),
         workflow_type: text(rt, "w"),
         task_queue: id(rt, "main"),
@@ -55,6 +56,10 @@ pub(crate) fn start<R: Abort + AllocGlobal>(rt: &R, workflow_id: &str) -> Start 
         run_timeout: Span::none(),
         task_timeout: Span::none(),
         execution_timeout: Span::none(),
+    };
+    match Boxed::new(rt.alloc(), start) {
+        Ok(start) => start,
+        Err(_) => panic!(rt; "no memory"),
     }
 }
 

@@ -33,6 +33,7 @@ fn behind(own: Done, other: Done, operation: &Operation) -> Option<Done> {
             ..own
         }),
         Operation::Deliver(transfer) => {
+            let transfer = transfer.get();
             if transfer.number > other.issued {
                 return None;
             }

@@ -103,7 +103,7 @@ fn request_transfer(setup: &Setup, run: RunId, event: &Event) -> Result<Option<S
             Ok(Some(signal_external(setup, run, event.id, asked.get())?))
         }
         Attributes::RequestCancelExternalWorkflowExecutionInitiated(asked) => {
-            Ok(Some(cancel_external(setup, run, event.id, asked)?))
+            Ok(Some(cancel_external(setup, run, event.id, asked.get())?))
         }
         _ => Ok(None),
     }

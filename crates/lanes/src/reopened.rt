@@ -6,7 +6,7 @@ ghost use Rattle.lanes.specs.Reopened.{HaltedFrom, IsFaultFrom, RanFrom};
 
 use crate::run::run_lanes;
 use script::{Outcome, ScriptFault, opening_fault, print_trace};
-use service::{KeepsShard, Service};
+use service::{Closed, KeepsShard, Service};
 use service_model_types::request::Request;
 use service_model_types::settings::Settings;
 use std::alloc::Global;
@@ -36,7 +36,7 @@ pub fn run_lanes_from<S: KeepsShard + Send + Sync, H: Threads + Wait + Sync, R: 
     records: Vec<Record<Request>>,
     reader: &mut Counted<R>,
     writer: &mut Counted<W>,
-) -> Result<Outcome, ScriptFault>
+) -> Result<Outcome<S>, ScriptFault>
     requires { trace ≡ true → records.items ≡ [] }
     ensures ran { IfOk result (λ o. RanFrom settings.now trace records.items
         (R.remaining reader.old.inner) (W.contents writer.old.inner)
@@ -57,8 +57,14 @@ pub fn run_lanes_from<S: KeepsShard + Send + Sync, H: Threads + Wait + Sync, R: 
     let ended = run_lanes(rt, alloc, settings, &service, passes, reader, writer)?;
     let closed = service.close(ended.passes);
     print_trace(alloc, trace, &closed, writer)?;
+    let Closed {
+        records,
+        tickets: _,
+        shards,
+    } = closed;
     Ok(Outcome {
         refused: ended.refused,
-        records: closed.records,
+        records,
+        shards,
     })
 }

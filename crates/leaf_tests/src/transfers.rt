@@ -64,6 +64,19 @@ fn counts_on_acknowledgements_in_order(rt: HostRuntime) -> Result<(), Fail> {
 }
 
 #[test]
+fn numbers_go_on_behind_what_was_acknowledged(rt: HostRuntime) -> Result<(), Fail> {
+    let mut outbox = Outbox::new(rt.alloc(), 2)?;
+    for number in 1..4_u64 {
+        outbox.reserve(1, 1)?;
+        outbox.issue(1, content(number));
+        assert_eq!(rt; first_number(&outbox), number);
+        let acknowledged = outbox.acknowledge(1, number);
+        assert_eq!(rt; shown_acknowledged(acknowledged), "acknowledged");
+    }
+    Ok(())
+}
+
+#[test]
 fn accepts_each_number_once(rt: HostRuntime) -> Result<(), Fail> {
     let mut inbox = Inbox::new(rt.alloc(), 2)?;
     let steps = [

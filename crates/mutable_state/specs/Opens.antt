@@ -20,10 +20,11 @@ use Rattle.mutable_state.specs.Noted.{MayAdd, no_notes, asked, noted, kept_row}
 use Rattle.mutable_state.specs.Formed.{IdsTo, SettlesTo}
 use Rattle.mutable_state.specs.Steps.{carried, is_held_back, comes_last}
 
--- what is in use, and for how much more there is room
+-- what is in use, for how much more there is room, and for how many more deadlines
 pub record OpenRows : Type 0 where
   pub rows : List Open
   pub room : ℕ
+  pub due_room : ℕ
   -- the first deadline that is kept of each
   pub firsts : List (Option RunDue)
   -- the last event that opened something

@@ -52,7 +52,7 @@ pub fn asked_id(attributes: &Attributes) -> Option<&Id>
             &asked.get().workflow_id,
         ),
         Attributes::RequestCancelExternalWorkflowExecutionInitiated(asked) => {
-            Some(&asked.workflow_id)
+            Some(&asked.get().workflow_id)
         }
         _ => None,
     }

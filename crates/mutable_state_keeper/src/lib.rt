@@ -1,4 +1,4 @@
-//! A run, whatever keeps it. Contracts see its state, and for how many more facts it has room.
+//! A run, whatever keeps it. Contracts see its state, and its room for more facts.
 //!
 //! The service keeps its runs by tables. A run that is kept by its journal alone serves to test them.
 #![tactic(auto)]

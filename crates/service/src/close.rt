@@ -3,7 +3,7 @@
 ghost use Rattle.std.specs.Prelude.{◌≡◌, ℕ, ◌*◌, ◌<◌, ◌≤◌, Some, length, map, slice_get, vec_capacity};
 ghost use Rattle.gate.specs.Ends.{IsEnd, HasDone};
 ghost use Rattle.gate.specs.Passes.{number, tickets};
-ghost use Rattle.gate.specs.Records.{Begins};
+ghost use Rattle.gate.specs.Records.{Begins, replay};
 ghost use Rattle.matching.specs.Ends.{IsEnd as IsEndOfQueue};
 ghost use Rattle.service.specs.Views.{Pass as PassView};
 
@@ -55,13 +55,13 @@ impl<S: KeepsShard> Service<S> {
     ghost use Rattle.service.specs.Services.{IsPassOf, known_by, settings_of};
     ghost use Rattle.service.specs.Ends.{base_of, held_at, parts_at, IsHistoryOf};
 
-    /// Gives the record of each shard and its tickets, in the order of the shards. The passes are all
+    /// Gives each shard, its record and its tickets, in the order of the shards. The passes are all
     /// that were given, so none is on a shard. By the tickets all steps since the opening stand in one
     /// list, in which what comes before each delivery issued its transfer, and what comes before each
     /// acknowledgement accepted it. Of each task queue there is one list of all hints that were
     /// pushed and one of all that were popped, in which those of each pass are its own, in order. It
     /// takes no memory.
-    pub fn close(self, passes: Vec<Pass<S>>) -> Closed
+    pub fn close(self, passes: Vec<Pass<S>>) -> Closed<S>
         requires own { (k : ℕ) (p : PassView)
             → slice_get passes.items k ≡ Some p
             → IsPassOf p self }
@@ -70,6 +70,11 @@ impl<S: KeepsShard> Service<S> {
             → (k : ℕ) × (p : PassView) × (slice_get passes.items k ≡ Some p)
             × (number (known_by p) ≡ n) }
         ensures count { length result.records.items ≡ (settings_of self).shards }
+        ensures kept { length result.shards.items ≡ (settings_of self).shards }
+        ensures shards { (k : ℕ) (shard : _) (log : _)
+            → slice_get result.shards.items k ≡ Some shard
+            → slice_get result.records.items k ≡ Some log
+            → S.stands shard (replay S.after (S.opening shard) log) }
         ensures records { (k : ℕ) (log : _)
             → slice_get result.records.items k ≡ Some log
             → IsEnd (base_of self k) (settings_of self).passes log }

@@ -12,6 +12,7 @@ use service_model_types::answer::Reply;
 use service_model_types::request::{Operation, Request, Start};
 use shard_gate::{HeldShard, KeepsShard};
 use std::marker::Model;
+use wf_event::Boxed;
 use wf_event_values::Moment;
 
 /// A pass that keeps others from the shard where its start was served. It can't be dropped: `leave`
@@ -41,7 +42,7 @@ impl<S: KeepsShard> Service<S> {
     pub fn try_enter_start(
         &self,
         pass: Pass<S>,
-        asked: Start,
+        asked: Boxed<Start>,
         at: Moment,
     ) -> Result<Held<'_, S>, (Refused, Pass<S>, Request)>
         requires { IsPassOf pass self.now }

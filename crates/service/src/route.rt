@@ -51,9 +51,12 @@ impl<S: KeepsShard> Service<S> {
         ensures { result ≡ shard_of_request self.now request.now }
     {
         match &request.operation {
-            Operation::Start(start) => shard_of_id(&self.settings, &start.workflow_id),
+            Operation::Start(start) => shard_of_id(&self.settings, &start.get().workflow_id),
             Operation::Signal(signal) => shard_of_id(&self.settings, &signal.workflow_id),
-            Operation::SignalWithStart(both) => shard_of_id(&self.settings, &both.workflow_id),
+            Operation::SignalWithStart(both) => shard_of_id(
+                &self.settings,
+                &both.get().workflow_id,
+            ),
             Operation::RequestCancel(cancel) => { shard_of_id(&self.settings, &cancel.workflow_id) }
             Operation::Terminate(end) => shard_of_id(&self.settings, &end.workflow_id),
             Operation::History(read) | Operation::Describe(read) => {

@@ -17,6 +17,7 @@ use service_model_types::transfer::Transfer;
 use shard_gate::KeepsShard;
 use std::alloc::AllocError;
 use std::sync::Wait;
+use wf_event::Boxed;
 use wf_event_values::Moment;
 
 impl<S: KeepsShard> Service<S> {
@@ -84,7 +85,7 @@ impl<S: KeepsShard> Service<S> {
             Err(next) => return Ok(next),
         };
         if let Stop::AfterFirstPart = turn.stop {
-            return Ok(Ok(Answer::Taken(transfer.number)));
+            return Ok(Ok(Answer::Taken(transfer.get().number)));
         }
         self.deliver(rt, pass, turn, transfer)
     }
@@ -95,7 +96,7 @@ impl<S: KeepsShard> Service<S> {
         rt: &R,
         pass: &mut Pass<S>,
         turn: TransferTurn,
-        transfer: Transfer,
+        transfer: Boxed<Transfer>,
     ) -> Result<Reply, AllocError>
         requires own { IsPassOf pass.old self.now }
         requires from { turn.from < (settings_of self.now).shards }
@@ -111,7 +112,7 @@ impl<S: KeepsShard> Service<S> {
         ensures err { OnErr result
             (DeliveryKept self.now turn transfer (known_by pass.old) (known_by pass.new)) }
     {
-        let number = transfer.number;
+        let number = transfer.get().number;
         let asked = request(turn.at, Operation::Deliver(transfer));
         let reply = self.serve_there(rt, pass, turn.to, asked)?;
         if !goes_on(turn.stop, &reply) {
@@ -188,7 +189,7 @@ fn goes_on(stop: Stop, reply: &Reply) -> bool
 }
 
 /// The transfer that a reply has, or the reply where it has none.
-fn transfer_in(reply: Reply) -> Result<Transfer, Reply>
+fn transfer_in(reply: Reply) -> Result<Boxed<Transfer>, Reply>
     ensures { MatchResult result (λ t. transfer_of reply ≡ Some t)
         (λ r. (r ≡ reply) × (transfer_of reply ≡ None)) }
 {

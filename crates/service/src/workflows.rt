@@ -11,6 +11,7 @@ use service_model_types::request::{Operation, Request, RequestCancel, SignalWith
 use shard_gate::KeepsShard;
 use std::alloc::AllocError;
 use std::sync::Wait;
+use wf_event::Boxed;
 use wf_event_values::Moment;
 
 impl<S: KeepsShard> Service<S> {
@@ -23,7 +24,7 @@ impl<S: KeepsShard> Service<S> {
     pub fn try_signal_with_start(
         &self,
         pass: &mut Pass<S>,
-        asked: SignalWithStart,
+        asked: Boxed<SignalWithStart>,
         at: Moment,
     ) -> Result<Reply, (Refused, Request)>
         requires { IsPassOf pass.old self.now }
@@ -41,7 +42,7 @@ impl<S: KeepsShard> Service<S> {
         &self,
         rt: &R,
         pass: &mut Pass<S>,
-        asked: SignalWithStart,
+        asked: Boxed<SignalWithStart>,
         at: Moment,
     ) -> Result<Reply, (AllocError, Request)>
         requires { IsPassOf pass.old self.now }

@@ -10,6 +10,7 @@ use service_model_types::request::{Operation, Read, RequestCancel, Signal, Start
 use std::alloc::{AllocGlobal, Global};
 use std::process::Abort;
 use std::test::Fail;
+use wf_event::Boxed;
 use wf_event_values::{ConflictPolicy, Field, Id, Moment, Refusal, ReusePolicy, Span, Text};
 
 const COUNT: u64 = 1_000;
@@ -58,7 +59,7 @@ fn operation(alloc: Global, value: u64) -> Result<Operation, Refusal> {
     let name = format!(in alloc; "k{}", value / 65_536 % 8)?;
     let workflow_id = Id::new(alloc, Field::WorkflowId, name.as_str())?;
     match value / 1_048_576 % 5 {
-        0 => Ok(Operation::Start(start(alloc, workflow_id)?)),
+        0 => Ok(Operation::Start(Boxed::new(alloc, start(alloc, workflow_id)?)?)),
         1 => Ok(Operation::Signal(Signal {
             workflow_id,
             run: None,

@@ -10,8 +10,9 @@ use crate::draws::Draws;
 use crate::tally::Tally;
 use service_model_types::request::{Acknowledge, Operation};
 use service_model_types::transfer::Transfer;
-use std::alloc::AllocGlobal;
+use std::alloc::{AllocGlobal, Global};
 use std::process::Abort;
+use wf_event::Boxed;
 use wf_event_values::{Moment, Refusal};
 
 /// Carries the next transfer: it is read, delivered and counted. Now and then a turn stops before its
@@ -39,7 +40,7 @@ pub(crate) fn carry<R: Abort + AllocGlobal>(
         return Ok(());
     }
     let number = carried.number();
-    let delivery = carried.delivery(at, near(&mut course.draws, number));
+    let delivery = carried.delivery(rt.alloc(), at, near(&mut course.draws, number))?;
     let delivered = ask(rt, one, other, course, to, delivery, seen)?;
     if !is_delivered(&delivered) || course.draws.one_in(8) {
         return Ok(());
@@ -61,7 +62,10 @@ impl Carried {
     fn read(read: Answered) -> Option<Carried> {
         let Answered { tables, journals } = read;
         match (tables.ok()?.into_transfer(), journals.ok()?.into_transfer()) {
-            (Ok(tables), Ok(journals)) => Some(Carried { tables, journals }),
+            (Ok(tables), Ok(journals)) => Some(Carried {
+                tables: tables.into_inner(),
+                journals: journals.into_inner(),
+            }),
             _ => None,
         }
     }
@@ -71,14 +75,16 @@ impl Carried {
     }
 
     /// Each delivers what it has read itself, under this number.
-    fn delivery(self, at: Moment, number: u64) -> Asked {
+    fn delivery(self, alloc: Global, at: Moment, number: u64) -> Result<Asked, Refusal> {
         let Carried {
             mut tables,
             mut journals,
         } = self;
         tables.number = number;
         journals.number = number;
-        Asked::new(at, Operation::Deliver(tables), Operation::Deliver(journals))
+        let tables = Operation::Deliver(Boxed::new(alloc, tables)?);
+        let journals = Operation::Deliver(Boxed::new(alloc, journals)?);
+        Ok(Asked::new(at, tables, journals))
     }
 }
 

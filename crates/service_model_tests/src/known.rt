@@ -75,6 +75,7 @@ impl Known {
                 })?;
             }
             Ok(Answer::ActivityTask(task)) => {
+                let task = task.get();
                 self.attempts.push(TakenTask {
                     shard,
                     run: task.run.ordinal(),

@@ -13,6 +13,7 @@ use service_model_types::transfer::{SignalExternalTransfer, Transfer, TransferCo
 use std::alloc::{AllocGlobal, Global};
 use std::process::Abort;
 use std::test::Fail;
+use wf_event::Boxed;
 use wf_event_values::{ConflictPolicy, Field, Id, Moment, Refusal, ReusePolicy, RunId, Span, Text};
 use wire_replies::reply_text;
 
@@ -64,7 +65,7 @@ fn workflow_b(alloc: Global) -> Result<Id, Refusal> {
 }
 
 fn start(alloc: Global) -> Result<Operation, Refusal> {
-    Ok(Operation::Start(Start {
+    let start = Start {
         workflow_id: workflow_b(alloc)?,
         workflow_type: Text::new(alloc, Field::WorkflowType, "w")?,
         task_queue: Id::new(alloc, Field::TaskQueue, "main")?,
@@ -75,7 +76,8 @@ fn start(alloc: Global) -> Result<Operation, Refusal> {
         run_timeout: Span::none(),
         task_timeout: Span::none(),
         execution_timeout: Span::none(),
-    }))
+    };
+    Ok(Operation::Start(Boxed::new(alloc, start)?))
 }
 
 fn signal(alloc: Global) -> Result<Operation, Refusal> {
@@ -98,7 +100,8 @@ fn delivery(alloc: Global, number: u64) -> Result<Operation, Refusal> {
         input: Text::empty(alloc),
     };
     let content = TransferContent::SignalExternal(signal);
-    Ok(Operation::Deliver(Transfer::restored(0, number, content)))
+    let transfer = Transfer::restored(0, number, content);
+    Ok(Operation::Deliver(Boxed::new(alloc, transfer)?))
 }
 
 fn operation(alloc: Global, asking: Asking) -> Result<Operation, Refusal> {

@@ -13,6 +13,7 @@ use service_model_types::request::{
     SignalWithStart, Start, Terminate,
 };
 use std::alloc::Global;
+use wf_event::Boxed;
 use wf_event_values::{ConflictPolicy, Field, Moment, Refusal, ReusePolicy, Span, Text};
 
 /// A request whose moment is near that of the step with this number.
@@ -39,7 +40,7 @@ fn operation(alloc: Global, draws: &mut Draws, known: &Known) -> Result<Operatio
         return any_operation(alloc, draws, known);
     }
     match known.next {
-        Next::Start => Ok(Operation::Start(start(alloc, draws)?)),
+        Next::Start => Ok(Operation::Start(Boxed::new(alloc, start(alloc, draws)?)?)),
         Next::Look => Ok(Operation::History(read(alloc, draws)?)),
         Next::Take => Ok(Operation::StartTask(known.waiting(draws))),
         Next::Wake if draws.one_in(3) => Ok(Operation::TimerTurn),
@@ -56,7 +57,7 @@ fn operation(alloc: Global, draws: &mut Draws, known: &Known) -> Result<Operatio
 fn any_operation(alloc: Global, draws: &mut Draws, known: &Known) -> Result<Operation, Refusal> {
     let kinds = if draws.has_ends() { 38 } else { 33 };
     match draws.below(kinds) {
-        0..=2 => Ok(Operation::Start(start(alloc, draws)?)),
+        0..=2 => Ok(Operation::Start(Boxed::new(alloc, start(alloc, draws)?)?)),
         3..=5 => Ok(Operation::Signal(signal(alloc, draws)?)),
         6..=8 => Ok(Operation::StartTask(known.waiting(draws))),
         9..=10 => Ok(Operation::CompleteWorkflowTask(completion(alloc, draws, known)?)),
@@ -69,7 +70,10 @@ fn any_operation(alloc: Global, draws: &mut Draws, known: &Known) -> Result<Oper
         22..=26 => report(alloc, draws, known),
         27..=28 => Ok(Operation::NextDispatch),
         29..=31 => Ok(Operation::Dispatched(known.dispatch(draws))),
-        33..=34 => Ok(Operation::SignalWithStart(signal_with_start(alloc, draws)?)),
+        33..=34 => {
+            let both = signal_with_start(alloc, draws)?;
+            Ok(Operation::SignalWithStart(Boxed::new(alloc, both)?))
+        },
         35..=36 => Ok(Operation::RequestCancel(request_cancel(alloc, draws)?)),
         37 => Ok(Operation::Terminate(terminate(alloc, draws)?)),
         _ => Ok(Operation::Describe(read(alloc, draws)?)),

@@ -16,6 +16,7 @@ use service_model_types::request::{Operation, Read, Terminate};
 use std::alloc::{AllocGlobal, Global};
 use std::process::Abort;
 use std::test::Fail;
+use wf_event::Boxed;
 use wf_event_values::{Field, Moment, Refusal};
 
 /// How many times each seed draws a request, serves a task or carries a transfer.
@@ -60,7 +61,7 @@ fn beginning(alloc: Global, draws: &mut Draws) -> Result<Operation, Refusal> {
             run: None,
             reason: input(alloc, draws)?,
         })),
-        _ => Ok(Operation::Start(start(alloc, draws)?)),
+        _ => Ok(Operation::Start(Boxed::new(alloc, start(alloc, draws)?)?)),
     }
 }
 

@@ -5,6 +5,7 @@ ghost use Rattle.service_model_types.specs.Hints.{task_of};
 
 use crate::transfer::Transfer;
 use wf_command::Command;
+use wf_event::Boxed;
 use wf_event_values::{
     ConflictPolicy, Id, Items, Moment, ReusePolicy, RunId, Span, TaskKind, Text,
 };
@@ -260,11 +261,11 @@ impl Drop for Acknowledge {
     }
 }
 
-/// What a shard serves.
+/// What a shard serves. The large ones lie elsewhere, so that a record's entry of any other is small.
 pub enum Operation {
-    Start(Start),
+    Start(Boxed<Start>),
     Signal(Signal),
-    SignalWithStart(SignalWithStart),
+    SignalWithStart(Boxed<SignalWithStart>),
     RequestCancel(RequestCancel),
     Terminate(Terminate),
     /// Takes a task that waits. It names no shard, so a service makes it of a hint, which does.
@@ -284,7 +285,7 @@ pub enum Operation {
     /// to, and not the one that is asked; nor do the four that follow.
     NextTransfer(u16),
     /// Delivers a transfer.
-    Deliver(Transfer),
+    Deliver(Boxed<Transfer>),
     /// Counts on the transfers to a shard.
     Acknowledge(Acknowledge),
     /// Asks for the first dispatch that is not counted.

@@ -7,6 +7,7 @@ use service_model_types::request::{Hint, Signal, Start, TakenTask};
 use service_model_types::settings::{Settings, main_queue};
 use std::alloc::AllocGlobal;
 use std::process::Abort;
+use wf_event::Boxed;
 use wf_event_values::{
     ConflictPolicy, Field, Id, Moment, ReusePolicy, RunId, Span, TaskKind, Text,
 };
@@ -60,6 +61,14 @@ pub(crate) fn moment<R: Abort>(rt: &R, millis: u64) -> Moment {
     match Moment::new(Field::At, millis) {
         Ok(moment) => moment,
         Err(_) => panic!(rt; "no moment"),
+    }
+}
+
+/// A value in memory of its own.
+pub(crate) fn boxed<R: Abort + AllocGlobal, T: Drop>(rt: &R, value: T) -> Boxed<T> {
+    match Boxed::new(rt.alloc(), value) {
+        Ok(boxed) => boxed,
+        Err(_) => panic!(rt; "no memory"),
     }
 }
 

@@ -4,7 +4,7 @@
 ghost use Rattle.service.specs.Services.{IsPassOf};
 ghost use Rattle.service_tests.specs.Passes.{ComesBack};
 
-use crate::asked::{id, signal, start, taken, text, two_shards, waiting};
+use crate::asked::{boxed, id, signal, start, taken, text, two_shards, waiting};
 use crate::passes::{open, take_pass};
 use crate::shown::shown;
 use service_model_types::request::{
@@ -236,7 +236,12 @@ pub(crate) fn start_one<R: Abort + AllocGlobal + Wait>(
     requires { IsPassOf pass.old service.now }
     ensures { ComesBack service.now pass.old pass.new }
 {
-    let came = service.start(rt, pass, start(rt, workflow_id, None), Moment::zero());
+    let came = service.start(
+        rt,
+        pass,
+        boxed(rt, start(rt, workflow_id, None)),
+        Moment::zero(),
+    );
     assert_eq!(rt; shown(came), "started", "{workflow_id}");
 }
 
@@ -279,9 +284,19 @@ fn may_wait<R: Abort + AllocGlobal + Wait>(
 {
     let at = Moment::zero();
     match call {
-        Call::Start => shown(service.start(rt, pass, start(rt, workflow(shard), None), at)),
+        Call::Start => shown(service.start(
+            rt,
+            pass,
+            boxed(rt, start(rt, workflow(shard), None)),
+            at,
+        )),
         Call::Signal => shown(service.signal(rt, pass, signal(rt, workflow(shard)), at)),
-        Call::SignalWithStart => shown(service.signal_with_start(rt, pass, both(rt, shard), at)),
+        Call::SignalWithStart => shown(service.signal_with_start(
+            rt,
+            pass,
+            boxed(rt, both(rt, shard)),
+            at,
+        )),
         Call::RequestCancel => shown(service.request_cancel(rt, pass, cancel(rt, shard), at)),
         Call::Terminate => shown(service.terminate(rt, pass, end(rt, shard), at)),
         Call::History => shown(service.history(rt, pass, read(rt, shard), at)),
@@ -348,9 +363,17 @@ fn never_waits<R: Abort + AllocGlobal>(
 {
     let at = Moment::zero();
     match call {
-        Call::Start => shown(service.try_start(pass, start(rt, workflow(shard), None), at)),
+        Call::Start => shown(service.try_start(
+            pass,
+            boxed(rt, start(rt, workflow(shard), None)),
+            at,
+        )),
         Call::Signal => shown(service.try_signal(pass, signal(rt, workflow(shard)), at)),
-        Call::SignalWithStart => shown(service.try_signal_with_start(pass, both(rt, shard), at)),
+        Call::SignalWithStart => shown(service.try_signal_with_start(
+            pass,
+            boxed(rt, both(rt, shard)),
+            at,
+        )),
         Call::RequestCancel => shown(service.try_request_cancel(pass, cancel(rt, shard), at)),
         Call::Terminate => shown(service.try_terminate(pass, end(rt, shard), at)),
         Call::History => shown(service.try_history(pass, read(rt, shard), at)),

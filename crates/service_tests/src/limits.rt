@@ -3,7 +3,7 @@
 ghost use Rattle.service.specs.Services.{IsPassOf};
 ghost use Rattle.service_tests.specs.Passes.{ComesBack};
 
-use crate::asked::{id, settings, signal, start};
+use crate::asked::{boxed, id, settings, signal, start};
 use crate::histories::count;
 use crate::passes::{close, give_back, open, take_pass};
 use crate::shown::shown;
@@ -43,7 +43,11 @@ fn assert_starts<R: Abort + AllocGlobal>(
     ensures { ComesBack service.now pass.old pass.new }
 {
     let (shard, ordinal) = wanted;
-    let came = service.try_start(pass, start(rt, workflow_id, None), Moment::zero());
+    let came = service.try_start(
+        pass,
+        boxed(rt, start(rt, workflow_id, None)),
+        Moment::zero(),
+    );
     assert_eq!(rt; started_on(came, shard), ordinal, "{workflow_id}");
 }
 

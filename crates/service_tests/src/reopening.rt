@@ -4,7 +4,7 @@
 ghost use Rattle.service.specs.Services.{IsPassOf};
 ghost use Rattle.service_tests.specs.Passes.{ComesBack};
 
-use crate::asked::{id, start, two_shards};
+use crate::asked::{boxed, id, start, two_shards};
 use crate::passes::{close, give_back, open, open_from, take_pass};
 use crate::shown::{polled, shown};
 use service_model_types::request::Request;
@@ -21,7 +21,7 @@ fn assert_started<R: Abort + AllocGlobal>(rt: &R, service: &Service, pass: &mut 
     requires { IsPassOf pass.old service.now }
     ensures { ComesBack service.now pass.old pass.new }
 {
-    let came = service.try_start(pass, start(rt, name, None), Moment::zero());
+    let came = service.try_start(pass, boxed(rt, start(rt, name, None)), Moment::zero());
     assert_eq!(rt; shown(came), "started");
 }
 

@@ -4,7 +4,7 @@ ghost use Rattle.std.specs.Prelude.{◌≡◌};
 ghost use Rattle.service.specs.Services.{IsPassOf};
 ghost use Rattle.std.specs.Thread.{IsSync};
 
-use crate::asked::{id, moment, settings, start, text, waiting};
+use crate::asked::{boxed, id, moment, settings, start, text, waiting};
 use crate::passes::{open, take_pass};
 use crate::shown::shown;
 use service_model_types::answer::{Answer, Reply};
@@ -66,7 +66,7 @@ fn come_and_close<R: Abort + AllocGlobal + Wait>(
 {
     let mut asked = start(rt, "a", None);
     asked.reuse = ReusePolicy::AllowDuplicateFailedOnly;
-    let ordinal = begun(service.start(rt, pass, asked, at));
+    let ordinal = begun(service.start(rt, pass, boxed(rt, asked), at));
     let end = Terminate {
         workflow_id: id(rt, "a"),
         run: None,
@@ -118,7 +118,7 @@ fn assert_only_start<R: Abort + AllocGlobal + Wait>(
     let mut asked = start(rt, "a", None);
     asked.reuse = ReusePolicy::RejectDuplicate;
     assert_eq!(rt;
-        shown(service.start(rt, pass, asked, Moment::zero())),
+        shown(service.start(rt, pass, boxed(rt, asked), Moment::zero())),
         wanted
     );
 }

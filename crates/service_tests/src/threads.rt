@@ -6,7 +6,7 @@ ghost use Rattle.service.specs.Services.{IsPassOf, known_by};
 ghost use Rattle.service_tests.specs.Passes.{ComesBack};
 ghost use Rattle.std.specs.Thread.{IsSync};
 
-use crate::asked::{id, is_first_run, moment, settings, signal, start, two_shards};
+use crate::asked::{boxed, id, is_first_run, moment, settings, signal, start, two_shards};
 use crate::calls::start_one;
 use crate::passes::{close, close_two, give_back, open, take_pass};
 use crate::shown::shown;
@@ -43,9 +43,9 @@ fn is_started(reply: &Reply, shard: u16) -> bool {
 /// The workflow ID that a request names, where it names one.
 fn workflow_of(request: &Request) -> &str {
     match &request.operation {
-        Operation::Start(asked) => asked.workflow_id.as_str(),
+        Operation::Start(asked) => asked.get().workflow_id.as_str(),
         Operation::Signal(asked) => asked.workflow_id.as_str(),
-        Operation::SignalWithStart(asked) => asked.workflow_id.as_str(),
+        Operation::SignalWithStart(asked) => asked.get().workflow_id.as_str(),
         Operation::RequestCancel(asked) => asked.workflow_id.as_str(),
         Operation::Terminate(asked) => asked.workflow_id.as_str(),
         Operation::History(asked) | Operation::Describe(asked) => asked.workflow_id.as_str(),
@@ -87,9 +87,9 @@ fn start_both<R: Abort + AllocGlobal>(rt: &R, service: &Service, mut pass: Pass)
     ensures { ComesBack service.now pass result }
 {
     let at = Moment::zero();
-    let b = service.try_start(&mut pass, start(rt, "b", None), at);
+    let b = service.try_start(&mut pass, boxed(rt, start(rt, "b", None)), at);
     assert_eq!(rt; began(b, 1), "started");
-    let a = service.try_start(&mut pass, start(rt, "a", None), at);
+    let a = service.try_start(&mut pass, boxed(rt, start(rt, "a", None)), at);
     assert!(rt; is_kept_out(a), "another pass was on the shard");
     pass
 }
@@ -99,7 +99,7 @@ fn start_again<R: Abort + AllocGlobal>(rt: &R, service: &Service, pass: &mut Pas
     requires { IsPassOf pass.old service.now }
     ensures { ComesBack service.now pass.old pass.new }
 {
-    let came = service.try_start(pass, start(rt, "a", None), Moment::zero());
+    let came = service.try_start(pass, boxed(rt, start(rt, "a", None)), Moment::zero());
     assert_eq!(rt; began(came, 0), "already started");
 }
 
@@ -136,7 +136,8 @@ fn stay_and_leave<R: Abort + AllocGlobal + Threads + Sync>(
     ensures named { (number (known_by result.0) ≡ number (known_by first))
         × (number (known_by result.1) ≡ number (known_by second)) }
 {
-    let Ok(held) = service.try_enter_start(first, start(rt, "a", None), Moment::zero()) else {
+    let Ok(held) = service.try_enter_start(first, boxed(rt, start(rt, "a", None)), Moment::zero())
+    else {
         panic!(rt; "the shard was free")
     };
     let second = start_beside(rt, service, second);
@@ -181,7 +182,7 @@ fn start_as<R: Abort + AllocGlobal + Wait>(
     ensures { ComesBack service.now pass result.0 }
 {
     let asked = start(rt, "a", Some(id(rt, request_id)));
-    let came = service.start(rt, &mut pass, asked, Moment::zero());
+    let came = service.start(rt, &mut pass, boxed(rt, asked), Moment::zero());
     (pass, has_won(rt, began(came, 0)))
 }
 

@@ -9,7 +9,9 @@ use Rattle.service_model.specs.Aging.{AreAged}
 use Rattle.service_model.specs.Growth.{KeepsHistories}
 use Rattle.service_model.specs.Outcome.{Outcome}
 use Rattle.service_model.specs.Service.{after, moment_of, outcome}
+use Rattle.transfer.specs.Outboxes.{AreIssued}
 use Rattle.shard_steps.proofs.DispatchLemmas.{count-is, next-is}
+use Rattle.shard_steps.proofs.SendingLemmas.{count-to-is, next-to-is}
 use Rattle.shard_store.specs.Fitting.{FitsStep, state_after}
 use Rattle.shard_store.specs.Open.{IsOneOpen}
 use Rattle.shard_store.specs.View.{ShardState, ShardView, state, states}
@@ -21,28 +23,28 @@ use Rattle.shard.specs.Deciding.{outcome_in}
 use Rattle.shard.specs.Standing.{IsReady, StandsFor}
 use Rattle.shard_store.specs.Standing.{known}
 
-outcome-in : (S : Content) (m : ℕ) (op : Operation) → S.dispatched ≤ length S.dispatches → outcome S m op ≡ outcome_in (known S) m op
+outcome-in : (S : Content) (m : ℕ) (op : Operation) → S.dispatched ≤ length S.dispatches → AreIssued S.outgoing → outcome S m op ≡ outcome_in (known S) m op
 unfolding outcome
-outcome-in S m (served.Start q) low = refl
-outcome-in S m (served.Signal q) low = refl
-outcome-in S m (served.SignalWithStart q) low = refl
-outcome-in S m (served.RequestCancel q) low = refl
-outcome-in S m (served.Terminate q) low = refl
-outcome-in S m (served.StartTask h) low = refl
-outcome-in S m (served.CompleteWorkflowTask q) low = refl
-outcome-in S m (served.FailWorkflowTask q) low = refl
-outcome-in S m (served.CompleteActivity q) low = refl
-outcome-in S m (served.FailActivity q) low = refl
-outcome-in S m (served.CancelActivity q) low = refl
-outcome-in S m (served.Heartbeat q) low = refl
-outcome-in S m (served.History q) low = refl
-outcome-in S m (served.Describe q) low = refl
-outcome-in S m served.TimerTurn low = refl
-outcome-in S m (served.NextTransfer to) low = refl
-outcome-in S m (served.Deliver t) low = refl
-outcome-in S m (served.Acknowledge q) low = refl
-outcome-in S m served.NextDispatch low = next-is S
-outcome-in S m (served.Dispatched number) low = count-is S number low
+outcome-in S m (served.Start q) low issued = refl
+outcome-in S m (served.Signal q) low issued = refl
+outcome-in S m (served.SignalWithStart q) low issued = refl
+outcome-in S m (served.RequestCancel q) low issued = refl
+outcome-in S m (served.Terminate q) low issued = refl
+outcome-in S m (served.StartTask h) low issued = refl
+outcome-in S m (served.CompleteWorkflowTask q) low issued = refl
+outcome-in S m (served.FailWorkflowTask q) low issued = refl
+outcome-in S m (served.CompleteActivity q) low issued = refl
+outcome-in S m (served.FailActivity q) low issued = refl
+outcome-in S m (served.CancelActivity q) low issued = refl
+outcome-in S m (served.Heartbeat q) low issued = refl
+outcome-in S m (served.History q) low issued = refl
+outcome-in S m (served.Describe q) low issued = refl
+outcome-in S m served.TimerTurn low issued = refl
+outcome-in S m (served.NextTransfer to) low issued = next-to-is S.setup S.outgoing to
+outcome-in S m (served.Deliver t) low issued = refl
+outcome-in S m (served.Acknowledge q) low issued = count-to-is S.setup S.outgoing q issued
+outcome-in S m served.NextDispatch low issued = next-is S
+outcome-in S m (served.Dispatched number) low issued = count-is S number low
 
 -- of each workflow ID a shard has one open run at most, and its older runs closed first
 pub one-open : (v : ShardView) (S : Content) → StandsFor v S → IsOneOpen (states v.runs)
@@ -56,10 +58,10 @@ pub prepared : {T : Type 0} (v w : ShardView) (S : Content) (q : Request) (plan 
 prepared v w S q plan h same fits =
     let m : max q.at v.last ≡ moment_of S q.at = ap (λ s. max q.at s.last) h.says in
     let o : outcome_in (state v) (max q.at v.last) q.operation ≡ outcome S (moment_of S q.at) q.operation =
-    ap (λ s. outcome_in s (max q.at s.last) q.operation) h.says ∙ sym (outcome-in S (moment_of S q.at) q.operation h.counted) in
+    ap (λ s. outcome_in s (max q.at s.last) q.operation) h.says ∙ sym (outcome-in S (moment_of S q.at) q.operation h.counted h.issued) in
     let M : ℕ → Type 0 = λ t. FitsStep w plan t (outcome_in (state v) (max q.at v.last) q.operation) in
     let O : Outcome → Type 0 = λ t. FitsStep w plan (moment_of S q.at) t in
-    record { stands = record { says = same ∙ h.says; formed = h.formed; counted = h.counted; one = h.one; aged = h.aged }; fits = subst O o (subst M m fits) }
+    record { stands = record { says = same ∙ h.says; formed = h.formed; counted = h.counted; issued = h.issued; one = h.one; aged = h.aged }; fits = subst O o (subst M m fits) }
 
 -- no moment is before the last one
 not-before : (at last : ℕ) → last ≤ max at last

@@ -13,9 +13,9 @@ use Rattle.service_model.specs.Reads.{history, describe}
 use Rattle.service_model.specs.Tasks.{start_task, complete_workflow_task, fail_workflow_task}
 use Rattle.service_model.specs.Activities.{complete_activity, fail_activity, cancel_activity, heartbeat}
 use Rattle.service_model.specs.TimerTurns.{timer_turn}
-use Rattle.service_model.specs.Counts.{acknowledge, next_transfer}
 use Rattle.service_model.specs.Deliveries.{deliver}
 use Rattle.shard_steps.specs.Issuing.{next_waiting, count_waiting}
+use Rattle.shard_steps.specs.Sending.{count_to, next_to}
 use Rattle.shard_store.specs.View.{ShardState}
 
 -- what a start of a known queue does, by the workflow ID's latest run
@@ -55,8 +55,8 @@ outcome_in s at (served.Heartbeat q) = heartbeat (runs_known s at) q
 outcome_in s at (served.History q) = history (runs_known s at) q
 outcome_in s at (served.Describe q) = describe (runs_known s at) q
 outcome_in s at served.TimerTurn = timer_turn (runs_known s at)
-outcome_in s at (served.NextTransfer to) = next_transfer s.setup s.outgoing to
+outcome_in s at (served.NextTransfer to) = next_to s.setup s.outgoing to
 outcome_in s at (served.Deliver t) = deliver (runs_known s at) s.accepted t
-outcome_in s at (served.Acknowledge q) = acknowledge s.setup s.outgoing q
+outcome_in s at (served.Acknowledge q) = count_to s.setup s.outgoing q
 outcome_in s at served.NextDispatch = next_waiting s.waiting
 outcome_in s at (served.Dispatched number) = count_waiting s.waiting number

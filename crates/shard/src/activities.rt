@@ -23,6 +23,7 @@ use service_model_types::request::WaitingTask;
 use shard_steps::{attempt_task, note_facts};
 use shard_store::{Plan, Store, answered};
 use std::alloc::AllocError;
+use wf_event::Boxed;
 use wf_event_values::Moment;
 
 /// The attempt of an activity is taken, where it waits.
@@ -90,6 +91,7 @@ fn take_attempt<T: KeepsRun>(
         (adds wanted.run (noted wanted.event Taken ∷ []) (an_activity_task task))) }
 {
     let facts = note_facts(store.alloc(), wanted.event, Note::Taken)?;
-    let plan = add_facts(store, moment, index, facts, Answer::ActivityTask(task))?;
+    let boxed = Boxed::new(store.alloc(), task)?;
+    let plan = add_facts(store, moment, index, facts, Answer::ActivityTask(boxed))?;
     Ok(plan)
 }

@@ -35,9 +35,9 @@ pub fn prepare<T: KeepsRun>(store: &mut Store<T>, request: &Request) -> Result<P
 {
     let moment = request.at.later(store.last());
     match &request.operation {
-        Operation::Start(start) => start_workflow(store, moment, start),
+        Operation::Start(start) => start_workflow(store, moment, start.get()),
         Operation::Signal(signal) => signal_workflow(store, moment, signal),
-        Operation::SignalWithStart(both) => signal_with_start(store, moment, both),
+        Operation::SignalWithStart(both) => signal_with_start(store, moment, both.get()),
         Operation::RequestCancel(cancel) => request_cancel(store, moment, cancel),
         Operation::Terminate(end) => terminate_workflow(store, moment, end),
         Operation::History(read) => read_history(store, moment, read),
@@ -51,7 +51,7 @@ pub fn prepare<T: KeepsRun>(store: &mut Store<T>, request: &Request) -> Result<P
         Operation::Heartbeat(beat) => record_heartbeat(store, moment, beat),
         Operation::TimerTurn => timer_turn(store, moment),
         Operation::NextTransfer(to) => read_next_transfer(store, moment, *to),
-        Operation::Deliver(transfer) => deliver_transfer(store, moment, transfer),
+        Operation::Deliver(transfer) => deliver_transfer(store, moment, transfer.get()),
         Operation::Acknowledge(number) => acknowledge_transfer(store, moment, number),
         Operation::NextDispatch => read_next_dispatch(store, moment),
         Operation::Dispatched(number) => count_dispatch(store, moment, *number),

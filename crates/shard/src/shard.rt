@@ -4,7 +4,7 @@ ghost use Rattle.std.specs.Prelude.{◌≡◌, [], IfOk, replicate};
 ghost use Rattle.service_model.specs.Service.{opening};
 ghost use Rattle.shard.specs.Standing.{StandsFor};
 ghost use Rattle.shard_store.specs.View.{IsSetup, state};
-ghost use Rattle.transfer.specs.Outboxes.{nothing};
+ghost use Rattle.transfer.specs.Logs.{none_waits};
 
 use mutable_state_keeper::KeepsRun;
 use service_model_types::content::Setup;
@@ -40,8 +40,8 @@ impl<T: KeepsRun> Shard<T> {
           setup = setup;
           runs = [];
           last = 0;
-          waiting = record { dispatches = []; counted = 0 };
-          outgoing = replicate setup.shards nothing;
+          waiting = none_waits;
+          outgoing = replicate setup.shards none_waits;
           accepted = replicate setup.shards 0;
         }) }
 

@@ -65,7 +65,7 @@ fn fail_by_verdict<T: KeepsRun>(
 {
     match verdict {
         Verdict::GiveUp(state) => {
-            let last = failure(request, state)?;
+            let last = failure(store.alloc(), request, state)?;
             let answer = Answer::ActivityFailed(state);
             end_activity(store, moment, request.task, attempt, last, answer)
         }

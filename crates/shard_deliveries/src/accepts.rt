@@ -15,15 +15,30 @@ use service_model_types::journal::Fact;
 use service_model_types::transfer::{Sent, Transfer};
 use shard_store::{Change, Count, Plan, Store};
 use std::alloc::AllocError;
-use wf_event::Attributes;
+use wf_event::{Attributes, Boxed};
 use wf_event_values::{Items, Moment};
 
-/// A delivery that changes no run, and is answered so by a transfer, if by one.
+/// A delivery that changes no run, and is answered so by a transfer.
 pub(crate) fn accept_with<T: KeepsRun>(
     store: &Store<T>,
     moment: Moment,
     transfer: &Transfer,
-    answer: Option<Sent>,
+    answer: Sent,
+) -> Result<Plan<T>, AllocError>
+    requires { MayAccept store.now transfer.now }
+    ensures { IfOk result (λ plan. FitsStep store.now plan moment
+        (accepts transfer.now None None (answer ∷ []))) }
+{
+    let boxed = Boxed::new(store.alloc(), answer)?;
+    Ok(accept_alone(store, moment, transfer, Some(boxed)))
+}
+
+/// A delivery that changes no run, and is answered so by a transfer, if by one.
+fn accept_alone<T: KeepsRun>(
+    store: &Store<T>,
+    moment: Moment,
+    transfer: &Transfer,
+    answer: Option<Boxed<Sent>>,
 ) -> Plan<T>
     requires { MayAccept store.now transfer.now }
     ensures { FitsStep store.now result moment
@@ -51,7 +66,7 @@ pub(crate) fn accept_only<T: KeepsRun>(
     requires { MayAccept store.now transfer.now }
     ensures { FitsStep store.now result moment (accepts_only transfer.now) }
 {
-    accept_with(store, moment, transfer, None)
+    accept_alone(store, moment, transfer, None)
 }
 
 /// A delivery that adds facts to the run at a place.
@@ -61,7 +76,7 @@ pub(crate) fn accept_facts<T: KeepsRun>(
     transfer: &Transfer,
     index: usize,
     facts: Items<Fact>,
-    answer: Option<Sent>,
+    answer: Option<Boxed<Sent>>,
 ) -> Result<Plan<T>, AllocError>
     requires accepts { MayAccept store.old transfer.now }
     requires there { index < length store.old.runs }
@@ -93,7 +108,7 @@ pub(crate) fn accept_event<T: KeepsRun>(
     transfer: &Transfer,
     index: usize,
     event: Attributes,
-    answer: Option<Sent>,
+    answer: Option<Boxed<Sent>>,
 ) -> Result<Plan<T>, AllocError>
     requires accepts { MayAccept store.old transfer.now }
     requires there { index < length store.old.runs }

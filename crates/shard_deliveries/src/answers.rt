@@ -21,7 +21,7 @@ use service_model_types::transfer::{
 use shard_store::{Plan, Store};
 use std::alloc::AllocError;
 use wf_event::payloads::{ChildWorkflowExecutionStarted, StartChildWorkflowExecutionFailed};
-use wf_event::{Attributes, Class};
+use wf_event::{Attributes, Boxed, Class};
 use wf_event_values::{Cause, Moment};
 
 /// A child was started.
@@ -42,11 +42,13 @@ pub(crate) fn tell_child_started<T: KeepsRun>(
         return Ok(accept_only(store, moment, transfer));
     };
     let index = asked.index;
-    let event = Attributes::ChildWorkflowExecutionStarted(ChildWorkflowExecutionStarted {
+    let started = ChildWorkflowExecutionStarted {
         initiated: child.initiated,
         workflow_id: asked.workflow_id,
         run: child.run,
-    });
+    };
+    let boxed = Boxed::new(store.alloc(), started)?;
+    let event = Attributes::ChildWorkflowExecutionStarted(boxed);
     accept_event(store, moment, transfer, index, event, None)
 }
 
@@ -93,7 +95,7 @@ pub(crate) fn tell_child_closed<T: KeepsRun>(
     let Some(asked) = pending_request(store, run, Class::Child, child.initiated)? else {
         return Ok(accept_only(store, moment, transfer));
     };
-    let event = child_closed_event(child)?;
+    let event = child_closed_event(store.alloc(), child)?;
     accept_event(store, moment, transfer, asked.index, event, None)
 }
 

@@ -3,7 +3,7 @@
 //! Rule: PROFILE, Children and other workflows. Definition: Counts. Rows: -. Cases: transfer_turns.
 
 ghost use Rattle.std.specs.Prelude.{◌≡◌, ◌<◌, IfOk};
-ghost use Rattle.service_model.specs.Counts.{acknowledge, next_transfer};
+ghost use Rattle.shard_steps.specs.Sending.{count_to, next_to};
 ghost use Rattle.shard_store.specs.Fitting.{FitsStep};
 ghost use Rattle.shard_store.specs.View.{state};
 
@@ -14,11 +14,12 @@ use service_model_types::transfer::Transfer;
 use shard_store::{Change, Count, Plan, Store, answered, refused};
 use std::alloc::AllocError;
 use transfer::copied;
+use wf_event::Boxed;
 use wf_event_values::{Field, Moment, Refusal};
 
 /// The first transfer to a shard that is not acknowledged. A shard that is not there is an invalid
 /// argument `to`.
-#[tactic(auto, unfolding(service_model::specs::Counts::next_transfer))]
+#[tactic(auto, unfolding(shard_steps::specs::Sending::next_to))]
 pub fn read_next_transfer<T: KeepsRun>(
     store: &mut Store<T>,
     moment: Moment,
@@ -26,7 +27,7 @@ pub fn read_next_transfer<T: KeepsRun>(
 ) -> Result<Plan<T>, AllocError>
     ensures same { state store.new ≡ state store.old }
     ensures plan { IfOk result (λ plan. FitsStep store.new plan moment
-        (next_transfer store.old.setup store.old.outgoing to)) }
+        (next_to store.old.setup store.old.outgoing to)) }
 {
     if to >= store.setup().shards {
         return Ok(refused(moment, Refusal::InvalidArgument(Field::To)));
@@ -37,13 +38,13 @@ pub fn read_next_transfer<T: KeepsRun>(
     };
     let content = copied(content)?;
     let from = store.setup().shard;
-    let next = Transfer::restored(from, number, content);
+    let next = Boxed::new(store.alloc(), Transfer::restored(from, number, content))?;
     Ok(answered(moment, Answer::Transfer(next)))
 }
 
 /// A transfer to a shard was delivered: it is counted, where it is the first that was not. A shard that
 /// is not there is an invalid argument `to`.
-#[tactic(auto, unfolding(service_model::specs::Counts::acknowledge))]
+#[tactic(auto, unfolding(shard_steps::specs::Sending::count_to))]
 pub fn acknowledge_transfer<T: KeepsRun>(
     store: &mut Store<T>,
     moment: Moment,
@@ -51,7 +52,7 @@ pub fn acknowledge_transfer<T: KeepsRun>(
 ) -> Result<Plan<T>, AllocError>
     ensures same { state store.new ≡ state store.old }
     ensures plan { IfOk result (λ plan. FitsStep store.new plan moment
-        (acknowledge store.old.setup store.old.outgoing request.now)) }
+        (count_to store.old.setup store.old.outgoing request.now)) }
 {
     if request.to >= store.setup().shards {
         return Ok(refused(moment, Refusal::InvalidArgument(Field::To)));

@@ -14,8 +14,8 @@ use service_model_types::journal::Fact;
 use service_model_types::transfer::{ChildClosed, ChildStatus, ExternalDoneTransfer, ExternalKind};
 use shard_steps::from_outside;
 use std::alloc::{AllocError, Global};
-use wf_event::Attributes;
 use wf_event::payloads::{ChildEnd, ChildEndText, ExternalDone, ExternalFailed};
+use wf_event::{Attributes, Boxed};
 use wf_event_values::{Cause, Field, Id, Items, Text};
 
 /// The facts of one event from outside, with a workflow task where none is scheduled or started.
@@ -32,7 +32,10 @@ pub(crate) fn event_facts<T: KeepsRun>(
 }
 
 /// The event of a child that closed.
-pub(crate) fn child_closed_event(closed: &ChildClosed) -> Result<Attributes, AllocError>
+pub(crate) fn child_closed_event(
+    alloc: Global,
+    closed: &ChildClosed,
+) -> Result<Attributes, AllocError>
     ensures { IfOk result (λ event.
         event ≡ child_closed_event closed.now closed.now.status) }
 {
@@ -42,13 +45,13 @@ pub(crate) fn child_closed_event(closed: &ChildClosed) -> Result<Attributes, All
     };
     match closed.status {
         ChildStatus::Completed => Ok(Attributes::ChildWorkflowExecutionCompleted(child_end_text(
-            closed,
+            alloc, closed,
         )?)),
         ChildStatus::Failed => Ok(Attributes::ChildWorkflowExecutionFailed(child_end_text(
-            closed,
+            alloc, closed,
         )?)),
         ChildStatus::Canceled => Ok(Attributes::ChildWorkflowExecutionCanceled(child_end_text(
-            closed,
+            alloc, closed,
         )?)),
         ChildStatus::TimedOut => Ok(Attributes::ChildWorkflowExecutionTimedOut(end)),
         ChildStatus::Terminated => Ok(Attributes::ChildWorkflowExecutionTerminated(end)),
@@ -56,18 +59,19 @@ pub(crate) fn child_closed_event(closed: &ChildClosed) -> Result<Attributes, All
 }
 
 /// Which child closed, with what it leaves.
-fn child_end_text(closed: &ChildClosed) -> Result<ChildEndText, AllocError>
+fn child_end_text(alloc: Global, closed: &ChildClosed) -> Result<Boxed<ChildEndText>, AllocError>
     ensures { IfOk result (λ end. end ≡ record {
       initiated = closed.now.initiated;
       run = closed.now.run;
       text = closed.now.text;
     }) }
 {
-    Ok(ChildEndText {
+    let fields = ChildEndText {
         initiated: closed.initiated,
         run: closed.run,
         text: closed.text.clone()?,
-    })
+    };
+    Boxed::new(alloc, fields)
 }
 
 /// The event of an external request that was answered, which asked something of this workflow.

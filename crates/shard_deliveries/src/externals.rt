@@ -20,8 +20,8 @@ use service_model_types::transfer::{
 };
 use shard_store::{Plan, Store};
 use std::alloc::AllocError;
-use wf_event::Attributes;
 use wf_event::payloads::WorkflowExecutionSignaled;
+use wf_event::{Attributes, Boxed};
 use wf_event_values::{CancelSource, Moment, RunId};
 
 /// A signal from another workflow.
@@ -41,7 +41,7 @@ pub(crate) fn deliver_signal<T: KeepsRun>(
         Some(index) => deliver_signal_to_run(store, moment, transfer, index, ask),
         None => {
             let answer = external_done(ask.from_run, ask.initiated, ExternalKind::Signal, false);
-            Ok(accept_with(store, moment, transfer, Some(answer)))
+            accept_with(store, moment, transfer, answer)
         }
     }
 }
@@ -68,7 +68,8 @@ fn deliver_signal_to_run<T: KeepsRun>(
         name: ask.name.clone()?,
         input: ask.input.clone()?,
     });
-    accept_event(store, moment, transfer, index, event, Some(answer))
+    let boxed = Boxed::new(store.alloc(), answer)?;
+    accept_event(store, moment, transfer, index, event, Some(boxed))
 }
 
 /// A request to cancel from another workflow.
@@ -93,7 +94,7 @@ pub(crate) fn deliver_cancel_request<T: KeepsRun>(
                 ExternalKind::Cancel,
                 false,
             );
-            Ok(accept_with(store, moment, transfer, Some(answer)))
+            accept_with(store, moment, transfer, answer)
         }
     }
 }
@@ -122,10 +123,11 @@ fn deliver_cancel_request_to_run<T: KeepsRun>(
         true,
     );
     if is_asked(store.run(index))? {
-        return Ok(accept_with(store, moment, transfer, Some(answer)));
+        return accept_with(store, moment, transfer, answer);
     }
     let event = Attributes::WorkflowExecutionCancelRequested(CancelSource::External);
-    accept_event(store, moment, transfer, index, event, Some(answer))
+    let boxed = Boxed::new(store.alloc(), answer)?;
+    accept_event(store, moment, transfer, index, event, Some(boxed))
 }
 
 /// The answer to an external request.

@@ -22,6 +22,7 @@ use service_model_types::transfer::{
 use shard_steps::{Beginning, first_task};
 use shard_store::{Change, Count, Plan, Store};
 use std::alloc::{AllocError, Global};
+use wf_event::Boxed;
 use wf_event::payloads::{Parent, WorkflowExecutionStarted};
 use wf_event_values::{ConflictPolicy, Items, Moment};
 
@@ -49,7 +50,7 @@ pub(crate) fn start_child<T: KeepsRun>(
             initiated: child.initiated,
         }),
     };
-    Ok(accept_with(store, moment, transfer, Some(answer)))
+    accept_with(store, moment, transfer, answer)
 }
 
 /// Whether the policies let a child have a new run of its workflow ID. An open one is in its way.
@@ -92,13 +93,14 @@ fn start_child_where_free<T: KeepsRun>(
             run: store.run_id(store.count()),
         }),
     };
+    let boxed = Boxed::new(store.alloc(), answer)?;
     Ok(Plan {
         moment,
         change: Change {
             added: None,
             created: Some(made),
             taken: None,
-            answer: Some(answer),
+            answer: Some(boxed),
             count: Count::Accepts(transfer.from),
         },
         reply: Ok(Answer::Accepted(transfer.number)),

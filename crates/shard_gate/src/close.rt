@@ -3,7 +3,7 @@
 ghost use Rattle.std.specs.Prelude.{◌≡◌, ℕ, ◌<◌, ◌≤◌, [], Some, IfOk, length, map, slice_get, slice_index_or, vec_capacity};
 ghost use Rattle.gate.specs.Ends.{IsEnd, HasDone};
 ghost use Rattle.gate.specs.Passes.{number, tickets, view as seen_by};
-ghost use Rattle.gate.specs.Records.{Begins, Each};
+ghost use Rattle.gate.specs.Records.{Begins, Each, replay};
 ghost use Rattle.shard_gate.specs.Views.{PassView};
 
 use crate::keeps_shard::KeepsShard;
@@ -32,26 +32,34 @@ impl<S: KeepsShard> GatePasses<S> {
     }
 }
 
-/// What the shards leave when their gate is closed, each list in the order of the shards.
+/// What there is when the gate of the shards is closed, each list in the order of the shards.
 #[derive(Drop)]
-pub struct Closed {
+pub struct Closed<S: KeepsShard> {
     /// The record of each shard.
     pub records: Vec<Record<Request>>,
     /// Of each shard, the tickets of the steps that were made since the opening, in their order.
     pub tickets: Vec<Vec<u64>>,
+    /// The shards themselves. To drop them takes as long as all that they keep is large, and a process
+    /// that ends need not wait for it.
+    pub shards: Vec<S>,
 }
 
-impl Closed {
+impl<S: KeepsShard> Closed<S> {
     /// Room for so many shards.
-    pub(crate) fn new(alloc: Global, shards: usize) -> Result<Closed, AllocError>
-        ensures empty { IfOk result (λ c.
-            (length c.records.items ≡ 0) × (length c.tickets.items ≡ 0)) }
+    pub(crate) fn new(alloc: Global, shards: usize) -> Result<Closed<S>, AllocError>
+        ensures empty { IfOk result (λ c. (length c.records.items ≡ 0)
+            × (length c.tickets.items ≡ 0) × (length c.shards.items ≡ 0)) }
         ensures wide { IfOk result (λ c. (shards ≤ vec_capacity c.records)
-            × (shards ≤ vec_capacity c.tickets)) }
+            × (shards ≤ vec_capacity c.tickets) × (shards ≤ vec_capacity c.shards)) }
     {
         let records = Vec::with_capacity(alloc, shards)?;
         let tickets = Vec::with_capacity(alloc, shards)?;
-        Ok(Closed { records, tickets })
+        let shards = Vec::with_capacity(alloc, shards)?;
+        Ok(Closed {
+            records,
+            tickets,
+            shards,
+        })
     }
 }
 
@@ -70,40 +78,46 @@ fn handed_down<S: KeepsShard>(passes: Vec<ShardPass<S>>, room: GatePasses<S>) ->
     all
 }
 
-/// The records and the tickets, in the room for them. The shards are dropped.
-fn taken_out<S: KeepsShard>(closed: Vec<ClosedSlot<S>>, room: Closed) -> Closed
-    requires empty { (length room.records.items ≡ 0) × (length room.tickets.items ≡ 0) }
+/// The records, the tickets and the shards, in the room for them.
+fn taken_out<S: KeepsShard>(closed: Vec<ClosedSlot<S>>, room: Closed<S>) -> Closed<S>
+    requires empty { (length room.records.items ≡ 0)
+        × (length room.tickets.items ≡ 0) × (length room.shards.items ≡ 0) }
     requires wide { (length closed.items ≤ vec_capacity room.records)
-        × (length closed.items ≤ vec_capacity room.tickets) }
+        × (length closed.items ≤ vec_capacity room.tickets)
+        × (length closed.items ≤ vec_capacity room.shards) }
     ensures records { result.records.items ≡ map (λ x. x.entries) closed.items }
     ensures tickets { result.tickets.items ≡ map (λ x. x.tickets) closed.items }
+    ensures shards { result.shards.items ≡ map (λ x. x.object) closed.items }
 {
     let Closed {
         mut records,
         tickets: mut all_tickets,
+        mut shards,
     } = room;
     for slot in closed {
         let ClosedSlot {
-            object: _,
+            object,
             entries,
             tickets,
         } = slot;
         records.push_reserved(entries);
         all_tickets.push_reserved(tickets);
+        shards.push_reserved(object);
     }
     Closed {
         records,
         tickets: all_tickets,
+        shards,
     }
 }
 
 impl<S: KeepsShard> ShardGate<S> {
     ghost use Rattle.shard_gate.specs.Views.{IsHistoryOf, IsPassOf, base_of, given, slots};
 
-    /// Gives the record of each shard and its tickets, in the order of the shards. The passes are all
+    /// Gives each shard, its record and its tickets, in the order of the shards. The passes are all
     /// that were given, so none is on a shard. By the tickets all steps since the opening stand in one
     /// list, in which what comes before each step grounds it. It takes no memory.
-    pub fn close(self, passes: Vec<ShardPass<S>>) -> Closed
+    pub fn close(self, passes: Vec<ShardPass<S>>) -> Closed<S>
         requires own { (k : ℕ) (p : PassView)
             → slice_get passes.items k ≡ Some p → IsPassOf p self }
         requires count { length passes.items ≡ given self }
@@ -111,6 +125,11 @@ impl<S: KeepsShard> ShardGate<S> {
             → (k : ℕ) × (p : PassView) × (slice_get passes.items k ≡ Some p)
             × (number p.known ≡ n) }
         ensures count { length result.records.items ≡ slots self }
+        ensures kept { length result.shards.items ≡ slots self }
+        ensures shards { (k : ℕ) (shard : _) (log : _)
+            → slice_get result.shards.items k ≡ Some shard
+            → slice_get result.records.items k ≡ Some log
+            → S.stands shard (replay S.after (S.opening shard) log) }
         ensures records { Each result.records.items
             (λ k log. IsEnd (base_of self k) (given self) log) }
         ensures passes { (k : ℕ) (log : _) (j : ℕ) (p : PassView)

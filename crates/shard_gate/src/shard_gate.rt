@@ -21,11 +21,13 @@ pub struct ShardGate<S: KeepsShard> {
     // can't fail. Threads can't share a list of passes, so that one lies behind a lock, which
     // nobody takes.
     pub(crate) handed_down: Mutex<GatePasses<S>>,
-    pub(crate) closed: Closed,
+    pub(crate) closed: Closed<S>,
     ghost few: { gate.board.shared.key.passes ≤ 256 },
-    ghost roomy: { (length closed.records.items ≡ 0) × (length closed.tickets.items ≡ 0)
-        × (gate.board.shared.table_id.slots ≤ vec_capacity closed.records)
-        × (gate.board.shared.table_id.slots ≤ vec_capacity closed.tickets) },
+    ghost empty: { (length closed.records.items ≡ 0)
+        × (length closed.tickets.items ≡ 0) × (length closed.shards.items ≡ 0) },
+    ghost roomy: { (gate.board.shared.table_id.slots ≤ vec_capacity closed.records)
+        × (gate.board.shared.table_id.slots ≤ vec_capacity closed.tickets)
+        × (gate.board.shared.table_id.slots ≤ vec_capacity closed.shards) },
 }
 
 impl<S: KeepsShard> Drop for ShardGate<S> {
@@ -87,15 +89,17 @@ impl<S: KeepsShard> ShardGate<S> {
     ghost use Rattle.shard_gate.specs.Views.{IsPassOf, SeenGrounds, slots};
 
     /// The gate, and the room that closing needs.
-    pub(crate) fn into_parts(self) -> (Gate<S>, Mutex<GatePasses<S>>, Closed)
+    pub(crate) fn into_parts(self) -> (Gate<S>, Mutex<GatePasses<S>>, Closed<S>)
         ensures table { result.0.board.shared.table_id ≡ self.table }
         ensures origin { origin_of
             (λ y. S.opening y.0) (λ y. y.1) (opened result.0) (given_by result.0)
             ≡ self.origin }
         ensures few { given_by result.0 ≤ 256 }
-        ensures empty { (length result.2.records.items ≡ 0) × (length result.2.tickets.items ≡ 0) }
+        ensures empty { (length result.2.records.items ≡ 0)
+            × (length result.2.tickets.items ≡ 0) × (length result.2.shards.items ≡ 0) }
         ensures wide { (slots self ≤ vec_capacity result.2.records)
-            × (slots self ≤ vec_capacity result.2.tickets) }
+            × (slots self ≤ vec_capacity result.2.tickets)
+            × (slots self ≤ vec_capacity result.2.shards) }
     {
         let ShardGate {
             gate,

@@ -19,7 +19,8 @@ use Rattle.service_model.specs.Pending.{is_settled}
 use Rattle.service_model.specs.RunState.{RunState, no_run, row_of, held_attributes}
 use Rattle.service_model.specs.Tasks.{is_started_task, pending_row}
 use Rattle.mutable_state.specs.Steps.{Place, IsFirst, FitFrom, FitStep, MayQueue, after_step, all_written, noted_of, place_after, step_ended, with_event, with_noted}
-use Rattle.shard_steps.specs.Issuing.{DispatchesView, Waiting, all_waiting, count_waiting, issued_first, issued_since, next_waiting, of_grown, of_made, queued_dispatch, readied, waiting_in, with_issued}
+use Rattle.transfer.specs.Logs.{Waiting, with_issued}
+use Rattle.shard_steps.specs.Issuing.{DispatchesView, all_waiting, count_waiting, issued_first, issued_since, next_waiting, of_grown, of_made, queued_dispatch, readied, waiting_in}
 use Rattle.shard_steps.specs.Kept.{AreCaughtUp, HasShown, unchanged}
 use Rattle.shard_steps.specs.declared.changed.Changed.{Changed}
 use Rattle.shard_steps.proofs.EachLemmas.{index-push, shown-at}
@@ -103,10 +104,10 @@ count-is S number low =
 -- where no run changed, all that waits was looked up
 pub all-looked-up : (setup : Setup) (d : DispatchesView) (changed : Changed) (runs : List RunState) → AreCaughtUp changed → all_waiting setup d changed runs ≡ d.waiting
 all-looked-up setup d changed runs caught_up =
-    let W : List Dispatch → Waiting = λ l. record { dispatches = l; counted = d.waiting.counted } in
+    let W : List Dispatch → Waiting Dispatch = λ l. record { items = l; counted = d.waiting.counted } in
     ap (λ g. with_issued (with_issued d.waiting (of_grown setup d g runs)) (of_made setup changed.made runs)) caught_up.grown
     ∙ ap (λ m. with_issued (with_issued d.waiting []) (of_made setup m runs)) caught_up.made
-    ∙ ap W (append-nil (d.waiting.dispatches ++ [])) ∙ ap W (append-nil d.waiting.dispatches)
+    ∙ ap W (append-nil (d.waiting.items ++ [])) ∙ ap W (append-nil d.waiting.items)
 
 pub get-at : (runs : List RunState) (n : ℕ) → n < length runs → slice_get runs n ≡ Some (slice_index_or runs n no_run)
 get-at [] n h = absurd (omega arith)
@@ -120,7 +121,7 @@ pub grown-waits : (setup : Setup) (d d' : DispatchesView) (changed : Changed) (r
 grown-waits setup d d' changed runs now n at facts caught_up same counts readies there fits is h =
     let s = slice_index_or runs n no_run in
     let w = all_waiting setup d changed runs in
-    let F : Waiting → List Dispatch → Waiting = λ x l. with_issued (with_issued x l) [] in
+    let F : Waiting Dispatch → List Dispatch → Waiting Dispatch = λ x l. with_issued (with_issued x l) [] in
     let shown : slice_index_or d'.shown n 0 ≡ length s.shown = ap (λ l. slice_index_or l n 0) counts ∙ shown-at d.shown changed runs n s caught_up (get-at runs n there) h in
     let state : slice_index_or now n no_run ≡ after_step at facts s = ap (λ l. slice_index_or l n no_run) is ∙ get_or-set_same runs n (after_step at facts s) no_run there in
     ap (λ x. F x (issued_since setup (slice_index_or d'.shown n 0) d'.ready (n + 1) (slice_index_or now n no_run))) (same ∙ sym (all-looked-up setup d changed runs caught_up))
@@ -128,7 +129,7 @@ grown-waits setup d d' changed runs now n at facts caught_up same counts readies
     ∙ ap (λ x. F w (issued_since setup (length s.shown) x (n + 1) (slice_index_or now n no_run))) readies
     ∙ ap (λ x. F w (issued_since setup (length s.shown) (readied facts) (n + 1) x)) state
     ∙ ap (F w) (sym (issued-behind setup (n + 1) at s facts fits))
-    ∙ ap (λ l. record { dispatches = l; counted = w.counted }) (append-nil (w.dispatches ++ dispatches_of setup (n + 1) s (after_step at facts s) facts))
+    ∙ ap (λ l. record { items = l; counted = w.counted }) (append-nil (w.items ++ dispatches_of setup (n + 1) s (after_step at facts s) facts))
 
 at-end : {A : Type 0} (d : A) (xs : List A) (x : A) → slice_index_or (xs ++ x ∷ []) (length xs) d ≡ x
 at-end d [] x = refl
@@ -154,24 +155,24 @@ pub added-waits : (setup : Setup) (d d' : DispatchesView) (changed : Changed) (r
 added-waits setup d d' changed runs now n s none same counts readies place is h =
     let g = of_grown setup d changed.grown runs in
     let w = with_issued d.waiting g in
-    let F : Waiting → List Dispatch → ℕ → RunState → Waiting = λ x l k t. with_issued (with_issued x l) (issued_first setup (k + 1) t) in
+    let F : Waiting Dispatch → List Dispatch → ℕ → RunState → Waiting Dispatch = λ x l k t. with_issued (with_issued x l) (issued_first setup (k + 1) t) in
     let state : slice_index_or (runs ++ s ∷ []) n no_run ≡ s = ap (λ k. slice_index_or (runs ++ s ∷ []) k no_run) place ∙ at-end no_run runs s in
     ap (λ l. F d'.waiting (of_grown setup d' changed.grown l) n (slice_index_or l n no_run)) is
     ∙ ap (λ x. F x (of_grown setup d' changed.grown (runs ++ s ∷ [])) n (slice_index_or (runs ++ s ∷ []) n no_run)) same
     ∙ ap (λ l. F d.waiting l n (slice_index_or (runs ++ s ∷ []) n no_run)) (grown-behind setup d d' changed.grown runs s counts readies h.grown)
     ∙ ap (F d.waiting g n) state ∙ ap (λ k. F d.waiting g k s) place
-    ∙ ap (λ x. with_issued x (issued_first setup (length runs + 1) s)) (sym (ap (λ m. with_issued w (of_made setup m runs)) none ∙ ap (λ l. record { dispatches = l; counted = w.counted }) (append-nil w.dispatches)))
+    ∙ ap (λ x. with_issued x (issued_first setup (length runs + 1) s)) (sym (ap (λ m. with_issued w (of_made setup m runs)) none ∙ ap (λ l. record { items = l; counted = w.counted }) (append-nil w.items)))
 
 -- what the run that grew issued was looked up
 pub grown-looked-up : (setup : Setup) (d d' : DispatchesView) (made : Option ℕ) (runs : List RunState) (n : ℕ) (issued : List Dispatch) → issued ≡ issued_since setup (slice_index_or d.shown n 0) d.ready (n + 1) (slice_index_or runs n no_run) →
     d'.waiting ≡ with_issued d.waiting issued → all_waiting setup d' (record { grown = None; made = made }) runs ≡ all_waiting setup d (record { grown = Some n; made = made }) runs
 grown-looked-up setup d d' made runs n issued is now =
-    let F : Waiting → Waiting = λ x. with_issued x (of_made setup made runs) in
-    ap F (ap (λ l. record { dispatches = l; counted = d'.waiting.counted }) (append-nil d'.waiting.dispatches) ∙ now ∙ ap (with_issued d.waiting) is)
+    let F : Waiting Dispatch → Waiting Dispatch = λ x. with_issued x (of_made setup made runs) in
+    ap F (ap (λ l. record { items = l; counted = d'.waiting.counted }) (append-nil d'.waiting.items) ∙ now ∙ ap (with_issued d.waiting) is)
 
 -- what the run that was made issued was looked up
 pub made-looked-up : (setup : Setup) (d d' : DispatchesView) (runs : List RunState) (n : ℕ) (issued : List Dispatch) → issued ≡ issued_first setup (n + 1) (slice_index_or runs n no_run) →
     d'.waiting ≡ with_issued d.waiting issued → all_waiting setup d' unchanged runs ≡ all_waiting setup d (record { grown = None; made = Some n }) runs
 made-looked-up setup d d' runs n issued is now =
-    let F : List Dispatch → Waiting = λ l. with_issued (record { dispatches = l; counted = d.waiting.counted }) (issued_first setup (n + 1) (slice_index_or runs n no_run)) in
-    all-looked-up setup d' unchanged runs (record { grown = refl; made = refl }) ∙ now ∙ ap (with_issued d.waiting) is ∙ ap F (sym (append-nil d.waiting.dispatches))
+    let F : List Dispatch → Waiting Dispatch = λ l. with_issued (record { items = l; counted = d.waiting.counted }) (issued_first setup (n + 1) (slice_index_or runs n no_run)) in
+    all-looked-up setup d' unchanged runs (record { grown = refl; made = refl }) ∙ now ∙ ap (with_issued d.waiting) is ∙ ap F (sym (append-nil d.waiting.items))

@@ -9,28 +9,16 @@ use Rattle.service_model.specs.Issued.{task_dispatch, row_dispatch, queued_again
 use Rattle.service_model.specs.Outcome.{Outcome, CountsDispatch, answered}
 use Rattle.service_model.specs.RunState.{RunState, no_run}
 use Rattle.service_model.specs.Tasks.{pending_row}
+use Rattle.transfer.specs.Logs.{Waiting, count_issued, with_issued}
 use Rattle.shard_steps.specs.declared.changed.Changed.{Changed}
 
--- the dispatches that were issued and not counted, and how many were counted
-pub record Waiting : Type 0 where
-  pub dispatches : List Dispatch
-  pub counted : ℕ
-
 -- the dispatches of a content that wait
-abbrev pub waiting_in : Content → Waiting
-waiting_in S = record { dispatches = drop S.dispatched S.dispatches; counted = S.dispatched }
-
--- one more was counted, the first that waited
-abbrev pub one_counted : Waiting → Waiting
-one_counted w = record { dispatches = drop 1 w.dispatches; counted = w.counted + 1 }
-
--- more were issued
-abbrev pub with_issued : Waiting → List Dispatch → Waiting
-with_issued w more = record { dispatches = w.dispatches ++ more; counted = w.counted }
+abbrev pub waiting_in : Content → Waiting Dispatch
+waiting_in S = record { items = drop S.dispatched S.dispatches; counted = S.dispatched }
 
 -- the dispatches as they are kept: those that were looked up, and what the others are found by; of each run how many events it showed when its dispatches were last looked up, and the activity whose attempt the last step queued again
 pub record DispatchesView : Type 0 where
-  pub waiting : Waiting
+  pub waiting : Waiting Dispatch
   pub shown : List ℕ
   pub ready : Option ℕ
   pub room : ℕ
@@ -63,14 +51,14 @@ of_made setup None runs = []
 of_made setup (Some n) runs = issued_first setup (n + 1) (slice_index_or runs n no_run)
 
 -- all that waits, where these runs changed last
-abbrev pub all_waiting : Setup → DispatchesView → Changed → List RunState → Waiting
+abbrev pub all_waiting : Setup → DispatchesView → Changed → List RunState → Waiting Dispatch
 all_waiting setup d changed runs =
     with_issued (with_issued d.waiting (of_grown setup d changed.grown runs)) (of_made setup changed.made runs)
 
 -- the first that waits, under its number
-abbrev pub next_waiting : Waiting → Outcome
-next_waiting w = answered (dispatch_answer (w.counted + 1) (slice_get w.dispatches 0))
+abbrev pub next_waiting : Waiting Dispatch → Outcome
+next_waiting w = answered (dispatch_answer (w.counted + 1) (slice_get w.items 0))
 
 -- the dispatch of that number is counted, where it is the first that waits
-abbrev pub count_waiting : Waiting → ℕ → Outcome
-count_waiting w number = acknowledges (w.counted + length w.dispatches) w.counted number CountsDispatch
+abbrev pub count_waiting : Waiting Dispatch → ℕ → Outcome
+count_waiting w number = acknowledges (count_issued w) w.counted number CountsDispatch

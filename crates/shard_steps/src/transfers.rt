@@ -4,11 +4,11 @@
 //! TransferRows. Cases: transfer_turns.
 
 ghost use Rattle.std.specs.Prelude.{◌≡◌, ◌+◌, ◌<◌, ◌^◌, None, Some, IfOk, IfSome, OnErr, OnOk, length, option_map, option_to_list, replicate, slice_get, slice_index_or, slice_set};
-ghost use Rattle.service_model.specs.Counts.{acknowledgement_of, outgoing_to};
+ghost use Rattle.service_model.specs.Counts.{acknowledgement_of};
 ghost use Rattle.service_model.specs.Deliveries.{accepted_from, delivery_of};
-ghost use Rattle.service_model.specs.Service.{one_more_acknowledged, with_all_sent};
 ghost use Rattle.service_model_types.specs.declared.transfer.Delivery.TheVariants.{Accepted as IsNext};
-ghost use Rattle.transfer.specs.Outboxes.{nothing};
+ghost use Rattle.transfer.specs.Logs.{count_issued, none_waits};
+ghost use Rattle.transfer.specs.Outboxes.{counted_to, waiting_to, with_all_sent};
 
 use service_model_types::answer::Acknowledged;
 use service_model_types::transfer::{Delivery, Sent, Transfer, TransferContent};
@@ -66,7 +66,7 @@ impl Transfers {
     /// None, between so many shards.
     pub fn new(alloc: Global, shards: u16) -> Result<Transfers, AllocError>
         ensures { IfOk result (λ t. t ≡ record {
-          sent = replicate shards nothing;
+          sent = replicate shards none_waits;
           accepted = replicate shards 0;
           unsent = None;
           answer = None;
@@ -137,10 +137,10 @@ impl Transfers {
     /// The first transfer to a shard that is not acknowledged, with its number.
     pub fn first_to(&self, to: u16) -> Option<(u64, &TransferContent)>
         requires { to < length self.now.sent }
-        ensures content { let o = outgoing_to self.now.sent to in
-            option_map (λ f. f.1.now) result ≡ slice_get o.issued o.acknowledged }
+        ensures content { option_map (λ f. f.1.now) result
+            ≡ slice_get (waiting_to self.now.sent to).items 0 }
         ensures number { IfSome result (λ f.
-            f.0 ≡ (outgoing_to self.now.sent to).acknowledged + 1) }
+            f.0 ≡ (waiting_to self.now.sent to).counted + 1) }
     {
         self.outbox.first_to(to)
     }
@@ -148,8 +148,8 @@ impl Transfers {
     /// What an acknowledgement of this number by a shard would be.
     pub fn judge_acknowledgement(&self, to: u16, number: u64) -> Acknowledged
         requires { to < length self.now.sent }
-        ensures { let o = outgoing_to self.now.sent to in
-            result ≡ acknowledgement_of (length o.issued) o.acknowledged number }
+        ensures { let w = waiting_to self.now.sent to in
+            result ≡ acknowledgement_of (count_issued w) w.counted number }
     {
         self.outbox.judge(to, number)
     }
@@ -157,11 +157,8 @@ impl Transfers {
     /// A shard acknowledged the next number.
     pub fn acknowledge(&mut self, to: u16)
         requires there { to < length self.old.sent }
-        requires issued { let o = outgoing_to self.old.sent to in
-            o.acknowledged < length o.issued }
-        ensures { self.new ≡ record self.old {
-          sent = one_more_acknowledged self.old.sent to;
-        } }
+        requires some { 0 < length (waiting_to self.old.sent to).items }
+        ensures { self.new ≡ record self.old { sent = counted_to self.old.sent to } }
     {
         self.outbox.acknowledge_next(to);
     }

@@ -15,9 +15,9 @@ ghost use Rattle.shard_steps.specs.Attempts.{HasNext};
 use mutable_state::Activity;
 use retry::{Ended, Verdict, verdict_on};
 use service_model_types::request::FailActivity;
-use std::alloc::AllocError;
+use std::alloc::{AllocError, Global};
 use wf_event::payloads::ActivityTaskFailed;
-use wf_event::{Attributes, RetryPolicy};
+use wf_event::{Attributes, Boxed, RetryPolicy};
 use wf_event_values::{Moment, RetryState, Span, Text};
 
 /// The verdict on the attempt of an activity that ended so at a moment.
@@ -68,7 +68,11 @@ fn close_deadline(scheduled: Moment, schedule_to_close: Span) -> Option<u64>
 }
 
 /// The end of an activity by a failure that is not retried.
-pub fn failure(request: &FailActivity, retry: RetryState) -> Result<Attributes, AllocError>
+pub fn failure(
+    alloc: Global,
+    request: &FailActivity,
+    retry: RetryState,
+) -> Result<Attributes, AllocError>
     ensures { IfOk result (λ last. last ≡ a_failure (record {
       scheduled = request.now.task.event;
       message = request.now.message;
@@ -76,12 +80,13 @@ pub fn failure(request: &FailActivity, retry: RetryState) -> Result<Attributes, 
       retry = retry;
     })) }
 {
-    Ok(Attributes::ActivityTaskFailed(ActivityTaskFailed {
+    let fields = ActivityTaskFailed {
         scheduled: request.task.event,
         message: request.message.clone()?,
         error_type: copied_type(&request.error_type)?,
         retry,
-    }))
+    };
+    Ok(Attributes::ActivityTaskFailed(Boxed::new(alloc, fields)?))
 }
 
 /// A copy of a failure's type.

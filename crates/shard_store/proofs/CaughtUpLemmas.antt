@@ -1,7 +1,6 @@
 -- what is kept at the place of a run that changed and was not looked up since may be anything
-use Rattle.std.proofs.Common.{◌≡◌, ◌≢◌, ℕ, ◌∙◌, List, length-set, ap, sym, slice_set, Option, Some, None}
+use Rattle.std.proofs.Common.{◌≡◌, ℕ, ◌∙◌, List, length-set, ap, sym, slice_set, Some}
 use Rattle.std.proofs.lemmas.List.{get_or-set_other}
-use Rattle.std.specs.Prelude.{unwrap_or}
 use Rattle.service_model.specs.RunState.{RunState}
 use Rattle.shard_steps.specs.Kept.{KeepsEach}
 use Rattle.shard_steps.specs.declared.changed.Changed.{Changed}

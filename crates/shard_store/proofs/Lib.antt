@@ -1,4 +1,5 @@
 pub mod PlaceLemmas
+mod SlotLemmas
 pub mod IndexLemmas
 pub mod StepLemmas
 pub mod OpenLemmas

@@ -1,5 +1,5 @@
 -- what is known of no run
-use Rattle.std.proofs.Common.{◌≡◌, ℕ, false, List, [], ◌∷◌, ◌++◌, refl, sym, ap, ◌∙◌, subst, Option, Some, None, zero, suc}
+use Rattle.std.proofs.Common.{◌≡◌, ◌≢◌, ℕ, true, false, List, [], ◌∷◌, ◌++◌, refl, sym, ap, ◌∙◌, subst, Option, Some, None, zero, suc}
 use Rattle.std.specs.Prelude.{drop, filter_map}
 use Rattle.std.specs.Option.{option_map_or}
 use Rattle.wf_event.specs.declared.event.Event.{Event}
@@ -81,6 +81,13 @@ none-sent setup run first = ap (λ (s : RunState). transfers_by setup run s (dro
 
 pub none-waits : (setup : Setup) (n : ℕ) → waiting_of setup n no_run ≡ []
 none-waits setup n = ap (waiting_of setup n) none-known
+
+-- where a run is there, or has a task, the place isn't empty
+pub there-full : (v : RunView) → is_there v.state ≡ true → v ≢ empty_place
+there-full v there none = let clash : false ≡ true = sym none-there ∙ sym (ap (λ (x : RunView). is_there x.state) none) ∙ there in absurd (cc)
+
+pub started-full : (v : RunView) → v.state.task ≡ IsStarted → v ≢ empty_place
+started-full v started none = none-started (sym (ap (λ (x : RunView). x.state.task) none) ∙ started)
 
 -- no fact may come to no run
 pub none-comes : (at : ℕ) (facts : List Fact) → FitStep at no_run facts → after_step at facts no_run ≡ no_run

@@ -6,10 +6,10 @@ use Rattle.service_model.specs.Outcome.{run_at, takes_away}
 use Rattle.service_model.specs.RunState.{RunState, no_run}
 use Rattle.mutable_state.specs.declared.change.Change.{Change as MoreFacts}
 use Rattle.mutable_state.specs.Steps.{FitStep}
-use Rattle.mutable_state.specs.View.{RunView}
+use Rattle.mutable_state.specs.View.{HasRoomFor, RunView}
 use Rattle.shard_steps.specs.Kept.{IsCaughtUp}
 use Rattle.shard_store.specs.declared.plan.MoreOf.{MoreOf}
-use Rattle.shard_store.specs.Fitting.{FitsAdded, FitsMore, FitsStep, IsPrepared, MayTake, room_at, state_at, taking}
+use Rattle.shard_store.specs.Fitting.{FitsAdded, FitsMore, FitsStep, IsPrepared, MayTake, state_at, taking, view_at}
 use Rattle.shard_store.specs.View.{ShardView, ordinal_of, runs_in, state, states}
 use Rattle.shard_store.proofs.IndexLemmas.{at-place}
 
@@ -33,7 +33,7 @@ stays-prepared v w at i facts m same caught_up made = record {
   place = made.place;
   there = subst (λ (l : List RunView). m.index < length l) (sym same) made.there;
   caught_up = caught_up;
-  room = subst (λ (l : List RunView). length m.plan.change.facts ≤ room_at l m.index) (sym same) made.room;
+  room = subst (λ (l : List RunView). HasRoomFor (view_at l m.index) m.plan.change.facts) (sym same) made.room;
   change = made.change;
 }
 

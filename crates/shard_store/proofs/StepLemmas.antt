@@ -7,17 +7,18 @@ use Rattle.wf_event.specs.declared.event.Event.{Event}
 use Rattle.wf_event.specs.declared.payloads.WorkflowExecutionStarted.{WorkflowExecutionStarted as StartedAttributes}
 use Rattle.service_model_types.specs.declared.content.Content.{Content}
 use Rattle.service_model_types.specs.declared.content.Dispatch.{Dispatch}
-use Rattle.service_model_types.specs.declared.content.Outgoing.{Outgoing}
 use Rattle.service_model_types.specs.declared.content.Setup.{Setup}
 use Rattle.service_model_types.specs.declared.journal.Fact.{Fact}
 use Rattle.service_model_types.specs.declared.journal.Fact.TheVariants.{Event as an_event, Note as a_note}
 use Rattle.service_model_types.specs.declared.transfer.Sent.{Sent}
+use Rattle.service_model_types.specs.declared.transfer.TransferContent.{TransferContent}
 use Rattle.service_model.specs.Growth.{KeepsHistories}
 use Rattle.service_model.specs.Journal.{Journal}
 use Rattle.service_model.specs.RunState.{RunState, Beginning, state_of, no_run, id_of, is_open, is_there}
 use Rattle.service_model.specs.Outcome.{Outcome, Added, Counting, CountsNothing, AcceptsFrom, AcknowledgesTo, CountsDispatch}
 use Rattle.service_model.specs.Issued.{dispatches_of, ready_dispatch, task_dispatch, transfers_of}
-use Rattle.service_model.specs.Service.{dispatched_for, dispatched_new, entries, one_more_acknowledged, sent_for, with_added, with_all_sent, with_created, with_count, with_removed, content_after}
+use Rattle.service_model.specs.Service.{dispatched_for, dispatched_new, entries, sent_for, with_added, with_created, with_count, with_removed, content_after}
+use Rattle.service_model.specs.Service as content
 use Rattle.service_model.specs.Shown.{shown, numbered, put_all}
 use Rattle.service_model.specs.Windows.{placed}
 use Rattle.mutable_state.specs.declared.change.Change.{Change as MoreFacts}
@@ -27,7 +28,9 @@ use Rattle.mutable_state.proofs.GrowthLemmas.{Begins, step-begins, beginning-sta
 use Rattle.mutable_state.proofs.JournalLemmas.{formed-later, formed-none, stands-next, stands-begun}
 use Rattle.shard_store.specs.View.{ShardView, ShardState, state, states}
 use Rattle.shard_store.specs.Fitting.{FitsAdded, FitsAnswer, FitsChange, FitsCount, FitsCreated, FitsMore, FitsStep, FitsTaken, IsMade, accepted_by, acknowledged_by, after_added, after_answer, after_change, after_count, after_taken, counted_by, grown, issued_for, issued_new, outgoing_added, outgoing_answered, runs_added, runs_created, runs_taken, state_after, state_at, transfers_for, waiting_added, waiting_created}
-use Rattle.shard_steps.specs.Issuing.{Waiting, one_counted, queued_dispatch, waiting_in, with_issued}
+use Rattle.transfer.specs.Logs.{Waiting, one_counted, with_issued}
+use Rattle.transfer.specs.Outboxes.{AreIssued, counted_to, rest_of, waiting_to, with_all_sent}
+use Rattle.shard_steps.specs.Issuing.{queued_dispatch, waiting_in}
 use Rattle.shard_steps.specs.Starts.{first_facts, new_run}
 use Rattle.shard_steps.specs.declared.starts.Beginning.{Beginning as NewBeginning}
 use Rattle.shard_store.specs.Standing.{StandsFor, Grows}
@@ -40,7 +43,7 @@ use Rattle.shard_store.specs.declared.plan.Plan.{Plan}
 use Rattle.shard_steps.proofs.DispatchLemmas.{ready-facts}
 use Rattle.service_model.proofs.ListLemmas.{all-push, map-push}
 use Rattle.shard_store.proofs.IndexLemmas.{length-states}
-use Rattle.transfer.proofs.ContentLemmas.{acknowledged-sent, with_all_sent-behind, with_all_sent-nil}
+use Rattle.transfer.proofs.ContentLemmas.{counted-sent, issued-counted as acknowledged-issued, issued-sent, rest-counted, rest-sent, waits-more, with_all_sent-behind, with_all_sent-nil}
 
 -- a later step changes nothing of the runs that it leaves alone
 all-later : (steps : ℕ) (Js : List Journal) → AllByRecursion (IsFormed steps) Js → AllByRecursion (IsFormed (steps + 1)) Js
@@ -229,11 +232,11 @@ issued-created S v moment (Some n) o s same count (b, created, made) =
 
 -- what waits after a change, by what was issued
 waiting-added : (m : Option MoreOf) (s : ShardState) → waiting_added m s ≡ with_issued s.waiting (issued_added m s)
-waiting-added None s = ap (λ l. record { dispatches = l; counted = s.waiting.counted }) (sym (append-nil s.waiting.dispatches))
+waiting-added None s = ap (λ l. record { items = l; counted = s.waiting.counted }) (sym (append-nil s.waiting.items))
 waiting-added (Some m) s = refl
 
 waiting-created : {T : Type 0} (n : Option (NewRun T)) (s : ShardState) → waiting_created n s ≡ with_issued s.waiting (issued_created n s)
-waiting-created None s = ap (λ l. record { dispatches = l; counted = s.waiting.counted }) (sym (append-nil s.waiting.dispatches))
+waiting-created None s = ap (λ l. record { items = l; counted = s.waiting.counted }) (sym (append-nil s.waiting.items))
 waiting-created (Some n) s = refl
 
 issued-counted : (m : Option MoreOf) (k : Count) (s : ShardState) → issued_added m (after_count k s) ≡ issued_added m s
@@ -249,19 +252,19 @@ length-taken None runs = refl
 length-taken (Some i) runs = length-set runs i no_run
 
 -- what waits after a step
-record Waits (S : Content) (w : Waiting) : Type 0 where
+record Waits (S : Content) (w : Waiting Dispatch) : Type 0 where
   says : waiting_in S ≡ w
   counted : S.dispatched ≤ length S.dispatches
 
 -- more was issued, and no dispatch was counted
 left-waits : (S : Content) (v : ShardView) (B : Content) (X : List Dispatch) → StandsFor v S → B.dispatches ≡ S.dispatches ++ X → B.dispatched ≡ S.dispatched → Waits B (with_issued v.waiting X)
 left-waits S v B X h all so_far =
-    let W : List Dispatch → ℕ → Waiting = λ l k. record { dispatches = l; counted = k } in
+    let W : List Dispatch → ℕ → Waiting Dispatch = λ l k. record { items = l; counted = k } in
     let were : v.waiting ≡ waiting_in S = ap (λ s. s.waiting) h.says in
     record {
       says = ap (λ l. W (drop B.dispatched l) B.dispatched) all ∙ ap (λ k. W (drop k (S.dispatches ++ X)) k) so_far
           ∙ ap (λ l. W l S.dispatched) (drop-append-le S.dispatched S.dispatches X h.counted)
-          ∙ ap (λ (w : Waiting). W (w.dispatches ++ X) w.counted) (sym were);
+          ∙ ap (λ (w : Waiting Dispatch). W (w.items ++ X) w.counted) (sym were);
       counted = omega (arith, h.counted, so_far, ap length all, length-append S.dispatches X);
     }
 
@@ -280,15 +283,15 @@ counted-waits S v (count.Acknowledges to) o B X h (is, counts) all so_far =
     let P : Counting → Type 0 = λ c. Waits (with_count c B) (with_issued v.waiting X) in
     subst P (sym is) (record { says = w.says; counted = w.counted })
 counted-waits S v count.Dispatch o B X h (is, counts) all so_far =
-    let W : List Dispatch → ℕ → Waiting = λ l k. record { dispatches = l; counted = k } in
+    let W : List Dispatch → ℕ → Waiting Dispatch = λ l k. record { items = l; counted = k } in
     let were : v.waiting ≡ waiting_in S = ap (λ s. s.waiting) h.says in
-    let some : 0 < length (drop S.dispatched S.dispatches) = subst (λ (w : Waiting). 0 < length w.dispatches) were counts.some in
+    let some : 0 < length (drop S.dispatched S.dispatches) = subst (λ (w : Waiting Dispatch). 0 < length w.items) were counts.some in
     let low : S.dispatched + 1 ≤ length S.dispatches = omega (arith, some, length-drop S.dispatched S.dispatches) in
     let P : Counting → Type 0 = λ c. Waits (with_count c B) (with_issued (one_counted v.waiting) X) in
     subst P (sym is) (record {
       says = ap (λ l. W (drop (B.dispatched + 1) l) (B.dispatched + 1)) all ∙ ap (λ k. W (drop (k + 1) (S.dispatches ++ X)) (k + 1)) so_far
           ∙ ap (λ l. W l (S.dispatched + 1)) (drop-append-le (S.dispatched + 1) S.dispatches X low ∙ ap (λ l. l ++ X) (sym (drop-drop 1 S.dispatched S.dispatches)))
-          ∙ ap (λ (w : Waiting). W (drop 1 w.dispatches ++ X) (w.counted + 1)) (sym were);
+          ∙ ap (λ (w : Waiting Dispatch). W (drop 1 w.items ++ X) (w.counted + 1)) (sym were);
       counted = omega (arith, so_far, ap length all, low, length-append S.dispatches X);
     })
 
@@ -306,7 +309,7 @@ all-waits S v moment c o B h fits all so_far =
     let second : dispatched_new S (S.steps + 1) moment o.created ≡ Y = issued-created S v moment c.created o.created t (ap (λ s. s.setup) h.says) (length-taken c.taken (runs_added c.added (states v.runs)) ∙ length-added c.added (states v.runs) ∙ known-runs) fits.created in
     let issued : B.dispatches ≡ S.dispatches ++ (X ++ Y) = all ∙ ap (λ l. S.dispatches ++ (l ++ dispatched_new S (S.steps + 1) moment o.created)) first ∙ ap (λ l. S.dispatches ++ (X ++ l)) second in
     let is : (after_change c (state v)).waiting ≡ with_issued w (X ++ Y) =
-    waiting-created c.created t ∙ ap (λ x. with_issued x Y) (waiting-added c.added s) ∙ ap (λ l. record { dispatches = l; counted = w.counted }) (append_assoc w.dispatches X Y) in
+    waiting-created c.created t ∙ ap (λ x. with_issued x Y) (waiting-added c.added s) ∙ ap (λ l. record { items = l; counted = w.counted }) (append_assoc w.items X Y) in
     subst (Waits (with_count o.counting B)) (sym is) (counted-waits S v c.count o.counting B (X ++ Y) h fits.count issued so_far)
 
 -- the transfers of the run to which a step adds
@@ -332,12 +335,12 @@ sent-added S v moment (Some m) o h (facts, added, fits) =
     ∙ ap (λ t. transfers_of v.setup (n + 1) s t) stands.behind.says
     ∙ ap (λ (c : MoreFacts). transfers_of v.setup (n + 1) s (after_step c.moment c.facts s)) (sym fits.change)
 
--- what is issued after a change, by what was sent
+-- what waits after a change, by what was sent
 outgoing-added : (m : Option MoreOf) (s : ShardState) → outgoing_added m s ≡ with_all_sent (sent_added m s) 0 s.outgoing
 outgoing-added None s = sym (with_all_sent-nil 0 s.outgoing)
 outgoing-added (Some m) s = refl
 
-outgoing-answered : (a : Option Sent) (all : List Outgoing) → outgoing_answered a all ≡ with_all_sent (option_to_list a) 0 all
+outgoing-answered : (a : Option Sent) (all : List (Waiting TransferContent)) → outgoing_answered a all ≡ with_all_sent (option_to_list a) 0 all
 outgoing-answered None all = sym (with_all_sent-nil 0 all)
 outgoing-answered (Some a) all = refl
 
@@ -349,12 +352,33 @@ answer-is : (v : ShardView) (a : Option Sent) (o : List Sent) → FitsAnswer v a
 answer-is v None o is = is
 answer-is v (Some a) o (is, counts) = is
 
+-- what waits of a content's transfers, where what is acknowledged was issued
+record Sends (C : Content) (all : List (Waiting TransferContent)) : Type 0 where
+  says : map rest_of C.outgoing ≡ all
+  issued : AreIssued C.outgoing
+
 -- more was sent, and a count was moved on
-counted-sends : (v : ShardView) (k : Count) (o : Counting) (B : Content) (X : List Sent) (all : List Outgoing) → FitsCount v k o → B.outgoing ≡ with_all_sent X 0 all → (with_count o B).outgoing ≡ with_all_sent X 0 (acknowledged_by k all)
-counted-sends v count.Nothing o B X all is sent = ap (λ c. (with_count c B).outgoing) is ∙ sent
-counted-sends v count.Dispatch o B X all (is, counts) sent = ap (λ c. (with_count c B).outgoing) is ∙ sent
-counted-sends v (count.Accepts from) o B X all (is, counts) sent = ap (λ c. (with_count c B).outgoing) is ∙ sent
-counted-sends v (count.Acknowledges to) o B X all (is, counts) sent = ap (λ c. (with_count c B).outgoing) is ∙ ap (λ l. one_more_acknowledged l to) sent ∙ acknowledged-sent X all to
+counted-sends : (v : ShardView) (k : Count) (o : Counting) (S B : Content) (X : List Sent) → FitsCount v k o → map rest_of S.outgoing ≡ v.outgoing → AreIssued S.outgoing → B.outgoing ≡ content.with_all_sent X 0 S.outgoing
+    → Sends (with_count o B) (with_all_sent X 0 (acknowledged_by k v.outgoing))
+counted-sends v k o S B X fits says issued sent = by k o fits
+  where
+    now : Sends B (with_all_sent X 0 v.outgoing)
+    now = record {
+      says = ap (map rest_of) sent ∙ rest-sent X 0 S.outgoing issued ∙ ap (with_all_sent X 0) says;
+      issued = subst AreIssued (sym sent) (issued-sent X 0 S.outgoing issued);
+    }
+
+    by : (k : Count) (o : Counting) → FitsCount v k o → Sends (with_count o B) (with_all_sent X 0 (acknowledged_by k v.outgoing))
+    by count.Nothing o is = subst (λ c. Sends (with_count c B) (with_all_sent X 0 v.outgoing)) (sym is) now
+    by count.Dispatch o (is, counts) = subst (λ c. Sends (with_count c B) (with_all_sent X 0 v.outgoing)) (sym is) (record { says = now.says; issued = now.issued })
+    by (count.Accepts from) o (is, counts) = subst (λ c. Sends (with_count c B) (with_all_sent X 0 v.outgoing)) (sym is) (record { says = now.says; issued = now.issued })
+    by (count.Acknowledges to) o (is, counts) =
+        let more = waits-more X 0 v.outgoing to counts.some in
+        subst (λ c. Sends (with_count c B) (with_all_sent X 0 (counted_to v.outgoing to))) (sym is)
+        (record {
+          says = rest-counted B.outgoing to ∙ ap (λ l. counted_to l to) now.says ∙ counted-sent X v.outgoing to counts.some;
+          issued = acknowledged-issued B.outgoing to now.issued (subst (λ l. 0 < length (waiting_to l to).items) (sym now.says) more);
+        })
 
 counted-accepts : (v : ShardView) (k : Count) (o : Counting) (B : Content) → FitsCount v k o → (with_count o B).accepted ≡ accepted_by k B.accepted
 counted-accepts v count.Nothing o B is = ap (λ c. (with_count c B).accepted) is
@@ -362,18 +386,20 @@ counted-accepts v count.Dispatch o B (is, counts) = ap (λ c. (with_count c B).a
 counted-accepts v (count.Accepts from) o B (is, counts) = ap (λ c. (with_count c B).accepted) is
 counted-accepts v (count.Acknowledges to) o B (is, counts) = ap (λ c. (with_count c B).accepted) is
 
--- what is issued to each shard after a step that was planned
+-- what waits for each shard after a step that was planned
 all-sends : {T : Type 0} (S : Content) (v : ShardView) (moment : ℕ) (c : Change T) (o : Outcome) (B : Content) → StandsFor v S → FitsChange v moment c o →
-    B.outgoing ≡ with_all_sent (sent_for S (S.steps + 1) moment o.added ++ o.answers) 0 S.outgoing → (with_count o.counting B).outgoing ≡ (after_change c (state v)).outgoing
+    B.outgoing ≡ content.with_all_sent (sent_for S (S.steps + 1) moment o.added ++ o.answers) 0 S.outgoing → Sends (with_count o.counting B) (after_change c (state v)).outgoing
 all-sends S v moment c o B h fits all =
     let s = after_count c.count (state v) in
     let X = sent_added c.added s in
     let Y = option_to_list c.answer in
     let first : sent_for S (S.steps + 1) moment o.added ≡ X = sent-added S v moment c.added o.added h fits.added ∙ sym (sent-counted c.added c.count (state v)) in
-    let sent : B.outgoing ≡ with_all_sent (X ++ Y) 0 v.outgoing = all ∙ ap (λ l. with_all_sent (l ++ o.answers) 0 S.outgoing) first ∙ ap (λ l. with_all_sent (X ++ l) 0 S.outgoing) (answer-is v c.answer o.answers fits.answer)
-    ∙ ap (with_all_sent (X ++ Y) 0) (sym (ap (λ t. t.outgoing) h.says)) in
-    counted-sends v c.count o.counting B (X ++ Y) v.outgoing fits.count sent
-    ∙ with_all_sent-behind X Y s.outgoing ∙ ap (with_all_sent Y 0) (sym (outgoing-added c.added s)) ∙ sym (outgoing-answered c.answer (outgoing_added c.added s))
+    let sent : B.outgoing ≡ content.with_all_sent (X ++ Y) 0 S.outgoing = all ∙ ap (λ l. content.with_all_sent (l ++ o.answers) 0 S.outgoing) first ∙ ap (λ l. content.with_all_sent (X ++ l) 0 S.outgoing) (answer-is v c.answer o.answers fits.answer) in
+    let sends = counted-sends v c.count o.counting S B (X ++ Y) fits.count (sym (ap (λ (t : ShardState). t.outgoing) h.says)) h.issued sent in
+    record {
+      says = sends.says ∙ with_all_sent-behind X Y s.outgoing ∙ ap (with_all_sent Y 0) (sym (outgoing-added c.added s)) ∙ sym (outgoing-answered c.answer (outgoing_added c.added s));
+      issued = sends.issued;
+    }
 
 -- the content after a step of that outcome, but for its counts
 step_content : Content → ℕ → Outcome → Content
@@ -389,11 +415,11 @@ stands-after v w S m o plan stands fits kept did =
     let keeps = counted_alone o.counting B in
     let runs = done S v m plan.change o stands fits.change in
     let waits : Waits C D.waiting = all-waits S v m plan.change o B stands fits.change refl refl in
-    let sends : C.outgoing ≡ D.outgoing = all-sends S v m plan.change o B stands fits.change refl in
+    let sends : Sends C D.outgoing = all-sends S v m plan.change o B stands fits.change refl in
     let accepts : C.accepted ≡ D.accepted = counted-accepts v plan.change.count o.counting B fits.change.count ∙ ap (accepted_by plan.change.count) (sym (ap (λ s. s.accepted) stands.says)) in
     let P : List Journal → Type 0 = λ Js. AllByRecursion (IsFormed C.steps) Js in
     let Q : ℕ → Type 0 = λ k. AllByRecursion (IsFormed k) (runs_of_step S m o) in
-    let K : Setup → List RunState → ℕ → Waiting → List Outgoing → List ℕ → ShardState = λ setup rs last w out acc. record { setup = setup; runs = rs; last = last; waiting = w; outgoing = out; accepted = acc } in
+    let K : Setup → List RunState → ℕ → Waiting Dispatch → List (Waiting TransferContent) → List ℕ → ShardState = λ setup rs last w out acc. record { setup = setup; runs = rs; last = last; waiting = w; outgoing = out; accepted = acc } in
     record {
       says = did
           ∙ ap (λ t. K v.setup D.runs t D.waiting D.outgoing D.accepted) fits.moment
@@ -401,10 +427,11 @@ stands-after v w S m o plan stands fits kept did =
           ∙ ap (λ t. K C.setup t m D.waiting D.outgoing D.accepted) (sym runs.says ∙ ap (map state_of) (sym keeps.runs))
           ∙ ap (λ t. K C.setup (map state_of C.runs) t D.waiting D.outgoing D.accepted) (sym keeps.last)
           ∙ ap (λ t. K C.setup (map state_of C.runs) C.last_moment t D.outgoing D.accepted) (sym waits.says)
-          ∙ ap (λ t. K C.setup (map state_of C.runs) C.last_moment (waiting_in C) t D.accepted) (sym sends)
-          ∙ ap (λ t. K C.setup (map state_of C.runs) C.last_moment (waiting_in C) C.outgoing t) (sym accepts);
+          ∙ ap (λ t. K C.setup (map state_of C.runs) C.last_moment (waiting_in C) t D.accepted) (sym sends.says)
+          ∙ ap (λ t. K C.setup (map state_of C.runs) C.last_moment (waiting_in C) (map rest_of C.outgoing) t) (sym accepts);
       formed = subst P (sym keeps.runs) (subst Q (sym keeps.steps) runs.formed);
       counted = waits.counted;
+      issued = sends.issued;
       one = kept.one stands.one;
       aged = (kept.aged stands.one stands.aged).0;
     }

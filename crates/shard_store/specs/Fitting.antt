@@ -1,20 +1,20 @@
 -- PROOF: a plan that was made for a step on a shard as it is
-use Rattle.std.specs.Prelude.{◌≡◌, ℕ, ◌+◌, ◌-◌, ◌<◌, ◌≤◌, ◌^◌, ◌==◌, cond, true, false, IfSome, ◌∷◌, ◌++◌, [], List, Option, None, Some, length, slice_index_or, slice_set}
+use Rattle.std.specs.Prelude.{◌≡◌, ℕ, ◌+◌, ◌-◌, ◌<◌, ◌^◌, ◌==◌, cond, true, false, IfSome, ◌∷◌, ◌++◌, [], List, Option, None, Some, length, slice_index_or, slice_set}
 use Rattle.std.specs.Prelude.{string_bytes}
 use Rattle.service_model_types.specs.declared.content.Dispatch.{Dispatch}
-use Rattle.service_model_types.specs.declared.content.Outgoing.{Outgoing}
 use Rattle.service_model_types.specs.declared.journal.Fact.{Fact}
 use Rattle.service_model_types.specs.declared.transfer.Sent.{Sent}
+use Rattle.service_model_types.specs.declared.transfer.TransferContent.{TransferContent}
 use Rattle.service_model.specs.Aging.{AreAged, IsOldestRun}
-use Rattle.service_model.specs.Counts.{outgoing_to}
 use Rattle.service_model.specs.Deliveries.{accepted_from}
 use Rattle.service_model.specs.RunState.{RunState, no_run, id_of, is_open, is_there}
 use Rattle.service_model.specs.Issued.{dispatches_of, transfers_of}
 use Rattle.service_model.specs.Outcome.{Outcome, Added, Counting, CountsNothing, AcceptsFrom, AcknowledgesTo, CountsDispatch, latest_run}
-use Rattle.service_model.specs.Service.{one_more_acknowledged, with_all_sent}
-use Rattle.mutable_state.specs.View.{RunView}
+use Rattle.mutable_state.specs.View.{HasRoomFor, RunView}
 use Rattle.mutable_state.specs.Steps.{after_step, FitStep}
-use Rattle.shard_steps.specs.Issuing.{Waiting, issued_first, one_counted, with_issued}
+use Rattle.transfer.specs.Outboxes.{counted_to, waiting_to, with_all_sent}
+use Rattle.transfer.specs.Logs.{Waiting, one_counted, with_issued}
+use Rattle.shard_steps.specs.Issuing.{issued_first}
 use Rattle.shard_steps.specs.Kept.{IsCaughtUp}
 use Rattle.shard_steps.specs.Starts.{MayBegin, first_facts, new_run}
 use Rattle.shard_steps.specs.declared.starts.Beginning.{Beginning}
@@ -35,10 +35,6 @@ state_at runs n = slice_index_or runs n no_run
 -- the run at a place, with its room
 abbrev pub view_at : List RunView → ℕ → RunView
 view_at runs n = slice_index_or runs n empty_place
-
--- the room of the run at a place
-abbrev pub room_at : List RunView → ℕ → ℕ
-room_at runs n = (view_at runs n).room
 
 -- the latest run of a workflow ID, if it has one, has closed
 abbrev pub IsFree : List RunState → List ℕ → Type 0
@@ -62,7 +58,7 @@ pub record IsMade {T : Type 0} (v : ShardView) (at : ℕ) (n : NewRun T) (b : Be
 pub record HasRoom (v : ShardView) (m : MoreOf) : Type 0 where
   pub there : m.index < length v.runs
   pub caught_up : IsCaughtUp v.changed
-  pub room : length m.plan.change.facts ≤ room_at v.runs m.index
+  pub room : HasRoomFor (view_at v.runs m.index) m.plan.change.facts
   pub fits : FitStep m.plan.change.moment (state_at (states v.runs) m.index) m.plan.change.facts
 
 -- the plan adds these facts to the run at that place, which has room for them, and all was looked up
@@ -70,7 +66,7 @@ pub record IsPrepared (v : ShardView) (at index : ℕ) (facts : List Fact) (m : 
   pub place : m.index ≡ index
   pub there : m.index < length v.runs
   pub caught_up : IsCaughtUp v.changed
-  pub room : length m.plan.change.facts ≤ room_at v.runs m.index
+  pub room : HasRoomFor (view_at v.runs m.index) m.plan.change.facts
   pub change : m.plan.change ≡ record { moment = at; facts = facts }
 
 -- the plan for the run at that place adds these facts
@@ -81,7 +77,7 @@ pub record FitsMore (v : ShardView) (at : ℕ) (m : MoreOf) (facts : List Fact) 
 -- there is a dispatch to be counted, and all was looked up
 pub record CountsFirst (v : ShardView) : Type 0 where
   pub caught_up : IsCaughtUp v.changed
-  pub some : 0 < length v.waiting.dispatches
+  pub some : 0 < length v.waiting.items
   pub few : v.waiting.counted + 1 < 2 ^ 64
 
 -- there is a shard of this number, and one more can be accepted from it
@@ -89,11 +85,11 @@ pub record CountsAccepted (v : ShardView) (from : ℕ) : Type 0 where
   pub there : from < v.setup.shards
   pub few : accepted_from v.accepted from + 1 < 2 ^ 64
 
--- there is a shard of this number, a transfer to it is not acknowledged, and all was looked up
+-- there is a shard of this number, a transfer to it waits, and all was looked up
 pub record CountsAcknowledged (v : ShardView) (to : ℕ) : Type 0 where
   pub caught_up : IsCaughtUp v.changed
   pub there : to < v.setup.shards
-  pub issued : (outgoing_to v.outgoing to).acknowledged < length (outgoing_to v.outgoing to).issued
+  pub some : 0 < length (waiting_to v.outgoing to).items
 
 -- the run at that place may be taken away: it is there and has closed, all was looked up, and the older runs of its workflow ID went before
 pub record MayTake (v : ShardView) (index : ℕ) : Type 0 where
@@ -193,7 +189,7 @@ abbrev pub transfers_for : MoreOf → ShardState → List Sent
 transfers_for m s = transfers_of s.setup (ordinal_of m.index) (state_at s.runs m.index) (grown m s.runs)
 
 -- what waits once a count was moved on
-abbrev pub counted_by : Count → Waiting → Waiting
+abbrev pub counted_by : Count → Waiting Dispatch → Waiting Dispatch
 counted_by count.Nothing w = w
 counted_by count.Dispatch w = one_counted w
 counted_by _ w = w
@@ -203,28 +199,28 @@ abbrev pub accepted_by : Count → List ℕ → List ℕ
 accepted_by (count.Accepts from) all = slice_set all from (slice_index_or all from 0 + 1)
 accepted_by _ all = all
 
--- what is issued to each shard, and acknowledged by it then
-abbrev pub acknowledged_by : Count → List Outgoing → List Outgoing
-acknowledged_by (count.Acknowledges to) all = one_more_acknowledged all to
+-- what waits for each shard then
+abbrev pub acknowledged_by : Count → List (Waiting TransferContent) → List (Waiting TransferContent)
+acknowledged_by (count.Acknowledges to) all = counted_to all to
 acknowledged_by _ all = all
 
 -- what waits with what is issued for an older run
-abbrev pub waiting_added : Option MoreOf → ShardState → Waiting
+abbrev pub waiting_added : Option MoreOf → ShardState → Waiting Dispatch
 waiting_added None s = s.waiting
 waiting_added (Some m) s = with_issued s.waiting (issued_for m s)
 
 -- what waits with what is issued for a new run
-abbrev pub waiting_created : {T : Type 0} → Option (NewRun T) → ShardState → Waiting
+abbrev pub waiting_created : {T : Type 0} → Option (NewRun T) → ShardState → Waiting Dispatch
 waiting_created None s = s.waiting
 waiting_created (Some n) s = with_issued s.waiting (issued_new n s)
 
--- what is issued to each shard with what an older run sends
-abbrev pub outgoing_added : Option MoreOf → ShardState → List Outgoing
+-- what waits for each shard with what an older run sends
+abbrev pub outgoing_added : Option MoreOf → ShardState → List (Waiting TransferContent)
 outgoing_added None s = s.outgoing
 outgoing_added (Some m) s = with_all_sent (transfers_for m s) 0 s.outgoing
 
--- what is issued to each shard with what answers a transfer
-abbrev pub outgoing_answered : Option Sent → List Outgoing → List Outgoing
+-- what waits for each shard with what answers a transfer
+abbrev pub outgoing_answered : Option Sent → List (Waiting TransferContent) → List (Waiting TransferContent)
 outgoing_answered None all = all
 outgoing_answered (Some a) all = with_all_sent (a ∷ []) 0 all
 

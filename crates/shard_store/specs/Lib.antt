@@ -1,4 +1,5 @@
 pub mod Places
+pub mod Lending
 pub mod View
 pub mod Open
 pub mod Fitting

@@ -7,6 +7,7 @@ use Rattle.service_model.specs.Aging.{IsAged}
 use Rattle.service_model.specs.Growth.{HasOneOpen}
 use Rattle.service_model.specs.RunState.{RunState, no_run, state_of}
 use Rattle.mutable_state.specs.Formed.{IsFormed}
+use Rattle.transfer.specs.Outboxes.{AreIssued, rest_of}
 use Rattle.shard_steps.specs.Issuing.{waiting_in}
 use Rattle.shard_store.specs.View.{ShardView, ShardState, state}
 
@@ -17,7 +18,7 @@ known S = record {
   runs = map state_of S.runs;
   last = S.last_moment;
   waiting = waiting_in S;
-  outgoing = S.outgoing;
+  outgoing = map rest_of S.outgoing;
   accepted = S.accepted;
 }
 
@@ -26,6 +27,7 @@ pub record StandsFor (v : ShardView) (S : Content) : Type 0 where
   pub says : state v ≡ known S
   pub formed : AllByRecursion (IsFormed S.steps) S.runs
   pub counted : S.dispatched ≤ length S.dispatches
+  pub issued : AreIssued S.outgoing
   -- of two runs of one workflow ID the older closes first
   pub one : HasOneOpen S
   pub aged : IsAged S

@@ -1,22 +1,23 @@
 -- PROOF: a shard as contracts see it: what it says of its journals, its dispatches and its transfers, what was not looked up since the last step, and for how many more runs there is room
 use Rattle.std.specs.Prelude.{◌≡◌, ℕ, ◌+◌, ◌<◌, ◌^◌, List, map, Option, option_map}
-use Rattle.service_model_types.specs.declared.content.Outgoing.{Outgoing}
+use Rattle.service_model_types.specs.declared.content.Dispatch.{Dispatch}
 use Rattle.service_model_types.specs.declared.content.Setup.{Setup}
+use Rattle.service_model_types.specs.declared.transfer.TransferContent.{TransferContent}
 use Rattle.service_model.specs.RunState.{RunState}
 use Rattle.service_model.specs.Outcome.{Runs, latest_run, run_at}
 use Rattle.mutable_state.specs.View.{RunView}
-use Rattle.shard_steps.specs.Issuing.{Waiting}
+use Rattle.transfer.specs.Logs.{Waiting}
 use Rattle.shard_steps.specs.Kept.{Outstanding}
 
--- a shard: its setup, its runs in the order of their ordinals, with that of no run at the place of one that was taken away, what was not looked up since the last step, its last moment, for how many more runs there is room, its dispatches, all transfers that it issued to each shard, and how many it accepted from each
+-- a shard: its setup, its runs in the order of their ordinals, with that of no run at the place of one that was taken away, what was not looked up since the last step, its last moment, for how many more runs there is room, its dispatches and its transfers to each shard that wait, and how many it accepted from each
 pub record ShardView : Type 0 where
   pub setup : Setup
   pub runs : List RunView
   pub changed : Outstanding
   pub last : ℕ
   pub room : ℕ
-  pub waiting : Waiting
-  pub outgoing : List Outgoing
+  pub waiting : Waiting Dispatch
+  pub outgoing : List (Waiting TransferContent)
   pub accepted : List ℕ
 
 -- what is known of the runs
@@ -28,8 +29,8 @@ pub record ShardState : Type 0 where
   pub setup : Setup
   pub runs : List RunState
   pub last : ℕ
-  pub waiting : Waiting
-  pub outgoing : List Outgoing
+  pub waiting : Waiting Dispatch
+  pub outgoing : List (Waiting TransferContent)
   pub accepted : List ℕ
 
 abbrev pub state : ShardView → ShardState

@@ -13,6 +13,7 @@ use indexmap::IndexMap;
 use mutable_state_keeper::KeepsRun;
 use service_model_types::transfer::Sent;
 use shard_steps::{Changed, readied};
+use wf_event::Boxed;
 use wf_event_values::Id;
 
 impl<T: KeepsRun> Store<T> {
@@ -79,7 +80,7 @@ impl<T: KeepsRun> Store<T> {
     }
 
     /// Notes the answer to a transfer, if the step gives one.
-    fn answer_by(&mut self, answer: Option<Sent>)
+    fn answer_by(&mut self, answer: Option<Boxed<Sent>>)
         requires { MayAnswer self.old answer }
         ensures state { state self.new ≡ after_answer answer (state self.old) }
         ensures runs { self.new.runs ≡ self.old.runs }
@@ -87,7 +88,7 @@ impl<T: KeepsRun> Store<T> {
         ensures room { self.new.room ≡ self.old.room }
     {
         match answer {
-            Some(answer) => self.transfers.mark_answer(answer),
+            Some(answer) => self.transfers.mark_answer(answer.into_inner()),
             None => {}
         }
     }
@@ -104,8 +105,7 @@ impl<T: KeepsRun> Store<T> {
         let MoreOf { index, plan } = more;
         let ready = readied(plan.change.facts.as_slice());
         let shown = self.dispatches.shown(index);
-        let place = &mut self.runs[index];
-        place.commit(plan);
+        self.runs.commit(index, plan);
         self.dispatches.mark_ready(ready);
         self.transfers.mark_grown(index, shown);
         self.changed = Changed {
@@ -133,7 +133,7 @@ impl<T: KeepsRun> Store<T> {
         let NewRun { run, key } = created;
         let index = self.runs.len();
         let _ = self.index.insert(key, index).unwrap();
-        self.runs.push(run).unwrap();
+        self.runs.push(run);
         self.deadlines.push_none();
         self.dispatches.add_run();
         self.changed.made = Some(index);
@@ -149,8 +149,7 @@ impl<T: KeepsRun> Store<T> {
         let run = place.get();
         let id = run.workflow_id();
         forget_latest(&mut self.index, id, index);
-        let place = &mut self.runs[index];
-        place.take();
+        self.runs.clear(index);
         self.deadlines.clear(index);
         self.dispatches.forget(index);
     }

@@ -6,10 +6,11 @@ ghost use Rattle.service_model.specs.Completion.{judge_all, failed_task};
 ghost use Rattle.service_model.specs.Outcome.{run_id};
 ghost use Rattle.service_model.specs.Pending.{IsStarted};
 ghost use Rattle.service_model.specs.RunState.{is_there};
+ghost use Rattle.mutable_state.specs.View.{HasRoomFor};
 ghost use Rattle.task_completion.specs.Ends.{IsPlanned, IsCompletion};
 ghost use Rattle.shard_steps.specs.Kept.{IsCaughtUp};
 ghost use Rattle.shard_store.specs.View.{run_in, state, states};
-ghost use Rattle.shard_store.specs.Fitting.{IsPrepared, room_at, state_at, view_at};
+ghost use Rattle.shard_store.specs.Fitting.{IsPrepared, state_at, view_at};
 
 use crate::plan::MoreOf;
 use crate::store::Store;
@@ -35,10 +36,10 @@ impl<T: KeepsRun> Store<T> {
         ensures caught_up { OnOk result (IsCaughtUp self.new.changed) }
         ensures made { IfOk result (λ plan. plan.change ≡ more) }
         ensures room { IfOk result (λ plan.
-            length plan.change.facts ≤ room_at self.new.runs index) }
+            HasRoomFor (view_at self.new.runs index) plan.change.facts) }
     {
         self.catch_up()?;
-        let place = &mut self.runs[index];
+        let place = self.runs.place_mut(index);
         place.prepare(more)
     }
 
@@ -48,7 +49,7 @@ impl<T: KeepsRun> Store<T> {
         ensures same { state self.new ≡ state self.old }
         ensures events { IfOk result (λ events. events ≡ (run_in self.old index).shown) }
     {
-        let place = &mut self.runs[index];
+        let place = self.runs.place_mut(index);
         place.share_events(self.alloc)
     }
 
@@ -85,7 +86,7 @@ impl<T: KeepsRun> Store<T> {
     {
         self.catch_up()?;
         let next = self.run_id(self.runs.len());
-        let place = &mut self.runs[index];
+        let place = self.runs.place_mut(index);
         place.complete(self.alloc, &self.setup, next, commands, moment)
     }
 
@@ -106,7 +107,7 @@ impl<T: KeepsRun> Store<T> {
             WorkflowWorkerUnhandledFailure message) plan) }
     {
         self.catch_up()?;
-        let place = &mut self.runs[index];
+        let place = self.runs.place_mut(index);
         place.fail(self.alloc, message, moment)
     }
 }

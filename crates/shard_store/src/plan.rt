@@ -8,6 +8,7 @@ use crate::place::Place;
 use mutable_state_keeper::KeepsRun;
 use service_model_types::answer::{Answer, Reply};
 use service_model_types::transfer::Sent;
+use wf_event::Boxed;
 use wf_event_values::{Moment, Refusal};
 
 /// A run that a step makes, and its workflow ID as the index keeps it.
@@ -37,14 +38,15 @@ pub enum Count {
 }
 
 /// What a step does to a shard: what an older run gets, the run that is made, the place of the run
-/// that is taken away, the count that is moved on, and the transfer that answers another one.
+/// that is taken away, the count that is moved on, and the transfer that answers another one. That
+/// is large, and few steps have one, so it lies elsewhere.
 #[derive(Drop)]
 pub struct Change<T: KeepsRun> {
     pub added: Option<MoreOf>,
     pub created: Option<NewRun<T>>,
     pub taken: Option<usize>,
     pub count: Count,
-    pub answer: Option<Sent>,
+    pub answer: Option<Boxed<Sent>>,
 }
 
 /// A step that can't fail any more.

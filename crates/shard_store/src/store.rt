@@ -11,10 +11,10 @@ ghost use Rattle.shard_store.specs.View.{IsSetup, run_in, state, states};
 ghost use Rattle.shard_store.specs.Fitting.{FitsChange, state_after};
 ghost use Rattle.shard_store.specs.Open.{IsOneOpen};
 ghost use Rattle.shard_store.specs.Standing.{Grows, StandsFor};
-ghost use Rattle.transfer.specs.Outboxes.{nothing};
+ghost use Rattle.transfer.specs.Logs.{none_waits};
 
-use crate::place::Place;
 use crate::plan::Plan;
+use crate::runs::Runs;
 use indexmap::IndexMap;
 use mutable_state_keeper::{KeepsRun, Run};
 use service_model_types::answer::Reply;
@@ -30,7 +30,7 @@ pub struct Store<T: KeepsRun> {
     pub(crate) alloc: Global,
     pub(crate) setup: Setup,
     /// A place for each run that was ever made.
-    pub(crate) runs: Vec<Place<T>>,
+    pub(crate) runs: Runs<T>,
     /// The place of each workflow ID's latest run.
     pub(crate) index: IndexMap<String, usize>,
     /// The first deadline of each run, at the run's place.
@@ -62,7 +62,7 @@ impl<T: KeepsRun> Drop for Store<T> {
 }
 
 impl<T: KeepsRun> Model for Store<T> {
-    ghost use Rattle.std.specs.Prelude.{◌-◌, ◌<◌, ◌^◌, length, min, vec_capacity, vec_len};
+    ghost use Rattle.std.specs.Prelude.{◌<◌, ◌^◌, length, min};
     ghost use Rattle.indexmap.specs.IndexMap.{get_by_text, spare};
     ghost use Rattle.shard_store.specs.View.{ShardView, IsIndexed, IsSetup, states};
     ghost use Rattle.shard_steps.specs.Issuing.{all_waiting};
@@ -76,8 +76,7 @@ impl<T: KeepsRun> Model for Store<T> {
       runs = a.runs.items;
       changed = outstanding a.changed a.transfers;
       last = a.last;
-      room = min (vec_capacity a.runs - vec_len a.runs)
-          (min (spare a.index) (min a.deadlines.room a.dispatches.room));
+      room = min a.runs.room (min (spare a.index) (min a.deadlines.room a.dispatches.room));
       waiting = all_waiting a.setup a.dispatches a.changed (states a.runs.items);
       outgoing = all_outgoing a.setup a.transfers (states a.runs.items);
       accepted = a.transfers.accepted;
@@ -99,19 +98,20 @@ impl<T: KeepsRun> Store<T> {
           setup = setup;
           runs = [];
           last = 0;
-          waiting = record { dispatches = []; counted = 0 };
-          outgoing = replicate setup.shards nothing;
+          waiting = none_waits;
+          outgoing = replicate setup.shards none_waits;
           accepted = replicate setup.shards 0;
         }) }
 
         // It stands for the content that every shard opens with.
         ensures stands { IfOk result (λ store. StandsFor store (opening setup)) }
     {
+        let runs = Runs::new(alloc)?;
         let transfers = Transfers::new(alloc, setup.shards)?;
         Ok(Store {
             alloc,
             setup,
-            runs: Vec::new(alloc),
+            runs,
             index: IndexMap::new(alloc),
             deadlines: ByPlace::new(alloc),
             dispatches: Dispatches::new(alloc),
@@ -177,7 +177,7 @@ impl<T: KeepsRun> Store<T> {
     /// The first dispatch that waits.
     pub fn first_dispatch(&self) -> Option<&Dispatch>
         requires { IsCaughtUp self.now.changed }
-        ensures { option_copied result ≡ slice_get self.now.waiting.dispatches 0 }
+        ensures { option_copied result ≡ slice_get self.now.waiting.items 0 }
     {
         self.dispatches.first()
     }
@@ -185,7 +185,7 @@ impl<T: KeepsRun> Store<T> {
     /// How many dispatches wait.
     pub fn waiting_dispatches(&self) -> usize
         requires { IsCaughtUp self.now.changed }
-        ensures { result ≡ length self.now.waiting.dispatches }
+        ensures { result ≡ length self.now.waiting.items }
     {
         self.dispatches.count()
     }

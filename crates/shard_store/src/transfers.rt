@@ -1,9 +1,11 @@
 //! The transfers that a shard issued to others, and those that it accepted from them.
 
 ghost use Rattle.std.specs.Prelude.{◌≡◌, ◌+◌, ◌<◌, ◌^◌, None, IfSome, OnOk, length, option_map, slice_get};
-ghost use Rattle.service_model.specs.Counts.{acknowledgement_of, outgoing_to};
+ghost use Rattle.service_model.specs.Counts.{acknowledgement_of};
 ghost use Rattle.service_model.specs.Deliveries.{accepted_from, delivery_of};
 ghost use Rattle.service_model_types.specs.declared.transfer.Delivery.TheVariants.{Accepted as IsNext};
+ghost use Rattle.transfer.specs.Logs.{count_issued};
+ghost use Rattle.transfer.specs.Outboxes.{waiting_to};
 ghost use Rattle.shard_steps.specs.Kept.{IsCaughtUp};
 ghost use Rattle.shard_store.specs.View.{state};
 
@@ -49,10 +51,10 @@ impl<T: KeepsRun> Store<T> {
     pub fn next_transfer(&self, to: u16) -> Option<(u64, &TransferContent)>
         requires caught_up { IsCaughtUp self.now.changed }
         requires there { to < self.now.setup.shards }
-        ensures content { let o = outgoing_to self.now.outgoing to in
-            option_map (λ f. f.1.now) result ≡ slice_get o.issued o.acknowledged }
+        ensures content { option_map (λ f. f.1.now) result
+            ≡ slice_get (waiting_to self.now.outgoing to).items 0 }
         ensures number { IfSome result (λ f.
-            f.0 ≡ (outgoing_to self.now.outgoing to).acknowledged + 1) }
+            f.0 ≡ (waiting_to self.now.outgoing to).counted + 1) }
     {
         self.transfers.first_to(to)
     }
@@ -61,8 +63,8 @@ impl<T: KeepsRun> Store<T> {
     pub fn judge_acknowledgement(&self, to: u16, number: u64) -> Acknowledged
         requires caught_up { IsCaughtUp self.now.changed }
         requires there { to < self.now.setup.shards }
-        ensures { let o = outgoing_to self.now.outgoing to in
-            result ≡ acknowledgement_of (length o.issued) o.acknowledged number }
+        ensures { let w = waiting_to self.now.outgoing to in
+            result ≡ acknowledgement_of (count_issued w) w.counted number }
     {
         self.transfers.judge_acknowledgement(to, number)
     }

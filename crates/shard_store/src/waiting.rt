@@ -4,7 +4,7 @@ ghost use Rattle.std.specs.Prelude.{◌≡◌, ◌<◌, ◌^◌, IfOk, length};
 ghost use Rattle.service_model.specs.Waiting.{all_waiting};
 ghost use Rattle.shard_store.specs.View.{states};
 
-use crate::place::Place;
+use crate::runs::Runs;
 use crate::store::Store;
 use mutable_state_keeper::KeepsRun;
 use service_model_types::content::{Dispatch, Setup};
@@ -16,7 +16,7 @@ impl<T: KeepsRun> Store<T> {
         ensures { IfOk result (λ waiting.
             waiting.items ≡ all_waiting self.now.setup (states self.now.runs)) }
     {
-        waiting_in(alloc, &self.setup, self.runs.as_slice())
+        waiting_in(alloc, &self.setup, &self.runs)
     }
 }
 
@@ -24,13 +24,15 @@ impl<T: KeepsRun> Store<T> {
 fn waiting_in<T: KeepsRun>(
     alloc: Global,
     setup: &Setup,
-    runs: &[Place<T>],
+    runs: &Runs<T>,
 ) -> Result<Vec<Dispatch>, AllocError>
-    requires { length runs.now < 2 ^ 60 }
-    ensures { IfOk result (λ waiting. waiting.items ≡ all_waiting setup.now (states runs.now)) }
+    requires { length runs.now.items < 2 ^ 60 }
+    ensures { IfOk result (λ waiting.
+        waiting.items ≡ all_waiting setup.now (states runs.now.items)) }
 {
     let mut waiting = Vec::new(alloc);
-    for (index, place) in runs.iter().enumerate() {
+    for index in 0..runs.len() {
+        let place = &runs[index];
         let mut found = place.waiting(alloc, setup, index as u64 + 1)?;
         waiting.append(&mut found)?;
     }

@@ -6,6 +6,7 @@ use std::alloc::Global;
 use std::io::{self, ErrorKind};
 use wf_command::Command;
 use wf_command::command::StartTimer;
+use wf_event::Boxed;
 use wf_event_values::{ConflictPolicy, Field, Id, Items, ReusePolicy, Span, TaskKind, Text};
 use workflow_service::Refused;
 
@@ -38,9 +39,9 @@ fn text(alloc: Global, text: &str) -> io::Result<Text> {
 }
 
 /// The start of the workflow of that number.
-pub(crate) fn start(alloc: Global, number: u64) -> io::Result<Start> {
+pub(crate) fn start(alloc: Global, number: u64) -> io::Result<Boxed<Start>> {
     let name = format!(in alloc; "order-{number}")?;
-    Ok(Start {
+    let start = Start {
         workflow_id: id(alloc, name.as_str())?,
         workflow_type: text(alloc, "order")?,
         task_queue: id(alloc, "main")?,
@@ -51,7 +52,8 @@ pub(crate) fn start(alloc: Global, number: u64) -> io::Result<Start> {
         run_timeout: Span::none(),
         task_timeout: Span::none(),
         execution_timeout: Span::none(),
-    })
+    };
+    Ok(Boxed::new(alloc, start)?)
 }
 
 /// The first task of the run of that ordinal.

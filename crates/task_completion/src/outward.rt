@@ -57,14 +57,16 @@ pub(crate) fn external_signal(
 }
 
 /// The event of a request to another workflow to cancel.
-pub(crate) fn external_cancel(command: &RequestCancelExternal) -> Result<Attributes, AllocError>
+pub(crate) fn external_cancel(
+    alloc: Global,
+    command: &RequestCancelExternal,
+) -> Result<Attributes, AllocError>
     ensures { IfOk result (λ a. a ≡ external_cancel command.now) }
 {
     let workflow_id = command.workflow_id.clone()?;
-    Ok(Attributes::RequestCancelExternalWorkflowExecutionInitiated(
-        RequestCancelExternalWorkflowExecutionInitiated {
-            workflow_id,
-            run: command.run,
-        },
-    ))
+    let fields = RequestCancelExternalWorkflowExecutionInitiated {
+        workflow_id,
+        run: command.run,
+    };
+    Ok(Attributes::RequestCancelExternalWorkflowExecutionInitiated(Boxed::new(alloc, fields)?))
 }

@@ -387,7 +387,7 @@ impl<'a> SoFar<'a> {
         if MOST_PENDING <= self.outward.cancels {
             return Ok(Err(Cause::PendingRequestCancelLimitExceeded));
         }
-        self.facts.push(external_cancel(command)?)?;
+        self.facts.push(external_cancel(self.alloc, command)?)?;
         self.outward.cancels += 1;
         Ok(Ok(()))
     }

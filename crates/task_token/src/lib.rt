@@ -5,4 +5,4 @@ mod run;
 mod token;
 
 pub use run::{RUN_TEXT_LENGTH, RunText};
-pub use token::TaskToken;
+pub use token::{TOKEN_TEXT_LENGTH, TaskToken};

@@ -24,6 +24,9 @@ pub struct TaskToken {
     pub attempt: u32,
 }
 
+/// How many bytes a token's text has.
+pub const TOKEN_TEXT_LENGTH: usize = 32;
+
 /// The only version of tokens so far: a token's first byte.
 const VERSION: u8 = 1;
 
@@ -142,11 +145,27 @@ fn token_of(bytes: &[u8]) -> Option<TaskToken>
     }
 }
 
+/// The token whose text this is, where the text is as long as that of a token.
+#[tactic(auto, unfolding(crate::specs::TokenTexts::token_named))]
+fn token_named_at_length(text: &str) -> Option<TaskToken>
+    requires { length text.now ≡ 32 }
+    ensures { result ≡ token_named text.now }
+{
+    let mut bytes = [0; 24];
+    match STANDARD.decode_slice_unchecked(text.as_bytes(), &mut bytes) {
+        Ok(length) => token_of(&bytes[..length]),
+        Err(_) => None,
+    }
+}
+
 /// The token whose text this is.
 #[tactic(auto, unfolding(crate::specs::TokenTexts::token_named))]
 fn token_named(alloc: Global, text: &str) -> Result<Option<TaskToken>, AllocError>
     ensures { IfOk result (λ o. o ≡ token_named text.now) }
 {
+    if text.len() == TOKEN_TEXT_LENGTH {
+        return Ok(token_named_at_length(text));
+    }
     match STANDARD.decode(alloc, text.as_bytes()) {
         Ok(bytes) => Ok(token_of(&bytes)),
         Err(DecodeAllocError::DecodeError(_)) => Ok(None),
@@ -192,6 +211,19 @@ impl TaskToken {
         ensures { IfOk result (λ s. string_bytes s ≡ token_text self.now) }
     {
         STANDARD.encode(alloc, &bytes_of(self))
+    }
+
+    /// The token's text, as `write` gives it, written into the buffer.
+    pub fn write_in<'b>(&self, buffer: &'b mut [u8; TOKEN_TEXT_LENGTH]) -> &'b str
+        ensures { result.now ≡ token_text self.now }
+    {
+        let Ok(_) = STANDARD.encode_slice(&bytes_of(self), buffer) else {
+            unreachable!();
+        };
+        let Ok(text) = str::from_utf8(buffer) else {
+            unreachable!();
+        };
+        text
     }
 
     /// The token whose text this is.

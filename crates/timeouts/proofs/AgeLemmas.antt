@@ -1,12 +1,12 @@
 -- of one workflow ID the older run's retention ends first
-use Rattle.std.proofs.Common.{◌≡◌, ℕ, zero, suc, ◌+◌, ◌-◌, ◌<◌, ◌≤◌, inl, inr, Bool, true, false, cond, List, [], ◌∷◌, ◌++◌, refl, sym, ap, ◌∙◌, subst, arith, Option, Some, None}
+use Rattle.std.proofs.Common.{◌≡◌, ℕ, zero, suc, ◌+◌, ◌-◌, ◌<◌, ◌≤◌, inl, inr, Bool, true, false, cond, List, [], ◌∷◌, refl, sym, ap, ◌∙◌, subst, arith, Some}
 use Rattle.std.proofs.lemmas.Bool.Decides.{nat_tests}
 use Rattle.std.specs.Prelude.{find, flat_map, map, nat_lt, slice_get, slice_index_or, ◌==◌, ◌&&◌, ◌||◌}
 use Rattle.std.specs.List.{AllByRecursion, enumerate_from}
 use Rattle.wf_event.specs.declared.event.Event.{Event}
 use Rattle.service_model.specs.Aging.{AreAged, AreOfOne, IsOldestRun}
 use Rattle.service_model.specs.Deadlines.{Due, dues, is_closing_event, retention_dues}
-use Rattle.service_model.specs.RunState.{RunState, is_open, is_open_status, is_there, no_run}
+use Rattle.service_model.specs.RunState.{RunState, is_open, is_there, no_run}
 use Rattle.service_model.specs.TimerTurns.{RunDue, all_dues, due_now, is_before, is_retention, least}
 use Rattle.timeouts.specs.Firsts.{IsOfRun, of_run}
 use Rattle.timeouts.specs.Slots.{IsOneOf}

@@ -1,13 +1,14 @@
 -- deadlines by numbers, as one comes and one goes
-use Rattle.std.proofs.Common.{◌≡◌, ◌≢◌, ℕ, zero, suc, ◌<◌, ◌⊎◌, inl, inr, List, [], ◌∷◌, ◌++◌, length, slice_index_or, slice_set, map, refl, sym, ap, arith, ◌∙◌}
-use Rattle.std.specs.FinMap.{FinMap, get, insert, remove, empty, get-empty}
+use Rattle.std.proofs.Common.{◌≡◌, ◌≢◌, ℕ, zero, suc, ◌<◌, ◌⊎◌, inl, inr, List, [], ◌∷◌, ◌++◌, length, slice_index_or, slice_set, map, refl, sym, ap, arith, ◌∙◌, subst}
+use Rattle.std.specs.FinMap.{FinMap, get, insert, remove, empty, get-empty, same_map, nat_cmp-IsAntisymmetric}
 use Rattle.std.specs.Ordering.{nat_cmp}
 use Rattle.std.specs.Prelude.{Option, Some, None, IfSome, IfNone, Result, Ok, Err, OnOk}
 use Rattle.std.proofs.Math.ListN.{get_or-map}
 use Rattle.std.proofs.lemmas.Bool.{cases_eq}
-use Rattle.std.proofs.lemmas.List.{ext_get_or, get_or-set_same, get_or-set_other, length-set, length-map, get_or_default}
+use Rattle.std.proofs.lemmas.Cmp.{nat_cmp_total}
+use Rattle.std.proofs.lemmas.List.{ext_get_or, get_or-set_same, get_or-set_other, length-set, length-map, map-set, get_or_default}
 use Rattle.timeouts.specs.Slots.{IsNotAfter, IsLeastAt}
-use Rattle.timeouts.specs.Places.{known_by, IsByPlace}
+use Rattle.timeouts.specs.Places.{ids_of, known_by, noted, IsByPlace}
 use Rattle.timeouts.specs.declared.due.Due.{Due}
 use Rattle.timeouts.specs.declared.deadlines.DueId.{DueId}
 use Rattle.timeouts.proofs.MemberLemmas.{get-there, get-elsewhere, get-gone, get-left}
@@ -237,9 +238,27 @@ pub if-none : (r : Option Due) (P Q : Type 0) → (P → Q) → IfNone r P → I
 if-none None P Q f p = f p
 if-none (Some d) P Q f p = tt
 
--- an id that was read
-pub read-id : (ids : List (Option DueId)) (k : ℕ) (o : Option DueId) → k < length ids → o ≡ slice_index_or ids k o → slice_index_or ids k None ≡ o
-read-id ids k o within is = get_or_default ids k None o within ∙ sym is
+-- an id that was read, by its note
+pub read-id : (notes : List ℕ) (k note : ℕ) (o : Option DueId) → k < length (ids_of notes) → note ≡ slice_index_or notes k note → o ≡ noted note → slice_index_or (ids_of notes) k None ≡ o
+read-id notes k note o within is read =
+    let low : k < length notes = omega (arith, within, length-map notes noted) in
+    get_or-map noted notes k 0 ∙ ap noted (get_or_default notes k 0 note low ∙ sym is) ∙ sym read
+
+-- the ids where another one is noted
+pub ids-set : (notes : List ℕ) (k note : ℕ) (o : Option DueId) → noted note ≡ o → ids_of (slice_set notes k note) ≡ slice_set (ids_of notes) k o
+ids-set notes k note o is = map-set noted notes k note ∙ ap (slice_set (ids_of notes) k) is
+
+-- an id as it was noted
+pub noted-so : (o : Option ℕ) (note : ℕ) (id : DueId) → o ≡ Some note → IfSome o (λ n. noted n ≡ Some id) → noted note ≡ Some id
+noted-so o note id is so = subst (λ x. IfSome x (λ n. noted n ≡ Some id)) is so
+
+-- one was added and taken away again
+pub added-removed : (m : FinMap nat_cmp Due) (k : ℕ) (d : Due) → get m k ≡ None → remove (insert m k d) k ≡ m
+added-removed m k d free = same_map nat_cmp_total nat_cmp-IsAntisymmetric _ _ (λ q. by q (cases_eq q k))
+  where
+    by : (q : ℕ) → (q ≡ k) ⊎ (q ≢ k) → get (remove (insert m k d) k) q ≡ get m q
+    by q (inl same) = ap (get (remove (insert m k d) k)) same ∙ get-gone (insert m k d) k ∙ sym (ap (get m) same ∙ free)
+    by q (inr other) = get-left (insert m k d) k q other ∙ get-elsewhere m k d q other
 
 -- at a number where none is none is put
 pub cleared : (m : FinMap nat_cmp Due) (ids : List (Option DueId)) (k : ℕ) → slice_index_or ids k None ≡ None → map (known_by m) ids ≡ slice_set (map (known_by m) ids) k None

@@ -1,6 +1,7 @@
 //! Deadlines by numbers, and the first of them.
 
 ghost use Rattle.std.specs.Prelude.{◌≡◌, ℕ, ◌+◌, ◌<◌, ◌≤◌, ◌∷◌, ◌++◌, [], OnErr, OnOk, IfSome, IfNone, None, Some, length, slice_set};
+ghost use Rattle.timeouts.specs.Places.{noted};
 ghost use Rattle.timeouts.specs.Slots.{due_at, IsLeastAt};
 ghost use Rattle.timeouts.specs.declared.due.Due.{Due};
 
@@ -14,23 +15,23 @@ use wf_event_values::Moment;
 #[derive(Drop)]
 pub struct ByPlace {
     heap: Deadlines,
-    /// The id of the deadline at each number.
-    ids: Vec<Option<DueId>>,
+    /// The id of the deadline at each number, in four bytes: none, or one more than its own number.
+    notes: Vec<u32>,
 }
 
 impl Model for ByPlace {
     ghost use Rattle.std.specs.Prelude.{◌-◌, length, map, vec_capacity};
     ghost use Rattle.timeouts.specs.Slots.{Slots};
-    ghost use Rattle.timeouts.specs.Places.{known_by, IsByPlace};
+    ghost use Rattle.timeouts.specs.Places.{ids_of, known_by, IsByPlace};
 
     ghost Value = { Slots };
 
     ghost view = { λ a. record {
-      slots = map (known_by a.heap.members) a.ids.items;
-      room = vec_capacity a.ids - length a.ids.items;
+      slots = map (known_by a.heap.members) (ids_of a.notes.items);
+      room = vec_capacity a.notes - length a.notes.items;
     } };
 
-    ghost invariant = { λ a. IsByPlace a.heap.members a.ids.items };
+    ghost invariant = { λ a. IsByPlace a.heap.members (ids_of a.notes.items) };
 }
 
 impl ByPlace {
@@ -40,7 +41,7 @@ impl ByPlace {
     {
         ByPlace {
             heap: Deadlines::new(alloc),
-            ids: Vec::new(alloc),
+            notes: Vec::new(alloc),
         }
     }
 
@@ -51,7 +52,7 @@ impl ByPlace {
         ensures ok { OnOk result (additional ≤ self.new.room) }
         ensures room { self.old.room ≤ self.new.room }
     {
-        self.ids.reserve(additional)
+        self.notes.reserve(additional)
     }
 
     /// The next number, at which no deadline is. It takes no memory.
@@ -60,7 +61,7 @@ impl ByPlace {
         ensures slots { self.new.slots ≡ self.old.slots ++ None ∷ [] }
         ensures room { self.old.room ≤ self.new.room + 1 }
     {
-        self.ids.push_reserved(None);
+        self.notes.push_reserved(0);
     }
 
     /// Puts a deadline, or none, at a number in the place of what was there. Where memory is refused,
@@ -84,11 +85,11 @@ impl ByPlace {
         ensures slots { self.new.slots ≡ slice_set self.old.slots number None }
         ensures room { self.new.room ≡ self.old.room }
     {
-        let Some(id) = self.ids[number] else {
+        let Some(id) = noted(self.notes[number]) else {
             return;
         };
         self.heap.remove(id);
-        self.ids[number] = None;
+        self.notes[number] = 0;
     }
 
     /// Puts a deadline at a number at which none is. Where memory is refused, none is there still.
@@ -101,7 +102,11 @@ impl ByPlace {
     {
         self.heap.reserve(1)?;
         let id = self.heap.add(due);
-        self.ids[number] = Some(id);
+        let Some(note) = note_of(id) else {
+            self.heap.remove(id);
+            return Err(AllocError);
+        };
+        self.notes[number] = note;
         Ok(())
     }
 
@@ -121,4 +126,26 @@ impl ByPlace {
     {
         self.heap.due(moment)
     }
+}
+
+/// The id that is noted so.
+fn noted(note: u32) -> Option<DueId>
+    ensures { result ≡ noted note }
+{
+    if note == 0 {
+        return None;
+    }
+    Some(DueId {
+        number: note as usize - 1,
+    })
+}
+
+/// How an id is noted, where that takes no more than 32 bits.
+fn note_of(id: DueId) -> Option<u32>
+    ensures { IfSome result (λ note. noted note ≡ Some id) }
+{
+    if id.number >= u32::MAX as usize {
+        return None;
+    }
+    Some(id.number as u32 + 1)
 }

@@ -1,5 +1,5 @@
 -- one destination's log is replaced by another
-use Rattle.std.proofs.Common.{◌≡◌, ◌≢◌, ℕ, ◌+◌, ◌<◌, ◌≤◌, Bool, true, false, cond, List, [], ◌∷◌, ◌++◌, length, map, refl, sym, ap, subst, ◌∙◌, arith, get_or-set_same, get_or-set_other}
+use Rattle.std.proofs.Common.{◌≡◌, ◌≢◌, ℕ, ◌+◌, ◌<◌, ◌≤◌, Bool, true, false, cond, List, [], ◌∷◌, length, map, refl, sym, ap, subst, ◌∙◌, arith, get_or-set_same, get_or-set_other}
 use Rattle.std.specs.Prelude.{Some, option_map, slice_get, slice_set, slice_index_or, unwrap_or, ◌==◌, if◌then◌else◌}
 use Rattle.std.proofs.lemmas.Grind.{get_or-set_at}
 use Rattle.std.proofs.lemmas.Bool.Decides.{nat_tests}
@@ -7,16 +7,17 @@ use Rattle.std.proofs.lemmas.List.{map-set, length-map}
 use Rattle.std.proofs.lemmas.Option.{slice_get_read, slice_get-map, unwrap_or-slice_get}
 use Rattle.std.proofs.Math.Seq.{map-set_same}
 use Rattle.service_model_types.specs.declared.answer.Acknowledged.{Acknowledged}
-use Rattle.service_model_types.specs.declared.content.Outgoing.{Outgoing}
 use Rattle.service_model_types.specs.declared.transfer.TransferContent.{TransferContent}
-use Rattle.service_model.specs.Counts.{outgoing_to}
-use Rattle.transfer.specs.Logs.{Log, counted}
+use Rattle.transfer.specs.Logs.{Log, Waiting, acknowledged_by, none_waits, one_counted, with_issued}
 use Rattle.service_model_types.specs.declared.transfer.Sent.{Sent}
-use Rattle.transfer.specs.Outboxes.{outgoing_of, outgoing, room_to, issued_to, acknowledged_to, nothing, sent_to, HasRoomFor}
+use Rattle.transfer.specs.Outboxes.{outgoing, room_to, issued_to, acknowledged_to, counted_to, sent_to, waiting_to, HasRoomFor}
+
+abbrev waiting_of : Log TransferContent → Waiting TransferContent
+waiting_of l = l.waiting
 
 -- the transfers to a destination are those of its log
-pub outgoing_to-log : (logs : List (Log TransferContent)) (to : ℕ) (old : Log TransferContent) → slice_get logs to ≡ Some old → outgoing_to (outgoing logs) to ≡ outgoing_of old
-outgoing_to-log logs to old there = ap (λ o. unwrap_or o nothing) (slice_get-map outgoing_of logs to ∙ ap (option_map outgoing_of) there)
+pub waiting_to-log : (logs : List (Log TransferContent)) (to : ℕ) (old : Log TransferContent) → slice_get logs to ≡ Some old → waiting_to (outgoing logs) to ≡ old.waiting
+waiting_to-log logs to old there = ap (λ o. unwrap_or o none_waits) (slice_get-map waiting_of logs to ∙ ap (option_map waiting_of) there)
 
 abbrev room_of : Log TransferContent → ℕ
 room_of l = l.room
@@ -47,30 +48,28 @@ module _ (logs items : List (Log TransferContent)) (to at : ℕ) (old new : Log 
   moved : slice_set items at new ≡ slice_set logs to new
   moved = λ i. slice_set (same i) (place i) new
 
-  replaced : outgoing (slice_set items at new) ≡ slice_set (outgoing logs) to (outgoing_of new)
-  replaced = ap outgoing moved ∙ map-set outgoing_of logs to new
+  replaced : outgoing (slice_set items at new) ≡ slice_set (outgoing logs) to new.waiting
+  replaced = ap outgoing moved ∙ map-set waiting_of logs to new
+
+  was : waiting_to (outgoing logs) to ≡ old.waiting
+  was = waiting_to-log logs to old is_there
 
   -- one more was issued
-  pub outgoing-issued : (content : TransferContent) → new.issued ≡ old.issued ++ content ∷ [] → new.acknowledged ≡ old.acknowledged → outgoing (slice_set items at new) ≡ issued_to (outgoing logs) to content
-  outgoing-issued content more count = replaced ∙ ap (slice_set (outgoing logs) to) (changed ∙ ap (λ (o : Outgoing). record { issued = o.issued ++ content ∷ []; acknowledged = o.acknowledged }) (sym (outgoing_to-log logs to old is_there)))
-    where
-      changed : outgoing_of new ≡ record { issued = old.issued ++ content ∷ []; acknowledged = old.acknowledged }
-      changed = λ i. record { issued = more i; acknowledged = count i }
+  pub outgoing-issued : (content : TransferContent) → new.waiting ≡ with_issued old.waiting (content ∷ []) → outgoing (slice_set items at new) ≡ issued_to (outgoing logs) to content
+  outgoing-issued content more = replaced ∙ ap (slice_set (outgoing logs) to) (more ∙ ap (λ (w : Waiting TransferContent). with_issued w (content ∷ [])) (sym was))
+
+  -- the first that waited was acknowledged
+  pub outgoing-counted : new.waiting ≡ one_counted old.waiting → outgoing (slice_set items at new) ≡ counted_to (outgoing logs) to
+  outgoing-counted count = replaced ∙ ap (slice_set (outgoing logs) to) (count ∙ ap (λ (w : Waiting TransferContent). one_counted w) (sym was))
 
   -- a number was acknowledged, or not
-  pub outgoing-acknowledged : (answer : Acknowledged) → new.issued ≡ old.issued → new.acknowledged ≡ counted answer old.acknowledged → outgoing (slice_set items at new) ≡ acknowledged_to (outgoing logs) to answer
-  outgoing-acknowledged answer stays count = replaced ∙ ap (slice_set (outgoing logs) to) (changed ∙ ap (λ (o : Outgoing). record { issued = o.issued; acknowledged = counted answer o.acknowledged }) (sym (outgoing_to-log logs to old is_there)))
-    where
-      changed : outgoing_of new ≡ record { issued = old.issued; acknowledged = counted answer old.acknowledged }
-      changed = λ i. record { issued = stays i; acknowledged = count i }
+  pub outgoing-acknowledged : (answer : Acknowledged) → new.waiting ≡ acknowledged_by answer old.waiting → outgoing (slice_set items at new) ≡ acknowledged_to (outgoing logs) to answer
+  outgoing-acknowledged answer count = replaced ∙ ap (slice_set (outgoing logs) to) (count ∙ ap (acknowledged_by answer) (sym was))
 
   -- nothing was issued, and nothing acknowledged
-  pub outgoing-same : new.issued ≡ old.issued → new.acknowledged ≡ old.acknowledged → outgoing (slice_set items at new) ≡ outgoing logs
-  outgoing-same stays count = ap outgoing moved ∙ map-set_same outgoing_of logs to new old (alike ∙ ap outgoing_of (sym read))
+  pub outgoing-same : new.waiting ≡ old.waiting → outgoing (slice_set items at new) ≡ outgoing logs
+  outgoing-same stays = ap outgoing moved ∙ map-set_same waiting_of logs to new old (stays ∙ ap waiting_of (sym read))
     where
-      alike : outgoing_of new ≡ outgoing_of old
-      alike = λ i. record { issued = stays i; acknowledged = count i }
-
       read : slice_index_or logs to old ≡ old
       read = sym (unwrap_or-slice_get logs to old) ∙ ap (λ o. unwrap_or o old) is_there
 

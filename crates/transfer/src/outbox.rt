@@ -1,9 +1,9 @@
 //! The transfers that a shard issued.
 
 ghost use Rattle.std.specs.Prelude.{◌≡◌, ℕ, ◌+◌, ◌<◌, ◌≤◌, ◌==◌, length, slice_get, option_map, replicate, IfOk, OnErr, OnOk, IfSome, if◌then◌else◌};
-ghost use Rattle.service_model.specs.Counts.{outgoing_to, acknowledgement_of};
-ghost use Rattle.service_model.specs.Service.{with_all_sent};
-ghost use Rattle.transfer.specs.Outboxes.{outgoing, room_to, issued_to, acknowledged_to, nothing, sent_to, HasRoomFor};
+ghost use Rattle.service_model.specs.Counts.{acknowledgement_of};
+ghost use Rattle.transfer.specs.Logs.{count_issued, none_waits};
+ghost use Rattle.transfer.specs.Outboxes.{outgoing, room_to, issued_to, acknowledged_to, counted_to, sent_to, waiting_to, with_all_sent, HasRoomFor};
 
 use crate::issue_log::IssueLog;
 use service_model_types::answer::Acknowledged;
@@ -11,8 +11,8 @@ use service_model_types::transfer::{Sent, TransferContent};
 use std::alloc::{AllocError, Global};
 use std::marker::Model;
 
-/// All transfers that a shard ever issued to each destination, by the destination's number, and how
-/// many of them are acknowledged.
+/// The transfers that a shard issued to each destination and that are not acknowledged, by the
+/// destination's number, and how many of them are.
 pub struct Outbox {
     logs: Vec<IssueLog<TransferContent>>,
 }
@@ -36,7 +36,7 @@ impl Model for Outbox {
 impl Outbox {
     /// The outbox of a shard that issued nothing yet, to so many destinations.
     pub fn new(alloc: Global, shards: u16) -> Result<Outbox, AllocError>
-        ensures value { IfOk result (λ o. outgoing o ≡ replicate shards nothing) }
+        ensures value { IfOk result (λ o. outgoing o ≡ replicate shards none_waits) }
         ensures shards { IfOk result (λ o. length o ≡ shards) }
     {
         let mut logs = Vec::new(alloc);
@@ -138,10 +138,10 @@ impl Outbox {
     /// The first transfer to a destination that is not acknowledged, with its number.
     pub fn first_to(&self, to: u16) -> Option<(u64, &TransferContent)>
         requires { to < length self.now }
-        ensures content { let o = outgoing_to (outgoing self.now) to in
-            option_map (λ f. f.1.now) result ≡ slice_get o.issued o.acknowledged }
+        ensures content { option_map (λ f. f.1.now) result
+            ≡ slice_get (waiting_to (outgoing self.now) to).items 0 }
         ensures number { IfSome result (λ f.
-            f.0 ≡ (outgoing_to (outgoing self.now) to).acknowledged + 1) }
+            f.0 ≡ (waiting_to (outgoing self.now) to).counted + 1) }
     {
         let log = &self.logs[usize::from(to)];
         log.first()
@@ -150,8 +150,8 @@ impl Outbox {
     /// What an acknowledgement of this number by a destination would be.
     pub fn judge(&self, to: u16, number: u64) -> Acknowledged
         requires { to < length self.now }
-        ensures { let o = outgoing_to (outgoing self.now) to in
-            result ≡ acknowledgement_of (length o.issued) o.acknowledged number }
+        ensures { let w = waiting_to (outgoing self.now) to in
+            result ≡ acknowledgement_of (count_issued w) w.counted number }
     {
         let log = &self.logs[usize::from(to)];
         log.judge(number)
@@ -160,8 +160,8 @@ impl Outbox {
     /// Acknowledges a number of a destination, where it is the next one, and was issued.
     pub fn acknowledge(&mut self, to: u16, number: u64) -> Acknowledged
         requires { to < length self.old }
-        ensures value { let o = outgoing_to (outgoing self.old) to in
-            result ≡ acknowledgement_of (length o.issued) o.acknowledged number }
+        ensures value { let w = waiting_to (outgoing self.old) to in
+            result ≡ acknowledgement_of (count_issued w) w.counted number }
         ensures shards { length self.new ≡ length self.old }
         ensures counted { outgoing self.new ≡ acknowledged_to (outgoing self.old) to result }
         ensures room { (shard : ℕ) → room_to self.old shard ≤ room_to self.new shard }
@@ -173,10 +173,8 @@ impl Outbox {
     /// Acknowledges the next number of a destination.
     pub fn acknowledge_next(&mut self, to: u16)
         requires there { to < length self.old }
-        requires issued { let o = outgoing_to (outgoing self.old) to in
-            o.acknowledged < length o.issued }
-        ensures counted { outgoing self.new
-            ≡ acknowledged_to (outgoing self.old) to Acknowledged.Acknowledged }
+        requires some { 0 < length (waiting_to (outgoing self.old) to).items }
+        ensures counted { outgoing self.new ≡ counted_to (outgoing self.old) to }
         ensures shards { length self.new ≡ length self.old }
         ensures room { (shard : ℕ) → room_to self.old shard ≤ room_to self.new shard }
     {

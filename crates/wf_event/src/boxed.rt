@@ -39,6 +39,14 @@ impl<T> Boxed<T> {
     {
         &*self.inner
     }
+
+    /// The value, and its memory is given back.
+    pub fn into_inner(self) -> T
+        ensures { result ≡ self }
+    {
+        let Boxed { inner } = self;
+        Box::into_inner(inner)
+    }
 }
 
 impl<T: Clone> Clone for Boxed<T> {

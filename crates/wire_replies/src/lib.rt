@@ -5,6 +5,8 @@
 #![tactic(auto)]
 
 mod answers;
+mod plain;
+mod quick;
 mod replies;
 mod tasks;
 

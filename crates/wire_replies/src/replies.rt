@@ -9,6 +9,7 @@ ghost use Rattle.wire_replies.specs.Answers.{line_member};
 ghost use Rattle.wire_replies.specs.Replies.{refusal_members, reply_tree, reply_line, line_of};
 
 use crate::answers::put_answer;
+use crate::quick::put_quickly;
 use service_model_types::answer::Reply;
 use std::alloc::{AllocError, Global};
 use wf_event_values::Refusal;
@@ -78,6 +79,10 @@ pub fn reply_text_in(
 {
     text.clear();
     text.reserve(USUAL_LENGTH)?;
+    if put_quickly(&mut text, line, reply)? {
+        return Ok(text);
+    }
+    text.clear();
     let mut page = Page::new(alloc, text);
     put_reply(&mut page, line, reply)?;
     ended(page)

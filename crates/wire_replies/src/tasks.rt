@@ -12,7 +12,7 @@ ghost use Rattle.wire_replies.specs.Tasks.{token_of, workflow_task_members, acti
 
 use service_model_types::answer::{ActivityTask, WorkflowTask};
 use std::alloc::AllocError;
-use task_token::TaskToken;
+use task_token::{TOKEN_TEXT_LENGTH, TaskToken};
 use wf_event_values::{RunId, TaskKind};
 use wire_events::Page;
 
@@ -35,8 +35,8 @@ fn put_token(
         event: scheduled,
         attempt,
     };
-    let text = token.write(page.alloc())?;
-    page.text("token", text.as_str())
+    let mut buffer = [0; TOKEN_TEXT_LENGTH];
+    page.text("token", token.write_in(&mut buffer))
 }
 
 pub(crate) fn put_workflow_task(

@@ -23,6 +23,7 @@ use service_model_types::request::{
 };
 use service_model_types::settings::Settings;
 use std::alloc::Global;
+use wf_event::Boxed;
 use wf_event_values::{Field, Moment, Refusal, TaskKind, Text};
 use wire_fields::{optional, or_default, required};
 use wire_trees::Tree;
@@ -107,10 +108,13 @@ pub(crate) fn call_of<V: Tree>(
     ensures { Gives result (call_of settings.now op at (V.stands_for line.now)) }
 {
     match op {
-        Op::Start => Ok(asks(at, Operation::Start(start(alloc, line)?))),
+        Op::Start => {
+            let start = Boxed::new(alloc, start(alloc, line)?)?;
+            Ok(asks(at, Operation::Start(start)))
+        }
         Op::Signal => Ok(asks(at, Operation::Signal(signal(alloc, line)?))),
         Op::SignalWithStart => {
-            let both = signal_with_start(alloc, line)?;
+            let both = Boxed::new(alloc, signal_with_start(alloc, line)?)?;
             Ok(asks(at, Operation::SignalWithStart(both)))
         }
         Op::RequestCancel => {

@@ -1,7 +1,7 @@
 -- members as they were written, of which the last one of a name counts
-use Rattle.std.proofs.Common.{◌≡◌, ℕ, List, [], ◌∷◌, ◌++◌, map, Bool, true, false, cond, bytes_eq, Option, Some, Bor, Vec, Global, refl, sym, ap, ◌∙◌, rules, true≢false}
+use Rattle.std.proofs.Common.{◌≡◌, ℕ, List, [], ◌∷◌, ◌++◌, map, Bool, true, false, cond, bytes_eq, Some, Bor, Vec, Global, refl, sym, ap, ◌∙◌, rules, true≢false}
 use Rattle.std.proofs.lemmas.Slice.Eq.{bytes_eq-Decides}
-use Rattle.serde_json.specs.Data.{Data, Members, array, object, put}
+use Rattle.serde_json.specs.Data.{Members, array, object, put}
 use Rattle.serde_json.specs.Find.{get_member}
 use Rattle.serde_json.specs.View.{items_of}
 use Rattle.serde_json.proofs.Views.{get_member-put, get_member-put_other}

@@ -1,6 +1,11 @@
 -- what the reader of borrowed values has read is what the grammar of JSON reads there
-use Rattle.std.proofs.Common.{◌≡◌, ℕ, ◌-◌, ◌<◌, ◌≤◌, ◌^◌, List, [], ◌∷◌, ◌++◌, length, map, Option, None, Some, option_map, option_and_then, decimal, Bor, refl, sym, ap, subst, ◌∙◌, arith}
+use Rattle.std.proofs.Common.{◌≡◌, ℕ, ◌-◌, ◌<◌, ◌≤◌, ◌^◌, List, [], ◌∷◌, ◌++◌, length, map, Option, None, Some, option_map, option_and_then, decimal, refl, sym, ap, subst, ◌∙◌, arith}
 use Rattle.std.specs.Prelude.{Result, Ok, Err, IfOk}
+use Rattle.std.specs.Option.{IfSome}
+use Rattle.std.specs.Result.{result_ok}
+use Rattle.std.specs.Str.Parse.{AllDigits, ParsesUnsigned, digits_value}
+use Rattle.std.proofs.lemmas.Fmt.{decimal-digits_value}
+use Rattle.std.proofs.lemmas.Str.Parse.{numerals_by_value, tells_digits, without_leading_plus_none}
 use Rattle.json.specs.Json as json
 use Rattle.json.specs.Json.{Items, Json, Members, after_end_array, items, members, no_items, item, no_members, member, parse_map, read_key, value}
 use Rattle.json.specs.Token.{Token}
@@ -11,13 +16,24 @@ use Rattle.serde_json.specs.Read.{number_of, of_items, of_json, of_members}
 use Rattle.serde_json.specs.View.{items_of}
 use Rattle.serde_json.proofs.Numbers.{number_of-decimal}
 use Rattle.wire_trees.specs.Borrowed.{data_of}
-use Rattle.wire_trees.specs.Reading.{AreItems, AreMembers, IsScalar, IsValue, scalar_of}
+use Rattle.wire_trees.specs.Reading.{AreItems, AreMembers, BeginsPlainly, IsScalar, IsValue, scalar_of}
 use Rattle.wire_trees.specs.declared.borrowed.BorrowedValue.{BorrowedValue}
 use Rattle.wire_trees.specs.declared.reading.Unread.{Unread}
 
 -- the plain digits of a number are that number
 pub number-read : (text : List ℕ) (n : ℕ) → text ≡ decimal n → n < 2 ^ 64 → number_of text ≡ Some (unsigned n)
 number-read text n is fits = ap number_of is ∙ number_of-decimal n fits
+
+-- digits that begin plainly, and that parse as a number, are its plain digits
+pub digits-read : {E : Type 0} (text : List ℕ) (r : Result ℕ E) → BeginsPlainly text → ParsesUnsigned 64 10 text r → IfSome (result_ok r) (λ n. number_of text ≡ Some (unsigned n))
+digits-read text (Err e) plain parses = tt
+digits-read text (Ok n) plain parses =
+    let bare = without_leading_plus_none text plain.bare in
+    let digits : AllDigits 10 text = subst (AllDigits 10) bare parses.0.0.1 in
+    let same : n ≡ digits_value 10 text = parses.1 ∙ ap (digits_value 10) bare in
+    let small : n < 2 ^ 64 = omega (arith, parses.0.1, parses.1) in
+    let below : digits_value 10 text < 2 ^ 64 = omega (arith, small, same) in
+    number-read text n (sym (ap decimal same ∙ decimal-digits_value (numerals_by_value _ tells_digits) text digits plain.some plain.lead below)) small
 
 -- a token that opens nothing is its value, at any depth
 scalar-read : (depth : ℕ) (t : Token) (rest : List Token) (j : Json) → scalar_of t ≡ Some j → value depth (t ∷ rest) ≡ Some (j, rest)

@@ -1,5 +1,5 @@
 -- PROOF: what reading a value, token by token, has read
-use Rattle.std.specs.Prelude.{◌≡◌, ℕ, List, ◌∷◌, length, map, Option, None, Some}
+use Rattle.std.specs.Prelude.{◌≡◌, ℕ, ◌<◌, List, ◌∷◌, length, map, get_or, Option, None, Some}
 use Rattle.json.specs.Json as json
 use Rattle.json.specs.Json.{Items, Json, Members, items, members, value}
 use Rattle.json.specs.Token.{Token}
@@ -20,6 +20,12 @@ scalar_of _ = None
 -- a value stands for the one that a token is
 abbrev pub IsScalar : Token → BorrowedValue → Type 0
 IsScalar t v = (j : Json) × (scalar_of t ≡ Some j) × (of_json j ≡ Some (data_of v))
+
+-- a text that begins as the plain digits of a number do: with no sign, and with a zero only where nothing follows
+pub record BeginsPlainly (text : List ℕ) : Type 0 where
+  pub some : 0 < length text
+  pub bare : get_or text 0 0 ≡ 43 → ⊥
+  pub lead : get_or text 0 0 ≡ 48 → length text ≡ 1
 
 -- tokens behind the bracket that opens an array, and behind the brace that opens an object
 abbrev pub in_list : List Token → List Token

@@ -1,6 +1,6 @@
 //! A JSON value whose texts are slices of the text that it was read from.
 
-ghost use Rattle.std.specs.Prelude.{◌≡◌, is_some, map, option_and_then, option_map};
+ghost use Rattle.std.specs.Prelude.{◌≡◌, bytes_eq, is_some, map, option_and_then, option_map};
 ghost use Rattle.serde_json.specs.Find.{as_array, as_bool, as_number, as_object, as_str, as_u64, get, get_member};
 ghost use Rattle.serde_json.specs.View.{items_of};
 ghost use Rattle.wire_trees.specs.Borrowed.{data_of, members_of};
@@ -20,6 +20,14 @@ pub enum BorrowedValue<'a> {
     Object(Vec<(&'a str, BorrowedValue<'a>)>),
 }
 
+/// Whether two names are the same. Most that aren't differ in length, which is looked at first.
+#[inline(always)]
+fn is_same(one: &str, other: &str) -> bool
+    ensures { result ≡ bytes_eq one.now other.now }
+{
+    one.len() == other.len() && one == other
+}
+
 /// The last member of that name.
 fn last_named<'v, 'a>(
     members: &'v Vec<(&'a str, BorrowedValue<'a>)>,
@@ -32,7 +40,7 @@ fn last_named<'v, 'a>(
     while left > 0 {
         left -= 1;
         let member = &members[left];
-        if member.0 == name {
+        if is_same(member.0, name) {
             return Some(&member.1);
         }
     }

@@ -7,11 +7,12 @@
 //! is every fault.
 
 ghost use Rattle.std.specs.Prelude.{◌≡◌, [], ◌∷◌, ◌++◌, IfOk, IfSome, Some};
+ghost use Rattle.std.specs.Bool.{OnTrue};
 ghost use Rattle.json.specs.Reads.{token_of};
 ghost use Rattle.serde_json.specs.Data.{unsigned};
 ghost use Rattle.serde_json.specs.Read.{number_of, read};
 ghost use Rattle.wire_trees.specs.Borrowed.{data_of, members_of};
-ghost use Rattle.wire_trees.specs.Reading.{AreItems, AreMembers, IsScalar, IsValue, in_list, in_object};
+ghost use Rattle.wire_trees.specs.Reading.{AreItems, AreMembers, BeginsPlainly, IsScalar, IsValue, in_list, in_object};
 
 use crate::borrowed::BorrowedValue;
 use json::{Reader, Scratch, Token};
@@ -47,20 +48,33 @@ fn add<T: Drop>(list: &mut Vec<T>, item: T) -> Result<(), Unread>
     }
 }
 
+/// Whether a text begins as the plain digits of a number do: no sign stands first, and a zero only
+/// where nothing follows.
+#[inline(always)]
+fn begins_plainly(text: &[u8]) -> bool
+    ensures { OnTrue result (BeginsPlainly text.now) }
+{
+    if text.len() == 0 {
+        return false;
+    }
+    let first = text[0];
+    first != b'+' && (first != b'0' || text.len() == 1)
+}
+
 /// A number that is written as its plain digits.
+#[inline(never)]
 fn number(text: &str) -> Option<u64>
     ensures { IfSome result (λ n. number_of text.now ≡ Some (unsigned n)) }
 {
-    let number: u64 = text.parse().ok()?;
-    let mut buffer = itoa::Buffer::new();
-    if buffer.format(number) == text {
-        Some(number)
+    if begins_plainly(text.as_bytes()) {
+        text.parse().ok()
     } else {
         None
     }
 }
 
 /// The value that a token is, where it opens nothing.
+#[inline(always)]
 fn scalar<'a>(token: Token<'a>) -> Result<BorrowedValue<'a>, Unread>
     ensures { IfOk result (IsScalar (token_of token.entry)) }
 {
@@ -76,8 +90,10 @@ fn scalar<'a>(token: Token<'a>) -> Result<BorrowedValue<'a>, Unread>
     }
 }
 
-/// Reads a value, nested so deep at most.
+/// Reads a value, nested so deep at most. Most values open nothing, so this is inlined where they
+/// are read, and only what is nested is a call.
 #[cycle(value)]
+#[inline(always)]
 fn value<'a>(
     alloc: Global,
     reader: &mut Reader<'a>,
@@ -97,6 +113,7 @@ fn value<'a>(
 
 /// Reads an array behind the bracket that opens it.
 #[cycle(value)]
+#[inline(never)]
 fn list<'a>(
     alloc: Global,
     reader: &mut Reader<'a>,
@@ -113,6 +130,7 @@ fn list<'a>(
 
 /// Reads an object behind the brace that opens it.
 #[cycle(value)]
+#[inline(never)]
 fn object<'a>(
     alloc: Global,
     reader: &mut Reader<'a>,

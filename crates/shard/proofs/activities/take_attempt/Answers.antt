@@ -17,6 +17,7 @@ add_facts-requires-clause-fits g c =
 pub returns-clause-plan : goal.returns-clause-plan
 returns-clause-plan g c =
     let h = c.args.wanted in
-    let P : List Fact → Type 0 = λ l. FitsStep {T = g.row.T.Denot} c.add_facts.new.store c.in_ok-plan.plan c.args.moment (adds (ordinal_of c.args.index) l (ActivityTask c.args.task)) in
-    let Q : ℕ → Type 0 = λ k. FitsStep {T = g.row.T.Denot} c.add_facts.new.store c.in_ok-plan.plan c.args.moment (adds k (noted h.event Taken ∷ []) (ActivityTask c.args.task)) in
-    subst Q c.requires.run (subst P c.in_ok-facts.ensures c.in_ok-plan.ensures.plan)
+    let P : List Fact → Type 0 = λ l. FitsStep {T = g.row.T.Denot} c.add_facts.new.store c.in_ok-plan.plan c.args.moment (adds (ordinal_of c.args.index) l (ActivityTask c.in_ok-boxed.boxed)) in
+    let Q : ℕ → Type 0 = λ k. FitsStep {T = g.row.T.Denot} c.add_facts.new.store c.in_ok-plan.plan c.args.moment (adds k (noted h.event Taken ∷ []) (ActivityTask c.in_ok-boxed.boxed)) in
+    let A : _ → Type 0 = λ t. FitsStep {T = g.row.T.Denot} c.add_facts.new.store c.in_ok-plan.plan c.args.moment (adds h.run (noted h.event Taken ∷ []) (ActivityTask t)) in
+    subst A c.in_ok-boxed.ensures (subst Q c.requires.run (subst P c.in_ok-facts.ensures c.in_ok-plan.ensures.plan))

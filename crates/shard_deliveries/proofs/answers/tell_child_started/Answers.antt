@@ -1,8 +1,10 @@
-use Rattle.std.proofs.Common.{subst, Option}
+use Rattle.std.proofs.Common.{sym, subst, Option}
 use Rattle.std.specs.Prelude.{IfSome}
+use Rattle.wf_event.specs.declared.attributes.Attributes.TheVariants.{ChildWorkflowExecutionStarted}
 use Rattle.wf_event.specs.declared.role.Class.TheVariants.{Child}
 use Rattle.service_model.specs.Outcome.{run_at}
 use Rattle.shard_store.specs.View.{ordinal_of, runs_in}
+use Rattle.shard_deliveries.specs.Accepting.{IsFromOutside}
 use Rattle.shard_deliveries.specs.Pending.{IsPending}
 use Rattle.shard_deliveries.specs.declared.pending.PendingRequest.{PendingRequest}
 use Rattle.shard_deliveries.proofs.FitLemmas.{child-started-comes}
@@ -13,4 +15,5 @@ accept_event-requires-clause-outside g c =
     let P : Option PendingRequest → Type 0 = λ o. IfSome o (λ (p : PendingRequest). IsPending c.args.store.now Child c.args.child.now.initiated p.index) in
     let p : IsPending c.args.store.now Child c.args.child.now.initiated c.in-Some.asked.index = subst P c.in-Some.is c.in_ok-asked.ensures.pending in
     let s = run_at (runs_in c.args.store.now) (ordinal_of c.in-Some.asked.index) in
-    child-started-comes s c.args.child.now.initiated c.in-Some.asked.workflow_id c.args.child.now.run p.opened
+    subst (λ e. IsFromOutside s (ChildWorkflowExecutionStarted e)) (sym c.in_ok-boxed.ensures)
+    (child-started-comes s c.args.child.now.initiated c.in-Some.asked.workflow_id c.args.child.now.run p.opened)

@@ -10,9 +10,9 @@ pub loop-index-preserved : goal.loop-index-preserved
 loop-index-preserved g c =
     let i = c.loop-index.index in
     let so_far = c.loop-index.waiting.items in
-    c.in_ok-append.ensures.items ∙ ap (λ l. so_far ++ l) (c.in_ok-found.ensures ∙ ap (λ (r : RunView). waiting_of c.args.setup.now (i + 1) r.state) c.index-runs-index.is)
-    ∙ ap (λ l. l ++ waiting_of c.args.setup.now (i + 1) (get_or c.args.runs.now i c.index-runs-index.result).state) c.loop-index.invariant
-    ∙ sym (next-wait c.args.setup.now c.args.runs.now i c.index-runs-index.result (omega arith))
+    c.in_ok-append.ensures.items ∙ ap (λ l. so_far ++ l) (c.in_ok-found.ensures ∙ ap (λ (r : RunView). waiting_of c.args.setup.now (i + 1) r.state) c.index-place.ensures)
+    ∙ ap (λ l. l ++ waiting_of c.args.setup.now (i + 1) (get_or c.args.runs.now.items i c.index-place.result.now).state) c.loop-index.invariant
+    ∙ sym (next-wait c.args.setup.now c.args.runs.now.items i c.index-place.result.now (omega arith))
 
 pub returns : goal.returns
-returns g c = c.loop-index.invariant ∙ ap (λ rs. all_waiting c.args.setup.now (states rs)) (all-wait c.args.runs.now c.loop-index.index (omega arith))
+returns g c = c.loop-index.invariant ∙ ap (λ rs. all_waiting c.args.setup.now (states rs)) (all-wait c.args.runs.now.items c.loop-index.index (omega arith))

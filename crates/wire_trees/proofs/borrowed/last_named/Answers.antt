@@ -5,8 +5,8 @@ use Rattle.wire_trees.specs.Borrowed.{members_of}
 use Rattle.wire_trees.proofs.MemberLemmas.{found-last}
 use Rattle.wire_trees.proofs.borrowed.last_named.Goals as goal
 
-pub returns-then-eq : goal.returns-then-eq
-returns-then-eq c =
+pub returns-then-is_same : goal.returns-then-is_same
+returns-then-is_same c =
     let all = c.args.members.now.items in
     let i = c.loop-left.left - 1 in
     let m = c.index-member.result.now in

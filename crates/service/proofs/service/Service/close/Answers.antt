@@ -43,6 +43,11 @@ close-requires g c = record {
       subst G (sym c.into_parts-gate.ensures.queues) (subst P (sym is) (c.requires.own k p place).hints);
 }
 
+pub returns-clause-kept : goal.returns-clause-kept
+returns-clause-kept g c =
+    let opened = opened-by c.args.passes.items c.args.self c.into_parts-gate.ensures.some_pass c.requires.own c.requires.all in
+    c.close-closed.ensures.kept ∙ ap gates.slots c.into_parts-gate.ensures.gate ∙ opened.slots
+
 pub returns-clause-count : goal.returns-clause-count
 returns-clause-count g c =
     let opened = opened-by c.args.passes.items c.args.self c.into_parts-gate.ensures.some_pass c.requires.own c.requires.all in

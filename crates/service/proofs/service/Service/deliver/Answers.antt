@@ -1,4 +1,6 @@
 use Rattle.std.proofs.Common.{◌∙◌, subst, sym}
+use Rattle.service_model_types.specs.declared.transfer.Transfer.{Transfer}
+use Rattle.service.specs.Asks.{to_acknowledge}
 use Rattle.service.specs.Services.{IsServedAtLast, known_by}
 use Rattle.shard_gate.specs.Views.{SeenGrounds}
 use Rattle.service.proofs.GroundLemmas.{delivery-grounds}
@@ -23,4 +25,5 @@ acknowledge-requires-clause-grounds g c =
     let v = known_by c.args.pass.now in
     let met = known_by c.serve_there.new.pass in
     let step = subst (λ q. IsServedAtLast x v met c.args.turn.to q c.in_ok-reply.reply) c.request-asked.ensures c.in_ok-reply.ensures.ok in
-    delivery-grounds x v met c.args.turn.from c.args.turn.to c.args.turn.at c.args.turn.stop c.in_ok-reply.reply c.args.transfer step c.requires.source c.requires.grounds (sym c.goes_on.ensures ∙ c.if-not-goes_on.false)
+    let grounds = delivery-grounds x v met c.args.turn.from c.args.turn.to c.args.turn.at c.args.turn.stop c.in_ok-reply.reply c.args.transfer step c.requires.source c.requires.grounds (sym c.goes_on.ensures ∙ c.if-not-goes_on.false) in
+    subst (λ (t : Transfer). SeenGrounds met c.args.turn.from (to_acknowledge c.args.turn.at c.args.turn.to t.number)) (sym c.get.ensures) grounds

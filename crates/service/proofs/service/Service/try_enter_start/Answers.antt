@@ -1,10 +1,13 @@
-use Rattle.std.proofs.Common.{◌≡◌, ℕ, None, ap, subst}
+use Rattle.std.proofs.Common.{◌≡◌, ℕ, None, ap, subst, sym}
 use Rattle.service_model_types.specs.declared.request.Request.{Request}
 use Rattle.service_model.specs.Growth.{KeepsHistories}
 use Rattle.service_model.specs.Service.{answer, after}
 use Rattle.gate.specs.Passes.{Stamped, Stepped}
+use Rattle.matching.specs.Named as matching
+use Rattle.shard_gate.specs.Views as gates
 use Rattle.service.specs.Contents.{refusal_of}
 use Rattle.service.specs.Services.{known_by, IsServed}
+use Rattle.service.specs.Views.{Service}
 use Rattle.service.proofs.ServedLemmas.{served, shard-below}
 use Rattle.service.proofs.service.Service.try_enter_start.Goals as goal
 
@@ -21,3 +24,12 @@ returns-in-Ok-clause-ok g c =
     let T : ℕ → Type 0 = λ k. Stamped (known_by c.args.pass) w k in
     let stamp = subst (λ v. Stamped v w c.slot_of-slot.result) same c.in-Ok.ensures.ticket in
     subst Q c.request-request.ensures (served c.args.pass w c.args.self.now _ c.request-request.result r c.requires below (subst P c.slot_of-slot.ensures entered) (subst T c.slot_of-slot.ensures stamp))
+
+pub returns-in-Ok-clause-own : goal.returns-in-Ok-clause-own
+returns-in-Ok-clause-own g c =
+    let same = ap (λ p. p.1) c.into_parts-inner.ensures in
+    record {
+      opened = c.requires.opened;
+      own = subst (λ (x : gates.GateView). gates.IsHeldBy c.in-Ok.inner x) (ap (λ (x : Service). x.gate) c.self.view_is) c.in-Ok.ensures.own;
+      hints = subst (λ q. matching.IsPassOf q c.args.self.now.queues) (sym same) c.requires.hints;
+    }

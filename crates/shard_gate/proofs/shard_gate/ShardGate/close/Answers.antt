@@ -11,7 +11,7 @@ use Rattle.gate.specs.Ends.{IsEnd, HasDone}
 use Rattle.gate.specs.Gated.{at}
 use Rattle.gate.specs.Passes.{number, tickets}
 use Rattle.gate.specs.Passes.{view as seen_by}
-use Rattle.gate.specs.Records.{Begins}
+use Rattle.gate.specs.Records.{Begins, replay}
 use Rattle.shard_gate.specs.Views.{PassView}
 use Rattle.shard_gate.proofs.CloseLemmas.{history-as, image-at, one-at}
 use Rattle.shard_gate.proofs.shard_gate.ShardGate.close.Goals as goal
@@ -32,6 +32,15 @@ close-requires-clause-all g c = λ n below.
     let (k, p, there, named) = c.requires.all n (omega (arith, below, count)) in
     let (i, place, known) = image-at (λ (p : PassView). p.known) (λ j. seen_by j) c.args.passes.items c.handed_down-passes.result.items p.known (sym handed.known) k p there in
     (k, i, place, ap (λ (v : View Request Content). number v) (sym known) ∙ named)
+
+pub returns-clause-shards : goal.returns-clause-shards
+returns-clause-shards g c = λ k shard log there kept.
+    let (x, place, is) = get-map (λ x. x.object) c.close.result.items k shard (ap (λ t. slice_get t k) (sym c.taken_out.ensures.shards) ∙ there) in
+    let (y, also, entries) = get-map (λ x. x.entries) c.close.result.items k log (ap (λ t. slice_get t k) (sym c.taken_out.ensures.records) ∙ kept) in
+    let same = one-at c.close.result.items k y x also place in
+    let N : _ → Type 0 = λ o. g.S.Object.stands o (replay g.S.Object.after (g.S.Object.opening o) log) in
+    let L : List Entry → Type 0 = λ l. g.S.Object.stands x.object (replay g.S.Object.after (g.S.Object.opening x.object) l) in
+    subst N (sym is) (subst L (sym (entries ∙ ap (λ z. z.entries) same)) (c.close.ensures.stands k x place))
 
 pub returns-clause-records : goal.returns-clause-records
 returns-clause-records g c = λ k log there.

@@ -3,7 +3,7 @@ use Rattle.std.specs.Prelude.{Bool, bytes_eq, false, option_map, string_bytes, t
 use Rattle.std.proofs.lemmas.Map.Text.{hash_map_updates_text}
 use Rattle.indexmap.specs.IndexMap.{get_by_text}
 use Rattle.service_model.specs.Outcome.{latest_run}
-use Rattle.service_model_types.specs.declared.content.Outgoing.{Outgoing}
+use Rattle.service_model_types.specs.declared.transfer.TransferContent.{TransferContent}
 use Rattle.shard_steps.specs.Sending.{all_outgoing}
 use Rattle.shard_steps.specs.declared.transfers.Unsent.{Unsent}
 use Rattle.shard_steps.proofs.SendingLemmas.{added-sends, keeps-more}
@@ -12,7 +12,9 @@ use Rattle.timeouts.specs.declared.due.Due.{Due}
 use Rattle.shard_steps.specs.Kept.{HasFirsts, HasShown}
 use Rattle.service_model.specs.RunState.{RunState}
 use Rattle.shard_store.specs.Fitting.{after_created}
-use Rattle.shard_steps.specs.Issuing.{Waiting, all_waiting, issued_first, with_issued}
+use Rattle.service_model_types.specs.declared.content.Dispatch.{Dispatch}
+use Rattle.transfer.specs.Logs.{Waiting, with_issued}
+use Rattle.shard_steps.specs.Issuing.{all_waiting, issued_first}
 use Rattle.shard_steps.proofs.DispatchLemmas.{added-waits}
 use Rattle.shard_steps.proofs.EachLemmas.{each-added, each-same}
 use Rattle.shard_store.proofs.IndexLemmas.{latest_run-push, length-states, states-push}
@@ -25,10 +27,10 @@ place-cond false i o = refl
 
 pub invariant_of-self : goal.invariant_of-self
 invariant_of-self g c =
-    let count : c.len-index.result ≡ length c.self.inside.runs.items = omega (arith, c.self.inside.runs.ok.0) in
+    let count : c.len-index.result ≡ length c.self.inside.runs.items = c.len-index.ensures in
     let states-count : c.len-index.result ≡ length (states c.self.inside.runs.items) = count ∙ sym (length-states c.self.inside.runs.items) in
     let updates = rw c.unwrap-self-inside.ensures at c.insert.ensures.updates in
-    let pushed = rw c.unwrap.ensures at c.push.ensures.items in
+    let pushed = c.push.ensures in
     let sets = hash_map_updates_text (string_bytes c.args.created.key) c.self.inside.index c.insert.new.self _ updates in (
       c.self.invariant.0,
       record {
@@ -54,14 +56,14 @@ returns g c =
     let before = c.self.inside in
     let runs = states before.runs.items in
     let s = c.args.created.run.state in
-    let count : c.len-index.result ≡ length runs = omega (arith, before.runs.ok.0, length-states before.runs.items) in
-    let pushed = rw c.unwrap.ensures at c.push.ensures.items in
+    let count : c.len-index.result ≡ length runs = omega (arith, c.len-index.ensures, length-states before.runs.items) in
+    let pushed = c.push.ensures in
     let now = ap states pushed ∙ states-push before.runs.items c.args.created.run in
     let waits = added-waits before.setup before.dispatches c.add_run.new.self before.changed runs (states c.push.new.self.items) c.len-index.result s
     (ap (λ v. v.changed.made) c.self.view_is ∙ c.requires.caught_up) c.add_run.ensures.waiting c.add_run.ensures.shown c.add_run.ensures.ready count now c.self.invariant.4 in
     let low : IfSome before.transfers.unsent (λ u. u.index < length runs) = subst (λ n. IfSome before.transfers.unsent (λ (u : Unsent). u.index < n)) (sym (length-states before.runs.items)) c.self.invariant.5.unsent in
     let sends = added-sends before.setup before.transfers runs (states c.push.new.self.items) s now low in
-    let S : List RunState → Waiting → List Outgoing → ShardState = λ r w o. record { setup = before.setup; runs = r; last = before.last; waiting = w; outgoing = o; accepted = before.transfers.accepted } in
+    let S : List RunState → Waiting Dispatch → List (Waiting TransferContent) → ShardState = λ r w o. record { setup = before.setup; runs = r; last = before.last; waiting = w; outgoing = o; accepted = before.transfers.accepted } in
     let later = states c.push.new.self.items in
     ap (λ r. S r (all_waiting before.setup c.add_run.new.self (record { grown = before.changed.grown; made = Some c.len-index.result }) later) (all_outgoing before.setup before.transfers later)) now
     ∙ ap (λ w. S (runs ++ s ∷ []) w (all_outgoing before.setup before.transfers later)) waits

@@ -13,7 +13,8 @@ returns-in-Some-clause-state g c =
     let t = c.self.inside in
     let runs = states t.runs.items in
     let may = subst (MayAnswer c.args.self.now) c.in-Some.is c.requires in
-    let sends = answered-sends t.setup t.transfers c.mark_answer.new.self runs c.in-Some.answer (ap (λ v. v.changed.answer) c.self.view_is ∙ may) c.mark_answer.ensures in
+    let sends = answered-sends t.setup t.transfers c.mark_answer.new.self runs c.into_inner.result (ap (λ v. v.changed.answer) c.self.view_is ∙ may) c.mark_answer.ensures in
     both-moved t.setup runs t.last (all_waiting t.setup t.dispatches t.changed runs) sends (ap (λ (x : TransfersView). x.accepted) c.mark_answer.ensures)
-    ∙ ap (λ (v : ShardView). after_answer (Some c.in-Some.answer) (state v)) c.self.view_is
+    ∙ ap (λ (v : ShardView). after_answer (Some c.into_inner.result) (state v)) c.self.view_is
+    ∙ ap (λ a. after_answer (Some a) (state c.args.self.now)) c.into_inner.ensures
     ∙ ap (λ (o : Option Sent). after_answer o (state c.args.self.now)) (sym c.in-Some.is)

@@ -1,17 +1,20 @@
 use Rattle.std.proofs.Common.{◌≡◌, ℕ, ◌<◌, ◌∙◌, length, length-set, sym, ap, subst, arith, true, slice_set, List, Option, Some}
 use Rattle.service_model.specs.Aging.{IsOldestRun}
 use Rattle.service_model.specs.RunState.{RunState, id_of, is_there, no_run}
-use Rattle.service_model_types.specs.declared.content.Outgoing.{Outgoing}
+use Rattle.service_model_types.specs.declared.transfer.TransferContent.{TransferContent}
 use Rattle.mutable_state.specs.View.{RunView}
 use Rattle.timeouts.specs.declared.due.Due.{Due}
 use Rattle.indexmap.specs.IndexMap.{get_by_text}
-use Rattle.shard_steps.specs.Issuing.{Waiting, all_waiting}
+use Rattle.service_model_types.specs.declared.content.Dispatch.{Dispatch}
+use Rattle.transfer.specs.Logs.{Waiting}
+use Rattle.shard_steps.specs.Issuing.{all_waiting}
 use Rattle.shard_steps.specs.Kept.{HasFirsts, HasShown, IsCaughtUp, outstanding}
-use Rattle.shard_steps.specs.Sending.{all_outgoing}
+use Rattle.shard_steps.specs.Sending.{KeepsTransfers, all_outgoing}
 use Rattle.shard_steps.proofs.EachLemmas.{each-same}
 use Rattle.shard_steps.proofs.SendingLemmas.{runs-caught-up}
 use Rattle.shard_steps.proofs.TakenLemmas.{firsts-taken, shown-taken, taken-sends, taken-waits}
 use Rattle.shard_store.specs.Fitting.{after_taken, state_at}
+use Rattle.shard_store.specs.Places.{empty_place}
 use Rattle.shard_store.specs.View.{IsIndexed, ShardState, ShardView, state, states}
 use Rattle.shard_store.proofs.IndexLemmas.{length-states, states-at, states-set, there-within}
 use Rattle.shard_store.proofs.TakenLemmas.{indexed-taken}
@@ -31,15 +34,15 @@ here v runs i is there =
 pub index-place-requires : goal.index-place-requires
 index-place-requires g c =
     let h = here c.args.self.now c.self.inside.runs.items c.args.index (ap (λ (v : ShardView). v.runs) c.self.view_is) c.requires.may.begun in
-    let low = h.low in omega (arith, low, c.self.inside.runs.ok.0)
-
-pub index_mut-place-requires : goal.index_mut-place-requires
-index_mut-place-requires g c =
-    let h = here c.args.self.now c.self.inside.runs.items c.args.index (ap (λ (v : ShardView). v.runs) c.self.view_is) c.requires.may.begun in
-    let low = h.low in omega (arith, low, c.self.inside.runs.ok.0)
+    h.low
 
 pub clear-requires : goal.clear-requires
 clear-requires g c =
+    let h = here c.args.self.now c.self.inside.runs.items c.args.index (ap (λ (v : ShardView). v.runs) c.self.view_is) c.requires.may.begun in
+    h.low
+
+pub clear-requires-2 : goal.clear-requires-2
+clear-requires-2 g c =
     let h = here c.args.self.now c.self.inside.runs.items c.args.index (ap (λ (v : ShardView). v.runs) c.self.view_is) c.requires.may.begun in
     let low = h.low in omega (arith, low, length-states c.self.inside.runs.items, c.self.invariant.3.count)
 
@@ -64,14 +67,14 @@ invariant_of-self g c =
     let low : i < length rs = let l = h.low in omega (arith, l, length-states runs) in
     let oldest : IsOldestRun rs i = subst (λ (v : ShardView). IsOldestRun (states v.runs) i) (sym c.self.view_is) c.requires.oldest in
     let named = c.workflow_id-id.ensures ∙ ap (λ (v : RunView). id_of v.state) (c.get-run.ensures ∙ c.index-place.ensures) ∙ ap id_of (sym (states-at runs i c.index-place.result.now h.low)) in
-    let now : states (slice_set runs i c.take.new.self) ≡ slice_set rs i no_run = states-set runs i c.take.new.self ∙ ap (λ (v : RunView). slice_set rs i v.state) c.take.ensures in (
+    let now : states c.clear.new.self.items ≡ slice_set rs i no_run = ap states c.clear.ensures ∙ states-set runs i empty_place in (
       c.self.invariant.0,
-      subst (λ (v : RunView). IsIndexed (get_by_text c.forget_latest.new.index) (slice_set runs i v)) (sym c.take.ensures)
+      subst (IsIndexed (get_by_text c.forget_latest.new.index)) (sym c.clear.ensures)
           (indexed-taken (get_by_text b.index) (get_by_text c.forget_latest.new.index) runs i c.workflow_id-id.result.now h.low h.begun named oldest c.forget_latest.ensures c.self.invariant.1),
-      rw length-set c.self.invariant.2,
-      each-same _ _ _ _ now (subst (λ (l : List (Option Due)). HasFirsts b.setup.retention l b.changed (slice_set rs i no_run)) (sym c.clear.ensures.slots) (firsts-taken b.setup.retention b.deadlines.slots b.changed rs i low c.self.invariant.3)),
+      omega (arith, ap length c.clear.ensures, length-set runs i empty_place, c.self.invariant.2),
+      each-same _ _ _ _ now (subst (λ (l : List (Option Due)). HasFirsts b.setup.retention l b.changed (slice_set rs i no_run)) (sym c.clear-2.ensures.slots) (firsts-taken b.setup.retention b.deadlines.slots b.changed rs i low c.self.invariant.3)),
       each-same _ _ _ _ now (subst (λ l. HasShown l b.changed (slice_set rs i no_run)) (sym c.forget.ensures.shown) (shown-taken b.dispatches.shown b.changed rs i low c.self.invariant.4)),
-      rw length-set c.self.invariant.5,
+      subst (λ n. KeepsTransfers b.setup.shards n b.transfers) (sym (ap length c.clear.ensures ∙ length-set runs i empty_place)) c.self.invariant.5,
     )
 
 pub returns : goal.returns
@@ -81,9 +84,9 @@ returns g c =
     let runs = b.runs.items in
     let rs = states runs in
     let caught_up : IsCaughtUp (outstanding b.changed b.transfers) = subst (λ (v : ShardView). IsCaughtUp v.changed) (sym c.self.view_is) c.requires.may.caught_up in
-    let later = states (slice_set runs i c.take.new.self) in
-    let now : later ≡ slice_set rs i no_run = states-set runs i c.take.new.self ∙ ap (λ (v : RunView). slice_set rs i v.state) c.take.ensures in
-    let S : List RunState → Waiting → List Outgoing → ShardState = λ r w o. record { setup = b.setup; runs = r; last = b.last; waiting = w; outgoing = o; accepted = b.transfers.accepted } in
+    let later = states c.clear.new.self.items in
+    let now : later ≡ slice_set rs i no_run = ap states c.clear.ensures ∙ states-set runs i empty_place in
+    let S : List RunState → Waiting Dispatch → List (Waiting TransferContent) → ShardState = λ r w o. record { setup = b.setup; runs = r; last = b.last; waiting = w; outgoing = o; accepted = b.transfers.accepted } in
     ap (λ w. S later w (all_outgoing b.setup b.transfers later)) (taken-waits b.setup b.dispatches c.forget.new.self b.changed rs later (runs-caught-up b.changed b.transfers caught_up) c.forget.ensures.waiting)
     ∙ ap (λ o. S later (all_waiting b.setup b.dispatches b.changed rs) o) (taken-sends b.setup b.transfers b.changed rs later caught_up)
     ∙ ap (λ r. S r (all_waiting b.setup b.dispatches b.changed rs) (all_outgoing b.setup b.transfers rs)) now

@@ -1,8 +1,7 @@
 use Rattle.std.proofs.Common.{◌≡◌, ◌∙◌, refl, sym, ap, subst, arith, List, [], ◌∷◌, length}
 use Rattle.std.specs.Vec.Iter.{into_iter_items}
-use Rattle.service_model.specs.Service.{with_all_sent}
 use Rattle.service_model_types.specs.declared.transfer.Sent.{Sent}
-use Rattle.transfer.specs.Outboxes.{outgoing, HasRoomFor}
+use Rattle.transfer.specs.Outboxes.{outgoing, with_all_sent, HasRoomFor}
 use Rattle.transfer.proofs.ContentLemmas.{with_all_sent-cons, with_all_sent-nil}
 use Rattle.transfer.proofs.OutboxLemmas.{room-behind}
 use Rattle.transfer.proofs.outbox.Outbox.send_each.Goals as goal

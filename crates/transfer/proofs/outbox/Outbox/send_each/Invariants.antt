@@ -1,7 +1,6 @@
 use Rattle.std.proofs.Common.{◌≡◌, length}
 use Rattle.std.specs.Vec.Iter.{into_iter_items, into_iter_len}
-use Rattle.service_model.specs.Service.{with_all_sent}
-use Rattle.transfer.specs.Outboxes.{outgoing, HasRoomFor}
+use Rattle.transfer.specs.Outboxes.{outgoing, with_all_sent, HasRoomFor}
 use Rattle.transfer.proofs.outbox.Outbox.send_each.Given as goal
 
 abbrev pub invariant-loop-one : goal.invariant-loop-one

@@ -1,0 +1,110 @@
+//! How much room the facts of a step need in a run's tables.
+
+ghost use Rattle.std.specs.Prelude.{◌≡◌, ◌^◌, ◌<◌, is_some, length};
+ghost use Rattle.service_model_types.specs.declared.journal.Fact.TheVariants.{Event as an_event};
+ghost use Rattle.service_model.specs.RunState.{signal_request_by};
+ghost use Rattle.mutable_state.specs.Rooms.{AreAtMost, IsWithin, need_of, needs, no_rooms, one_if, plus, task_behind};
+ghost use Rattle.mutable_state.specs.Tasks.{phase_in};
+
+use crate::task::{TaskPhase, WorkflowTask, turn_of};
+use service_model_types::journal::{EventFact, Fact};
+use wf_event::Attributes;
+use wf_event_values::Moment;
+
+/// So many places in each of a run's tables.
+#[derive(Clone, Copy)]
+pub struct Rooms {
+    /// Of the history, for each event: what is held back has one too.
+    pub events: usize,
+    /// For what is held back.
+    pub held: usize,
+    /// For the request ids of signals.
+    pub requests: usize,
+    /// For what is opened.
+    pub rows: usize,
+    /// For the first deadlines of what is in use.
+    pub deadlines: usize,
+}
+
+impl Rooms {
+    fn none() -> Rooms
+        ensures { result ≡ no_rooms }
+    {
+        Rooms {
+            events: 0,
+            held: 0,
+            requests: 0,
+            rows: 0,
+            deadlines: 0,
+        }
+    }
+
+    /// With what one more fact needs, where the workflow task stands so before it.
+    fn with(self, phase: TaskPhase, fact: &Fact) -> Rooms
+        requires { AreAtMost (2 ^ 63) self }
+        ensures { result ≡ plus self (need_of (phase_in phase) fact.now) }
+    {
+        match fact {
+            Fact::Event(event) => self.with_event(phase, event),
+            Fact::Note(_) => Rooms {
+                deadlines: self.deadlines + 1,
+                ..self
+            },
+        }
+    }
+
+    fn with_event(self, phase: TaskPhase, event: &EventFact) -> Rooms
+        requires { AreAtMost (2 ^ 63) self }
+        ensures { result ≡ plus self (need_of (phase_in phase) (an_event event.now)) }
+    {
+        let attributes = &event.attributes;
+        let opened = one_if(attributes.opens().is_some());
+        Rooms {
+            events: self.events + 1,
+            held: self.held + one_if(phase.is_started() && attributes.is_outside()),
+            requests: self.requests + one_if(bears_request(event)),
+            rows: self.rows + opened,
+            deadlines: self.deadlines + opened,
+        }
+    }
+}
+
+/// Room for all of these facts, where this is the run's workflow task before them.
+pub(crate) fn rooms_for(task: WorkflowTask, facts: &[Fact]) -> Rooms
+    requires { length facts.now < 2 ^ 63 }
+    ensures { IsWithin (needs (phase_in task.phase) facts.now) result }
+{
+    let mut task = task;
+    let mut rooms = Rooms::none();
+    for fact in facts {
+        rooms = rooms.with(task.phase, fact);
+        task = behind(task, fact);
+    }
+    rooms
+}
+
+/// The workflow task behind a fact. Of its numbers nothing is asked.
+fn behind(task: WorkflowTask, fact: &Fact) -> WorkflowTask
+    ensures { phase_in result.phase ≡ task_behind fact.now (phase_in task.phase) }
+{
+    match fact {
+        Fact::Event(event) => task.turned(turn_of(&event.attributes), 0, Moment::zero()),
+        Fact::Note(_) => task,
+    }
+}
+
+/// Whether a fact is a signal that bears a request id.
+fn bears_request(event: &EventFact) -> bool
+    ensures { result ≡ is_some (signal_request_by event.now.request_id event.now.attributes) }
+{
+    match event.attributes {
+        Attributes::WorkflowExecutionSignaled(_) => event.request_id.is_some(),
+        _ => false,
+    }
+}
+
+fn one_if(is_so: bool) -> usize
+    ensures { result ≡ one_if is_so }
+{
+    if is_so { 1 } else { 0 }
+}

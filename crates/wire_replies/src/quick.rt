@@ -1,0 +1,138 @@
+//! The replies that are given most, by pieces of text. Any other is left to the page, and so is one
+//! with a text that needs escapes.
+//!
+//! Rule: PROFILE, Lines. Definition: wire_replies/Replies. Rows: -. Cases: starts, dispatch_turns.
+
+ghost use Rattle.std.specs.Prelude.{◌≡◌, [], ◌++◌, decimal, IfOk, OnOk, string_bytes};
+ghost use Rattle.std.specs.Bool.{OnTrue};
+ghost use Rattle.serde_json.specs.Data.{object};
+ghost use Rattle.wire_replies.specs.Answers.{line_member, ok_member, with_run};
+ghost use Rattle.wire_replies.specs.Replies.{line_of, reply_line};
+ghost use Rattle.wire_replies.specs.Tasks.{token_of, workflow_task_members};
+ghost use Rattle.wf_event_values.specs.declared.policies.TaskKind.TheVariants.{Workflow};
+
+use crate::plain::is_plain;
+use service_model_types::answer::{Answer, Reply, WorkflowTask};
+use std::alloc::AllocError;
+use task_token::{RUN_TEXT_LENGTH, RunText, TOKEN_TEXT_LENGTH, TaskToken};
+use wf_event_values::{RunId, TaskKind};
+
+/// A piece of text, and another behind it.
+#[inline(always)]
+fn put_both(page: &mut String, piece: &str, text: &str) -> Result<(), AllocError>
+    ensures { OnOk result (string_bytes page.new
+        ≡ (string_bytes page.old ++ piece.now) ++ text.now) }
+{
+    page.push_str(piece)?;
+    page.push_str(text)
+}
+
+/// A piece of text, and a number behind it.
+#[inline(always)]
+fn put_number(page: &mut String, piece: &str, number: u64) -> Result<(), AllocError>
+    ensures { OnOk result (string_bytes page.new
+        ≡ (string_bytes page.old ++ piece.now) ++ decimal number) }
+{
+    let mut buffer = itoa::Buffer::new();
+    put_both(page, piece, buffer.format(number))
+}
+
+/// The line of an answer that says nothing but its name. It says whether it was written.
+fn put_name(page: &mut String, line: u64, name: &str) -> Result<bool, AllocError>
+    requires { string_bytes page.old ≡ [] }
+    ensures { IfOk result (λ done. OnTrue done (string_bytes page.new
+        ≡ line_of (object (ok_member name.now (line_member line))))) }
+{
+    if !is_plain(name.as_bytes()) {
+        return Ok(false);
+    }
+    put_number(page, "{\"line\":", line)?;
+    put_both(page, ",\"ok\":\"", name)?;
+    put_both(page, "\"}", "\n")?;
+    Ok(true)
+}
+
+/// The line of an answer that names a run. It says whether it was written.
+fn put_run(page: &mut String, line: u64, name: &str, run: RunId) -> Result<bool, AllocError>
+    requires { string_bytes page.old ≡ [] }
+    ensures { IfOk result (λ done. OnTrue done (string_bytes page.new
+        ≡ line_of (object (with_run name.now run (line_member line))))) }
+{
+    let mut buffer = [0; RUN_TEXT_LENGTH];
+    let run = run.write(&mut buffer);
+    if !is_plain(name.as_bytes()) {
+        return Ok(false);
+    }
+    if !is_plain(run.as_bytes()) {
+        return Ok(false);
+    }
+    put_number(page, "{\"line\":", line)?;
+    put_both(page, ",\"ok\":\"", name)?;
+    put_both(page, "\",\"run\":\"", run)?;
+    put_both(page, "\"}", "\n")?;
+    Ok(true)
+}
+
+/// The token of a workflow task.
+fn workflow_token(task: &WorkflowTask) -> TaskToken
+    ensures { result ≡ token_of Workflow task.now.run task.now.scheduled task.now.attempt }
+{
+    TaskToken {
+        kind: TaskKind::Workflow,
+        shard: task.run.shard(),
+        run: task.run.ordinal(),
+        event: task.scheduled,
+        attempt: task.attempt,
+    }
+}
+
+/// The line of a workflow task that was taken. It says whether it was written.
+fn put_task(page: &mut String, line: u64, task: &WorkflowTask) -> Result<bool, AllocError>
+    requires { string_bytes page.old ≡ [] }
+    ensures { IfOk result (λ done. OnTrue done (string_bytes page.new
+        ≡ line_of (object (workflow_task_members task.now (line_member line))))) }
+{
+    let token = workflow_token(task);
+    let mut token_buffer = [0; TOKEN_TEXT_LENGTH];
+    let token = token.write_in(&mut token_buffer);
+    let mut run_buffer = [0; RUN_TEXT_LENGTH];
+    let run = task.run.write(&mut run_buffer);
+    let workflow_id = task.workflow_id.as_str();
+    if !is_plain(token.as_bytes()) {
+        return Ok(false);
+    }
+    if !is_plain(run.as_bytes()) {
+        return Ok(false);
+    }
+    if !is_plain(workflow_id.as_bytes()) {
+        return Ok(false);
+    }
+    put_number(page, "{\"attempt\":", u64::from(task.attempt))?;
+    put_number(page, ",\"line\":", line)?;
+    put_both(page, ",\"ok\":\"task\",\"run\":\"", run)?;
+    put_number(page, "\",\"started\":", task.started)?;
+    put_both(page, ",\"token\":\"", token)?;
+    put_both(page, "\",\"workflow_id\":\"", workflow_id)?;
+    put_both(page, "\"}", "\n")?;
+    Ok(true)
+}
+
+/// Writes the line of a reply, where it is one of these. It says whether it was written.
+#[tactic(auto, unfolding(crate::specs::Replies::reply_line, crate::specs::Replies::reply_tree))]
+pub(crate) fn put_quickly(page: &mut String, line: u64, reply: &Reply) -> Result<bool, AllocError>
+    requires { string_bytes page.old ≡ [] }
+    ensures { IfOk result (λ done. OnTrue done (string_bytes page.new
+        ≡ reply_line line reply.now)) }
+{
+    let Ok(answer) = reply else {
+        return Ok(false);
+    };
+    match answer {
+        Answer::Started(run) => put_run(page, line, "started", *run),
+        Answer::Signaled => put_name(page, line, "signaled"),
+        Answer::WorkflowTask(task) => put_task(page, line, task),
+        Answer::Completed => put_name(page, line, "completed"),
+        Answer::ActivityCompleted => put_name(page, line, "completed"),
+        _ => Ok(false),
+    }
+}
