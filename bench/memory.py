@@ -27,7 +27,13 @@ def workflows(count):
     return lines
 
 
+def repeated(count):
+    """One start again and again, under its request id: nothing stays of it but its place in the record."""
+    return [first_path.start("order-12345")] * count
+
+
 CASES = [("a start of a workflow of its own", first_path.starts, 3_125, 1),
+         ("a start that is repeated, its record alone", repeated, 3_125, 1),
          ("a signal of one workflow", first_path.signals, 5_000, 1),
          ("a start and a signal of a workflow of its own", workflows, 2_500, 2)]
 

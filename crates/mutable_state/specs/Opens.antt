@@ -30,6 +30,10 @@ pub record OpenRows : Type 0 where
   -- the last event that opened something
   pub last : ℕ
 
+-- nothing, and no room
+abbrev pub no_rows : OpenRows
+no_rows = record { rows = []; room = 0; due_room = 0; firsts = []; last = 0 }
+
 -- what is opened, with no note on it
 abbrev pub new_open : Class → ℕ → Open
 new_open c id = record { opener = record { class = c; event = id }; is_settled = false; notes = no_notes }

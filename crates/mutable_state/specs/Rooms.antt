@@ -1,10 +1,11 @@
 -- PROOF: how much room a step's facts need in a run's tables
-use Rattle.std.specs.Prelude.{ℕ, ◌+◌, ◌≤◌, Bool, cond, List, [], ◌∷◌, length, is_some}
+use Rattle.std.specs.Prelude.{ℕ, ◌+◌, ◌≤◌, Bool, ◌||◌, cond, List, [], ◌∷◌, length, Option, is_some}
+use Rattle.wf_event.specs.declared.attributes.Attributes.{Attributes}
 use Rattle.wf_event.specs.Role.{opens}
 use Rattle.service_model_types.specs.declared.journal.Fact.{Fact}
 use Rattle.service_model_types.specs.declared.journal.Fact.TheVariants.{Event as an_event, Note as a_note}
 use Rattle.service_model.specs.Pending.{Task}
-use Rattle.service_model.specs.RunState.{signal_request_by}
+use Rattle.service_model.specs.RunState.{signal_request_by, cancel_request_by}
 use Rattle.mutable_state.specs.Steps.{is_held_back, task_after}
 use Rattle.mutable_state.specs.declared.rooms.Rooms.{Rooms}
 
@@ -24,12 +25,16 @@ plus a b = record {
 abbrev pub one_if : Bool → ℕ
 one_if b = cond b 1 0
 
+-- whether an event is remembered as a request: it is one to cancel, or a signal that bears a request id
+abbrev pub is_remembered : Option (List ℕ) → Attributes → Bool
+is_remembered request a = is_some (signal_request_by request a) || is_some (cancel_request_by request a)
+
 -- what a fact needs, where the workflow task stands so before it
 abbrev pub need_of : Task → Fact → Rooms
 need_of t (an_event f) = record {
   events = 1;
   held = one_if (is_held_back t f.attributes);
-  requests = one_if (is_some (signal_request_by f.request_id f.attributes));
+  requests = one_if (is_remembered f.request_id f.attributes);
   rows = one_if (is_some (opens f.attributes));
   deadlines = one_if (is_some (opens f.attributes));
 }

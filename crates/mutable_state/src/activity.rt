@@ -6,10 +6,12 @@ ghost use Rattle.mutable_state.specs.Activities.{row_said, kept_activity, noted_
 ghost use Rattle.mutable_state.specs.Noted.{kept_row};
 ghost use Rattle.mutable_state.specs.Rows.{activity_in};
 
+use crate::in_use::InUse;
 use crate::notes::Notes;
-use crate::open::{InUse, Open, activity_of};
+use crate::open::{Open, activity_of};
 use crate::rows::Row;
 use crate::run::Run;
+use crate::table::Table;
 use buffered::History;
 use std::alloc::{AllocError, Global};
 use wf_event::{Class, Event};
@@ -71,7 +73,7 @@ impl Run {
     }
 }
 
-impl InUse {
+impl Table {
     /// What is noted of those things in use that are activities, in the order in which they were
     /// scheduled.
     pub(crate) fn noted(
@@ -83,6 +85,24 @@ impl InUse {
             noted.items ≡ noted_among history.now.lists.events self.now.rows) }
     {
         noted_among(alloc, self.rows.as_slice(), history)
+    }
+}
+
+impl InUse {
+    /// What is noted of those things in use that are activities, in the order in which they were
+    /// scheduled.
+    pub(crate) fn noted(
+        &self,
+        alloc: Global,
+        history: &History,
+    ) -> Result<Vec<NotedActivity>, AllocError>
+        ensures { IfOk result (λ noted.
+            noted.items ≡ noted_among history.now.lists.events self.now.rows) }
+    {
+        match &self.table {
+            Some(table) => table.noted(alloc, history),
+            None => Ok(Vec::new(alloc)),
+        }
     }
 }
 

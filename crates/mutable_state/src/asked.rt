@@ -5,7 +5,7 @@ ghost use Rattle.service_model.specs.Deliveries.{asked_id, pending_asked};
 ghost use Rattle.service_model.specs.RunState.{is_open};
 ghost use Rattle.mutable_state.specs.Asked.{kept_asked};
 
-use crate::open::InUse;
+use crate::in_use::InUse;
 use crate::run::Run;
 use buffered::History;
 use std::alloc::AllocError;

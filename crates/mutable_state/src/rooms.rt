@@ -1,9 +1,8 @@
 //! How much room the facts of a step need in a run's tables.
 
-ghost use Rattle.std.specs.Prelude.{◌≡◌, ◌^◌, ◌<◌, is_some, length};
+ghost use Rattle.std.specs.Prelude.{◌≡◌, ◌^◌, ◌<◌, length};
 ghost use Rattle.service_model_types.specs.declared.journal.Fact.TheVariants.{Event as an_event};
-ghost use Rattle.service_model.specs.RunState.{signal_request_by};
-ghost use Rattle.mutable_state.specs.Rooms.{AreAtMost, IsWithin, need_of, needs, no_rooms, one_if, plus, task_behind};
+ghost use Rattle.mutable_state.specs.Rooms.{AreAtMost, IsWithin, is_remembered, need_of, needs, no_rooms, one_if, plus, task_behind};
 ghost use Rattle.mutable_state.specs.Tasks.{phase_in};
 
 use crate::task::{TaskPhase, WorkflowTask, turn_of};
@@ -18,7 +17,8 @@ pub struct Rooms {
     pub events: usize,
     /// For what is held back.
     pub held: usize,
-    /// For the request ids of signals.
+    /// For the request ids of signals. A request to cancel has a place of its own beside them, which
+    /// is there where one of these is.
     pub requests: usize,
     /// For what is opened.
     pub rows: usize,
@@ -62,7 +62,7 @@ impl Rooms {
         Rooms {
             events: self.events + 1,
             held: self.held + one_if(phase.is_started() && attributes.is_outside()),
-            requests: self.requests + one_if(bears_request(event)),
+            requests: self.requests + one_if(is_remembered(event)),
             rows: self.rows + opened,
             deadlines: self.deadlines + opened,
         }
@@ -93,12 +93,13 @@ fn behind(task: WorkflowTask, fact: &Fact) -> WorkflowTask
     }
 }
 
-/// Whether a fact is a signal that bears a request id.
-fn bears_request(event: &EventFact) -> bool
-    ensures { result ≡ is_some (signal_request_by event.now.request_id event.now.attributes) }
+/// Whether a fact is a request to cancel, or a signal that bears a request id.
+fn is_remembered(event: &EventFact) -> bool
+    ensures { result ≡ is_remembered event.now.request_id event.now.attributes }
 {
     match event.attributes {
         Attributes::WorkflowExecutionSignaled(_) => event.request_id.is_some(),
+        Attributes::WorkflowExecutionCancelRequested(_) => true,
         _ => false,
     }
 }

@@ -1,4 +1,4 @@
-use Rattle.std.proofs.Common.{◌≡◌, ◌∙◌, ◌∷◌, ap, sym, cond, Some, None}
+use Rattle.std.proofs.Common.{◌∙◌, ap, sym, cond, Some}
 use Rattle.std.specs.Prelude.{find}
 use Rattle.service_model.specs.Deadlines.{is_closing_event}
 use Rattle.mutable_state.proofs.dues.closing_event.Goals as goal

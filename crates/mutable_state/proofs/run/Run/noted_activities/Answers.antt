@@ -1,7 +1,6 @@
 use Rattle.std.proofs.Common.{◌≡◌, ap, subst, ◌∙◌}
 use Rattle.std.specs.Prelude.{filter_map, IfOk}
 use Rattle.mutable_state.specs.Activities.{activity_at, noted_activities}
-use Rattle.mutable_state.specs.View.{texts}
 use Rattle.mutable_state.proofs.ActivityLemmas.{noted-are}
 use Rattle.mutable_state.proofs.run.Run.noted_activities.Goals as goal
 
@@ -9,5 +8,5 @@ pub returns : goal.returns
 returns c =
     let a = c.self.inside in
     let is : filter_map (activity_at a.history.lists.events) a.in_use.rows ≡ noted_activities c.args.self.now.state =
-    noted-are a.history.lists a.request_id a.cancel_request a.status a.task (texts a.signal_requests.keys) a.in_use.rows ∙ ap (λ v. noted_activities v.state) c.self.view_is in
+    noted-are a.history.lists a.request_id a.requests.cancel a.status a.task a.requests.signals a.in_use.rows ∙ ap (λ v. noted_activities v.state) c.self.view_is in
     subst (λ l. IfOk c.noted.result (λ noted. noted.items ≡ l)) is c.noted.ensures
