@@ -1,6 +1,6 @@
 -- a service over lanes that was opened from records, from its opening to its close
-use Rattle.std.proofs.Common.{◌≡◌, ◌≢◌, ℕ, ◌<◌, List, [], length, map, slice_get, Bool, Option, Some, Result, inl, inr, refl, sym, ap, subst, ◌∙◌, arith}
-use Rattle.std.specs.Prelude.{Err, Ok, slice_index_or}
+use Rattle.std.proofs.Common.{◌≡◌, ◌≢◌, ℕ, ◌<◌, List, [], length, map, slice_get, Bool, Option, Some, sym, ap, subst, ◌∙◌, arith}
+use Rattle.std.specs.Prelude.{Err, slice_index_or}
 use Rattle.wf_event_values.specs.declared.field.Field.{Field}
 use Rattle.wf_event_values.specs.declared.field.Field.TheVariants as field
 use Rattle.wf_event_values.specs.declared.refusal.Refusal.{Refusal}
@@ -17,7 +17,7 @@ use Rattle.service.specs.Views.{Service}
 use Rattle.service.specs.Views.{Pass}
 use Rattle.script.specs.declared.fault.ScriptFault.{ScriptFault}
 use Rattle.script.specs.declared.fault.ScriptFault.TheVariants.{Memory, Read, Write, Setting, Records, QueueFull}
-use Rattle.script.specs.Endings.{IfRefused, IsDeviceFault, IsFaultOf, IsRefusedOpening}
+use Rattle.script.specs.Endings.{IsDeviceFault, IsFaultOf, IsRefusedOpening}
 use Rattle.script.proofs.OpenLemmas.{refused-setting}
 use Rattle.lanes.specs.Endings as over
 use Rattle.lanes.specs.Meetings.{PassServed, PassesMet}
@@ -65,24 +65,6 @@ device-from K R (Write e) r r' w w' h = h
 device-from K R (Setting name) r r' w w' h = absurd h
 device-from K R Records r r' w w' h = absurd h
 device-from K R QueueFull r r' w w' h = absurd h
-
--- a device's fault is no refused opening
-pub device-opened : (e : ScriptFault) (r r' w w' : ℕ) (P : Type 0) → IsDeviceFault e r r' w w' → IfRefused e P
-device-opened Memory r r' w w' P h = tt
-device-opened (Read e) r r' w w' P h = tt
-device-opened (Write e) r r' w w' P h = tt
-device-opened (Setting name) r r' w w' P h = absurd h
-device-opened Records r r' w w' P h = absurd h
-device-opened QueueFull r r' w w' P h = absurd h
-
--- it is one that nothing was read or written before
-pub refused-untouched : (e : ScriptFault) (P : Type 0) → P → IfRefused e P
-refused-untouched Memory P p = tt
-refused-untouched (Read e) P p = tt
-refused-untouched (Write e) P p = tt
-refused-untouched (Setting name) P p = p
-refused-untouched Records P p = p
-refused-untouched QueueFull P p = p
 
 -- ---- the opening and the close
 

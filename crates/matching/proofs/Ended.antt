@@ -52,9 +52,6 @@ pub record PartlyTaken (n : ℕ) (a w b : List View) : Type 0 where
   pub done : (s : ℕ) → s < n → at b s ≡ taken_in (at a s) (at w s)
   pub left : (s : ℕ) → n ≤ s → at b s ≡ at a s
 
-pub taken_begins : (a w : List View) → PartlyTaken 0 a w a
-taken_begins a w = record { count = refl; done = λ s l. absurd (omega (arith, l)); left = λ s l. refl }
-
 pub taken_slot : (n : ℕ) (a : List View) (os ps : List HintPass) (r p p' : HintPass) → slice_get os n ≡ Some r → slice_get ps n ≡ Some p → one.known_by p' ≡ taken_in (one.known_by p) (one.known_by r)
     → PartlyTaken n a (map one.known_by os) (map one.known_by ps) → PartlyTaken (n + 1) a (map one.known_by os) (map one.known_by (slice_set ps n p'))
 taken_slot n a os ps r p p' is_r is_p is h =

@@ -13,7 +13,7 @@ use Rattle.matching.specs.declared.queues.QueuesPass.{QueuesPass}
 use Rattle.matching.specs.Meets.{Agree}
 use Rattle.matching.specs.Plays.{nobody}
 use Rattle.matching.specs.Queues as one
-use Rattle.matching.specs.Named.{at, Met, IsPassOf}
+use Rattle.matching.specs.Named.{at, IsPassOf}
 use Rattle.matching.proofs.Laying.{set_get, length-put, same_there}
 use Rattle.matching.proofs.Places.{at-map, map-set}
 
@@ -42,9 +42,6 @@ pub record PartlyMet (n : ℕ) (a b c d : List View) : Type 0 where
   pub done : (s : ℕ) → s < n → Agree (at a s) (at b s) (at c s) (at d s)
   pub left : (s : ℕ) → n ≤ s → (at c s ≡ at a s) × (at d s ≡ at b s)
 
-pub partly_begins : (a b : List View) → PartlyMet 0 a b a b
-partly_begins a b = record { first = refl; second = refl; done = λ s l. absurd (omega (arith, l)); left = λ s l. (refl, refl) }
-
 pub partly_more : (n : ℕ) (a b c d : List View) (u v : View) → n < length c → n < length d → Agree (at c n) (at d n) u v → PartlyMet n a b c d → PartlyMet (n + 1) a b (slice_set c n u) (slice_set d n v)
 partly_more n a b c d u v lc ld agree h = record {
   first = length-put c n u ∙ h.first;
@@ -63,9 +60,6 @@ partly_more n a b c d u v lc ld agree h = record {
     there : (s : ℕ) → s < n → Agree (at a s) (at b s) (at (slice_set c n u) s) (at (slice_set d n v) s)
     there s l = let ne : s ≢ n = (λ e. absurd (omega (arith, l, e))) in
         subst (λ (z : View × View). Agree (at a s) (at b s) z.0 z.1) (λ i. (sym (at-else c n s u ne) i, sym (at-else d n s v ne) i)) (h.done s l)
-
-pub partly_ends : (n : ℕ) (a b c d : List View) → length a ≤ n → PartlyMet n a b c d → Met a b c d
-partly_ends n a b c d all h = record { first = h.first; second = h.second; each = λ s l. h.done s (omega (arith, all, l)) }
 
 -- the next queue's passes met
 pub met_slot : (n : ℕ) (a b : List View) (ps qs : List HintPass) (p q p' q' : HintPass) → slice_get ps n ≡ Some p → slice_get qs n ≡ Some q → Agree (one.known_by p) (one.known_by q) (one.known_by p') (one.known_by q')

@@ -193,9 +193,6 @@ any-run n rest = ap (λ b. b || ((n == n) && rest)) (not-less n) ∙ ap (λ b. b
 same-test : (n due d : ℕ) (rest : Bool) → (nat_lt due d || ((due == d) && (nat_lt 0 0 || ((0 == 0) && rest)))) ≡ (nat_lt due d || ((due == d) && (nat_lt n n || ((n == n) && rest))))
 same-test n due d rest = ap (λ b. nat_lt due d || ((due == d) && b)) (any-run 0 rest ∙ sym (any-run n rest))
 
-run-of : ℕ → Due → RunDue
-run-of n d = record { run = n; at = d }
-
 same-order : (n : ℕ) (d e : Due) → is_before (record { run = 0; at = e }) (record { run = 0; at = d }) ≡ is_before (record { run = n; at = e }) (record { run = n; at = d })
 same-order n d e = same-test n e.due d.due (nat_lt (class_place e.class) (class_place d.class) || ((class_place e.class == class_place d.class) && nat_lt e.event d.event))
 

@@ -1,8 +1,8 @@
 -- Progress, step by step.
 use Rattle.std.proofs.Common.{◌≡◌, ℕ, List, [], ◌∷◌, ◌++◌, Bool, true, false, cond, eqb, Option, Some, Result, Ok, Err, OnErr, refl, sym, ap, ◌∙◌, append_assoc}
-use Rattle.std.specs.Io.KnownBytes.{Consumes, Keeps}
+use Rattle.std.specs.Io.KnownBytes.{Keeps}
 use Rattle.wire_counted.specs.Written.{AppendsBeginning}
-use Rattle.wire_counted.proofs.Known.{Appends-none, Appends-then, Appends-keeps, Consumes-none, Consumes-then, Consumes-keeps, beginning_of_nothing, beginning_of_all, beginning_of_more, beginning_behind}
+use Rattle.wire_counted.proofs.Known.{Appends-none, Appends-then, Consumes-none, Consumes-then, Consumes-keeps, beginning_of_nothing, beginning_of_more, beginning_behind}
 use Rattle.script.specs.Lines.{Line}
 use Rattle.script.specs.Pending.{longer, ended, left}
 use Rattle.script.specs.Cursor.{Cursor, after_line, after_lines, line_text, lines_text}
@@ -90,26 +90,6 @@ Progress-stopped r c p w r1 c1 p1 w1 r2 w2 a b = record {
   text = a.text ++ b.text;
   read = Consumes-then r r1 r2 a.text b.text a.read b.read;
   begun = Served-begun c p w a.text c1 p1 w1 b.text w2 a.served b.begun;
-}
-
--- a chunk was read and served, and then flushed
-pub turn_progress : (r r' : Option (List ℕ)) (c : Cursor) (p : Line) (w : Option (List ℕ)) (chunk : List ℕ) (c' : Cursor) (p' : Line) (w1 w2 : Option (List ℕ))
-    → Consumes r r' chunk → Served c p w chunk c' p' w1 → Keeps w1 w2 → Progress r c p w r' c' p' w2
-turn_progress r r' c p w chunk c' p' w1 w2 read s k = record {
-  text = chunk;
-  read = read;
-  served = record { line_is = s.line_is; cursor_is = s.cursor_is; written = Appends-keeps w w1 w2 (lines_text c (ended p chunk)) s.written k };
-}
-
-pub turn_stopped : (r r' : Option (List ℕ)) (c : Cursor) (p : Line) (w w' : Option (List ℕ)) (chunk : List ℕ) → Consumes r r' chunk → AppendsBeginning w w' (lines_text c (ended p chunk)) → Stopped r c p w r' w'
-turn_stopped r r' c p w w' chunk read begun = record { text = chunk; read = read; begun = begun }
-
-pub flush_stopped : (r r' : Option (List ℕ)) (c : Cursor) (p : Line) (w : Option (List ℕ)) (chunk : List ℕ) (c' : Cursor) (p' : Line) (w1 w2 : Option (List ℕ))
-    → Consumes r r' chunk → Served c p w chunk c' p' w1 → Keeps w1 w2 → Stopped r c p w r' w2
-flush_stopped r r' c p w chunk c' p' w1 w2 read s k = record {
-  text = chunk;
-  read = read;
-  begun = beginning_of_all w w2 (lines_text c (ended p chunk)) (Appends-keeps w w1 w2 (lines_text c (ended p chunk)) s.written k);
 }
 
 pub read_stopped : (r r' : Option (List ℕ)) (c : Cursor) (p : Line) (w : Option (List ℕ)) → Keeps r r' → Stopped r c p w r' w

@@ -1,13 +1,13 @@
 -- how a service is opened from records
-use Rattle.std.proofs.Common.{◌≡◌, ℕ, ◌+◌, ◌<◌, ◌≤◌, Bool, true, false, List, [], ◌∷◌, ◌++◌, refl, sym, ap, ◌≢◌, ◌∙◌, arith, zero, suc, Some, length-append, slice_index_or, subst}
+use Rattle.std.proofs.Common.{◌≡◌, ℕ, ◌+◌, ◌<◌, ◌≤◌, Bool, true, false, List, [], ◌∷◌, ◌++◌, refl, sym, ap, ◌∙◌, arith, zero, suc, Some, length-append, slice_index_or, subst}
 use Rattle.std.proofs.lemmas.List.{length-map}
 use Rattle.std.proofs.lemmas.List.FromFn.{length-map-range_with_len, map-range_with_len_more}
 use Rattle.std.proofs.lemmas.Bool.Decides.{nat_tests}
-use Rattle.std.specs.Prelude.{All, ◌==◌, ◌||◌, flat_map, length, map, slice_get, slice_set, if◌then◌else◌, nat_lt, Result, Ok, Err, IfOk, MatchResult}
+use Rattle.std.specs.Prelude.{All, ◌==◌, ◌||◌, flat_map, length, map, slice_get, if◌then◌else◌, nat_lt, Result, Ok, Err, IfOk, MatchResult}
 use Rattle.std.specs.List.{range_with_len, AllByRecursion}
 use Rattle.wf_event_values.specs.declared.field.Field.TheVariants.{Records}
 use Rattle.wf_event_values.specs.declared.refusal.Refusal.{Refusal}
-use Rattle.wf_event_values.specs.declared.refusal.Refusal.TheVariants.{InvalidArgument, QueueFull, UnknownTaskQueue}
+use Rattle.wf_event_values.specs.declared.refusal.Refusal.TheVariants.{InvalidArgument}
 use Rattle.service_model_types.specs.declared.content.Dispatch.{Dispatch}
 use Rattle.service_model_types.specs.declared.content.Setup.{Setup}
 use Rattle.service_model_types.specs.declared.request.Hint.{Hint}
@@ -19,8 +19,8 @@ use Rattle.service_model.proofs.NamedLemmas.{place-known, waiting-are-named}
 use mathlib.Core.List.{map-map}
 use Rattle.service_model.proofs.ListLemmas.{map-push}
 use Rattle.gate.specs.Gated.{at}
-use Rattle.matching.specs.Holding.{all_pushed, held_by, pushed, then_push}
-use Rattle.matching.specs.Named.{IsFresh, place_in, slot_of}
+use Rattle.matching.specs.Holding.{held_by, pushed}
+use Rattle.matching.specs.Named.{IsFresh, place_in}
 use Rattle.matching.specs.declared.queues.QueuesPass.{QueuesPass}
 use Rattle.shard_gate.specs.Opening.{IsSetup, opened_with, waiting_in}
 use Rattle.service.specs.Contents.{opening_contents, setup_of}
@@ -213,18 +213,6 @@ each-at P (x ∷ xs) h (suc k) d below = each-at P xs h.1 k d (omega arith)
 pub waiting-there : (K : Settings) (R : List (List Entry)) → All (λ (d : Dispatch). d.hint.shard < K.shards) (waiting_from K R)
 waiting-there K R = λ k d below. (each-at (GoesToQueue K) (waiting_from K R) (waiting-go K R) k d below).0
 
--- a push where there is a queue
-room-known : (K : Settings) (ds : List Dispatch) (b : Bool) (all : List (List Hint)) → ((more : List (List Hint)) → all_pushed K.queues K.capacity more ds ≢ Err UnknownTaskQueue)
-    → then_push (if b then Ok all else Err QueueFull) (λ more. all_pushed K.queues K.capacity more ds) ≢ Err UnknownTaskQueue
-room-known K ds true all rest = rest all
-room-known K ds false all rest = λ e. absurd (cc (e))
-
--- so no push of them finds an unknown queue
-pub never-unknown : (K : Settings) (all : List (List Hint)) (ds : List Dispatch) → AllByRecursion (GoesToQueue K) ds → all_pushed K.queues K.capacity all ds ≢ Err UnknownTaskQueue
-never-unknown K all [] h = λ e. absurd (cc (e))
-never-unknown K all (d ∷ ds) h = λ e. room-known K ds (nat_lt (length (slice_index_or all (slot_of h.0.1.0 d.hint.kind) [])) K.capacity) (slice_set all (slot_of h.0.1.0 d.hint.kind) (slice_index_or all (slot_of h.0.1.0 d.hint.kind) [] ++ d.hint ∷ [])) (λ more. never-unknown K more ds h.1)
-    (ap (λ p. then_push (pushed K.capacity all p d.hint) (λ more. all_pushed K.queues K.capacity more ds)) (sym h.0.1.1) ∙ e)
-
 -- ---- what opening comes to
 
 -- the settings are in their ranges and the records are as many as they have to be: then the pushes decide
@@ -232,14 +220,6 @@ pub opens-as : (K : Settings) (R : List (List Entry)) (ds : List Dispatch) (r : 
 opens-as K R ds r range right is pushed =
     ap (λ f. unless_fault f (unless_fault (records_fault K R) (held_by K.queues K.capacity (waiting_from K R)))) range
     ∙ ap (λ f. unless_fault f (held_by K.queues K.capacity (waiting_from K R))) right ∙ ap (held_by K.queues K.capacity) (sym is) ∙ pushed
-
-pub opens-out : (K : Settings) (R : List (List Entry)) (e : Refusal) → range_fault K ≡ Err e → opens K R ≡ Err e
-opens-out K R e range = ap (λ f. unless_fault f (unless_fault (records_fault K R) (held_by K.queues K.capacity (waiting_from K R)))) range
-
-pub opens-wrong : (K : Settings) (R : List (List Entry)) (e : Refusal) → range_fault K ≡ Ok tt → records_fault K R ≡ Err e → opens K R ≡ Err e
-opens-wrong K R e range wrong =
-    ap (λ f. unless_fault f (unless_fault (records_fault K R) (held_by K.queues K.capacity (waiting_from K R)))) range
-    ∙ ap (λ f. unless_fault f (held_by K.queues K.capacity (waiting_from K R))) wrong
 
 -- what a result is, where it is known of it twice
 pub both-ok : {A E : Type 0} (P Q R : A → Type 0) (S : E → Type 0) (r : Result A E) → MatchResult r P S → IfOk r Q → ((x : A) → P x → Q x → R x) → IfOk r R

@@ -1,7 +1,7 @@
 -- which shard a dispatch names that a service reads
 use Rattle.std.proofs.Common.{◌≡◌, ℕ, ◌<◌, Bool, true, false, List, [], ◌∷◌, sym, ap, ◌∙◌, subst, arith, refl, Option, Some, None}
 use Rattle.std.proofs.lemmas.Bool.Decides.{nat_tests}
-use Rattle.std.specs.Prelude.{nat_lt, if◌then◌else◌, Result, Ok, Err, IfOk}
+use Rattle.std.specs.Prelude.{nat_lt, if◌then◌else◌, Ok}
 use Rattle.wf_event_values.specs.declared.field.Field.TheVariants as field
 use Rattle.wf_event_values.specs.declared.policies.TaskKind.{TaskKind}
 use Rattle.wf_event_values.specs.declared.refusal.Refusal.TheVariants.{InvalidArgument}
@@ -41,11 +41,6 @@ next-below x shard at v w r done d is = by_test (nat_lt shard x.settings.shards)
     by_test : (b : Bool) → nat_lt shard x.settings.shards ≡ b → Answered (if b then None else Some (InvalidArgument field.Shard)) (IsServedAtLast x v w shard (to_next_dispatch at) r) v w r → d.dispatch.hint.shard < x.settings.shards
     by_test true below h = served below h
     by_test false below h = absurd (let clash = sym (ap dispatch_of h.0) ∙ is in cc)
-
--- what holds of the value of an Ok
-pub each-next : (x : Service) (shard at : ℕ) (v w : View Request Content) {E : Type 0} (result : Result Reply E) → IfOk result (λ r. AnsweredOn x shard v w (to_next_dispatch at) r) → IfOk result (λ r. (d : NumberedDispatch) → dispatch_of r ≡ Some d → d.dispatch.hint.shard < x.settings.shards)
-each-next x shard at v w (Ok r) h = next-below x shard at v w r h
-each-next x shard at v w (Err e) h = tt
 
 -- a hint was popped, and its task asked for
 pub polled : (x : Service) (o : Option ℕ) (kind : TaskKind) (at : ℕ) (v w : View Request Content) (hs ws : List HintView) (h : Hint) (r : Reply) → Pops o kind hs ws (Ok (Some h)) → IsServedAtLast x v w h.shard (to_start_task at h) r → Polls x o kind at v w hs ws (Some r)

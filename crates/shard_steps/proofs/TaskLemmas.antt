@@ -1,5 +1,5 @@
 -- the start of a workflow task, and the tasks that hints and tokens name
-use Rattle.std.proofs.Common.{◌≡◌, ℕ, Bool, true, false, ◌&&◌, [], ◌∷◌, refl, sym, ◌∙◌}
+use Rattle.std.proofs.Common.{◌≡◌, ℕ, Bool, true, false, ◌&&◌, [], ◌∷◌, refl}
 use Rattle.wf_event.specs.declared.attributes.Attributes.TheVariants.{WorkflowTaskStarted}
 use Rattle.wf_event.specs.Role.{role, opens, settles}
 use Rattle.service_model_types.specs.declared.request.WaitingTask.{WaitingTask}
@@ -36,11 +36,6 @@ waiting-scheduled R h waits = is-scheduled (run_at R h.run).task (and-right _ (i
 -- the task that runs is started
 pub running-started : (R : Runs) (t : TakenTask) → runs_workflow R t ≡ true → (run_at R t.run).task ≡ IsStarted
 running-started R t runs = is-started (run_at R t.run).task (and-right _ (is_started_task (run_at R t.run).task) (and-left _ (is_last_task (run_at R t.run) t.event t.attempt) runs))
-
--- a run that a hint or a token names is one of the shard's; its last task is another one in a run that has closed
-pub open-scheduled : (b : Bool) (t : Task) → (b ≡ false → t ≡ NoTask) → is_scheduled_task t ≡ true → b ≡ true
-open-scheduled true t closed scheduled = refl
-open-scheduled false t closed scheduled = absurd (let clash : NoTask ≡ IsScheduled = sym (closed refl) ∙ is-scheduled t scheduled in cc)
 
 -- the start of a scheduled task may come
 pub take-fits : (at scheduled : ℕ) (s : RunState) → is_open s ≡ true → s.task ≡ IsScheduled → FitStep at s (plain (WorkflowTaskStarted scheduled) ∷ [])

@@ -13,12 +13,3 @@ each-grown {says = says} {d = d} slots changed runs n x here h = record {
   made = h.made;
   each = λ k s at past apart. ap says (get_or-set_other slots n k x d (λ same. past (here ∙ ap (λ m. Some m) (sym same)))) ∙ h.each k s at past apart;
 }
-
-pub each-made : {A B : Type 0} {says : A → B} {fact : ℕ → RunState → B} {d : A} (slots : List A) (changed : Changed) (runs : List RunState) (n : ℕ) (x : A) → changed.made ≡ Some n →
-    KeepsEach says fact d slots changed runs → KeepsEach says fact d (slice_set slots n x) changed runs
-each-made {says = says} {d = d} slots changed runs n x here h = record {
-  count = length-set slots n x ∙ h.count;
-  grown = h.grown;
-  made = h.made;
-  each = λ k s at past apart. ap says (get_or-set_other slots n k x d (λ same. apart (here ∙ ap (λ m. Some m) (sym same)))) ∙ h.each k s at past apart;
-}

@@ -1,5 +1,5 @@
 -- a workflow ID has at most one open run: of two runs of one ID the earlier has closed
-use Rattle.std.proofs.Common.{◌≡◌, ℕ, ◌+◌, ◌-◌, ◌<◌, ◌≤◌, ◌⊎◌, inl, inr, ⊎_elim, Bool, true, false, cond, List, [], ◌∷◌, ◌++◌, length, refl, sym, ap, ◌∙◌, arith, Option, Some, None, zero, suc, slice_set, IfSome}
+use Rattle.std.proofs.Common.{◌≡◌, ℕ, ◌+◌, ◌-◌, ◌<◌, ◌≤◌, ◌⊎◌, inl, inr, ⊎_elim, Bool, true, false, cond, List, [], ◌∷◌, length, refl, sym, ap, ◌∙◌, arith, Option, Some, None, zero, suc, slice_set, IfSome}
 use Rattle.std.specs.Prelude.{◌&&◌, map, slice_get, bytes_eq, option_map}
 use Rattle.std.proofs.lemmas.Slice.Eq.{bytes_eq-Decides}
 use Rattle.std.proofs.lemmas.Bool.Decides.{not_from_Decides}
@@ -21,13 +21,6 @@ use Rattle.shard_store.proofs.IndexLemmas.{bears, latest_from}
 
 pub same-some : {A : Type 0} (x y : A) → Some x ≡ Some y → x ≡ y
 same-some x y e = cc
-
--- what stands in a list that has one member more
-get-pushed : {A : Type 0} (xs : List A) (x y : A) (n : ℕ) → slice_get (xs ++ x ∷ []) n ≡ Some y → (slice_get xs n ≡ Some y) ⊎ ((n ≡ length xs) × (y ≡ x))
-get-pushed [] x y zero is = inr (refl, same-some y x (sym is))
-get-pushed [] x y (suc n) is = absurd (cc)
-get-pushed (z ∷ xs) x y zero is = inl is
-get-pushed (z ∷ xs) x y (suc n) is = ⊎_elim (λ e. inl e) (λ e. inr (ap suc e.0, e.1)) (get-pushed xs x y n is)
 
 -- what stands in a list one member of which is another
 pub get-set : {A : Type 0} (xs : List A) (i : ℕ) (x y : A) (n : ℕ) → slice_get (slice_set xs i x) n ≡ Some y → (z : A) × (slice_get xs n ≡ Some z) × (((n ≡ i) × (y ≡ x)) ⊎ (y ≡ z))

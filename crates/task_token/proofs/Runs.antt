@@ -52,10 +52,6 @@ run_in-run_bytes r fits =
     let three = parts r _ _ fits halves.0 halves.1 in
     same_run (run_in (run_bytes r)) r three.0 three.1 three.2
 
--- each of the bytes is below 256
-byte_below : (n k : ℕ) → n / k % 256 < 256
-byte_below n k = omega arith
-
 run_bytes_below : (r : Run) → AllByRecursion (λ b. b < 256) (run_bytes r)
 run_bytes_below r = search rules
 

@@ -18,9 +18,6 @@ both : (a b : Bool) → (a && b) ≡ true → (a ≡ true) × (b ≡ true)
 both true b e = (refl, e)
 both false b e = absurd cc
 
-and_false : (a b : Bool) → a ≡ false → (a && b) ≡ false
-and_false a b e = rw e refl
-
 pub wrong_length : (bytes : List ℕ) (t : TaskToken) → (length bytes ≡ 24 → ⊥) → if_bytes bytes t ≡ None
 wrong_length bytes t h =
     let differ : bytes_eq (token_bytes t) bytes ≡ false = false_from_ne_true (bytes_eq (token_bytes t) bytes) (λ e. h (sym (ap length ((bytes_eq-Decides (token_bytes t) bytes).0 e)))) in

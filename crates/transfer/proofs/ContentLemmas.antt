@@ -1,33 +1,15 @@
 -- what waits to be acknowledged, as transfers are sent and counted, beside the transfers of the sequential service's content
 use Rattle.std.proofs.Common.{◌≡◌, ℕ, zero, suc, ◌+◌, ◌-◌, ◌<◌, ◌≤◌, true, false, cond, List, [], ◌∷◌, ◌++◌, map, filter, length, length-append, length-drop, replicate, refl, sym, ap, ◌∙◌, subst, arith, append-nil, append_assoc}
-use Rattle.std.specs.Prelude.{◌==◌, drop, slice_get, slice_set, slice_index_or}
-use Rattle.std.proofs.lemmas.Option.{unwrap_or-slice_get}
-use Rattle.std.proofs.lemmas.List.{drop-append-le, drop-drop, set-get_or}
+use Rattle.std.specs.Prelude.{◌==◌, drop, slice_get}
+use Rattle.std.proofs.lemmas.List.{drop-append-le, drop-drop}
 use Rattle.std.proofs.lemmas.Bool.Decides.{nat_tests}
-use Rattle.service_model_types.specs.declared.answer.Acknowledged.TheVariants.{Already, OutOfOrder as NotInOrder}
 use Rattle.service_model_types.specs.declared.content.Outgoing.{Outgoing}
 use Rattle.service_model_types.specs.declared.transfer.Sent.{Sent}
 use Rattle.service_model_types.specs.declared.transfer.TransferContent.{TransferContent}
 use Rattle.service_model.specs.Counts.{outgoing_to}
-use Rattle.service_model.specs.Deliveries.{accepted_from}
 use Rattle.service_model.specs.Service as service
 use Rattle.transfer.specs.Logs.{Waiting, count_issued, none_waits, one_counted, with_issued}
-use Rattle.transfer.specs.Outboxes.{AreIssued, acknowledged_to, counted_to, issued_to, rest_of, sent_to, waiting_to, with_all_sent, with_sent}
-
--- the number accepted from a source, as an entry of the list
-pub accepted_from-entry : (all : List ℕ) (from : ℕ) → accepted_from all from ≡ slice_index_or all from 0
-accepted_from-entry all from = unwrap_or-slice_get all from 0
-
--- the count of the content, as an inbox moves it on
-pub accepted_from-counts : (all : List ℕ) (from : ℕ) → slice_set all from (accepted_from all from + 1) ≡ slice_set all from (slice_index_or all from 0 + 1)
-accepted_from-counts all from = ap (λ n. slice_set all from (n + 1)) (accepted_from-entry all from)
-
--- an acknowledgement that does not count on changes nothing
-pub acknowledged_to-already : (all : List (Waiting TransferContent)) (to : ℕ) → acknowledged_to all to Already ≡ all
-acknowledged_to-already all to = ap (slice_set all to) (unwrap_or-slice_get all to none_waits) ∙ set-get_or all to none_waits
-
-pub acknowledged_to-not_in_order : (all : List (Waiting TransferContent)) (to : ℕ) → acknowledged_to all to NotInOrder ≡ all
-acknowledged_to-not_in_order all to = acknowledged_to-already all to
+use Rattle.transfer.specs.Outboxes.{AreIssued, counted_to, issued_to, rest_of, sent_to, waiting_to, with_all_sent, with_sent}
 
 -- transfers that a step sends are issued one after another
 pub with_all_sent-nil : (to : ℕ) (all : List (Waiting TransferContent)) → with_all_sent [] to all ≡ all

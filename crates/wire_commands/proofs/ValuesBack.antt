@@ -1,15 +1,14 @@
 -- what was written is read again: keys, and values of each kind
 use Rattle.std.proofs.lemmas.Bool.Decides.{nat_tests}
-use Rattle.std.proofs.Common.{◌≡◌, ℕ, ◌<◌, ◌≤◌, ◌^◌, List, [], ◌∷◌, map, length, Bool, true, false, cond, nat_le, nat_lt, ◌==◌, Option, Some, None, IfSome, option_map, refl, ap, ◌∙◌, arith, le-leb, lt-ltb}
-use Rattle.std.specs.Prelude.{⊤, Result, Ok, Err}
+use Rattle.std.proofs.Common.{◌≡◌, ℕ, ◌<◌, ◌^◌, List, [], ◌∷◌, map, Bool, true, false, cond, ◌==◌, Option, Some, None, IfSome, option_map, refl, ap, ◌∙◌, arith, le-leb}
+use Rattle.std.specs.Prelude.{Result, Ok, Err}
 use Rattle.std.specs.List.{AllByRecursion}
-use Rattle.serde_json.specs.Data.{Data, number, unsigned, string, boolean, array, object, Items, no_items, item}
-use Rattle.serde_json.specs.Find.{get}
+use Rattle.serde_json.specs.Data.{Data, number, unsigned, string, array}
 use Rattle.serde_json.specs.View.{items_of}
 use Rattle.wf_event_values.specs.declared.field.Field.{Field}
 use Rattle.wf_event_values.specs.declared.field.Field.TheVariants as field
 use Rattle.wf_event_values.specs.declared.refusal.Refusal.{Refusal}
-use Rattle.wf_event_values.specs.declared.refusal.Refusal.TheVariants.{InvalidArgument, NotFound, InvalidToken}
+use Rattle.wf_event_values.specs.declared.refusal.Refusal.TheVariants.{InvalidArgument}
 use Rattle.wf_event_values.specs.declared.policies.ReusePolicy.{ReusePolicy}
 use Rattle.wf_event_values.specs.declared.policies.ReusePolicy.TheVariants.{AllowDuplicate, AllowDuplicateFailedOnly, RejectDuplicate}
 use Rattle.wf_event_values.specs.declared.policies.ConflictPolicy.{ConflictPolicy}
@@ -17,19 +16,19 @@ use Rattle.wf_event_values.specs.declared.policies.ConflictPolicy.TheVariants.{F
 use Rattle.wf_event_values.specs.declared.policies.ParentClosePolicy.{ParentClosePolicy}
 use Rattle.wf_event_values.specs.declared.policies.ParentClosePolicy.TheVariants.{Terminate, Abandon, RequestCancel}
 use Rattle.wf_event_values.specs.Limits.{IsMoment, IsSpan}
-use Rattle.wf_event_values.specs.Names.{field_name, reuse_name, conflict_name, parent_close_name, task_kind_name}
+use Rattle.wf_event_values.specs.Names.{field_name, reuse_name, conflict_name, parent_close_name}
 use Rattle.wf_event_values.specs.Run.{Run, IsRun}
 use Rattle.task_token.specs.RunTexts.{run_text}
 use Rattle.task_token.proofs.Runs.{run_again}
-use Rattle.wire_fields.specs.Kinds.{text_of, id_of, number_of, moment_of, span_of, flag_of, run_of, token_of, reuse_of, conflict_of, parent_close_of, array_of}
+use Rattle.wire_fields.specs.Kinds.{text_of, id_of, moment_of, span_of, run_of, reuse_of, conflict_of, parent_close_of, array_of}
 use Rattle.wire_fields.specs.Fields.{present_or, required, or_default, optional}
 use Rattle.wire_fields.specs.Steps.{◌>>=◌, for_each}
 use Rattle.wire_fields.proofs.ListLemmas.{elements-items_of}
 use Rattle.wire_requests.specs.ExternalCommands.{command_run_of}
-use Rattle.wire_rows.specs.Rows.{Row, lookup, rise, object_of, members_of}
+use Rattle.wire_rows.specs.Rows.{Row, lookup, rise, object_of}
 use Rattle.wire_rows.specs.Plain.{IsPlain, ArePlain, IfPlain}
 use Rattle.wire_rows.proofs.RowLemmas.{found}
-use Rattle.wire_commands.specs.Limits.{IsText, IsId, IsNumber}
+use Rattle.wire_commands.specs.Limits.{IsText, IsId}
 
 -- ---- steps one after another
 
@@ -64,9 +63,6 @@ text_back f t h = rw (le-leb _ _ h.0) refl
 
 pub id_back : (f : Field) (t : List ℕ) → IsId t → id_of f (string t) ≡ Ok t
 id_back f t h = rw (le-leb _ _ h.0.0, le-leb _ _ h.0.1) refl
-
-pub number_back : (f : Field) (n : ℕ) → number_of f (number (unsigned n)) ≡ Ok n
-number_back f n = refl
 
 pub moment_back : (f : Field) (n : ℕ) → IsMoment n → moment_of f (number (unsigned n)) ≡ Ok n
 moment_back f n h = rw (le-leb _ _ h) refl

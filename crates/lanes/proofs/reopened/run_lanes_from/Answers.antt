@@ -5,7 +5,7 @@ use Rattle.script.proofs.EndLemmas.{not_refused_at_end}
 use Rattle.lanes.proofs.FaultLemmas.{device-fault}
 use Rattle.lanes.proofs.AlongLemmas.{ran-along}
 use Rattle.lanes.proofs.TraceLemmas.{closed-merged, closed-ticketed, one-history}
-use Rattle.lanes.proofs.ReopenLemmas.{device-from, device-opened, ends-all, ends-count, number_of, numbers-kept, opened-from, opening-refused, records-after, refused-untouched}
+use Rattle.lanes.proofs.ReopenLemmas.{device-from, ends-all, ends-count, number_of, numbers-kept, opened-from, opening-refused, records-after}
 use Rattle.lanes.proofs.reopened.run_lanes_from.Goals as goal
 
 pub returns-in-Err-clause-fault : goal.returns-in-Err-clause-fault
