@@ -38,7 +38,8 @@ abbrev pub AllMet : Meets → List Pass → List Pass → Type 0
 AllMet meets ps ps' = (between : List Pass) × FirstMet meets ps between × FirstMet meets between ps'
 
 -- the pass of a lane served a call, and the others stayed
-pub record ServedIn (serves : Serves) (lane : ℕ) (call : Call) (p : Pass) (ps : List Pass) (r : Option Reply) (ps' : List Pass) : Type 0 where
+pub record ServedIn (serves : Serves) (lane : ℕ) (call : Call) (p : Pass) (ps : List Pass) (r : Option Reply)
+    (ps' : List Pass) : Type 0 where
   pub pass : Pass
   pub reply : Reply
   pub served : serves p pass call reply

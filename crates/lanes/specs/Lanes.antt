@@ -127,7 +127,8 @@ module _ {Keeper Plan : Type 0} where
 
 module _ {Keeper Plan : Type 0} where
   -- the first reply of a lane was taken
-  pub record TookFirst (lane : ℕ) (l : Lane Keeper Plan) (ls : List (Lane Keeper Plan)) (r : Option Reply) (ls' : List (Lane Keeper Plan)) : Type 0 where
+  pub record TookFirst (lane : ℕ) (l : Lane Keeper Plan) (ls : List (Lane Keeper Plan)) (r : Option Reply)
+      (ls' : List (Lane Keeper Plan)) : Type 0 where
     pub reply : Reply
     pub left : Lane Keeper Plan
     pub is : r ≡ Some reply

@@ -13,14 +13,16 @@ use Rattle.lanes.specs.Lanes.{Phase, Took, passes_of}
 
 module _ {Keeper Plan : Type 0} where
   -- the reply of one line was taken and printed
-  pub record PrintedOne (number : ℕ) (p : Place) (ls ls' : List (Lane Keeper Plan)) (refused : Bool) (held held' : Option (List ℕ)) : Type 0 where
+  pub record PrintedOne (number : ℕ) (p : Place) (ls ls' : List (Lane Keeper Plan)) (refused : Bool)
+      (held held' : Option (List ℕ)) : Type 0 where
     pub reply : Option Reply
     pub took : Took ls p reply ls'
     pub written : Appends held held' (text_of number reply)
     pub refused_is : refused ≡ is_refusal reply
 
   -- the replies of lines, numbered from this one on, were taken one after another, and printed
-  pub record Printed (first : ℕ) (ps : List Place) (ls ls' : List (Lane Keeper Plan)) (refused : Bool) (held held' : Option (List ℕ)) : Type 0 where
+  pub record Printed (first : ℕ) (ps : List Place) (ls ls' : List (Lane Keeper Plan)) (refused : Bool)
+      (held held' : Option (List ℕ)) : Type 0 where
     pub replies : List (Option Reply)
     pub took : InTurn Took ls ps replies ls'
     pub written : Appends held held' (numbered_from first replies)
@@ -35,14 +37,16 @@ module _ {Keeper Plan : Type 0} where
     pub written : AppendsBeginning held held' (numbered_from first replies)
 
   -- a phase was served and printed
-  pub record PhasePrinted (serves : Serves) (meets : Meets) (first : ℕ) (ps : List Place) (ls ls' : List (Lane Keeper Plan)) (refused : Bool) (held held' : Option (List ℕ)) : Type 0 where
+  pub record PhasePrinted (serves : Serves) (meets : Meets) (first : ℕ) (ps : List Place) (ls ls' : List (Lane Keeper Plan))
+      (refused : Bool) (held held' : Option (List ℕ)) : Type 0 where
     pub after : List (Lane Keeper Plan)
     pub phase : Phase serves meets ls after
     pub printed : Printed first ps after ls' refused held held'
     pub passes : passes_of ls' ≡ passes_of after
 
   -- a phase was served, and a beginning of it was printed
-  pub record PhaseBegun (serves : Serves) (meets : Meets) (first : ℕ) (ps : List Place) (ls : List (Lane Keeper Plan)) (held held' : Option (List ℕ)) : Type 0 where
+  pub record PhaseBegun (serves : Serves) (meets : Meets) (first : ℕ) (ps : List Place) (ls : List (Lane Keeper Plan))
+      (held held' : Option (List ℕ)) : Type 0 where
     pub after : List (Lane Keeper Plan)
     pub phase : Phase serves meets ls after
     pub begun : Begun first ps after held held'

@@ -42,25 +42,31 @@ pub record IsOpenedFrom (K : Settings) (R : List (List Entry)) (x : Service) (pa
 pub record AreRecordsAfter (K : Settings) (R : List (List Entry)) (ends : List Pass) (logs : List (List Entry)) : Type 0 where
   pub count : length logs ≡ K.shards
   pub records : (s : ℕ) (log : List Entry) → slice_get logs s ≡ Some log → IsEnd (record_at R s) K.passes log
-  pub passes : (s : ℕ) (log : List Entry) (k : ℕ) (p : Pass) → slice_get logs s ≡ Some log → slice_get ends k ≡ Some p → HasDone (record_at R s) (known_by p) s log
+  pub passes : (s : ℕ) (log : List Entry) (k : ℕ) (p : Pass) → slice_get logs s ≡ Some log → slice_get ends k ≡ Some p
+      → HasDone (record_at R s) (known_by p) s log
 
--- A call was served so by a service whose records at its end are these: what the pass then has seen of each shard begins that shard's record.
+-- A call was served so by a service whose records at its end are these: what the pass then has seen of each shard
+-- begins that shard's record.
 -- So each reply is the sequential service's after the entries that stand before the call's own step in the record of the end.
 pub record ServedAlong (x : Service) (logs : List (List Entry)) (p p' : Pass) (call : Call) (r : Reply) : Type 0 where
   pub served : PassServed x p p' call r
   pub along : (shard : ℕ) → shard < (settings_of x).shards → Begins (seen (known_by p') shard) (record_at logs shard)
 
--- The one history of all shards at the end: all steps since the opening, whichever lane made them, in the order of their tickets. Each shard's
+-- The one history of all shards at the end: all steps since the opening, whichever lane made them, in the order of
+-- their tickets. Each shard's
 -- record is the one that was given and, behind it, the steps on that shard; what comes before a step grounds it; and the tickets that
 -- these passes have seen of a shard begin that shard's.
 pub record AreOneHistory (x : Service) (ends : List Pass) (logs : List (List Entry)) : Type 0 where
   pub tickets : List (List ℕ)
   pub history : IsHistoryOf x logs tickets
-  pub seen : (s : ℕ) (ts : List ℕ) (k : ℕ) (p : Pass) → slice_get tickets s ≡ Some ts → slice_get ends k ≡ Some p → Begins (tickets_seen (known_by p) s) ts
+  pub seen : (s : ℕ) (ts : List ℕ) (k : ℕ) (p : Pass) → slice_get tickets s ≡ Some ts → slice_get ends k ≡ Some p
+      → Begins (tickets_seen (known_by p) s) ts
 
--- all lines of the input were served by a service that was opened from the records, these are its records at the end, and behind the replies
+-- all lines of the input were served by a service that was opened from the records, these are its records at the end,
+-- and behind the replies
 -- the steps of its one history were written, where they were asked for
-pub record RanFrom (K : Settings) (trace : Bool) (R : List (List Entry)) (unread held unread' held' : Option (List ℕ)) (refused : Bool) (logs : List (List Entry)) : Type 0 where
+pub record RanFrom (K : Settings) (trace : Bool) (R : List (List Entry)) (unread held unread' held' : Option (List ℕ))
+    (refused : Bool) (logs : List (List Entry)) : Type 0 where
   pub service : Service
   pub passes : List Pass
   pub opened : IsOpenedFrom K R service passes
@@ -93,13 +99,15 @@ pub record HaltedInTrace (K : Settings) (trace : Bool) (R : List (List Entry)) (
 
 -- nothing was read and nothing written, or the service was opened
 abbrev pub HaltedFrom : Settings → Bool → List (List Entry) → (unread held unread' held' : Option (List ℕ)) → Type 0
-HaltedFrom K trace R unread held unread' held' = ((unread' ≡ unread) × (held' ≡ held)) ⊎ (HaltedBehind K R unread held unread' held' ⊎ HaltedInTrace K trace R unread held unread' held')
+HaltedFrom K trace R unread held unread' held' = ((unread' ≡ unread) × (held' ≡ held))
+    ⊎ (HaltedBehind K R unread held unread' held' ⊎ HaltedInTrace K trace R unread held unread' held')
 
 -- a fault of the opening, by what refuses it, or of the reader, of the writer or of memory
 abbrev pub IsFaultFrom : Settings → List (List Entry) → ScriptFault → ℕ → ℕ → ℕ → ℕ → Type 0
 IsFaultFrom K R Memory read read' write write' = Unit {0}
 IsFaultFrom K R (Read e) read read' write write' = Rose read read'
 IsFaultFrom K R (Write e) read read' write write' = Rose write write'
-IsFaultFrom K R (Setting name) read read' write write' = (f : Field) × (range_fault K ≡ Err (refusal.InvalidArgument f)) × (name.now ≡ field_name f)
+IsFaultFrom K R (Setting name) read read' write write' = (f : Field) × (range_fault K ≡ Err (refusal.InvalidArgument f))
+    × (name.now ≡ field_name f)
 IsFaultFrom K R Records read read' write write' = opens K R ≡ Err (refusal.InvalidArgument field.Records)
 IsFaultFrom K R QueueFull read read' write write' = opens K R ≡ Err refusal.QueueFull

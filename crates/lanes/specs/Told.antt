@@ -19,7 +19,8 @@ use Rattle.lanes.specs.Printed.{PhaseBegun, PhasePrinted}
 
 module _ {Keeper Plan : Type 0} where
   -- the lines before the last barrier were served and printed, the lines behind it wait
-  pub record Told (serves : Serves) (meets : Meets) (K : Settings) (ps : List Pass) (lines : List Line) (s : Script Keeper Plan) (held held' : Option (List ℕ)) : Type 0 where
+  pub record Told (serves : Serves) (meets : Meets) (K : Settings) (ps : List Pass) (lines : List Line) (s : Script Keeper Plan)
+      (held held' : Option (List ℕ)) : Type 0 where
     pub done : List (Result Asked Refusal)
     pub waits : List (Result Asked Refusal)
     pub replies : List (Option Reply)
@@ -32,12 +33,14 @@ module _ {Keeper Plan : Type 0} where
     pub refused_is : s.refused ≡ list_any is_refusal replies
 
   -- what it has told of a text so far
-  pub record TextTold (serves : Serves) (meets : Meets) (K : Settings) (ps : List Pass) (text : List ℕ) (s : Script Keeper Plan) (held held' : Option (List ℕ)) : Type 0 where
+  pub record TextTold (serves : Serves) (meets : Meets) (K : Settings) (ps : List Pass) (text : List ℕ) (s : Script Keeper Plan)
+      (held held' : Option (List ℕ)) : Type 0 where
     pub line : s.line ≡ left (Some []) text
     pub told : Told serves meets K ps (ended (Some []) text) s held held'
 
   -- some text was read, and told of
-  pub record Progress (serves : Serves) (meets : Meets) (K : Settings) (ps : List Pass) (s : Script Keeper Plan) (unread held unread' held' : Option (List ℕ)) : Type 0 where
+  pub record Progress (serves : Serves) (meets : Meets) (K : Settings) (ps : List Pass) (s : Script Keeper Plan)
+      (unread held unread' held' : Option (List ℕ)) : Type 0 where
     pub text : List ℕ
     pub read : Consumes unread unread' text
     pub told : TextTold serves meets K ps text s held held'
@@ -75,33 +78,43 @@ module _ {Keeper Plan : Type 0} where
 
 module _ {Keeper Plan : Type 0} where
   -- all was told of the lines before, and then of this one too
-  abbrev pub TellsLine : Serves → Meets → Settings → Line → (Script Keeper Plan) → (Script Keeper Plan) → Option (List ℕ) → Option (List ℕ) → Type 0
-  TellsLine serves meets K line s s' w w' = (ps : List Pass) (lines : List Line) (held : Option (List ℕ)) → Told serves meets K ps lines s held w → Told serves meets K ps (lines ++ line ∷ []) s' held w'
+  abbrev pub TellsLine : Serves → Meets → Settings → Line → (Script Keeper Plan) → (Script Keeper Plan) → Option (List ℕ)
+      → Option (List ℕ) → Type 0
+  TellsLine serves meets K line s s' w w' = (ps : List Pass) (lines : List Line) (held : Option (List ℕ))
+      → Told serves meets K ps lines s held w → Told serves meets K ps (lines ++ line ∷ []) s' held w'
 
   -- all was told of the lines before, and then a beginning
   abbrev pub BeginsLine : Serves → Meets → Settings → Line → (Script Keeper Plan) → Option (List ℕ) → Option (List ℕ) → Type 0
-  BeginsLine serves meets K line s w w' = (ps : List Pass) (lines : List Line) (held : Option (List ℕ)) → Told serves meets K ps lines s held w → Beginning serves meets K ps (lines ++ line ∷ []) held w'
+  BeginsLine serves meets K line s w w' = (ps : List Pass) (lines : List Line) (held : Option (List ℕ))
+      → Told serves meets K ps lines s held w → Beginning serves meets K ps (lines ++ line ∷ []) held w'
 
   -- all was told of a text, and then of these bytes more
-  abbrev pub TellsMore : Serves → Meets → Settings → List ℕ → (Script Keeper Plan) → (Script Keeper Plan) → Option (List ℕ) → Option (List ℕ) → Type 0
-  TellsMore serves meets K more s s' w w' = (ps : List Pass) (text : List ℕ) (held : Option (List ℕ)) → TextTold serves meets K ps text s held w → TextTold serves meets K ps (text ++ more) s' held w'
+  abbrev pub TellsMore : Serves → Meets → Settings → List ℕ → (Script Keeper Plan) → (Script Keeper Plan) → Option (List ℕ)
+      → Option (List ℕ) → Type 0
+  TellsMore serves meets K more s s' w w' = (ps : List Pass) (text : List ℕ) (held : Option (List ℕ))
+      → TextTold serves meets K ps text s held w → TextTold serves meets K ps (text ++ more) s' held w'
 
   -- all was told of a text, and then a beginning of it with these bytes
   abbrev pub BeginsMore : Serves → Meets → Settings → List ℕ → (Script Keeper Plan) → Option (List ℕ) → Option (List ℕ) → Type 0
-  BeginsMore serves meets K more s w w' = (ps : List Pass) (text : List ℕ) (held : Option (List ℕ)) → TextTold serves meets K ps text s held w → Beginning serves meets K ps (ended (Some []) (text ++ more)) held w'
+  BeginsMore serves meets K more s w w' = (ps : List Pass) (text : List ℕ) (held : Option (List ℕ))
+      → TextTold serves meets K ps text s held w → Beginning serves meets K ps (ended (Some []) (text ++ more)) held w'
 
   -- some text was read and told of, and then more of it
   abbrev pub ReadsOn : Serves → Meets → Settings → (Script Keeper Plan) → (Script Keeper Plan) → (r r' w w' : Option (List ℕ)) → Type 0
-  ReadsOn serves meets K s s' r r' w w' = (ps : List Pass) (unread held : Option (List ℕ)) → Progress serves meets K ps s unread held r w → Progress serves meets K ps s' unread held r' w'
+  ReadsOn serves meets K s s' r r' w w' = (ps : List Pass) (unread held : Option (List ℕ))
+      → Progress serves meets K ps s unread held r w → Progress serves meets K ps s' unread held r' w'
 
   -- some text was read and told of, and then a beginning of more
   abbrev pub Breaks : Serves → Meets → Settings → (Script Keeper Plan) → (r r' w w' : Option (List ℕ)) → Type 0
-  Breaks serves meets K s r r' w w' = (ps : List Pass) (unread held : Option (List ℕ)) → Progress serves meets K ps s unread held r w → Broke serves meets K ps unread held r' w'
+  Breaks serves meets K s r r' w w' = (ps : List Pass) (unread held : Option (List ℕ))
+      → Progress serves meets K ps s unread held r w → Broke serves meets K ps unread held r' w'
 
   -- all was told of a text, and then of its last line too
   abbrev pub TellsAll : Serves → Meets → Settings → (Script Keeper Plan) → (Script Keeper Plan) → Option (List ℕ) → Option (List ℕ) → Type 0
-  TellsAll serves meets K s s' w w' = (ps : List Pass) (text : List ℕ) (held : Option (List ℕ)) → TextTold serves meets K ps text s held w → Ended serves meets K ps text held w' s'.refused (passes_of s'.lanes.items)
+  TellsAll serves meets K s s' w w' = (ps : List Pass) (text : List ℕ) (held : Option (List ℕ))
+      → TextTold serves meets K ps text s held w → Ended serves meets K ps text held w' s'.refused (passes_of s'.lanes.items)
 
   -- all was told of a text, and then a beginning of all its lines
   abbrev pub BeginsAll : Serves → Meets → Settings → (Script Keeper Plan) → Option (List ℕ) → Option (List ℕ) → Type 0
-  BeginsAll serves meets K s w w' = (ps : List Pass) (text : List ℕ) (held : Option (List ℕ)) → TextTold serves meets K ps text s held w → Beginning serves meets K ps (all_lines text) held w'
+  BeginsAll serves meets K s w w' = (ps : List Pass) (text : List ℕ) (held : Option (List ℕ))
+      → TextTold serves meets K ps text s held w → Beginning serves meets K ps (all_lines text) held w'

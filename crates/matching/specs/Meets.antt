@@ -8,7 +8,8 @@ use Rattle.matching.specs.Plays.{with_seen}
 abbrev pub IsLonger : List Entry → List Entry → List Entry → Type 0
 IsLonger xs ys zs = (Begins xs ys × (zs ≡ ys)) ⊎ (Begins ys xs × (zs ≡ xs))
 
--- Of what was put, one pass had seen a beginning of what the other had, and so too of what was taken. Both have now seen the longer of each. What else they know is as it was: their numbers, their own pushes and their own pops
+-- Of what was put, one pass had seen a beginning of what the other had, and so too of what was taken. Both have now
+-- seen the longer of each. What else they know is as it was: their numbers, their own pushes and their own pops
 pub record Agree (a b c d : View) : Type 0 where
   pub put : IsLonger a.put b.put c.put
   pub taken : IsLonger a.taken b.taken c.taken

@@ -6,7 +6,8 @@ use Rattle.matching.specs.declared.view.Holder.TheVariants.{Nobody, Pass, Maker}
 use Rattle.matching.specs.Entries.{Entry, by_first, own_of}
 use Rattle.matching.specs.Moments.{IsMoment}
 
--- what the maker of passes knows of a queue that is opened with these hints: how many passes and shards there will be, and for how many hints there is room
+-- what the maker of passes knows of a queue that is opened with these hints: how many passes and shards there will
+-- be, and for how many hints there is room
 abbrev pub maker : ℕ → ℕ → ℕ → List Hint → View
 maker given shards capacity waiting = record {
   kind = Maker;

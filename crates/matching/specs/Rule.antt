@@ -1,5 +1,6 @@
 -- PROOF: The rule of a queue of hints, over what it holds and what each seat knows.
--- There is a list of all hints ever put and one of those taken, which only grow. What was put is what was taken and then what the queue holds.
+-- There is a list of all hints ever put and one of those taken, which only grow. What was put is what was taken and
+-- then what the queue holds.
 use Rattle.std.specs.Prelude.{◌≡◌, ℕ, ◌<◌, ◌≤◌, List, ◌++◌}
 use mathlib.Core.Option.{some}
 use lib.ListN.{get_elem?}

@@ -20,7 +20,8 @@ use Rattle.service_model.specs.Service.{Entry}
 use Rattle.service_model_types.specs.declared.settings.Settings.{Settings}
 use Rattle.service.specs.Reopening.{opens}
 
--- the input was read to its end, just its output was written, `refused` says whether a reply in it is a refusal, and the shards' records are those after its lines
+-- the input was read to its end, just its output was written, `refused` says whether a reply in it is a refusal, and
+-- the shards' records are those after its lines
 pub record Ran (K : Settings) (trace : Bool) (W : World) (unread held unread' held' : Option (List ℕ)) (refused : Bool)
     (records : List (List Entry)) : Type 0 where
   pub text : List ℕ
@@ -69,7 +70,8 @@ IsDeviceFault (Setting name) read read' write write' = ⊥
 IsDeviceFault Records read read' write write' = ⊥
 IsDeviceFault QueueFull read read' write write' = ⊥
 
--- a fault before anything is read: a setting is out of its range, the records are neither none nor one of each shard, the hints of the tasks that wait don't fit, or memory ran out
+-- a fault before anything is read: a setting is out of its range, the records are neither none nor one of each shard,
+-- the hints of the tasks that wait don't fit, or memory ran out
 abbrev pub IsOpeningFault : Settings → List (List Entry) → ScriptFault → Type 0
 IsOpeningFault K R Memory = Unit {0}
 IsOpeningFault K R (Read e) = ⊥

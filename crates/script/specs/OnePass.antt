@@ -30,7 +30,8 @@ contents_seen K v = map (content_seen K v) (range_with_len 0 K.shards)
 abbrev pub records_seen : Settings → View Request Content → List (List Entry)
 records_seen K v = map (seen v) (range_with_len 0 K.shards)
 
--- the world as the only pass knows it: in each queue wait the hints that it pushed and did not pop, and the steps are its own, in the order of their tickets
+-- the world as the only pass knows it: in each queue wait the hints that it pushed and did not pop, and the steps are
+-- its own, in the order of their tickets
 abbrev pub world_seen : Settings → View Request Content → List HintView → World
 world_seen K v hs = record { contents = contents_seen K v; waiting = map waiting_of hs; records = records_seen K v; steps = steps_seen v }
 

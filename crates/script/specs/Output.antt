@@ -1,4 +1,5 @@
--- MEANING: What a script prints and what it leaves: the replies of the sequential service to its lines, one after another, the steps that these made, and the shards' records.
+-- MEANING: What a script prints and what it leaves: the replies of the sequential service to its lines, one after
+-- another, the steps that these made, and the shards' records.
 use Rattle.std.specs.Prelude.{ℕ, ◌+◌, List, [], ◌∷◌, ◌++◌, Bool, true, false, Option}
 use Rattle.std.specs.List.{list_any}
 use Rattle.service_model.specs.Service.{Entry}

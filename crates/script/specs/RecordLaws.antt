@@ -8,7 +8,8 @@ use Rattle.script.specs.Lines.{Line}
 use Rattle.script.specs.Output.{records_after, world_after_lines}
 use Rattle.script.specs.World.{World, opening_world}
 
--- after any lines, behind any records, each shard's content is what its record leaves: a service that is opened from these records begins with just the shards that the lines left
+-- after any lines, behind any records, each shard's content is what its record leaves: a service that is opened from
+-- these records begins with just the shards that the lines left
 abbrev pub RecordsTellContents : Type 0
 RecordsTellContents = (K : Settings) (R : List (List Entry)) (lines : List Line) →
     (world_after_lines K (opening_world K R) lines).contents ≡ contents_from K (records_after K (opening_world K R) lines)
@@ -18,7 +19,8 @@ abbrev pub RecordsGrow : Type 0
 RecordsGrow = (K : Settings) (W : World) (lines : List Line) (shard : ℕ)
     → Begins (record_at W.records shard) (record_at (records_after K W lines) shard)
 
--- after any lines a shard's record is the one with which it was opened and, behind it, the steps on that shard among all that were made, in their order
+-- after any lines a shard's record is the one with which it was opened and, behind it, the steps on that shard among
+-- all that were made, in their order
 abbrev pub RecordsTellSteps : Type 0
 RecordsTellSteps = (K : Settings) (R : List (List Entry)) (lines : List Line) (shard : ℕ) → shard < K.shards →
     let W = world_after_lines K (opening_world K R) lines in

@@ -1,4 +1,6 @@
--- MEANING: The sequential service as a whole: its shards, the hints that wait in its task queues, and the steps that were made. A step is its shard's; a poll and a dispatch turn are made of steps and of what they take from a queue or put into it, a transfer turn of steps.
+-- MEANING: The sequential service as a whole: its shards, the hints that wait in its task queues, and the steps that
+-- were made. A step is its shard's; a poll and a dispatch turn are made of steps and of what they take from a queue
+-- or put into it, a transfer turn of steps.
 use Rattle.std.specs.Prelude.{ℕ, Bool, true, false, List, [], ◌∷◌, ◌++◌, length, nat_lt, if◌then◌else◌, map, slice_index_or, slice_set, Option, None, Some, Result, Ok, Err}
 use Rattle.std.specs.List.{range_with_len}
 use Rattle.wf_event_values.specs.declared.policies.TaskKind.{TaskKind}

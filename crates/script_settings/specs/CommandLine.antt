@@ -14,7 +14,8 @@ option_rule name = record (new_rule name) { long = Some name }
 unfoldable pub flag_rule : Text → Rule
 flag_rule name = record (option_rule name) { action = Some SetTrue }
 
--- wfserve [--shards N] [--passes P] [--service K] [--queues NAMES] [--capacity C] [--retention MS] [--load DIR] [--save DIR] [--trace] [FILE]
+-- wfserve [--shards N] [--passes P] [--service K] [--queues NAMES] [--capacity C] [--retention MS] [--load DIR]
+-- [--save DIR] [--trace] [FILE]
 unfoldable pub wfserve : App
 wfserve =
     let command = new_app (codes "wfserve") in

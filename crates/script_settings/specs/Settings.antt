@@ -12,7 +12,8 @@ use Rattle.script_settings.specs.declared.fault.Fault.TheVariants.{Words, Number
 abbrev pub text_of : Option (Bor Text) → Option Text
 text_of o = option_map (λ text. text.now) o
 
--- clap takes the words; each setting is the value of its option among the matches, or its default; the file and the folders are the texts that were given
+-- clap takes the words; each setting is the value of its option among the matches, or its default; the file and the
+-- folders are the texts that were given
 pub record Sets (words : List Text) (c : CommandLine) : Type 0 where
   pub taken : faults_in words ≡ []
   pub shards : IsSetTo 1 (codes "shards") (matches_in words) c.settings.shards
@@ -44,7 +45,8 @@ IsQueuesFault rows Trace = ⊥
 abbrev pub HasTraceBesideLoad : List Row → Type 0
 HasTraceBesideLoad rows = (is_set (codes "trace") rows ≡ true) × (first_of (codes "load") rows ≢ None)
 
--- clap finds this fault in the words, memory aside, or it takes them and an option's text writes no number, or has a part that is no name, or two options don't go together
+-- clap finds this fault in the words, memory aside, or it takes them and an option's text writes no number, or has a
+-- part that is no name, or two options don't go together
 abbrev pub IsFaultIn : List Text → Fault → Type 0
 IsFaultIn words (Words e) = HasKind (faults_in words) e
 IsFaultIn words (Number option) = (faults_in words ≡ []) × HasNoNumber option.now (matches_in words)

@@ -43,7 +43,8 @@ pub record TurnServed (x : Service) (p p' : Pass) (q : ADispatchTurn) (r : Reply
   pub reply : r ≡ reply_of_turn turned
   pub turns : Turns x q.shard q.at q.stop (known_by p) (known_by p') (hints_by p) (hints_by p') turned
 
--- a call was answered so: a step on its shard, which leaves what the pass knows of hints, as a transfer turn does; a poll and the turns part by part
+-- a call was answered so: a step on its shard, which leaves what the pass knows of hints, as a transfer turn does; a
+-- poll and the turns part by part
 abbrev pub CallServed : Service → Pass → Pass → Call → Reply → Type 0
 CallServed x p p' (Step c) r =
     ServedOnAtLast x p p' (refusal_of_step x.settings c) (slot_of_step x.settings c) (request_of c) r × (hints_by p' ≡ hints_by p)

@@ -1,4 +1,5 @@
--- MEANING: the shards of a service: what each is opened with, which calls are refused before any is entered, and on which one the others are served
+-- MEANING: the shards of a service: what each is opened with, which calls are refused before any is entered, and on
+-- which one the others are served
 use Rattle.std.specs.Prelude.{ℕ, ◌%◌, ◌&&◌, nat_le, nat_lt, Bool, if◌then◌else◌, List, length, map, Option, None, Some}
 use Rattle.std.specs.List.{range_with_len}
 use Rattle.wf_event_values.specs.declared.field.Field.TheVariants as field
@@ -49,7 +50,8 @@ completion_refusal K q =
     if is_token K q.task then (if nat_le (length q.commands) most_commands then None else Some (InvalidArgument field.Commands))
     else Some InvalidToken
 
--- as what an operation is refused before any shard is entered, where it is; those that name none are served for a call that names their shard
+-- as what an operation is refused before any shard is entered, where it is; those that name none are served for a
+-- call that names their shard
 abbrev pub refusal_of : Settings → Operation → Option Refusal
 refusal_of K (operation.Start q) = None
 refusal_of K (operation.Signal q) = None

@@ -27,4 +27,5 @@ parts_at passes slot = matching.parts_at (map (λ (p : Pass). p.hints) passes) s
 -- These records and tickets are those of one history of all shards since the opening: each step has its own ticket, from 1 on,
 -- and what comes before a step in it grounds the step's request
 abbrev pub IsHistoryOf : Service → List (List Entry) → List (List ℕ) → Type 0
-IsHistoryOf x records tickets = of_gate_end.IsHistory (grounds_by grounds after (opening_contents x.settings)) (base_of x) x.settings.shards (λ k. slice_index_or records k []) (λ k. slice_index_or tickets k [])
+IsHistoryOf x records tickets = of_gate_end.IsHistory (grounds_by grounds after (opening_contents x.settings))
+    (base_of x) x.settings.shards (λ k. slice_index_or records k []) (λ k. slice_index_or tickets k [])

@@ -16,7 +16,8 @@ pub record HoldAtOpening (K : Settings) (waiting : List Dispatch) (passes : List
   pub pushed : held_by K.queues K.capacity waiting ≡ Ok held
   pub fresh : (k : ℕ) (p : QueuesPass) → slice_get passes k ≡ Some p → matching.IsFresh K.passes K.shards K.capacity held k p
 
--- what the passes of a service know of the hints that its queues hold at opening: those of the tasks that wait in the contents which the records leave
+-- what the passes of a service know of the hints that its queues hold at opening: those of the tasks that wait in the
+-- contents which the records leave
 pub record HoldsAtOpening (K : Settings) (records : List (List Entry)) (passes : List Pass) : Type 0 where
   pub held : List (List Hint)
   pub opened : opens K records ≡ Ok held

@@ -9,7 +9,8 @@ use Rattle.service.specs.Views.{Service}
 use Rattle.service_model.specs.Service.{Entry}
 use Rattle.service_model.specs.WholeRuns.{Whole, InOrder, IsWhole}
 
--- What is known at the close of a service that was opened without records: there is a record of each shard, and the tickets are those of one history
+-- What is known at the close of a service that was opened without records: there is a record of each shard, and the
+-- tickets are those of one history
 pub record IsClosed (x : Service) (records : List (List Entry)) (tickets : List (List ℕ)) : Type 0 where
   pub bases : (k : ℕ) → base_of x k ≡ []
   pub count : length records ≡ (settings_of x).shards
@@ -20,8 +21,10 @@ abbrev pub ClosedMayBeMerged : Type 0
 ClosedMayBeMerged = (x : Service) (records : List (List Entry)) (tickets : List (List ℕ)) → IsClosed x records tickets
     → AreTicketed records tickets
 
--- A list of steps is the history of the service: each shard's record is its part of it, what comes before each step grounds it, and at every place,
--- for every pair of shards, of the transfers from one to the other those that are acknowledged begin those that are accepted, and these begin those that were issued
+-- A list of steps is the history of the service: each shard's record is its part of it, what comes before each step
+-- grounds it, and at every place,
+-- for every pair of shards, of the transfers from one to the other those that are acknowledged begin those that are
+-- accepted, and these begin those that were issued
 pub record IsTheHistory (x : Service) (records : List (List Entry)) (steps : Whole) : Type 0 where
   pub records_are : (k : ℕ) → slice_index_or records k [] ≡ on k steps
   pub whole : IsWhole (setup_of (settings_of x)) steps

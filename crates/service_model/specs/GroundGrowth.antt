@@ -1,4 +1,5 @@
--- PROOF: what one shard has issued and accepted, it still has after a step (no proof here uses a tactic, so that an object of the gate can name them)
+-- PROOF: what one shard has issued and accepted, it still has after a step (no proof here uses a tactic, so that an
+-- object of the gate can name them)
 use Rattle.std.proofs.Common.{◌≡◌, le_refl, refl, ap, ◌∙◌, subst}
 use Rattle.std.proofs.Math.Nat.{le_trans, le-add_right}
 use Rattle.std.specs.Prelude.{ℕ, zero, suc, ◌+◌, ◌-◌, ◌==◌, ◌≤◌, Bool, true, false, cond, List, [], ◌∷◌, ◌++◌, Option, None, Some, unwrap_or, slice_get, slice_set, slice_index_or}
@@ -97,7 +98,8 @@ get-front (z ∷ xs) ys (suc k) x e = get-front xs ys k x e
 
 pub holds-on : (s : ℕ) (t : Transfer) (S : Content) (q : Request) → Holds s t S → Holds s t (after S q)
 holds-on s t S q h = let m = step-issued S q s in
-    (h.0, ap (λ (l : List TransferContent). slice_get l (t.number - 1)) m.1 ∙ get-front (outgoing_to S.outgoing s).issued m.0 (t.number - 1) t.content h.1)
+    (h.0, ap (λ (l : List TransferContent). slice_get l (t.number - 1)) m.1
+        ∙ get-front (outgoing_to S.outgoing s).issued m.0 (t.number - 1) t.content h.1)
 
 pub accepted-on : (s : ℕ) (a : Acknowledge) (S : Content) (q : Request) → Accepted s a S → Accepted s a (after S q)
 accepted-on s a S q h = (h.0, le_trans h.1 (step-accepted S q s))

@@ -15,7 +15,8 @@ use Rattle.service_model.specs.Tasks.{is_queued, is_scheduled_task, pending_row}
 abbrev pub queued_dispatch : Setup → ℕ → ActivityRow → Option Dispatch
 queued_dispatch setup run r = cond (is_queued r.phase) (row_dispatch setup run r) None
 
--- the task that an event schedules, where it waits: the run's workflow task while it is scheduled, the attempt of a pending activity while that is queued
+-- the task that an event schedules, where it waits: the run's workflow task while it is scheduled, the attempt of a
+-- pending activity while that is queued
 abbrev pub waiting_task : Setup → ℕ → RunState → Event → Option Dispatch
 waiting_task setup run s e = by_kind e.attributes
   where

@@ -61,7 +61,8 @@ all_accepted S from (e ∷ es) = accepts S from e.request ++ all_accepted (after
 abbrev pub Starts : List TransferContent → List TransferContent → Type 0
 Starts xs ys = (rest : List TransferContent) × (ys ≡ xs ++ rest)
 
--- of the transfers from one shard to another, those that are acknowledged begin those that are accepted, and these begin those that were issued
+-- of the transfers from one shard to another, those that are acknowledged begin those that are accepted, and these
+-- begin those that were issued
 abbrev pub InOrder : (ℕ → Setup) → Whole → ℕ → ℕ → Type 0
 InOrder setups W from to =
     let o = outgoing_to (content_at setups W from).outgoing to in

@@ -16,7 +16,8 @@ use Rattle.shard_steps.specs.declared.changed.Changed.{Changed}
 abbrev pub waiting_in : Content → Waiting Dispatch
 waiting_in S = record { items = drop S.dispatched S.dispatches; counted = S.dispatched }
 
--- the dispatches as they are kept: those that were looked up, and what the others are found by; of each run how many events it showed when its dispatches were last looked up, and the activity whose attempt the last step queued again
+-- the dispatches as they are kept: those that were looked up, and what the others are found by; of each run how many
+-- events it showed when its dispatches were last looked up, and the activity whose attempt the last step queued again
 pub record DispatchesView : Type 0 where
   pub waiting : Waiting Dispatch
   pub shown : List ℕ
@@ -31,7 +32,8 @@ readied facts = option_and_then queued_again (slice_get facts (length facts - 1)
 abbrev pub queued_dispatch : Setup → ℕ → RunState → ℕ → Option Dispatch
 queued_dispatch setup run s id = option_and_then (row_dispatch setup run) (pending_row s id)
 
--- the dispatches that a step issued for the run with this ordinal, where the run had shown so many events before, and the step queued the attempt of this activity again
+-- the dispatches that a step issued for the run with this ordinal, where the run had shown so many events before, and
+-- the step queued the attempt of this activity again
 abbrev pub issued_since : Setup → ℕ → Option ℕ → ℕ → RunState → List Dispatch
 issued_since setup shown ready run s =
     filter_map (task_dispatch setup run) (drop shown s.shown) ++ option_to_list (option_and_then (queued_dispatch setup run s) ready)

@@ -18,7 +18,8 @@ pub record AreCaughtUp (c : Changed) : Type 0 where
   pub grown : c.grown ≡ None
   pub made : c.made ≡ None
 
--- what was not looked up since the last step: the run to which it added, the run that it made, the events whose transfers were not issued, and the answer to a transfer that was not issued
+-- what was not looked up since the last step: the run to which it added, the run that it made, the events whose
+-- transfers were not issued, and the answer to a transfer that was not issued
 pub record Outstanding : Type 0 where
   pub grown : Option ℕ
   pub made : Option ℕ

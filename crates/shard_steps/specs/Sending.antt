@@ -14,7 +14,8 @@ use Rattle.transfer.specs.Logs.{Waiting, count_issued}
 use Rattle.transfer.specs.Outboxes.{waiting_to, with_all_sent}
 use Rattle.shard_steps.specs.declared.transfers.Unsent.{Unsent}
 
--- the transfers as they are kept: those to each destination that wait, how many were accepted from each source, the events whose transfers were not looked up, and the answer to a transfer that was not issued yet
+-- the transfers as they are kept: those to each destination that wait, how many were accepted from each source, the
+-- events whose transfers were not looked up, and the answer to a transfer that was not issued yet
 pub record TransfersView : Type 0 where
   pub sent : List (Waiting TransferContent)
   pub accepted : List ℕ

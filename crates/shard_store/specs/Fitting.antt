@@ -153,7 +153,8 @@ abbrev pub IsFreeFor : {T : Type 0} → Option (NewRun T) → List RunState → 
 IsFreeFor None runs = Unit {0}
 IsFreeFor (Some n) runs = HasClosed runs (id_of n.run.state)
 
--- the change is what the outcome does to the runs and the counts; where a workflow ID has at most one open run, none is open beside a new one
+-- the change is what the outcome does to the runs and the counts; where a workflow ID has at most one open run, none
+-- is open beside a new one
 pub record FitsChange {T : Type 0} (v : ShardView) (at : ℕ) (c : Change T) (o : Outcome) : Type 0 where
   pub added : FitsAdded v at c.added o.added
   pub created : FitsCreated v at c.created o.created

@@ -22,7 +22,8 @@ known S = record {
   accepted = S.accepted;
 }
 
--- the shard says what the content's journals, dispatches and transfers say, each journal is formed as steps form it, and what was counted was issued
+-- the shard says what the content's journals, dispatches and transfers say, each journal is formed as steps form it,
+-- and what was counted was issued
 pub record StandsFor (v : ShardView) (S : Content) : Type 0 where
   pub says : state v ≡ known S
   pub formed : AllByRecursion (IsFormed S.steps) S.runs

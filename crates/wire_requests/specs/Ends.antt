@@ -1,4 +1,5 @@
--- MEANING: the fields of what asks a run to cancel, and of what terminates it: their faults are looked for in the order in which they stand here
+-- MEANING: the fields of what asks a run to cancel, and of what terminates it: their faults are looked for in the
+-- order in which they stand here
 use Rattle.std.specs.Prelude.{[], Result, Ok}
 use Rattle.serde_json.specs.Data.{Data}
 use Rattle.wf_event_values.specs.declared.refusal.Refusal.{Refusal}

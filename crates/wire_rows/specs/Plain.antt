@@ -1,4 +1,5 @@
--- PROOF: a JSON value whose compact text reads as the value: it nests at most so deep, its numbers are whole and below 2^64, and its keys rise
+-- PROOF: a JSON value whose compact text reads as the value: it nests at most so deep, its numbers are whole and
+-- below 2^64, and its keys rise
 use Rattle.std.specs.List.{list_any}
 use Rattle.std.specs.Prelude.{Bool, IsUtf8, ◌==◌, ◌≡◌, ℕ, zero, suc, ◌<◌, ◌^◌, List, [], ◌∷◌, Option, Some, None, ⊤}
 use Rattle.std.specs.Cmp.Lexicographic.{slice_cmp}
