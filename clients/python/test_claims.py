@@ -78,9 +78,9 @@ class Claims(unittest.TestCase):
 
     def test_a_file_that_must_be_believed_and_is_not_listed(self):
         text = text_of("docs/ARCHITECTURE.md")
-        believed = ["gate/specs/Ends", "wire_lines/specs/Lines", "timeouts/specs/Members", "wf_event/specs/Role"]
+        believed = ["gate/specs/AtClose", "wire_lines/specs/Lines", "timeouts/specs/Members", "wf_event/specs/Role"]
         self.assertEqual(docs_claims.not_to_be_believed(text, believed), [])
-        self.assertEqual(len(docs_claims.not_to_be_believed(text, ["gate/specs/Gated", "shard/specs/View"])), 2)
+        self.assertEqual(len(docs_claims.not_to_be_believed(text, ["gate/specs/SlotRule", "shard/specs/View"])), 2)
         self.assertEqual(len(docs_claims.not_to_be_believed("Nothing.", believed)), 1)
 
     def test_lemmas_and_files_that_are_not_there(self):

@@ -10,9 +10,9 @@ use Rattle.gate.specs.declared.view.Origin.{Origin}
 use Rattle.gate.specs.declared.view.View.{View}
 use Rattle.gate.specs.declared.view.Holder.TheVariants.{Pass}
 use Rattle.gate.specs.Records.{Begins, contents, Later}
-use Rattle.gate.specs.Gated.{Lying, at as at_, width, base, most, Home, Out, IsSeat, IsGated}
+use Rattle.gate.specs.SlotRule.{Lying, at as at_, width, base, most, Home, Out, IsSeat, IsGated}
 use Rattle.gate.specs.Records.{grounds_by}
-use Rattle.gate.specs.Plays.{Sat, origin_of, holding, drew, IsAbove}
+use Rattle.gate.specs.RuleSteps.{Sat, origin_of, holding, drew, IsAbove}
 use Rattle.gate.proofs.Lists.{set_at, kept_set, seats_stay}
 use Rattle.gate.proofs.Growth.{begins_refl}
 use Rattle.gate.proofs.Runs.{contents_later}

@@ -12,8 +12,8 @@ use Rattle.gate.specs.declared.view.Taken.{Taken}
 use Rattle.gate.specs.declared.view.View.{View}
 use Rattle.gate.specs.declared.view.Holder.TheVariants.{Nobody}
 use Rattle.gate.specs.Records.{Begins, past, Run, on, tickets_from, grown, IsGrounded}
-use Rattle.gate.specs.Gated.{Lying, at as at_, width, base, most, Drawn, IsStamped, IsMarked, IsDrawn, IsTicketed}
-use Rattle.gate.specs.Plays.{within, holding, recorded, withdrawn, nobody, IsAbove}
+use Rattle.gate.specs.SlotRule.{Lying, at as at_, width, base, most, Drawn, IsStamped, IsMarked, IsDrawn, IsTicketed}
+use Rattle.gate.specs.RuleSteps.{within, holding, recorded, withdrawn, nobody, IsAbove}
 use Rattle.gate.proofs.Lists.{seats_stay, snoc_at, put, put_here, put_else}
 use Rattle.gate.proofs.Growth.{begins_nil, begins_refl, begins_longer, begins_trans, past_append, past_longer}
 use Rattle.gate.proofs.Runs.{on_here, on_else, tickets_here, tickets_else, length-tickets, ticket_below, in_slots_more, run_short, grounded_more, grounded_none}

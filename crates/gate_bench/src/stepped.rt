@@ -1,7 +1,7 @@
 //! Steps through a gate.
 
 ghost use Rattle.std.specs.Prelude.{◌≡◌, ℕ, ◌+◌, ◌<◌, ◌≤◌, [], Some, length, slice_get, IfOk};
-ghost use Rattle.gate.specs.Gates.{slots as slots_of, IsPassOf};
+ghost use Rattle.gate.specs.GateViews.{slots as slots_of, IsPassOf};
 ghost use Rattle.std.specs.Thread.{IsSync};
 ghost use Rattle.gate_bench.specs.Lanes.{lane_count};
 

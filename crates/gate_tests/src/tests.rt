@@ -1,5 +1,5 @@
 ghost use Rattle.std.specs.Prelude.{◌≡◌, ℕ, ◌+◌, ◌<◌, [], Some, length, slice_get, IfOk};
-ghost use Rattle.gate.specs.Gates.{slots, given, IsPassOf};
+ghost use Rattle.gate.specs.GateViews.{slots, given, IsPassOf};
 ghost use Rattle.gate.specs.Passes.{view, number};
 ghost use Rattle.std.specs.Thread.{IsSync};
 

@@ -1,7 +1,7 @@
 -- what the tests say of the passes of a service
 use Rattle.std.specs.Prelude.{◌≡◌, ℕ, List, Some, slice_get}
 use Rattle.gate.specs.Passes.{number}
-use Rattle.service.specs.Views.{Pass, Service}
+use Rattle.service.specs.ServiceViews.{Pass, Service}
 use Rattle.service.specs.Services.{IsPassOf, known_by}
 
 -- the passes are the service's, and lie in the order of their numbers

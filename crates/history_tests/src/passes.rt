@@ -2,7 +2,7 @@
 
 ghost use Rattle.std.specs.Prelude.{◌≡◌, ℕ, ◌+◌, ◌<◌, [], length};
 ghost use Rattle.gate.specs.Passes.{number};
-ghost use Rattle.service.specs.Ends.{base_of};
+ghost use Rattle.service.specs.AtClose.{base_of};
 ghost use Rattle.service.specs.Services.{IsPassOf, known_by, settings_of};
 ghost use Rattle.history_tests.specs.Passes.{InOrder};
 

@@ -20,7 +20,7 @@ use Rattle.gate.specs.declared.view.View.{View}
 use Rattle.gate.specs.Passes.{Agree, seen}
 use Rattle.gate.specs.Records.{Begins}
 use Rattle.matching.specs.declared.view.View.{View as HintView}
-use Rattle.service.specs.Asks.{to_acknowledge, to_deliver, to_dispatched, to_next_dispatch, to_next_transfer}
+use Rattle.service.specs.CallRequests.{to_acknowledge, to_deliver, to_dispatched, to_next_dispatch, to_next_transfer}
 use Rattle.service.specs.Calls.{CallServed}
 use Rattle.service.specs.Contents.{ends_refusal, shard_refusal}
 use Rattle.service.specs.Reopening.{record_at}
@@ -28,8 +28,8 @@ use Rattle.service.specs.Services.{Answered, IsServedAtLast, IsServedOn, known_b
 use Rattle.service.specs.TransferTurns.{AfterDelivery, AfterReading, AfterTransfer, Delivers, Transfers, goes_on}
 use Rattle.service.specs.Turns.{AfterDispatch, AfterNext, AfterPush, Polls, Pushing, Turns}
 use Rattle.service.specs.declared.dispatch_turns.Turned.{Turned}
-use Rattle.service.specs.Views.{Service}
-use Rattle.service.specs.Views.{Pass}
+use Rattle.service.specs.ServiceViews.{Service}
+use Rattle.service.specs.ServiceViews.{Pass}
 use Rattle.wire_requests.specs.declared.calls.Asked.{Asked}
 use Rattle.wire_requests.specs.declared.calls.Asked.TheVariants.{Barrier as a_barrier, Call as in_a_lane}
 use Rattle.lanes.specs.Endings as over

@@ -5,7 +5,7 @@ use Rattle.std.specs.Io.KnownBytes.{Appends, Consumes, Keeps}
 use Rattle.wf_event_values.specs.declared.refusal.Refusal.{Refusal}
 use Rattle.service_model_types.specs.declared.settings.Settings.{Settings}
 use Rattle.service_model_types.specs.Replies.{Reply}
-use Rattle.service.specs.Views.{Pass}
+use Rattle.service.specs.ServiceViews.{Pass}
 use Rattle.wire_requests.specs.declared.calls.Asked.{Asked}
 use Rattle.wire_requests.specs.declared.calls.Asked.TheVariants.{Barrier as a_barrier}
 use Rattle.script.specs.Asked.{asked}
@@ -20,7 +20,7 @@ use Rattle.lanes.specs.declared.run.Script.{Script}
 use Rattle.lanes.specs.Course.{Serves, Meets, Course, InTurn, LineServed, asks_of}
 use Rattle.lanes.specs.Endings.{Beginning, Broke, Ended, Halted}
 use Rattle.lanes.specs.Lanes.{Took, WereAsked, is_barrier, own_calls, passes_of, place_in}
-use Rattle.lanes.specs.Told.{Added, BeginsLine, Progress, Stopped, TellsLine, TextTold, Told}
+use Rattle.lanes.specs.ToldLines.{Added, BeginsLine, Progress, Stopped, TellsLine, TextTold, Told}
 use Rattle.lanes.proofs.PhaseLemmas.{phase-part, phase-part-barrier}
 use Rattle.lanes.proofs.PrintLemmas.{numbered-append}
 use Rattle.lanes.proofs.ToldLemmas.{asks-push, barrier-asked, barrier-places, lines-clean, lines-end, lines-last, next-number, told-longer}

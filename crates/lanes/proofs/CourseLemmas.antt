@@ -7,7 +7,7 @@ use Rattle.wf_event_values.specs.declared.field.Field.TheVariants as field
 use Rattle.wf_event_values.specs.declared.refusal.Refusal.{Refusal}
 use Rattle.wf_event_values.specs.declared.refusal.Refusal.TheVariants.{InvalidArgument}
 use Rattle.service_model_types.specs.Replies.{Reply}
-use Rattle.service.specs.Views.{Pass}
+use Rattle.service.specs.ServiceViews.{Pass}
 use Rattle.wire_requests.specs.declared.calls.Asked.{Asked}
 use Rattle.wire_requests.specs.declared.calls.Asked.TheVariants.{Barrier as a_barrier, Call as in_a_lane}
 use Rattle.wire_requests.specs.declared.calls.LaneCall.{LaneCall}

@@ -3,7 +3,7 @@ use Rattle.std.proofs.Common.{◌≡◌, ℕ, ◌+◌, ◌<◌, ◌≤◌, ◌�
 use Rattle.std.proofs.lemmas.Bool.{cases_eq}
 use Rattle.std.proofs.lemmas.List.{get_or-map, get_or-set_other, get_or-set_same, length-map, length-set, map-set, take_all, take_more, take_more_set}
 use Rattle.std.proofs.Math.Seq.{map-set_same}
-use Rattle.service.specs.Views.{Pass}
+use Rattle.service.specs.ServiceViews.{Pass}
 use Rattle.lanes.specs.declared.lane.Lane.{Lane}
 use Rattle.lanes.specs.Course.{Meets, FirstMet, InTurn}
 use Rattle.lanes.specs.Lanes.{KeepsReplies, passes_of}

@@ -7,14 +7,14 @@ use Rattle.wf_event_values.specs.declared.refusal.Refusal.{Refusal}
 use Rattle.wf_event_values.specs.declared.refusal.Refusal.TheVariants as refusal
 use Rattle.service_model.specs.Service.{Entry}
 use Rattle.service_model_types.specs.declared.settings.Settings.{Settings}
-use Rattle.gate.specs.Ends.{HasDone, IsEnd}
+use Rattle.gate.specs.AtClose.{HasDone, IsEnd}
 use Rattle.gate.specs.Passes.{IsFresh, base, number}
-use Rattle.service.specs.Ends.{base_of}
-use Rattle.service.specs.Held.{HoldsAtOpening}
+use Rattle.service.specs.AtClose.{base_of}
+use Rattle.service.specs.HeldHints.{HoldsAtOpening}
 use Rattle.service.specs.Reopening.{opens, record_at}
 use Rattle.service.specs.Services.{IsPassOf, known_by, settings_of}
-use Rattle.service.specs.Views.{Service}
-use Rattle.service.specs.Views.{Pass}
+use Rattle.service.specs.ServiceViews.{Service}
+use Rattle.service.specs.ServiceViews.{Pass}
 use Rattle.script.specs.declared.fault.ScriptFault.{ScriptFault}
 use Rattle.script.specs.declared.fault.ScriptFault.TheVariants.{Memory, Read, Write, Setting, Records, QueueFull}
 use Rattle.script.specs.Endings.{IsDeviceFault, IsFaultOf, IsRefusedOpening}

@@ -7,7 +7,7 @@ use Rattle.std.specs.Io.KnownBytes.{Appends}
 use Rattle.wf_event_values.specs.declared.refusal.Refusal.{Refusal}
 use Rattle.service_model_types.specs.declared.settings.Settings.{Settings}
 use Rattle.service_model_types.specs.Replies.{Reply}
-use Rattle.service.specs.Views.{Pass}
+use Rattle.service.specs.ServiceViews.{Pass}
 use Rattle.wire_requests.specs.declared.calls.Asked.{Asked}
 use Rattle.wire_requests.specs.declared.calls.Asked.TheVariants.{Barrier as a_barrier, Call as in_a_lane}
 use Rattle.script.specs.Asked.{asked}
@@ -24,7 +24,7 @@ use Rattle.lanes.specs.declared.run.Script.{Script}
 use Rattle.lanes.specs.Course.{AllMet, Serves, Meets, Course, InTurn, LineServed, asks_of}
 use Rattle.lanes.specs.Endings.{Ended}
 use Rattle.lanes.specs.Lanes.{ArePlain, Took, Waiting, WereAsked, is_barrier, own_calls, passes_of, place_in}
-use Rattle.lanes.specs.Told.{Added, Closed, Opened, TellsLine, TextTold, Told}
+use Rattle.lanes.specs.ToldLines.{Added, Closed, Opened, TellsLine, TextTold, Told}
 use Rattle.lanes.proofs.PhaseLemmas.{phase-barrier, phase-last}
 use Rattle.lanes.proofs.PrintLemmas.{any-append, numbered-append}
 use Rattle.lanes.proofs.TurnLemmas.{turn-append, turn-count}

@@ -4,11 +4,11 @@ use Rattle.gate.specs.Passes as gate
 use Rattle.gate.specs.Records.{Begins}
 use Rattle.history.specs.Merged.{AreTicketed, IsMerged, numbered}
 use Rattle.history.proofs.RunLemmas.{history-ticketed, run-merged}
-use Rattle.service.specs.Ends.{IsHistoryOf, base_of}
+use Rattle.service.specs.AtClose.{IsHistoryOf, base_of}
 use Rattle.service.specs.Reopening.{record_at}
 use Rattle.service.specs.Services.{known_by, settings_of}
-use Rattle.service.specs.Views.{Service}
-use Rattle.service.specs.Views.{Pass}
+use Rattle.service.specs.ServiceViews.{Service}
+use Rattle.service.specs.ServiceViews.{Pass}
 use Rattle.service_model.specs.Service.{Entry}
 use Rattle.service_model.proofs.ListLemmas.{get-map}
 use Rattle.lanes.specs.Reopened.{AreOneHistory}

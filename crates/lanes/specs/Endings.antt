@@ -6,7 +6,7 @@ use Rattle.wire_counted.specs.Written.{AppendsBeginning}
 use Rattle.wf_event_values.specs.declared.refusal.Refusal.{Refusal}
 use Rattle.service_model_types.specs.declared.settings.Settings.{Settings}
 use Rattle.service_model_types.specs.Replies.{Reply}
-use Rattle.service.specs.Views.{Pass}
+use Rattle.service.specs.ServiceViews.{Pass}
 use Rattle.wire_requests.specs.declared.calls.Asked.{Asked}
 use Rattle.script.specs.Lines.{Line, all_lines, whole_lines}
 use Rattle.script.specs.Serving.{is_refusal}

@@ -4,4 +4,4 @@ pub mod Lanes
 pub mod Meetings
 pub mod Printed
 pub mod Reopened
-pub mod Told
+pub mod ToldLines

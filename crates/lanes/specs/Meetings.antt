@@ -6,8 +6,8 @@ use Rattle.service_model_types.specs.declared.call.Call.{Call}
 use Rattle.service_model_types.specs.Replies.{Reply}
 use Rattle.service.specs.Calls.{CallServed}
 use Rattle.service.specs.Services.{hints_by, known_by, settings_of}
-use Rattle.service.specs.Views.{Service}
-use Rattle.service.specs.Views.{Pass}
+use Rattle.service.specs.ServiceViews.{Service}
+use Rattle.service.specs.ServiceViews.{Pass}
 
 -- a call of a pass was answered so, and the pass keeps its number
 pub record PassServed (x : Service) (p p' : Pass) (call : Call) (r : Reply) : Type 0 where

@@ -11,16 +11,16 @@ use Rattle.service_model.specs.Service.{Entry}
 use Rattle.service_model_types.specs.declared.call.Call.{Call}
 use Rattle.service_model_types.specs.declared.settings.Settings.{Settings}
 use Rattle.service_model_types.specs.Replies.{Reply}
-use Rattle.gate.specs.Ends.{HasDone, IsEnd}
+use Rattle.gate.specs.AtClose.{HasDone, IsEnd}
 use Rattle.gate.specs.Passes.{IsFresh, base, seen, tickets as tickets_seen}
 use Rattle.gate.specs.Records.{Begins}
-use Rattle.service.specs.Ends.{IsHistoryOf}
-use Rattle.service.specs.Held.{HoldsAtOpening}
+use Rattle.service.specs.AtClose.{IsHistoryOf}
+use Rattle.service.specs.HeldHints.{HoldsAtOpening}
 use Rattle.service.specs.Ranges.{range_fault}
 use Rattle.service.specs.Reopening.{opens, record_at}
 use Rattle.service.specs.Services.{IsPassOf, known_by, settings_of}
-use Rattle.service.specs.Views.{Service}
-use Rattle.service.specs.Views.{Pass}
+use Rattle.service.specs.ServiceViews.{Service}
+use Rattle.service.specs.ServiceViews.{Pass}
 use Rattle.script.specs.declared.fault.ScriptFault.{ScriptFault}
 use Rattle.script.specs.declared.fault.ScriptFault.TheVariants.{Memory, Read, Write, Setting, Records, QueueFull}
 use Rattle.script.specs.Output.{trace_if}

@@ -12,7 +12,7 @@ use std::sync::Wait;
 
 /// What serves the calls of passes that are its own.
 pub trait Door<S: KeepsShard> {
-    ghost use Rattle.service.specs.Views.{Pass as PassView};
+    ghost use Rattle.service.specs.ServiceViews.{Pass as PassView};
     ghost use Rattle.service_model_types.specs.declared.call.Call.{Call};
     ghost use Rattle.service_model_types.specs.Replies.{Reply};
 

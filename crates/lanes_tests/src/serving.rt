@@ -1,7 +1,7 @@
 //! A service that scripts over lanes are served by.
 
 ghost use Rattle.std.specs.Prelude.{◌≡◌, ℕ, Some, slice_get};
-ghost use Rattle.service.specs.Views.{Pass as PassView};
+ghost use Rattle.service.specs.ServiceViews.{Pass as PassView};
 ghost use Rattle.service.specs.Services.{IsPassOf};
 
 use lanes::{LanesOutcome, run_lanes};

@@ -12,9 +12,9 @@ use Rattle.matching.specs.declared.queue.HintPass.{HintPass}
 use Rattle.matching.specs.declared.queues.Queues.{Queues}
 use Rattle.matching.specs.declared.queues.QueuesPass.{QueuesPass}
 use Rattle.matching.specs.Entries.{by_first}
-use Rattle.matching.specs.Ends.{part_of, HasDone, IsEnd}
+use Rattle.matching.specs.AtClose.{part_of, HasDone, IsEnd}
 use Rattle.matching.specs.Rule.{IsLast}
-use Rattle.matching.specs.Told.{taken_in}
+use Rattle.matching.specs.ToldHints.{taken_in}
 use Rattle.matching.specs.Queues as one
 use Rattle.matching.specs.Named.{at, known_by, held_of, held_at, given_of, parts_at, IsPassOf}
 use Rattle.matching.proofs.Entries.{hints-first}

@@ -18,10 +18,10 @@ use Rattle.crossbeam_queue.proofs.Looks.{Goes, stands}
 use Rattle.service_model_types.specs.declared.request.Hint.{Hint}
 use Rattle.matching.specs.declared.view.View.{View}
 use Rattle.matching.specs.declared.view.Holder.TheVariants.{Pass}
-use Rattle.matching.specs.Plays.{Sees}
+use Rattle.matching.specs.PassSteps.{Sees}
 use Rattle.matching.specs.Rings.{Tells, Sat, IsLapBehind, saw_full_queue, saw_empty_queue, saw_told, saw_all}
 use Rattle.matching.specs.Rule.{Kept, IsLast}
-use Rattle.matching.specs.Told.{Compares}
+use Rattle.matching.specs.ToldHints.{Compares}
 use Rattle.matching.proofs.Keeps.{sees, compares, ends}
 
 module _ (waiting : List Hint) (all width : ℕ) where

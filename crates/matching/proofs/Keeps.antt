@@ -9,12 +9,12 @@ use Rattle.matching.specs.declared.view.Part.{Part}
 use Rattle.matching.specs.declared.view.View.{View}
 use Rattle.matching.specs.declared.view.Holder.TheVariants.{Pass, Maker}
 use Rattle.matching.specs.Entries.{Entry, Begins, by, FromGiven, FromShards, by_first, hints}
-use Rattle.matching.specs.Ends.{part_of, HasDone}
+use Rattle.matching.specs.AtClose.{part_of, HasDone}
 use Rattle.matching.specs.Moments.{IsMoment}
-use Rattle.matching.specs.Plays.{maker, made_one, newcomer, with_put, with_taken, with_seen, Puts, Takes, Sees}
+use Rattle.matching.specs.PassSteps.{maker, made_one, newcomer, with_put, with_taken, with_seen, Puts, Takes, Sees}
 use Rattle.matching.specs.Rings.{Tells}
 use Rattle.matching.specs.Rule.{IsHanded, IsPass, IsSeat, Kept, IsLast}
-use Rattle.matching.specs.Told.{compared, Compares}
+use Rattle.matching.specs.ToldHints.{compared, Compares}
 use Rattle.matching.proofs.Entries.{begins_nil, begins_refl, begins_longer, begins_either, longer_begins, by-append, by_own, by_other, by_none, by-first, given_first, given_more, given-append, shards-append, hints-append, hints-first}
 use Rattle.matching.proofs.Stays.{snoc_at, seats_stay, same_at, sat, sat_here, sat_else, handed_over, pass_over, seat_over, handed_step, each_step}
 

@@ -8,11 +8,11 @@ use Rattle.service_model_types.specs.declared.request.Hint.{Hint}
 use Rattle.matching.specs.declared.view.Part.{Part}
 use Rattle.matching.specs.declared.view.View.{View}
 use Rattle.matching.specs.declared.view.Holder.TheVariants.{Nobody, Note, Pass}
-use Rattle.matching.specs.Ends.{part_of}
-use Rattle.matching.specs.Plays.{nobody}
+use Rattle.matching.specs.AtClose.{part_of}
+use Rattle.matching.specs.PassSteps.{nobody}
 use Rattle.matching.specs.Rule.{IsHanded, IsSeat, Kept}
-use Rattle.matching.specs.Meets.{Agree}
-use Rattle.matching.specs.Told.{note, told_of, compared, adopted, taken_in, Comparable, Compares, IsQuiet}
+use Rattle.matching.specs.Meetings.{Agree}
+use Rattle.matching.specs.ToldHints.{note, told_of, compared, adopted, taken_in, Comparable, Compares, IsQuiet}
 use Rattle.matching.proofs.Entries.{begins_nil, is_longer}
 use Rattle.matching.proofs.Stays.{snoc_at, seats_stay, same_at, handed_over, pass_over, seat_over}
 

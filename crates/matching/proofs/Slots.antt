@@ -10,8 +10,8 @@ use Rattle.matching.specs.declared.queue.HintQueue.{HintQueue}
 use Rattle.matching.specs.declared.queue.HintPass.{HintPass}
 use Rattle.matching.specs.declared.queues.Queues.{Queues}
 use Rattle.matching.specs.declared.queues.QueuesPass.{QueuesPass}
-use Rattle.matching.specs.Meets.{Agree}
-use Rattle.matching.specs.Plays.{nobody}
+use Rattle.matching.specs.Meetings.{Agree}
+use Rattle.matching.specs.PassSteps.{nobody}
 use Rattle.matching.specs.Queues as one
 use Rattle.matching.specs.Named.{at, IsPassOf}
 use Rattle.matching.proofs.Laying.{set_get, length-put, same_there}

@@ -9,7 +9,7 @@ use Rattle.matching.specs.declared.view.Part.{Part}
 use Rattle.matching.specs.declared.view.View.{View}
 use Rattle.matching.specs.declared.view.Holder.TheVariants.{Nobody, Pass, Maker}
 use Rattle.matching.specs.Entries.{Entry, Begins, by}
-use Rattle.matching.specs.Ends.{part_of, HasDone}
+use Rattle.matching.specs.AtClose.{part_of, HasDone}
 use Rattle.matching.specs.Rule.{IsHanded, IsPass, IsSeat, Kept}
 use Rattle.matching.proofs.Entries.{begins_longer, by-append}
 

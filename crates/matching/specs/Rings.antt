@@ -11,9 +11,9 @@ use Rattle.crossbeam_queue.specs.Stamps.{stamp}
 use Rattle.service_model_types.specs.declared.request.Hint.{Hint}
 use Rattle.matching.specs.declared.view.View.{View}
 use Rattle.matching.specs.declared.line.Line.{Line}
-use Rattle.matching.specs.Plays.{Sees}
+use Rattle.matching.specs.PassSteps.{Sees}
 use Rattle.matching.specs.Rule.{IsLast}
-use Rattle.matching.specs.Told.{Compares}
+use Rattle.matching.specs.ToldHints.{Compares}
 
 -- whatever a queue holds and whatever the others know, the rule stays when this pass's view becomes some w
 abbrev pub Tells : (List Hint → List View → Type 0) → ℕ → View → (List Hint → View → Type 0) → Type 0

@@ -9,7 +9,7 @@ use Rattle.matching.specs.declared.view.Part.{Part}
 use Rattle.matching.specs.declared.view.View.{View}
 use Rattle.matching.specs.declared.view.Holder.TheVariants.{Nobody, Pass, Maker}
 use Rattle.matching.specs.Entries.{Entry, Begins, by_first, FromGiven, FromShards, hints}
-use Rattle.matching.specs.Ends.{part_of, HasDone}
+use Rattle.matching.specs.AtClose.{part_of, HasDone}
 
 -- what is true of a pass that was handed in to another: its seat is spent
 pub record IsHanded (made : ℕ) (holder : ℕ → ℕ) (views : List View) (put taken : List Entry) (t : Part) : Type 0 where

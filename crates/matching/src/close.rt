@@ -1,10 +1,10 @@
 //! How the queues are closed.
 ghost use Rattle.std.specs.Prelude.{◌≡◌, ◌*◌, ℕ, ◌<◌, [], Some, List, length, slice_get};
 ghost use Rattle.service_model_types.specs.declared.request.Hint.{Hint};
-ghost use Rattle.matching.specs.Ends.{IsEnd};
+ghost use Rattle.matching.specs.AtClose.{IsEnd};
 ghost use Rattle.matching.specs.Named.{at, held_at, parts_at};
 ghost use Rattle.matching.specs.Rule.{IsLast};
-ghost use Rattle.matching.specs.Told.{taken_in};
+ghost use Rattle.matching.specs.ToldHints.{taken_in};
 
 use crate::queues::{Queues, QueuesPass};
 

@@ -7,7 +7,7 @@ ghost use Rattle.std.specs.Prelude.{◌≡◌, ◌+◌, ℕ, ◌*◌, ◌^◌, �
 ghost use Rattle.crossbeam_queue.specs.Stamps.{Laps};
 ghost use Rattle.crossbeam_queue.specs.Passes.{view};
 ghost use Rattle.matching.specs.Entries.{FromShards};
-ghost use Rattle.matching.specs.Plays.{maker};
+ghost use Rattle.matching.specs.PassSteps.{maker};
 
 use crate::rule::{About, Board, Seat};
 use atomic_table::Table;

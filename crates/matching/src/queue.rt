@@ -3,9 +3,9 @@
 ghost use Rattle.std.specs.Prelude.{◌≡◌, ◌+◌, ◌<◌, ◌≤◌, [], List, length, IfOk, MatchOption, MatchResult};
 ghost use Rattle.matching.specs.declared.view.Holder.TheVariants.{Maker, Pass};
 ghost use Rattle.matching.specs.Entries.{FromShards};
-ghost use Rattle.matching.specs.Meets.{Agree};
-ghost use Rattle.matching.specs.Plays.{fresh, Puts, Takes, Sees};
-ghost use Rattle.matching.specs.Told.{IsQuiet, taken_in};
+ghost use Rattle.matching.specs.Meetings.{Agree};
+ghost use Rattle.matching.specs.PassSteps.{fresh, Puts, Takes, Sees};
+ghost use Rattle.matching.specs.ToldHints.{IsQuiet, taken_in};
 ghost use Rattle.matching.specs.Rule.{IsLast};
 ghost use Rattle.crossbeam_queue.specs.Fifo.{Held};
 

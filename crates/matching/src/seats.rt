@@ -2,10 +2,10 @@
 ghost use Rattle.std.specs.Prelude.{◌≡◌, ◌<◌, List};
 ghost use Rattle.crossbeam_queue.specs.Passes.{view, IsSamePass};
 ghost use Rattle.matching.specs.declared.view.Holder.TheVariants.{Maker, Pass};
-ghost use Rattle.matching.specs.Meets.{Agree};
-ghost use Rattle.matching.specs.Plays.{made_one, newcomer};
+ghost use Rattle.matching.specs.Meetings.{Agree};
+ghost use Rattle.matching.specs.PassSteps.{made_one, newcomer};
 ghost use Rattle.matching.specs.Rings.{IsSeatOf, saw_all};
-ghost use Rattle.matching.specs.Told.{IsQuiet, taken_in};
+ghost use Rattle.matching.specs.ToldHints.{IsQuiet, taken_in};
 
 use crate::line::{Line, TAIL};
 use crate::rule::{Adopts, Compares, Deals, Ends, Notes, Seat, TakesIn, Tells};

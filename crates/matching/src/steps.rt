@@ -5,7 +5,7 @@ ghost use Rattle.crossbeam_queue.specs.Passes.{view, IsSamePass};
 ghost use Rattle.crossbeam_queue.specs.Ring.{At};
 ghost use Rattle.crossbeam_queue.specs.Stamps.{stamp};
 ghost use Rattle.matching.specs.declared.view.Holder.TheVariants.{Pass};
-ghost use Rattle.matching.specs.Plays.{Puts, Takes};
+ghost use Rattle.matching.specs.PassSteps.{Puts, Takes};
 ghost use Rattle.matching.specs.Rings.{IsSeatOf, SawMany};
 
 use crate::line::{HEAD, Line, STAMPS, TAIL};

@@ -21,7 +21,7 @@ use Rattle.mutable_state.specs.Activities.{is_activity, pending_at, kept_activit
 use Rattle.mutable_state.specs.Noted.{kept_row}
 use Rattle.mutable_state.specs.Opens.{MayAddTo, MayNote, is_of, activity_of, opened_at, row_at, rows_in, open_with, marked, unmarked, added, without, AgreesWith}
 use Rattle.mutable_state.specs.Steps.{IsNotLast, MayEnd, carried, comes_last}
-use Rattle.mutable_state.specs.View.{state_in}
+use Rattle.mutable_state.specs.RunView.{state_in}
 use Rattle.mutable_state.proofs.AddLemmas.{closes_by, closing-is}
 use Rattle.mutable_state.proofs.OpenLemmas.{same-as}
 use Rattle.mutable_state.proofs.KeptLemmas.{find-passes, eq-back, one-is}

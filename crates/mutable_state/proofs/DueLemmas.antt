@@ -28,7 +28,7 @@ use Rattle.mutable_state.specs.declared.task.WorkflowTask.{WorkflowTask}
 use Rattle.mutable_state.specs.declared.task.TaskPhase.TheVariants as kept
 use Rattle.mutable_state.specs.declared.task.TaskPhase.{TaskPhase}
 use Rattle.mutable_state.specs.Tasks.{phase_in, numbers_in}
-use Rattle.mutable_state.specs.View.{beginning_in, state_in}
+use Rattle.mutable_state.specs.RunView.{beginning_in, state_in}
 use Rattle.mutable_state.proofs.KeptLemmas.{used-unmarked, rows-unmarked}
 
 -- a run begins at the moment of its first event

@@ -18,7 +18,7 @@ use Rattle.mutable_state.specs.Formed.{IsFromOutside, IdsTo}
 use Rattle.mutable_state.specs.Opens.{event_at, is_of, used_in, AgreesWith}
 use Rattle.mutable_state.specs.Readers.{UsedRow, name_of, used_row, used_at, used_rows, fired_timer, IsGrounded}
 use Rattle.mutable_state.specs.Steps.{carried}
-use Rattle.mutable_state.specs.View.{state_in}
+use Rattle.mutable_state.specs.RunView.{state_in}
 use Rattle.mutable_state.proofs.KeptLemmas.{Opened, opened-is, used-state, all-used}
 
 -- what is kept of a class is what its events say

@@ -5,7 +5,7 @@ ghost use Rattle.service_model.specs.Journal.{first_some};
 ghost use Rattle.service_model.specs.Signals.{was_signaled};
 ghost use Rattle.indexmap.specs.IndexSet.{spare};
 ghost use Rattle.mutable_state.specs.Rooms.{one_if};
-ghost use Rattle.mutable_state.specs.View.{texts};
+ghost use Rattle.mutable_state.specs.RunView.{texts};
 
 use indexmap::IndexSet;
 use service_model_types::journal::CancelRequest;
@@ -45,7 +45,7 @@ impl Model for Requests {
     ghost use Rattle.std.specs.Prelude.{[], None};
     ghost use Rattle.std.specs.Option.{option_map_or};
     ghost use Rattle.indexmap.specs.IndexSet.{spare};
-    ghost use Rattle.mutable_state.specs.View.{RequestsView, texts};
+    ghost use Rattle.mutable_state.specs.RunView.{RequestsView, texts};
 
     ghost Value = { RequestsView };
 

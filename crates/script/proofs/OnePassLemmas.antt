@@ -16,7 +16,7 @@ use Rattle.gate.specs.Passes as gate
 use Rattle.gate.specs.Records.{replay, by, past, FromGiven, Begins}
 use Rattle.matching.specs.declared.view.View.{View as HintView}
 use Rattle.matching.specs.Alone.{waiting_of}
-use Rattle.service.specs.Views.{Service}
+use Rattle.service.specs.ServiceViews.{Service}
 use Rattle.service.specs.Contents.{setup_of}
 use Rattle.service.specs.Reopening.{record_at}
 use Rattle.service.specs.Services.{Answered, IsServedAtLast, IsServedOn}

@@ -21,14 +21,14 @@ use Rattle.gate.specs.Records.{replay}
 use Rattle.matching.specs.Alone.{waiting_of}
 use Rattle.matching.specs.Holding.{all_pushed, held_by, pushed, then_push}
 use Rattle.matching.specs.Named.{at, held_at, place_in, slot_of}
-use Rattle.matching.specs.Plays.{fresh, nobody}
+use Rattle.matching.specs.PassSteps.{fresh, nobody}
 use Rattle.matching.specs.Queues as one
 use Rattle.matching.proofs.Exact.{opens_exactly}
-use Rattle.service.specs.Views.{Service}
-use Rattle.service.specs.Views.{Pass}
+use Rattle.service.specs.ServiceViews.{Service}
+use Rattle.service.specs.ServiceViews.{Pass}
 use Rattle.service.specs.Contents.{setup_of}
-use Rattle.service.specs.Ends.{base_of}
-use Rattle.service.specs.Held.{HoldsAtOpening}
+use Rattle.service.specs.AtClose.{base_of}
+use Rattle.service.specs.HeldHints.{HoldsAtOpening}
 use Rattle.service.specs.Ranges.{range_fault}
 use Rattle.service.specs.Reopening.{are_records, content_from, contents_from, opens, record_at, records_fault, unless_fault, waiting_from}
 use Rattle.service.specs.Services.{IsPassOf, hints_by, known_by}

@@ -3,7 +3,7 @@ use Rattle.std.proofs.Common.{◌≡◌, ◌≢◌, ℕ, ◌+◌, ◌<◌, List,
 use Rattle.std.specs.Prelude.{slice_get}
 use Rattle.step_record.specs.declared.entry.Entry.{Entry}
 use Rattle.gate.specs.declared.view.View.{View}
-use Rattle.gate.specs.Ends.{IsHistory}
+use Rattle.gate.specs.AtClose.{IsHistory}
 use Rattle.gate.specs.Merges.{beside}
 use Rattle.gate.specs.Passes.{IsSame, mine, tickets, width}
 use Rattle.gate.specs.Records.{Begins, Run, on, tickets_from}

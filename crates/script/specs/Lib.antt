@@ -12,4 +12,4 @@ pub mod RecordLaws
 pub mod Cursor
 pub mod Progress
 pub mod Endings
-pub mod At
+pub mod ScriptCursor

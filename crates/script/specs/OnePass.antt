@@ -11,8 +11,8 @@ use Rattle.gate.specs.Records.{replay}
 use Rattle.matching.specs.declared.view.View.{View as HintView}
 use Rattle.matching.specs.Alone.{IsAlone, waiting_of}
 use Rattle.matching.specs.Named.{at}
-use Rattle.service.specs.Views.{Service}
-use Rattle.service.specs.Views.{Pass}
+use Rattle.service.specs.ServiceViews.{Service}
+use Rattle.service.specs.ServiceViews.{Pass}
 use Rattle.service.specs.Contents.{setup_of}
 use Rattle.service.specs.Services.{IsPassOf, hints_by, known_by, settings_of}
 use Rattle.script.specs.Sorted.{steps_seen}

@@ -25,7 +25,7 @@ use Rattle.service_model_types.specs.Calls.{request_of}
 use Rattle.service_model_types.specs.Replies.{dispatch_of, Reply, transfer_of}
 use Rattle.service_model.specs.Service.{Entry, after, answer, opening}
 use Rattle.matching.specs.Named.{place_in, slot_of}
-use Rattle.service.specs.Asks.{to_acknowledge, to_deliver, to_dispatched, to_next_dispatch, to_next_transfer, to_start_task}
+use Rattle.service.specs.CallRequests.{to_acknowledge, to_deliver, to_dispatched, to_next_dispatch, to_next_transfer, to_start_task}
 use Rattle.service.specs.Contents.{ends_refusal, refusal_of_step, setup_of, shard_refusal, slot_of_step}
 use Rattle.service.specs.Reopening.{contents_from, opens, record_at}
 use Rattle.service.specs.TransferTurns.{goes_on}

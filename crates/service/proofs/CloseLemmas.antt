@@ -3,15 +3,15 @@ use Rattle.std.proofs.Common.{◌≡◌, ℕ, ◌<◌, List, Some, subst}
 use Rattle.std.specs.Prelude.{slice_get}
 use Rattle.service_model_types.specs.declared.content.Content.{Content}
 use Rattle.service_model.specs.Service.{Entry, after}
-use Rattle.gate.specs.Ends.{IsEnd, HasDone, IsHistory}
+use Rattle.gate.specs.AtClose.{IsEnd, HasDone, IsHistory}
 use Rattle.gate.specs.Passes.{number}
 use Rattle.gate.specs.Records.{grounds_by}
 use Rattle.shard_gate.specs.Grounding.{grounds}
-use Rattle.shard_gate.specs.Views as gates
+use Rattle.shard_gate.specs.GateViews as gates
 use Rattle.service.specs.Contents.{opening_contents}
-use Rattle.service.specs.Ends.{base_of}
+use Rattle.service.specs.AtClose.{base_of}
 use Rattle.service.specs.Services.{known_by, IsOpened, IsPassOf}
-use Rattle.service.specs.Views.{Pass, Service}
+use Rattle.service.specs.ServiceViews.{Pass, Service}
 
 -- all passes came back, so one did, and it says that the service was opened
 pub opened-by : (passes : List Pass) (x : Service) → 0 < x.settings.passes → ((k : ℕ) (p : Pass) → slice_get passes k ≡ Some p → IsPassOf p x)

@@ -15,10 +15,10 @@ use Rattle.gate.specs.declared.view.View.{View}
 use Rattle.gate.specs.Passes.{Stepped, seen, starts}
 use Rattle.gate.specs.Records.{contents, replay}
 use Rattle.gate.proofs.Growth.{replay-snoc}
-use Rattle.service.specs.Views.{Service}
-use Rattle.service.specs.Asks.{to_acknowledge, to_deliver, to_next_transfer}
+use Rattle.service.specs.ServiceViews.{Service}
+use Rattle.service.specs.CallRequests.{to_acknowledge, to_deliver, to_next_transfer}
 use Rattle.service.specs.Contents.{setup_of}
-use Rattle.shard_gate.specs.Views.{SeenGrounds}
+use Rattle.shard_gate.specs.GateViews.{SeenGrounds}
 use Rattle.service.specs.Services.{IsServedAtLast}
 use Rattle.service.specs.TransferTurns.{goes_on}
 

@@ -11,13 +11,13 @@ use Rattle.service_model.specs.Service.{Entry, after, opening}
 use Rattle.service_model.specs.WholeRuns.{Whole, on, content_at, Grounded, Holds, Accepted, IsWhole}
 use Rattle.gate.specs.Records.{contents, replay, grounds_by}
 use Rattle.gate.specs.Records as gate
-use Rattle.gate.specs.Ends.{IsHistory}
+use Rattle.gate.specs.AtClose.{IsHistory}
 use Rattle.shard_gate.specs.Grounding.{grounds}
 use Rattle.shard_gate.proofs.OpenLemmas.{replay-same}
 use Rattle.service_model_types.specs.declared.settings.Settings.{Settings}
 use Rattle.service_model.proofs.WholeLemmas.{in-order}
 use Rattle.service.specs.Contents.{opening_contents, setup_of}
-use Rattle.service.specs.Ends.{base_of}
+use Rattle.service.specs.AtClose.{base_of}
 use Rattle.service.specs.HistoryLaws.{HistoriesInOrder}
 
 content-there : (starts : List Content) (logs : ℕ → List Entry) (j : ℕ) (S : Content) → slice_get (contents after starts logs) j ≡ Some S → (T : Content) × (slice_get starts j ≡ Some T) × (S ≡ replay after T (logs j))

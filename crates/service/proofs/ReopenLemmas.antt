@@ -18,13 +18,13 @@ use Rattle.service_model.specs.WaitingLaws.{IsNamed}
 use Rattle.service_model.proofs.NamedLemmas.{place-known, waiting-are-named}
 use mathlib.Core.List.{map-map}
 use Rattle.service_model.proofs.ListLemmas.{map-push}
-use Rattle.gate.specs.Gated.{at}
+use Rattle.gate.specs.SlotRule.{at}
 use Rattle.matching.specs.Holding.{held_by, pushed}
 use Rattle.matching.specs.Named.{IsFresh, place_in}
 use Rattle.matching.specs.declared.queues.QueuesPass.{QueuesPass}
 use Rattle.shard_gate.specs.Opening.{IsSetup, opened_with, waiting_in}
 use Rattle.service.specs.Contents.{opening_contents, setup_of}
-use Rattle.service.specs.Held.{HoldAtOpening}
+use Rattle.service.specs.HeldHints.{HoldAtOpening}
 use Rattle.service.specs.Ranges.{range_fault}
 use Rattle.service.specs.Services.{IsInRange}
 use Rattle.service.specs.Reopening.{are_records, content_from, opens, record_at, records_fault, unless_fault, waiting_from}

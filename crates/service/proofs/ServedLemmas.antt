@@ -24,11 +24,11 @@ use Rattle.service_model.specs.Service.{answer, after, opening}
 use Rattle.gate.specs.declared.object.Refused.{Refused}
 use Rattle.gate.specs.declared.view.View.{View}
 use Rattle.gate.specs.Passes as gate
-use Rattle.gate.specs.Gated as rule
+use Rattle.gate.specs.SlotRule as rule
 use Rattle.gate.specs.Records.{Begins, past}
-use Rattle.shard_gate.specs.Views as gates
-use Rattle.service.specs.Views.{Service}
-use Rattle.service.specs.Views.{Pass}
+use Rattle.shard_gate.specs.GateViews as gates
+use Rattle.service.specs.ServiceViews.{Service}
+use Rattle.service.specs.ServiceViews.{Pass}
 use Rattle.service.specs.Contents.{setup_of, opening_contents, ends_refusal, is_token, refusal_of, refusal_of_step, shard_of, shard_refusal, slot_of_step}
 use Rattle.service.specs.Services.{known_by, Answered, IsPassOf, IsServedAtLast, IsServedOn, IsServedOnBy, IsTriedOn}
 

@@ -10,8 +10,8 @@ use Rattle.service_model_types.specs.declared.transfer.Transfer.{Transfer}
 use Rattle.service_model_types.specs.Replies.{Reply, transfer_of}
 use Rattle.gate.specs.declared.view.View.{View}
 use Rattle.gate.specs.Passes.{Waited}
-use Rattle.service.specs.Views.{Service}
-use Rattle.service.specs.Asks.{to_deliver, to_next_transfer}
+use Rattle.service.specs.ServiceViews.{Service}
+use Rattle.service.specs.CallRequests.{to_deliver, to_next_transfer}
 use Rattle.service.specs.Services.{IsServedAtLast}
 use Rattle.service.specs.TransferTurns.{AfterReading, AfterTransfer, DeliveryKept, Delivers, TransferKept, Transfers, goes_on}
 

@@ -14,10 +14,10 @@ use Rattle.service_model.specs.Service.{Entry, after}
 use Rattle.service_model.proofs.DispatchLemmas.{NamesShard, names-after, names-opening, next-named}
 use Rattle.gate.specs.declared.view.View.{View}
 use Rattle.gate.specs.Records.{replay}
-use Rattle.service.specs.Views.{Service}
+use Rattle.service.specs.ServiceViews.{Service}
 use Rattle.matching.specs.declared.view.View.{View as HintView}
 use Rattle.matching.specs.Named.{Pops}
-use Rattle.service.specs.Asks.{to_next_dispatch, to_start_task}
+use Rattle.service.specs.CallRequests.{to_next_dispatch, to_start_task}
 use Rattle.service.specs.Contents.{setup_of}
 use Rattle.service.specs.Services.{Answered, IsServedAtLast}
 use Rattle.service.specs.Turns.{AnsweredOn, Polls}

@@ -11,8 +11,8 @@ use Rattle.service_model_types.specs.Replies.{Reply}
 use Rattle.gate.specs.Passes.{Waited}
 use Rattle.service.specs.declared.dispatch_turns.Turned.{Turned}
 use Rattle.service.specs.declared.dispatch_turns.Turned.TheVariants.{First, Taken, Unpushed, Pushed, Dispatched}
-use Rattle.service.specs.Views.{Pass}
-use Rattle.service.specs.Views.{Service}
+use Rattle.service.specs.ServiceViews.{Pass}
+use Rattle.service.specs.ServiceViews.{Service}
 use Rattle.service.specs.Contents.{refusal_of_step, slot_of_step}
 use Rattle.service.specs.Services.{ServedOnAtLast, hints_by, known_by}
 use Rattle.service.specs.TransferTurns.{TransferKept, TransferTurns}

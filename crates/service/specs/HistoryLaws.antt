@@ -1,10 +1,10 @@
 -- MEANING: what the one history of all shards says of the transfers between them
 use Rattle.std.specs.Prelude.{◌≡◌, ℕ, List, [], ◌++◌}
-use Rattle.service.specs.Views.{Service}
+use Rattle.service.specs.ServiceViews.{Service}
 use Rattle.service_model.specs.Service.{Entry}
 use Rattle.service_model.specs.WholeRuns.{Whole, InOrder, IsWhole}
 use Rattle.service.specs.Contents.{setup_of}
-use Rattle.service.specs.Ends.{base_of, IsHistoryOf}
+use Rattle.service.specs.AtClose.{base_of, IsHistoryOf}
 
 -- Of a service that was opened without records: the history at the close is a run of the whole service, in which what
 -- comes before each step grounds it;

@@ -1,10 +1,10 @@
-pub mod Views
-pub mod Asks
+pub mod ServiceViews
+pub mod CallRequests
 pub mod Calls
 pub mod Contents
-pub mod Ends
-pub mod Held
-pub mod Helds
+pub mod AtClose
+pub mod HeldHints
+pub mod HeldPasses
 pub mod HistoryLaws
 pub mod Ranges
 pub mod Reopening

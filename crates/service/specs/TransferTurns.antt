@@ -10,8 +10,8 @@ use Rattle.service_model_types.specs.declared.transfer.Transfer.{Transfer}
 use Rattle.service_model_types.specs.Replies.{Reply, is_delivered, transfer_of}
 use Rattle.gate.specs.declared.view.View.{View}
 use Rattle.gate.specs.Passes.{Waited}
-use Rattle.service.specs.Views.{Service}
-use Rattle.service.specs.Asks.{to_acknowledge, to_deliver, to_next_transfer}
+use Rattle.service.specs.ServiceViews.{Service}
+use Rattle.service.specs.CallRequests.{to_acknowledge, to_deliver, to_next_transfer}
 use Rattle.service.specs.Contents.{ends_refusal}
 use Rattle.service.specs.Services.{Answered, IsServedAtLast}
 

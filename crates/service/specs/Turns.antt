@@ -14,13 +14,13 @@ use Rattle.gate.specs.Passes as gate
 use Rattle.matching.specs.declared.view.View.{View as HintView}
 use Rattle.matching.specs.Named as matching
 use Rattle.matching.specs.Named.{place_in, slot_of, StoodAt, TakenAt, Pushes}
-use Rattle.service.specs.Views.{Pass}
-use Rattle.service.specs.Views.{Service}
+use Rattle.service.specs.ServiceViews.{Pass}
+use Rattle.service.specs.ServiceViews.{Service}
 use Rattle.service_model_types.specs.declared.call.Stop.{Stop}
 use Rattle.service_model_types.specs.declared.call.Stop.TheVariants.{AtEnd, AfterFirstPart, AfterSecondPart}
 use Rattle.service.specs.declared.dispatch_turns.Turned.{Turned}
 use Rattle.service.specs.declared.dispatch_turns.Turned.TheVariants.{First, Taken, Unpushed, Pushed, Dispatched}
-use Rattle.service.specs.Asks.{to_start_task, to_next_dispatch, to_dispatched}
+use Rattle.service.specs.CallRequests.{to_start_task, to_next_dispatch, to_dispatched}
 use Rattle.service.specs.Contents.{shard_refusal}
 use Rattle.service.specs.Services.{Answered, IsPassOf, IsServedAtLast, hints_by, known_by}
 

@@ -1,7 +1,7 @@
 //! The calls on running activities: each makes the request of its arguments and serves it on the
 //! shard that its task token names.
 
-ghost use Rattle.service.specs.Asks.{to_complete_activity, to_fail_activity, to_cancel_activity, to_heartbeat};
+ghost use Rattle.service.specs.CallRequests.{to_complete_activity, to_fail_activity, to_cancel_activity, to_heartbeat};
 
 use crate::calls::asked_by_client;
 use crate::service::{Pass, Service};

@@ -2,7 +2,7 @@
 
 ghost use Rattle.std.specs.Prelude.{◌≡◌, true};
 ghost use Rattle.service_model_types.specs.Clients.{is_clients};
-ghost use Rattle.service.specs.Asks.{to_start, to_signal, to_show_history, to_describe};
+ghost use Rattle.service.specs.CallRequests.{to_start, to_signal, to_show_history, to_describe};
 
 use crate::service::{Pass, Service};
 use gate::Refused;

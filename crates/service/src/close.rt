@@ -1,11 +1,11 @@
 //! How a service is closed.
 
 ghost use Rattle.std.specs.Prelude.{◌≡◌, ℕ, ◌*◌, ◌<◌, ◌≤◌, Some, length, map, slice_get, vec_capacity};
-ghost use Rattle.gate.specs.Ends.{IsEnd, HasDone};
+ghost use Rattle.gate.specs.AtClose.{IsEnd, HasDone};
 ghost use Rattle.gate.specs.Passes.{number, tickets};
 ghost use Rattle.gate.specs.Records.{Begins, replay};
-ghost use Rattle.matching.specs.Ends.{IsEnd as IsEndOfQueue};
-ghost use Rattle.service.specs.Views.{Pass as PassView};
+ghost use Rattle.matching.specs.AtClose.{IsEnd as IsEndOfQueue};
+ghost use Rattle.service.specs.ServiceViews.{Pass as PassView};
 
 use crate::service::{Pass, Service};
 use matching::QueuesPass;
@@ -53,7 +53,7 @@ fn handed_down<S: KeepsShard>(
 
 impl<S: KeepsShard> Service<S> {
     ghost use Rattle.service.specs.Services.{IsPassOf, known_by, settings_of};
-    ghost use Rattle.service.specs.Ends.{base_of, held_at, parts_at, IsHistoryOf};
+    ghost use Rattle.service.specs.AtClose.{base_of, held_at, parts_at, IsHistoryOf};
 
     /// Gives each shard, its record and its tickets, in the order of the shards. The passes are all
     /// that were given, so none is on a shard. By the tickets all steps since the opening stand in one

@@ -4,7 +4,7 @@ ghost use Rattle.std.specs.Prelude.{◌≡◌, ◌<◌, Some, None, MatchResult,
 ghost use Rattle.gate.specs.Passes.{Waited, number as number_of};
 ghost use Rattle.service_model_types.specs.declared.answer.NumberedDispatch.{NumberedDispatch};
 ghost use Rattle.service_model_types.specs.Replies.{dispatch_of};
-ghost use Rattle.service.specs.Asks.{to_next_dispatch};
+ghost use Rattle.service.specs.CallRequests.{to_next_dispatch};
 ghost use Rattle.service.specs.Turns.{AnsweredOn, Counts, TurnKept, Turns};
 
 use crate::calls::asked_by_client;

@@ -2,7 +2,7 @@
 
 ghost use Rattle.std.specs.Prelude.{◌≡◌, IfOk, IfErr};
 ghost use Rattle.gate.specs.Passes.{Refuses};
-ghost use Rattle.service.specs.Asks.{to_start};
+ghost use Rattle.service.specs.CallRequests.{to_start};
 
 use crate::calls::request;
 use crate::service::{Pass, Service};
@@ -23,7 +23,7 @@ pub struct Held<'a, S: KeepsShard> {
 }
 
 impl<'a, S: KeepsShard> Model for Held<'a, S> {
-    ghost use Rattle.service.specs.Views.{Held};
+    ghost use Rattle.service.specs.ServiceViews.{Held};
 
     ghost Value = { Held };
 
@@ -32,7 +32,7 @@ impl<'a, S: KeepsShard> Model for Held<'a, S> {
 
 impl<S: KeepsShard> Service<S> {
     ghost use Rattle.service.specs.Services.{IsPassOf, hints_by, known_by, shard_of_request};
-    ghost use Rattle.service.specs.Helds.{IsHeldBy, Enters, hints_of};
+    ghost use Rattle.service.specs.HeldPasses.{IsHeldBy, Enters, hints_of};
 
     /// Starts a run of a workflow ID as `try_start` does, and stays on its shard. What the pass will
     /// have seen and done, and the reply, are known from then on, and handed over by `leave`.
@@ -68,8 +68,8 @@ impl<S: KeepsShard> Service<S> {
 
 impl<S: KeepsShard> Held<'_, S> {
     ghost use Rattle.service.specs.Services.{IsPassOf, hints_by, known_by};
-    ghost use Rattle.service.specs.Helds.{IsHeldBy, hints_of, leaving, promised};
-    ghost use Rattle.service.specs.Views.{Service as ServiceView};
+    ghost use Rattle.service.specs.HeldPasses.{IsHeldBy, hints_of, leaving, promised};
+    ghost use Rattle.service.specs.ServiceViews.{Service as ServiceView};
 
     /// Leaves the shard, and hands the pass and the start's reply over. It takes no memory.
     pub fn leave(self) -> (Pass<S>, Reply)

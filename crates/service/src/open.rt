@@ -9,11 +9,11 @@ ghost use Rattle.std.specs.Prelude.{◌≡◌, ◌≢◌, ℕ, ◌<◌, All, Som
 ghost use Rattle.gate.specs.Passes.{IsFresh};
 ghost use Rattle.matching.specs.Holding.{held_by};
 ghost use Rattle.matching.specs.Named.{IsPassOf as IsPassOfQueues, capacity_of, given_of, names_of, shards_of};
-ghost use Rattle.service.specs.Ends.{base_of};
-ghost use Rattle.service.specs.Held.{HoldsAtOpening, HoldAtOpening};
+ghost use Rattle.service.specs.AtClose.{base_of};
+ghost use Rattle.service.specs.HeldHints.{HoldsAtOpening, HoldAtOpening};
 ghost use Rattle.service.specs.Reopening.{opens, record_at, records_fault};
 ghost use Rattle.service.specs.Ranges.{are_different, are_queues, range_fault, stands_in};
-ghost use Rattle.service.specs.Views.{Pass as PassView};
+ghost use Rattle.service.specs.ServiceViews.{Pass as PassView};
 ghost use Rattle.service.specs.Services.{IsPassOf, IsInRange, known_by, settings_of};
 
 use crate::close::PassRoom;

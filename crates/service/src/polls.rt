@@ -3,7 +3,7 @@
 ghost use Rattle.std.specs.Prelude.{◌≡◌, ◌<◌, IfOk, IfErr, OnErr};
 ghost use Rattle.gate.specs.Passes.{Waited, number};
 ghost use Rattle.wf_event_values.specs.declared.policies.TaskKind.{TaskKind};
-ghost use Rattle.service.specs.Asks.{to_start_task};
+ghost use Rattle.service.specs.CallRequests.{to_start_task};
 ghost use Rattle.service.specs.Turns.{IsPolled, Polls, PollKept, place_of};
 
 use crate::calls::asked_by_client;

@@ -38,7 +38,7 @@ impl<S: KeepsShard> Drop for Service<S> {
 }
 
 impl<S: KeepsShard> Model for Service<S> {
-    ghost use Rattle.service.specs.Views.{Service};
+    ghost use Rattle.service.specs.ServiceViews.{Service};
 
     ghost Value = { Service };
 
@@ -58,7 +58,7 @@ impl<S: KeepsShard> Drop for Pass<S> {
 }
 
 impl<S: KeepsShard> Model for Pass<S> {
-    ghost use Rattle.service.specs.Views.{Pass};
+    ghost use Rattle.service.specs.ServiceViews.{Pass};
 
     ghost Value = { Pass };
 

@@ -1,7 +1,7 @@
 //! The calls on workflow tasks: each makes the request of its arguments and serves it on the shard
 //! that its hint or its task token names.
 
-ghost use Rattle.service.specs.Asks.{to_start_task, to_complete_workflow_task, to_fail_workflow_task};
+ghost use Rattle.service.specs.CallRequests.{to_start_task, to_complete_workflow_task, to_fail_workflow_task};
 ghost use Rattle.service.specs.Contents.{shard_refusal};
 
 use crate::calls::asked_by_client;

@@ -3,8 +3,8 @@
 ghost use Rattle.std.specs.Prelude.{◌≡◌, ◌<◌, Some, None, MatchResult, IfOk, OnOk, OnErr};
 ghost use Rattle.gate.specs.Passes.{Waited, number as number_of};
 ghost use Rattle.service_model_types.specs.Replies.{transfer_of};
-ghost use Rattle.service.specs.Asks.{to_acknowledge, to_deliver};
-ghost use Rattle.shard_gate.specs.Views.{SeenGrounds};
+ghost use Rattle.service.specs.CallRequests.{to_acknowledge, to_deliver};
+ghost use Rattle.shard_gate.specs.GateViews.{SeenGrounds};
 ghost use Rattle.service.specs.TransferTurns.{Acknowledges, DeliveryKept, Delivers, TransferKept, TransferTurns, Transfers, goes_on};
 
 use crate::calls::request;

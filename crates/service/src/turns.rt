@@ -1,6 +1,6 @@
 //! Timer turns, and calls of one step, whichever it is.
 
-ghost use Rattle.service.specs.Asks.{to_turn_timers};
+ghost use Rattle.service.specs.CallRequests.{to_turn_timers};
 ghost use Rattle.service.specs.Contents.{shard_refusal};
 
 use crate::calls::asked_by_client;

@@ -1,7 +1,7 @@
 //! The calls that signal a run or start it, ask it to cancel, and terminate it: each makes the request
 //! of its arguments and serves it.
 
-ghost use Rattle.service.specs.Asks.{to_signal_with_start, to_request_cancel, to_terminate};
+ghost use Rattle.service.specs.CallRequests.{to_signal_with_start, to_request_cancel, to_terminate};
 
 use crate::calls::asked_by_client;
 use crate::service::{Pass, Service};

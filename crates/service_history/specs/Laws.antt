@@ -3,9 +3,9 @@ use Rattle.std.specs.Prelude.{◌≡◌, ℕ, List, [], ◌++◌, length, map, s
 use Rattle.gate.specs.Records.{on}
 use Rattle.history.specs.Merged.{AreTicketed, IsMerged}
 use Rattle.service.specs.Contents.{setup_of}
-use Rattle.service.specs.Ends.{base_of, IsHistoryOf}
+use Rattle.service.specs.AtClose.{base_of, IsHistoryOf}
 use Rattle.service.specs.Services.{settings_of}
-use Rattle.service.specs.Views.{Service}
+use Rattle.service.specs.ServiceViews.{Service}
 use Rattle.service_model.specs.Service.{Entry}
 use Rattle.service_model.specs.WholeRuns.{Whole, InOrder, IsWhole}
 

@@ -97,9 +97,11 @@ get-front (z ∷ xs) ys zero x e = e
 get-front (z ∷ xs) ys (suc k) x e = get-front xs ys k x e
 
 pub holds-on : (s : ℕ) (t : Transfer) (S : Content) (q : Request) → Holds s t S → Holds s t (after S q)
-holds-on s t S q h = let m = step-issued S q s in
-    (h.0, ap (λ (l : List TransferContent). slice_get l (t.number - 1)) m.1
-        ∙ get-front (outgoing_to S.outgoing s).issued m.0 (t.number - 1) t.content h.1)
+holds-on s t S q h = let m = step-issued S q s in (
+  h.0,
+  ap (λ (l : List TransferContent). slice_get l (t.number - 1)) m.1
+      ∙ get-front (outgoing_to S.outgoing s).issued m.0 (t.number - 1) t.content h.1,
+)
 
 pub accepted-on : (s : ℕ) (a : Acknowledge) (S : Content) (q : Request) → Accepted s a S → Accepted s a (after S q)
 accepted-on s a S q h = (h.0, le_trans h.1 (step-accepted S q s))

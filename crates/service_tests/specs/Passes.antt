@@ -1,8 +1,8 @@
 -- what the tests say of the passes of a service
 use Rattle.std.specs.Prelude.{◌≡◌, ℕ, List, Some, slice_get}
 use Rattle.gate.specs.Passes.{number}
-use Rattle.service.specs.Views.{Service}
-use Rattle.service.specs.Views.{Pass}
+use Rattle.service.specs.ServiceViews.{Service}
+use Rattle.service.specs.ServiceViews.{Pass}
 use Rattle.service.specs.Services.{IsPassOf, known_by}
 
 -- the passes are the service's, and lie in the order of their numbers

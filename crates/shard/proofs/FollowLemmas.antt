@@ -19,7 +19,7 @@ use Rattle.shard_steps.specs.declared.starts.Beginning.{Beginning as NewBeginnin
 use Rattle.shard_store.specs.Fitting.{FitsAdded, FitsStep, IsMade, IsPrepared, grown, runs_added, state_at}
 use Rattle.shard.specs.Following.{following}
 use Rattle.shard_store.specs.Open.{HasClosed, IsOneOpen}
-use Rattle.shard_store.specs.View.{ShardView, ordinal_of, run_in, runs_in, state, states}
+use Rattle.shard_store.specs.ShardView.{ShardView, ordinal_of, run_in, runs_in, state, states}
 use Rattle.shard_store.specs.declared.plan.Count.TheVariants as count
 use Rattle.shard_store.specs.declared.plan.MoreOf.{MoreOf}
 use Rattle.shard_store.specs.declared.plan.NewRun.{NewRun}

@@ -14,7 +14,7 @@ use Rattle.shard_steps.proofs.DispatchLemmas.{count-is, next-is}
 use Rattle.shard_steps.proofs.SendingLemmas.{count-to-is, next-to-is}
 use Rattle.shard_store.specs.Fitting.{FitsStep, state_after}
 use Rattle.shard_store.specs.Open.{IsOneOpen}
-use Rattle.shard_store.specs.View.{ShardState, ShardView, state, states}
+use Rattle.shard_store.specs.ShardView.{ShardState, ShardView, state, states}
 use Rattle.shard_store.proofs.OpenLemmas.{of-journals}
 use Rattle.shard_store.specs.declared.plan.Plan.{Plan}
 use Rattle.shard_store.proofs.KeptLemmas.{keeps-after}

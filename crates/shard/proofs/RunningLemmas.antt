@@ -14,7 +14,7 @@ use Rattle.shard_steps.specs.Attempts.{has_run_of, runs_at}
 use Rattle.shard_steps.proofs.EndingLemmas.{are-same, pending-named, pending-of}
 use Rattle.shard_steps.proofs.TaskLemmas.{and-right}
 use Rattle.shard.specs.Running.{HasAttempt}
-use Rattle.shard_store.specs.View.{ShardView, ordinal_of, run_in, runs_in}
+use Rattle.shard_store.specs.ShardView.{ShardView, ordinal_of, run_in, runs_in}
 
 -- the running attempt that a token names is that of a pending activity
 kept-row : (t : TakenTask) (o : Option ActivityRow) (r : ActivityRow) → keep_running t o ≡ Some r → (o ≡ Some r) × (r.attempt ≡ t.attempt)

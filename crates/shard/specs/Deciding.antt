@@ -16,7 +16,7 @@ use Rattle.service_model.specs.TimerTurns.{timer_turn}
 use Rattle.service_model.specs.Deliveries.{deliver}
 use Rattle.shard_steps.specs.Issuing.{next_waiting, count_waiting}
 use Rattle.shard_steps.specs.Sending.{count_to, next_to}
-use Rattle.shard_store.specs.View.{ShardState}
+use Rattle.shard_store.specs.ShardView.{ShardState}
 
 -- what a start of a known queue does, by the workflow ID's latest run
 abbrev pub decided_by : Runs → Start → Option ℕ → Outcome

@@ -6,7 +6,7 @@ use Rattle.service_model.specs.Activities.{running_attempt}
 use Rattle.service_model.specs.RunState.{ActivityRow, is_open, pending, row_of as row_in}
 use Rattle.mutable_state.specs.Activities.{row_said}
 use Rattle.mutable_state.specs.Steps.{has_id}
-use Rattle.shard_store.specs.View.{ShardView, ordinal_of, run_in, runs_in}
+use Rattle.shard_store.specs.ShardView.{ShardView, ordinal_of, run_in, runs_in}
 use Rattle.shard.specs.declared.attempts.RunningAttempt.{RunningAttempt}
 
 -- the activity of a running attempt

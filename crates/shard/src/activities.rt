@@ -13,7 +13,7 @@ ghost use Rattle.service_model.specs.Tasks.{take_by_kind, pending_row};
 ghost use Rattle.mutable_state.specs.Steps.{has_id};
 ghost use Rattle.shard_steps.specs.Attempts.{task_for};
 ghost use Rattle.shard_store.specs.Fitting.{FitsStep};
-ghost use Rattle.shard_store.specs.View.{ordinal_of, run_in, runs_at, runs_in, state};
+ghost use Rattle.shard_store.specs.ShardView.{ordinal_of, run_in, runs_at, runs_in, state};
 
 use crate::more::add_facts;
 use mutable_state_keeper::KeepsRun;

@@ -11,7 +11,7 @@ ghost use Rattle.service_model.specs.Tasks.{pending_row};
 ghost use Rattle.mutable_state.specs.Activities.{row_said};
 ghost use Rattle.shard.specs.Running.{HasAttempt, row_of};
 ghost use Rattle.shard_store.specs.Fitting.{FitsStep};
-ghost use Rattle.shard_store.specs.View.{run_in, runs_at, runs_in, state};
+ghost use Rattle.shard_store.specs.ShardView.{run_in, runs_at, runs_in, state};
 ghost use Rattle.shard_steps.specs.Attempts.{ended_activity};
 
 use crate::more::add_facts;

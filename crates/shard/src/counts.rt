@@ -6,7 +6,7 @@ ghost use Rattle.std.specs.Prelude.{◌≡◌, IfOk};
 ghost use Rattle.service_model.specs.Outcome.{answered};
 ghost use Rattle.shard_steps.specs.Issuing.{next_waiting, count_waiting};
 ghost use Rattle.shard_store.specs.Fitting.{FitsStep};
-ghost use Rattle.shard_store.specs.View.{state};
+ghost use Rattle.shard_store.specs.ShardView.{state};
 
 use mutable_state_keeper::KeepsRun;
 use service_model_types::answer::{Acknowledged, Answer, NumberedDispatch};

@@ -5,7 +5,7 @@
 ghost use Rattle.std.specs.Prelude.{◌≡◌, ◌<◌, length, IfOk, Some, true};
 ghost use Rattle.service_model.specs.Cancels.{request_cancel, cancel_open, cancel_again, terminate, terminate_at};
 ghost use Rattle.service_model.specs.RunState.{is_open, is_there};
-ghost use Rattle.shard_store.specs.View.{ordinal_of, run_in, runs_at, state};
+ghost use Rattle.shard_store.specs.ShardView.{ordinal_of, run_in, runs_at, state};
 ghost use Rattle.shard_store.specs.Fitting.{FitsStep};
 
 use crate::more::add_facts;

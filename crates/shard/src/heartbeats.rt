@@ -10,7 +10,7 @@ ghost use Rattle.service_model.specs.RunState.{ActivityRow};
 ghost use Rattle.shard_store.specs.Fitting.{FitsStep};
 ghost use Rattle.mutable_state.specs.Steps.{MayEnd};
 ghost use Rattle.shard.specs.Running.{HasAttempt};
-ghost use Rattle.shard_store.specs.View.{run_in, runs_at, state};
+ghost use Rattle.shard_store.specs.ShardView.{run_in, runs_at, state};
 
 use crate::attempts::attempt_running;
 use crate::more::add_facts;

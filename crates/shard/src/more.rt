@@ -5,7 +5,7 @@ ghost use Rattle.service_model.specs.RunState.{is_there};
 ghost use Rattle.service_model.specs.Outcome.{adds};
 ghost use Rattle.mutable_state.specs.Steps.{FitStep};
 ghost use Rattle.shard_store.specs.Fitting.{FitsStep};
-ghost use Rattle.shard_store.specs.View.{ordinal_of, run_in, state};
+ghost use Rattle.shard_store.specs.ShardView.{ordinal_of, run_in, state};
 
 use mutable_state_keeper::KeepsRun;
 use service_model_types::answer::Answer;

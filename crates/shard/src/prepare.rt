@@ -3,7 +3,7 @@
 //! Rule: PROFILE, Numbers and texts. Definition: Service. Rows: TaskRows. Cases: signals.
 
 ghost use Rattle.std.specs.Prelude.{◌≡◌, max, IfOk};
-ghost use Rattle.shard_store.specs.View.{state};
+ghost use Rattle.shard_store.specs.ShardView.{state};
 ghost use Rattle.shard_store.specs.Fitting.{FitsStep};
 ghost use Rattle.shard.specs.Deciding.{outcome_in};
 

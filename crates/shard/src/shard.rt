@@ -3,7 +3,7 @@
 ghost use Rattle.std.specs.Prelude.{◌≡◌, [], IfOk, replicate};
 ghost use Rattle.service_model.specs.Service.{opening};
 ghost use Rattle.shard.specs.Standing.{StandsFor};
-ghost use Rattle.shard_store.specs.View.{IsSetup, state};
+ghost use Rattle.shard_store.specs.ShardView.{IsSetup, state};
 ghost use Rattle.transfer.specs.Logs.{none_waits};
 
 use mutable_state_keeper::KeepsRun;
@@ -25,7 +25,7 @@ impl<T: KeepsRun> Drop for Shard<T> {
 }
 
 impl<T: KeepsRun> Model for Shard<T> {
-    ghost use Rattle.shard_store.specs.View.{ShardView};
+    ghost use Rattle.shard_store.specs.ShardView.{ShardView};
 
     ghost Value = { ShardView };
 

@@ -7,7 +7,7 @@ ghost use Rattle.service_model.specs.Outcome.{latest_run, open_run};
 ghost use Rattle.service_model.specs.RunState.{is_open, is_there};
 ghost use Rattle.service_model.specs.Signals.{signal_with_start, signal_or_start};
 ghost use Rattle.service_model.specs.Starts.{starts_new};
-ghost use Rattle.shard_store.specs.View.{ordinal_of, run_in, runs_at, state, states};
+ghost use Rattle.shard_store.specs.ShardView.{ordinal_of, run_in, runs_at, state, states};
 ghost use Rattle.shard_store.specs.Fitting.{FitsStep, IsFree};
 ghost use Rattle.shard.specs.Deciding.{signaled_by, signaled_facts};
 

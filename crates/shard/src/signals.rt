@@ -7,7 +7,7 @@ ghost use Rattle.std.specs.Option.{option_map_or};
 ghost use Rattle.service_model_types.specs.declared.answer.Answer.TheVariants.{Repeated, RepeatedRun, Signaled, SignaledRun};
 ghost use Rattle.service_model.specs.RunState.{is_open, is_there};
 ghost use Rattle.service_model.specs.Signals.{signal, signal_at, signal_fact, signals};
-ghost use Rattle.shard_store.specs.View.{ordinal_of, run_in, runs_at, state};
+ghost use Rattle.shard_store.specs.ShardView.{ordinal_of, run_in, runs_at, state};
 ghost use Rattle.shard_store.specs.Fitting.{FitsStep};
 
 use crate::more::add_facts;

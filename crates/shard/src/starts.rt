@@ -10,7 +10,7 @@ ghost use Rattle.service_model.specs.IdPolicy.{TerminateThenNew, decide, is_same
 ghost use Rattle.service_model.specs.Outcome.{latest_run};
 ghost use Rattle.service_model.specs.RunState.{id_of, is_open, is_there};
 ghost use Rattle.service_model.specs.Starts.{by_decision, start, start_request, starts_new, started_fact, first_task};
-ghost use Rattle.shard_store.specs.View.{ordinal_of, run_in, runs_at, state, states};
+ghost use Rattle.shard_store.specs.ShardView.{ordinal_of, run_in, runs_at, state, states};
 ghost use Rattle.shard_steps.specs.Starts.{first_facts, MayBegin};
 ghost use Rattle.shard_store.specs.Fitting.{FitsStep, IsFree};
 ghost use Rattle.shard.specs.Deciding.{decided, decided_by};

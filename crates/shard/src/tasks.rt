@@ -11,7 +11,7 @@ ghost use Rattle.service_model.specs.Journal.{plain};
 ghost use Rattle.service_model.specs.Outcome.{adds, next_ordinal, run_at, run_id};
 ghost use Rattle.service_model.specs.RunState.{is_open, is_there};
 ghost use Rattle.service_model.specs.Tasks.{start_task, take_workflow, waits_workflow, runs_workflow, complete_workflow_task, complete_judged, fail_workflow_task};
-ghost use Rattle.shard_store.specs.View.{ordinal_of, run_in, runs_at, runs_in, state};
+ghost use Rattle.shard_store.specs.ShardView.{ordinal_of, run_in, runs_at, runs_in, state};
 ghost use Rattle.shard_store.specs.Fitting.{FitsStep};
 
 use crate::activities::take_activity;

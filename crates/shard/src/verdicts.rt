@@ -8,7 +8,7 @@ ghost use Rattle.service_model.specs.Activities.{by_verdict, fail_activity};
 ghost use Rattle.retry.specs.Verdicts.{says};
 ghost use Rattle.shard_store.specs.Fitting.{FitsStep};
 ghost use Rattle.shard.specs.Running.{HasAttempt, row_of};
-ghost use Rattle.shard_store.specs.View.{runs_at, state};
+ghost use Rattle.shard_store.specs.ShardView.{runs_at, state};
 ghost use Rattle.shard_steps.specs.Attempts.{HasNext};
 
 use crate::attempts::{RunningAttempt, attempt_running, end_activity};

@@ -11,7 +11,7 @@ use Rattle.mutable_state.specs.Steps.{FitStep}
 use Rattle.shard_store.specs.declared.plan.Count.TheVariants as count
 use Rattle.shard_store.specs.declared.plan.MoreOf.{MoreOf}
 use Rattle.shard_store.specs.Fitting.{CountsAccepted, FitsAnswer, FitsStep, IsPrepared}
-use Rattle.shard_store.specs.View.{ShardState, ShardView, ordinal_of, runs_in, state}
+use Rattle.shard_store.specs.ShardView.{ShardState, ShardView, ordinal_of, runs_in, state}
 use Rattle.shard_store.proofs.PlanLemmas.{fits-added}
 use Rattle.shard_deliveries.specs.Accepting.{MayAccept}
 

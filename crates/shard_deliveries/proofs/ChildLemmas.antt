@@ -15,14 +15,14 @@ use Rattle.service_model.specs.IdPolicy.{decide}
 use Rattle.service_model.specs.Outcome.{Runs, latest_run, run_at, run_id}
 use Rattle.service_model.proofs.ThereLemmas.{closed-status}
 use Rattle.service_model.specs.RunState.{RunState, id_of, is_open, is_open_status}
-use Rattle.shard_steps.specs.Kept.{IsCaughtUp}
+use Rattle.shard_steps.specs.Outstanding.{IsCaughtUp}
 use Rattle.shard_steps.specs.Starts.{first_facts}
 use Rattle.shard_steps.specs.declared.starts.Beginning.{Beginning}
 use Rattle.shard_store.specs.declared.plan.Count.TheVariants as count
 use Rattle.shard_store.specs.declared.plan.NewRun.{NewRun}
 use Rattle.shard_store.specs.Fitting.{CountsAccepted, FitsStep, IsFree, IsMade}
 use Rattle.shard_store.specs.Open.{HasClosed}
-use Rattle.shard_store.specs.View.{ShardView, runs_at, runs_in, state, states}
+use Rattle.shard_store.specs.ShardView.{ShardView, runs_at, runs_in, state, states}
 use Rattle.shard_store.proofs.IndexLemmas.{length-states}
 use Rattle.shard_store.proofs.OpenLemmas.{free-closed}
 use Rattle.shard_store.proofs.StepLemmas.{id-of-begun}

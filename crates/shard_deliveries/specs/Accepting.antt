@@ -5,9 +5,9 @@ use Rattle.wf_event.specs.Role.{ComesFromOutside, closing_status, role, settles}
 use Rattle.service_model.specs.RunState.{RunState, is_open, signal_request_by}
 use Rattle.service_model_types.specs.declared.transfer.Transfer.{Transfer}
 use Rattle.mutable_state.specs.Steps.{MaySettle, is_start, may_ask}
-use Rattle.shard_steps.specs.Kept.{IsCaughtUp}
+use Rattle.shard_steps.specs.Outstanding.{IsCaughtUp}
 use Rattle.shard_store.specs.Fitting.{CountsAccepted}
-use Rattle.shard_store.specs.View.{ShardView}
+use Rattle.shard_store.specs.ShardView.{ShardView}
 
 -- one more transfer of its source can be accepted, and all that the last step left was looked up
 pub record MayAccept (v : ShardView) (t : Transfer) : Type 0 where

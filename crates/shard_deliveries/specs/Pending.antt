@@ -3,7 +3,7 @@ use Rattle.std.specs.Prelude.{◌≡◌, ℕ, ◌<◌, List, true, length}
 use Rattle.wf_event.specs.declared.role.Class.{Class}
 use Rattle.service_model.specs.RunState.{is_open, pending}
 use Rattle.mutable_state.specs.Steps.{has_id}
-use Rattle.shard_store.specs.View.{ShardView, ordinal_of, run_in}
+use Rattle.shard_store.specs.ShardView.{ShardView, ordinal_of, run_in}
 use Rattle.shard_deliveries.specs.declared.pending.PendingRequest.{PendingRequest}
 
 -- in which run a request waits, and what workflow ID was asked

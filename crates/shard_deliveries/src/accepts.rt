@@ -5,7 +5,7 @@ ghost use Rattle.service_model.specs.RunState.{is_there};
 ghost use Rattle.service_model.specs.Deliveries.{accepts, accepts_only, adds_outside};
 ghost use Rattle.mutable_state.specs.Steps.{FitStep};
 ghost use Rattle.shard_store.specs.Fitting.{FitsStep};
-ghost use Rattle.shard_store.specs.View.{ordinal_of, run_in, runs_at, state};
+ghost use Rattle.shard_store.specs.ShardView.{ordinal_of, run_in, runs_at, state};
 ghost use Rattle.shard_deliveries.specs.Accepting.{IsFromOutside, MayAccept};
 
 use crate::events::event_facts;

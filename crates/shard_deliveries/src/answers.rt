@@ -8,7 +8,7 @@ ghost use Rattle.std.specs.Prelude.{◌≡◌, IfOk, None};
 ghost use Rattle.service_model.specs.Deliveries.{effect, external_class};
 ghost use Rattle.service_model_types.specs.declared.transfer.TransferContent.TheVariants as content;
 ghost use Rattle.shard_store.specs.Fitting.{FitsStep};
-ghost use Rattle.shard_store.specs.View.{runs_at, state};
+ghost use Rattle.shard_store.specs.ShardView.{runs_at, state};
 ghost use Rattle.shard_deliveries.specs.Accepting.{MayAccept};
 
 use crate::accepts::{accept_event, accept_only};

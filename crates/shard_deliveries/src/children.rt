@@ -9,7 +9,7 @@ ghost use Rattle.service_model.specs.Deliveries.{asked_before, close_by, effect,
 ghost use Rattle.service_model.specs.RunState.{is_open, parent_of, is_there};
 ghost use Rattle.service_model_types.specs.declared.transfer.TransferContent.TheVariants as content;
 ghost use Rattle.shard_store.specs.Fitting.{FitsStep};
-ghost use Rattle.shard_store.specs.View.{ordinal_of, run_in, runs_at, state};
+ghost use Rattle.shard_store.specs.ShardView.{ordinal_of, run_in, runs_at, state};
 ghost use Rattle.shard_deliveries.specs.Accepting.{MayAccept};
 
 use crate::accepts::{accept_event, accept_facts, accept_only};

@@ -5,7 +5,7 @@
 ghost use Rattle.std.specs.Prelude.{◌≡◌, ◌<◌, IfOk};
 ghost use Rattle.shard_steps.specs.Sending.{count_to, next_to};
 ghost use Rattle.shard_store.specs.Fitting.{FitsStep};
-ghost use Rattle.shard_store.specs.View.{state};
+ghost use Rattle.shard_store.specs.ShardView.{state};
 
 use mutable_state_keeper::KeepsRun;
 use service_model_types::answer::{Acknowledged, Answer};

@@ -6,7 +6,7 @@
 ghost use Rattle.std.specs.Prelude.{◌≡◌, ◌<◌, IfOk};
 ghost use Rattle.service_model.specs.Deliveries.{by_delivery, deliver, delivery_of, accepted_from, effect};
 ghost use Rattle.shard_store.specs.Fitting.{FitsStep};
-ghost use Rattle.shard_store.specs.View.{runs_at, state};
+ghost use Rattle.shard_store.specs.ShardView.{runs_at, state};
 ghost use Rattle.shard_deliveries.specs.Accepting.{MayAccept};
 
 use crate::answers::{

@@ -8,7 +8,7 @@ ghost use Rattle.service_model.specs.Deliveries.{cancel_external, effect, extern
 ghost use Rattle.service_model.specs.RunState.{is_open, is_there};
 ghost use Rattle.service_model_types.specs.declared.transfer.TransferContent.TheVariants as content;
 ghost use Rattle.shard_store.specs.Fitting.{FitsStep};
-ghost use Rattle.shard_store.specs.View.{ordinal_of, run_in, runs_at, state};
+ghost use Rattle.shard_store.specs.ShardView.{ordinal_of, run_in, runs_at, state};
 ghost use Rattle.shard_deliveries.specs.Accepting.{MayAccept};
 
 use crate::accepts::{accept_event, accept_with};

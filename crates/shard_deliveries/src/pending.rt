@@ -4,7 +4,7 @@
 
 ghost use Rattle.std.specs.Prelude.{◌≡◌, IfOk, IfSome, option_map};
 ghost use Rattle.service_model.specs.Deliveries.{own_run, pending_id};
-ghost use Rattle.shard_store.specs.View.{runs_in};
+ghost use Rattle.shard_store.specs.ShardView.{runs_in};
 ghost use Rattle.shard_deliveries.specs.Pending.{IsPending, said};
 
 use mutable_state_keeper::KeepsRun;

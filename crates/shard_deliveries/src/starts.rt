@@ -7,7 +7,7 @@ ghost use Rattle.std.specs.Prelude.{◌≡◌, IfOk, true};
 ghost use Rattle.service_model.specs.Deliveries.{effect};
 ghost use Rattle.service_model_types.specs.declared.transfer.TransferContent.TheVariants as content;
 ghost use Rattle.shard_store.specs.Fitting.{FitsStep};
-ghost use Rattle.shard_store.specs.View.{runs_at, runs_in, state};
+ghost use Rattle.shard_store.specs.ShardView.{runs_at, runs_in, state};
 ghost use Rattle.shard_deliveries.specs.Accepting.{MayAccept};
 ghost use Rattle.shard_deliveries.specs.Children.{child_beginning, is_free_for, starts_child};
 

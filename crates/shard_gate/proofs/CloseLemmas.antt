@@ -4,8 +4,8 @@ use Rattle.std.specs.Prelude.{map, slice_get, slice_index_or}
 use Rattle.service_model_types.specs.declared.content.Content.{Content}
 use Rattle.service_model_types.specs.declared.request.Request.{Request}
 use Rattle.service_model.specs.Service.{Entry, after}
-use Rattle.gate.specs.Ends.{IsHistory}
-use Rattle.gate.specs.Gated.{at}
+use Rattle.gate.specs.AtClose.{IsHistory}
+use Rattle.gate.specs.SlotRule.{at}
 use Rattle.gate.specs.Records.{grounds_by}
 use Rattle.gate.specs.declared.view.Origin.{Origin}
 use Rattle.shard_gate.specs.Grounding.{grounds}

@@ -1,4 +1,4 @@
-pub mod Views
+pub mod GateViews
 pub mod Opening
 pub mod Grounding
 pub mod GroundsOn

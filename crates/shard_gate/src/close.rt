@@ -1,10 +1,10 @@
 //! How the gate over shards is closed.
 
 ghost use Rattle.std.specs.Prelude.{◌≡◌, ℕ, ◌<◌, ◌≤◌, [], Some, IfOk, length, map, slice_get, slice_index_or, vec_capacity};
-ghost use Rattle.gate.specs.Ends.{IsEnd, HasDone};
+ghost use Rattle.gate.specs.AtClose.{IsEnd, HasDone};
 ghost use Rattle.gate.specs.Passes.{number, tickets, view as seen_by};
 ghost use Rattle.gate.specs.Records.{Begins, Each, replay};
-ghost use Rattle.shard_gate.specs.Views.{PassView};
+ghost use Rattle.shard_gate.specs.GateViews.{PassView};
 
 use crate::keeps_shard::KeepsShard;
 use crate::shard_gate::{ShardGate, ShardPass};
@@ -112,7 +112,7 @@ fn taken_out<S: KeepsShard>(closed: Vec<ClosedSlot<S>>, room: Closed<S>) -> Clos
 }
 
 impl<S: KeepsShard> ShardGate<S> {
-    ghost use Rattle.shard_gate.specs.Views.{IsHistoryOf, IsPassOf, base_of, given, slots};
+    ghost use Rattle.shard_gate.specs.GateViews.{IsHistoryOf, IsPassOf, base_of, given, slots};
 
     /// Gives each shard, its record and its tickets, in the order of the shards. The passes are all
     /// that were given, so none is on a shard. By the tickets all steps since the opening stand in one

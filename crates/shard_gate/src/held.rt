@@ -19,8 +19,8 @@ pub struct HeldShard<'a, S: KeepsShard> {
 }
 
 impl<'a, S: KeepsShard> Model for HeldShard<'a, S> {
-    ghost use Rattle.gate.specs.Helds.{IsHeldBy as IsHeldByGate, leaving, promised};
-    ghost use Rattle.shard_gate.specs.Views.{HeldView};
+    ghost use Rattle.gate.specs.HeldSlots.{IsHeldBy as IsHeldByGate, leaving, promised};
+    ghost use Rattle.shard_gate.specs.GateViews.{HeldView};
 
     ghost Value = { HeldView };
 
@@ -35,7 +35,7 @@ impl<'a, S: KeepsShard> Model for HeldShard<'a, S> {
 }
 
 impl<S: KeepsShard> ShardGate<S> {
-    ghost use Rattle.shard_gate.specs.Views.{IsHeldBy, IsPassOf, SeenGrounds, slots};
+    ghost use Rattle.shard_gate.specs.GateViews.{IsHeldBy, IsPassOf, SeenGrounds, slots};
 
     /// Makes a step on a shard as `try_step` does, and stays there. What the pass will have seen and
     /// done, and the reply, are known from then on, and handed over by `leave`.
@@ -69,7 +69,7 @@ impl<S: KeepsShard> ShardGate<S> {
 }
 
 impl<S: KeepsShard> HeldShard<'_, S> {
-    ghost use Rattle.shard_gate.specs.Views.{GateView, IsHeldBy, IsPassOf};
+    ghost use Rattle.shard_gate.specs.GateViews.{GateView, IsHeldBy, IsPassOf};
 
     /// Leaves the shard, and hands the pass and the step's reply over. It takes no memory.
     pub fn leave(self) -> (ShardPass<S>, Reply)

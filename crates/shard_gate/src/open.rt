@@ -8,7 +8,7 @@ ghost use Rattle.service_model_types.specs.declared.content.Setup.{Setup as TheS
 ghost use Rattle.service_model.specs.Service.{Entry as TheEntry, opening, replay as replayed_by};
 ghost use Rattle.service_model.specs.Waiting.{waiting};
 ghost use Rattle.shard_gate.specs.Opening.{IsSetup, opened_with, records_in, waiting_in};
-ghost use Rattle.shard_gate.specs.Views.{IsPassOf, PassView, given as given_by, slots, starts_of};
+ghost use Rattle.shard_gate.specs.GateViews.{IsPassOf, PassView, given as given_by, slots, starts_of};
 
 use crate::close::{Closed, GatePasses};
 use crate::keeps_shard::KeepsShard;

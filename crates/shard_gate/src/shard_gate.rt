@@ -41,9 +41,9 @@ impl<S: KeepsShard> Drop for ShardGate<S> {
 }
 
 impl<S: KeepsShard> Model for ShardGate<S> {
-    ghost use Rattle.gate.specs.Gates.{given, opened};
-    ghost use Rattle.gate.specs.Plays.{origin_of};
-    ghost use Rattle.shard_gate.specs.Views.{GateView};
+    ghost use Rattle.gate.specs.GateViews.{given, opened};
+    ghost use Rattle.gate.specs.RuleSteps.{origin_of};
+    ghost use Rattle.shard_gate.specs.GateViews.{GateView};
 
     ghost Value = { GateView };
 
@@ -66,7 +66,7 @@ impl<S: KeepsShard> Drop for ShardPass<S> {
 
 impl<S: KeepsShard> Model for ShardPass<S> {
     ghost use Rattle.gate.specs.Passes.{view as seen_by};
-    ghost use Rattle.shard_gate.specs.Views.{PassView};
+    ghost use Rattle.shard_gate.specs.GateViews.{PassView};
 
     ghost Value = { PassView };
 
@@ -84,9 +84,9 @@ impl<S: KeepsShard> ShardPass<S> {
 }
 
 impl<S: KeepsShard> ShardGate<S> {
-    ghost use Rattle.gate.specs.Gates.{opened, given as given_by};
-    ghost use Rattle.gate.specs.Plays.{origin_of};
-    ghost use Rattle.shard_gate.specs.Views.{IsPassOf, SeenGrounds, slots};
+    ghost use Rattle.gate.specs.GateViews.{opened, given as given_by};
+    ghost use Rattle.gate.specs.RuleSteps.{origin_of};
+    ghost use Rattle.shard_gate.specs.GateViews.{IsPassOf, SeenGrounds, slots};
 
     /// The gate, and the room that closing needs.
     pub(crate) fn into_parts(self) -> (Gate<S>, Mutex<GatePasses<S>>, Closed<S>)

@@ -21,7 +21,7 @@ use Rattle.service_model.specs.Tasks.{is_started_task, pending_row}
 use Rattle.mutable_state.specs.Steps.{Place, IsFirst, FitFrom, FitStep, MayQueue, after_step, all_written, noted_of, place_after, step_ended, with_event, with_noted}
 use Rattle.transfer.specs.Logs.{Waiting, with_issued}
 use Rattle.shard_steps.specs.Issuing.{DispatchesView, all_waiting, count_waiting, issued_first, issued_since, next_waiting, of_grown, of_made, queued_dispatch, readied, waiting_in}
-use Rattle.shard_steps.specs.Kept.{AreCaughtUp, HasShown, unchanged}
+use Rattle.shard_steps.specs.Outstanding.{AreCaughtUp, HasShown, unchanged}
 use Rattle.shard_steps.specs.declared.changed.Changed.{Changed}
 use Rattle.shard_steps.proofs.EachLemmas.{index-push, shown-at}
 

@@ -10,7 +10,7 @@ use Rattle.service_model.specs.Windows.{placed}
 use Rattle.timeouts.specs.Firsts.{first_due}
 use Rattle.timeouts.specs.declared.due.Due.{Due}
 use Rattle.shard_steps.specs.Issuing.{DispatchesView, all_waiting}
-use Rattle.shard_steps.specs.Kept.{AreCaughtUp, HasFirsts, HasShown, IsCaughtUp, outstanding}
+use Rattle.shard_steps.specs.Outstanding.{AreCaughtUp, HasFirsts, HasShown, IsCaughtUp, outstanding}
 use Rattle.shard_steps.specs.Sending.{TransfersView, all_outgoing}
 use Rattle.shard_steps.specs.declared.changed.Changed.{Changed}
 use Rattle.shard_steps.proofs.DispatchLemmas.{all-looked-up}

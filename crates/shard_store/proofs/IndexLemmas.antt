@@ -7,9 +7,9 @@ use Rattle.service_model.specs.Journal.{latest, first_some}
 use Rattle.service_model.specs.RunState.{Beginning, RunState, no_run, id_of, is_there}
 use Rattle.service_model.specs.Outcome.{Runs, latest_run, run_at}
 use Rattle.service_model.proofs.ListLemmas.{map-push}
-use Rattle.mutable_state.specs.View.{RunView}
+use Rattle.mutable_state.specs.RunView.{RunView}
 use Rattle.shard_store.specs.Fitting.{state_at}
-use Rattle.shard_store.specs.View.{IsIndexed, ShardView, ordinal_of, run_in, runs_in, states}
+use Rattle.shard_store.specs.ShardView.{IsIndexed, ShardView, ordinal_of, run_in, runs_in, states}
 use Rattle.shard_store.proofs.PlaceLemmas.{none-there}
 
 -- whether a run is there and has this workflow ID, by how it began

@@ -14,7 +14,7 @@ use Rattle.mutable_state.specs.Steps.{FitStep, IsLater}
 use Rattle.mutable_state.proofs.ClosingLemmas.{closes-after, closes-begun}
 use Rattle.mutable_state.proofs.GrowthLemmas.{beginning-stays, step-begins}
 use Rattle.shard_steps.specs.Starts.{first_facts}
-use Rattle.shard_store.specs.View.{ShardState, ShardView, states}
+use Rattle.shard_store.specs.ShardView.{ShardState, ShardView, states}
 use Rattle.shard_store.specs.Fitting.{FitsAdded, FitsChange, FitsCreated, FitsStep, FitsTaken, IsFreeFor, runs_added, state_at}
 use Rattle.shard_store.specs.Open.{HasClosed, IsOneOpen}
 use Rattle.shard_store.specs.Standing.{StandsFor}

@@ -14,7 +14,7 @@ use Rattle.service_model.specs.RunState.{RunState, id_of, is_open, is_open_statu
 use Rattle.service_model.proofs.ListLemmas.{get-map}
 use Rattle.service_model.proofs.ThereLemmas.{open-there}
 use Rattle.shard_steps.proofs.DispatchLemmas.{get-at}
-use Rattle.shard_store.specs.View.{ShardView, ordinal_of, run_in, states}
+use Rattle.shard_store.specs.ShardView.{ShardView, ordinal_of, run_in, states}
 use Rattle.shard_store.specs.Fitting.{IsFree, state_at}
 use Rattle.shard_store.specs.Open.{HasClosed, IsOneOpen}
 use Rattle.shard_store.proofs.IndexLemmas.{bears, latest_from}

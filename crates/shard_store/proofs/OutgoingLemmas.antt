@@ -5,10 +5,10 @@ use Rattle.service_model_types.specs.declared.content.Setup.{Setup}
 use Rattle.service_model.specs.RunState.{RunState}
 use Rattle.service_model_types.specs.declared.content.Dispatch.{Dispatch}
 use Rattle.transfer.specs.Logs.{Waiting}
-use Rattle.shard_steps.specs.Kept.{IsCaughtUp, Outstanding}
+use Rattle.shard_steps.specs.Outstanding.{IsCaughtUp, Outstanding}
 use Rattle.shard_steps.specs.Sending.{TransfersView, all_outgoing}
 use Rattle.shard_steps.proofs.SendingLemmas.{all-sent}
-use Rattle.shard_store.specs.View.{ShardState}
+use Rattle.shard_store.specs.ShardView.{ShardState}
 
 -- where all was looked up, the outbox has all that was issued
 pub all-issued : (setup : Setup) (t : TransfersView) (runs : List RunState) {changed : Outstanding} {all : List (Waiting TransferContent)} {grown made : Option ℕ} → record { grown = grown; made = made; unsent = t.unsent; answer = t.answer } ≡ changed → all_outgoing setup t runs ≡ all → IsCaughtUp changed → t.sent ≡ all

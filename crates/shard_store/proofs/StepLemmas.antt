@@ -26,7 +26,7 @@ use Rattle.mutable_state.specs.Formed.{IsFormed, Stands}
 use Rattle.mutable_state.specs.Steps.{begun, after_step, FitStep, IsLater}
 use Rattle.mutable_state.proofs.GrowthLemmas.{Begins, step-begins, beginning-stays}
 use Rattle.mutable_state.proofs.JournalLemmas.{formed-later, formed-none, stands-next, stands-begun}
-use Rattle.shard_store.specs.View.{ShardView, ShardState, state, states}
+use Rattle.shard_store.specs.ShardView.{ShardView, ShardState, state, states}
 use Rattle.shard_store.specs.Fitting.{FitsAdded, FitsAnswer, FitsChange, FitsCount, FitsCreated, FitsMore, FitsStep, FitsTaken, IsMade, accepted_by, acknowledged_by, after_added, after_answer, after_change, after_count, after_taken, counted_by, grown, issued_for, issued_new, outgoing_added, outgoing_answered, runs_added, runs_created, runs_taken, state_after, state_at, transfers_for, waiting_added, waiting_created}
 use Rattle.transfer.specs.Logs.{Waiting, one_counted, with_issued}
 use Rattle.transfer.specs.Outboxes.{AreIssued, counted_to, rest_of, waiting_to, with_all_sent}

@@ -6,11 +6,11 @@ use Rattle.std.proofs.lemmas.Bool.Decides.{nat_tests, not_from_Decides}
 use Rattle.service_model.specs.Aging.{AreAged, IsOldestRun}
 use Rattle.service_model.specs.Outcome.{latest_run}
 use Rattle.service_model.specs.RunState.{RunState, no_run, id_of, is_there}
-use Rattle.mutable_state.specs.View.{RunView}
+use Rattle.mutable_state.specs.RunView.{RunView}
 use Rattle.shard_store.specs.Fitting.{FitsTaken, state_at, without}
 use Rattle.shard_store.specs.Open.{IsOneOpen}
 use Rattle.shard_store.specs.Places.{empty_place}
-use Rattle.shard_store.specs.View.{IsIndexed, ShardView, ordinal_of, states}
+use Rattle.shard_store.specs.ShardView.{IsIndexed, ShardView, ordinal_of, states}
 use Rattle.shard_store.specs.declared.plan.Change.{Change}
 use Rattle.shard_store.proofs.IndexLemmas.{latest_from, length-states, states-set}
 use Rattle.shard_steps.proofs.DispatchLemmas.{get-at}

@@ -8,9 +8,9 @@ use Rattle.service_model_types.specs.declared.content.Dispatch.{Dispatch}
 use Rattle.service_model_types.specs.declared.content.Setup.{Setup}
 use Rattle.service_model.specs.RunState.{RunState}
 use Rattle.service_model.specs.Waiting.{all_waiting, waiting, waiting_of}
-use Rattle.mutable_state.specs.View.{RunView}
+use Rattle.mutable_state.specs.RunView.{RunView}
 use Rattle.shard_store.specs.Standing.{StandsFor}
-use Rattle.shard_store.specs.View.{ShardState, ShardView, states}
+use Rattle.shard_store.specs.ShardView.{ShardState, ShardView, states}
 
 abbrev waits_from : Setup → ℕ → List RunView → List Dispatch
 waits_from setup n runs = flat_map (λ (p : ℕ × RunState). waiting_of setup p.0 p.1) (enumerate_from n (states runs))

@@ -10,16 +10,16 @@ use Rattle.service_model.specs.Deliveries.{accepted_from}
 use Rattle.service_model.specs.RunState.{RunState, no_run, id_of, is_open, is_there}
 use Rattle.service_model.specs.Issued.{dispatches_of, transfers_of}
 use Rattle.service_model.specs.Outcome.{Outcome, Added, Counting, CountsNothing, AcceptsFrom, AcknowledgesTo, CountsDispatch, latest_run}
-use Rattle.mutable_state.specs.View.{HasRoomFor, RunView}
+use Rattle.mutable_state.specs.RunView.{HasRoomFor, RunView}
 use Rattle.mutable_state.specs.Steps.{after_step, FitStep}
 use Rattle.transfer.specs.Outboxes.{counted_to, waiting_to, with_all_sent}
 use Rattle.transfer.specs.Logs.{Waiting, one_counted, with_issued}
 use Rattle.shard_steps.specs.Issuing.{issued_first}
-use Rattle.shard_steps.specs.Kept.{IsCaughtUp}
+use Rattle.shard_steps.specs.Outstanding.{IsCaughtUp}
 use Rattle.shard_steps.specs.Starts.{MayBegin, first_facts, new_run}
 use Rattle.shard_steps.specs.declared.starts.Beginning.{Beginning}
 use Rattle.shard_store.specs.Places.{empty_place}
-use Rattle.shard_store.specs.View.{ShardView, ShardState, ordinal_of, states}
+use Rattle.shard_store.specs.ShardView.{ShardView, ShardState, ordinal_of, states}
 use Rattle.shard_store.specs.Open.{HasClosed, IsOneOpen}
 use Rattle.shard_store.specs.declared.plan.Change.{Change}
 use Rattle.shard_store.specs.declared.plan.Count.{Count}

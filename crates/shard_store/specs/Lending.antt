@@ -1,7 +1,7 @@
 -- PROOF: what the places end as, where one of them was lent
 use Rattle.std.specs.Prelude.{ℕ, slice_set}
 use Rattle.std.specs.Borrow.{Fml, Lends, MutBor, RattleType}
-use Rattle.mutable_state.specs.View.{RunView}
+use Rattle.mutable_state.specs.RunView.{RunView}
 use Rattle.mutable_state_keeper.specs.declared.keeps_run.KeepsRun.{Ghosts}
 use Rattle.shard_store.specs.Places.{RunsView}
 use Rattle.shard_store.specs.contracts.place.Place as place

@@ -1,6 +1,6 @@
 pub mod Places
 pub mod Lending
-pub mod View
+pub mod ShardView
 pub mod Open
 pub mod Fitting
 pub mod Standing

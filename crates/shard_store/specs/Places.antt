@@ -2,7 +2,7 @@
 use Rattle.std.specs.Prelude.{◌≡◌, ℕ, ◌<◌, List, length, slice_index_or}
 use Rattle.service_model.specs.RunState.{no_run}
 use Rattle.mutable_state.specs.Rooms.{ForAny}
-use Rattle.mutable_state.specs.View.{RunView}
+use Rattle.mutable_state.specs.RunView.{RunView}
 
 abbrev pub empty_place : RunView
 empty_place = record { state = no_run; room = ForAny 0 }

@@ -4,7 +4,7 @@ ghost use Rattle.std.specs.Prelude.{◌≡◌, ℕ, List, None, Some, IfSome, by
 ghost use Rattle.indexmap.specs.IndexMap.{get_by_text};
 ghost use Rattle.service_model.specs.Aging.{IsOldestRun};
 ghost use Rattle.service_model.specs.Outcome.{Outcome};
-ghost use Rattle.shard_store.specs.View.{state, states};
+ghost use Rattle.shard_store.specs.ShardView.{state, states};
 ghost use Rattle.shard_store.specs.Fitting.{FitsChange, after_added, after_answer, after_change, after_count, after_created, after_taken, without, HasPlace, HasRoom, MayAdd, MayAnswer, MayCount, MayGrow, MayTake};
 
 use crate::plan::{Change, Count, MoreOf, NewRun};

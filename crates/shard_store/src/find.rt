@@ -5,7 +5,7 @@ ghost use Rattle.service_model.specs.Deliveries.{own_run};
 ghost use Rattle.service_model.specs.Outcome.{has_run, named_run, latest_run, open_run, run_id};
 ghost use Rattle.service_model.specs.RunState.{is_open, is_there};
 ghost use Rattle.shard_steps.specs.Attempts.{has_run_of};
-ghost use Rattle.shard_store.specs.View.{ordinal_of, run_in, runs_in, states};
+ghost use Rattle.shard_store.specs.ShardView.{ordinal_of, run_in, runs_in, states};
 
 use crate::store::Store;
 use mutable_state_keeper::KeepsRun;

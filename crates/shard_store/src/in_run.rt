@@ -6,10 +6,10 @@ ghost use Rattle.service_model.specs.Completion.{judge_all, failed_task};
 ghost use Rattle.service_model.specs.Outcome.{run_id};
 ghost use Rattle.service_model.specs.Pending.{IsStarted};
 ghost use Rattle.service_model.specs.RunState.{is_there};
-ghost use Rattle.mutable_state.specs.View.{HasRoomFor};
-ghost use Rattle.task_completion.specs.Ends.{IsPlanned, IsCompletion};
-ghost use Rattle.shard_steps.specs.Kept.{IsCaughtUp};
-ghost use Rattle.shard_store.specs.View.{run_in, state, states};
+ghost use Rattle.mutable_state.specs.RunView.{HasRoomFor};
+ghost use Rattle.task_completion.specs.PlannedEnds.{IsPlanned, IsCompletion};
+ghost use Rattle.shard_steps.specs.Outstanding.{IsCaughtUp};
+ghost use Rattle.shard_store.specs.ShardView.{run_in, state, states};
 ghost use Rattle.shard_store.specs.Fitting.{IsPrepared, state_at, view_at};
 
 use crate::plan::MoreOf;

@@ -3,7 +3,7 @@
 ghost use Rattle.std.specs.Borrow.{sem};
 ghost use Rattle.std.specs.Prelude.{◌≡◌, ◌≢◌, ◌<◌, ◌≤◌, ◌++◌, ◌∷◌, [], IfOk, OnOk, length, slice_index_or, slice_set};
 ghost use Rattle.mutable_state.specs.Steps.{after_step, FitStep};
-ghost use Rattle.mutable_state.specs.View.{HasRoomFor, RunView};
+ghost use Rattle.mutable_state.specs.RunView.{HasRoomFor, RunView};
 ghost use Rattle.shard_store.specs.Places.{empty_place};
 
 use crate::place::Place;

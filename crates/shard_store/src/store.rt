@@ -6,8 +6,8 @@ ghost use Rattle.service_model.specs.Outcome.{Outcome};
 ghost use Rattle.service_model_types.specs.Routing.{shard_of};
 ghost use Rattle.service_model.specs.RunState.{is_there};
 ghost use Rattle.service_model.specs.Service.{opening};
-ghost use Rattle.shard_steps.specs.Kept.{IsCaughtUp};
-ghost use Rattle.shard_store.specs.View.{IsSetup, run_in, state, states};
+ghost use Rattle.shard_steps.specs.Outstanding.{IsCaughtUp};
+ghost use Rattle.shard_store.specs.ShardView.{IsSetup, run_in, state, states};
 ghost use Rattle.shard_store.specs.Fitting.{FitsChange, state_after};
 ghost use Rattle.shard_store.specs.Open.{IsOneOpen};
 ghost use Rattle.shard_store.specs.Standing.{Grows, StandsFor};
@@ -64,9 +64,9 @@ impl<T: KeepsRun> Drop for Store<T> {
 impl<T: KeepsRun> Model for Store<T> {
     ghost use Rattle.std.specs.Prelude.{◌<◌, ◌^◌, length, min};
     ghost use Rattle.indexmap.specs.IndexMap.{get_by_text, spare};
-    ghost use Rattle.shard_store.specs.View.{ShardView, IsIndexed, IsSetup, states};
+    ghost use Rattle.shard_store.specs.ShardView.{ShardView, IsIndexed, IsSetup, states};
     ghost use Rattle.shard_steps.specs.Issuing.{all_waiting};
-    ghost use Rattle.shard_steps.specs.Kept.{HasFirsts, HasShown, outstanding};
+    ghost use Rattle.shard_steps.specs.Outstanding.{HasFirsts, HasShown, outstanding};
     ghost use Rattle.shard_steps.specs.Sending.{all_outgoing, KeepsTransfers};
 
     ghost Value = { ShardView };

@@ -2,7 +2,7 @@
 
 ghost use Rattle.std.specs.Prelude.{◌≡◌, ◌<◌, ◌^◌, IfOk, length};
 ghost use Rattle.service_model.specs.Waiting.{all_waiting};
-ghost use Rattle.shard_store.specs.View.{states};
+ghost use Rattle.shard_store.specs.ShardView.{states};
 
 use crate::runs::Runs;
 use crate::store::Store;

@@ -6,7 +6,7 @@ use Rattle.std.specs.Prelude.{filter, find, option_map, bytes_eq}
 use Rattle.std.specs.Option.{option_map_or}
 use Rattle.mutable_state.specs.Readers.{UsedRow, is_named}
 use Rattle.task_completion.specs.Judging.{event_named}
-use Rattle.task_completion.specs.Named.{Covers, Covered}
+use Rattle.task_completion.specs.NameCovers.{Covers, Covered}
 
 -- what isn't found has no event, and the other way round
 none-found : (name : List ℕ) (rows : List UsedRow) → event_named name rows ≡ None → find (is_named name) rows ≡ None

@@ -13,7 +13,7 @@ use Rattle.service_model.specs.RunState.{RunState, used, pending, held_attribute
 use Rattle.service_model.specs.Completion.{opened_so_far, is_settled_so_far, pending_so_far}
 use Rattle.mutable_state.specs.Readers.{IsGrounded}
 use Rattle.mutable_state.specs.Steps.{opened_by, itself}
-use Rattle.mutable_state.specs.View.{pending_in}
+use Rattle.mutable_state.specs.RunView.{pending_in}
 use Rattle.mutable_state.specs.declared.pending.Pending.{Pending}
 use Rattle.task_completion.specs.Judging.{IsSoFar}
 use Rattle.task_completion.specs.Outward.{is_outward, count_of, one_more, Counts}

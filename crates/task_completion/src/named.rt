@@ -4,7 +4,7 @@ ghost use Rattle.std.specs.Prelude.{◌≡◌, ◌==◌, ◌++◌, ◌∷◌, []
 ghost use Rattle.indexmap.specs.IndexSet.{contains_text};
 ghost use Rattle.mutable_state.specs.Readers.{UsedRow};
 ghost use Rattle.task_completion.specs.Judging.{event_named};
-ghost use Rattle.task_completion.specs.Named.{Covers, Covered};
+ghost use Rattle.task_completion.specs.NameCovers.{Covers, Covered};
 
 use crate::rows::event_named;
 use indexmap::IndexSet;
@@ -31,7 +31,7 @@ impl<'a> Model for NamedRows<'a> {
     ghost use Rattle.std.specs.Prelude.{List, option_map};
     ghost use Rattle.indexmap.specs.IndexSet.{contains_text};
     ghost use Rattle.mutable_state.specs.Readers.{UsedRow};
-    ghost use Rattle.task_completion.specs.Named.{Covered};
+    ghost use Rattle.task_completion.specs.NameCovers.{Covered};
 
     ghost Value = { List UsedRow };
 

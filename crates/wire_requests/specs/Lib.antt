@@ -3,7 +3,7 @@ pub mod ActivityCommands
 pub mod ExternalCommands
 pub mod Commands
 pub mod Starts
-pub mod Ends
+pub mod CancelFields
 pub mod Operations
 pub mod Ops
 pub mod Polls

@@ -19,7 +19,7 @@ use Rattle.wire_fields.specs.Kinds.{text_of, id_of, run_of, token_of}
 use Rattle.wire_fields.specs.Fields.{required, or_default, optional}
 use Rattle.wire_requests.specs.Activities.{activity_text_of, fail_activity_of}
 use Rattle.wire_requests.specs.Commands.{commands_of}
-use Rattle.wire_requests.specs.Ends.{request_cancel_of, terminate_of}
+use Rattle.wire_requests.specs.CancelFields.{request_cancel_of, terminate_of}
 use Rattle.wire_requests.specs.Polls.{poll_of}
 use Rattle.wire_requests.specs.Starts.{start_of, signal_with_start_of}
 use Rattle.wire_requests.specs.Tasks.{workflow_task_in}

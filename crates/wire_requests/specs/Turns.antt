@@ -23,7 +23,7 @@ shard_in settings f n = if nat_lt n 65536 && nat_lt n settings.shards then Ok n 
 abbrev pub stop_in : ℕ → Result Stop Refusal
 stop_in n =
     if n == 0 then Ok AtEnd else (if n == 1 then Ok AfterFirstPart else
-        (if n == 2 then Ok AfterSecondPart else Err (InvalidArgument field.Stop)))
+    (if n == 2 then Ok AfterSecondPart else Err (InvalidArgument field.Stop)))
 
 -- timer_turn
 unfoldable pub timer_turn_of : Settings → ℕ → Data → Result TimerTurn Refusal

@@ -1,9 +1,9 @@
 //! Lines that ask a run to cancel, and that terminate it.
 //!
-//! Rule: PROFILE, Lines. Definition: wire_requests/Ends. Rows: -. Cases: workflow_ids.
+//! Rule: PROFILE, Lines. Definition: wire_requests/CancelFields. Rows: -. Cases: workflow_ids.
 
 ghost use Rattle.wf_event_values.specs.Gives.{Gives};
-ghost use Rattle.wire_requests.specs.Ends.{request_cancel_of, terminate_of};
+ghost use Rattle.wire_requests.specs.CancelFields.{request_cancel_of, terminate_of};
 
 use service_model_types::request::{RequestCancel, Terminate};
 use std::alloc::Global;
@@ -12,7 +12,7 @@ use wire_fields::{optional, or_default, required};
 use wire_trees::Tree;
 
 /// The fields of what asks a run to cancel.
-#[tactic(auto, unfolding(crate::specs::Ends::request_cancel_of))]
+#[tactic(auto, unfolding(crate::specs::CancelFields::request_cancel_of))]
 pub fn request_cancel<V: Tree>(alloc: Global, line: &V) -> Result<RequestCancel, Refusal>
     ensures { Gives result (request_cancel_of (V.stands_for line.now)) }
 {
@@ -27,7 +27,7 @@ pub fn request_cancel<V: Tree>(alloc: Global, line: &V) -> Result<RequestCancel,
 }
 
 /// The fields of what terminates a run.
-#[tactic(auto, unfolding(crate::specs::Ends::terminate_of))]
+#[tactic(auto, unfolding(crate::specs::CancelFields::terminate_of))]
 pub fn terminate<V: Tree>(alloc: Global, line: &V) -> Result<Terminate, Refusal>
     ensures { Gives result (terminate_of (V.stands_for line.now)) }
 {

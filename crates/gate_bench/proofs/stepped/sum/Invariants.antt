@@ -1,4 +1,4 @@
-use Rattle.gate.specs.Gates.{IsPassOf}
+use Rattle.gate.specs.GateViews.{IsPassOf}
 use Rattle.gate_bench.proofs.stepped.sum.Given as goal
 
 abbrev pub invariant-loop-slot : goal.invariant-loop-slot

@@ -1,5 +1,5 @@
 use Rattle.std.proofs.Common.{◌≤◌, ◌<◌, All, vec_len}
-use Rattle.lanes.specs.Told.{Progress}
+use Rattle.lanes.specs.ToldLines.{Progress}
 use Rattle.lanes.proofs.run.run_lanes.Given as goal
 
 abbrev pub invariant-loop : goal.invariant-loop

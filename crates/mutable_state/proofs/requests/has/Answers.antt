@@ -2,7 +2,7 @@ use Rattle.std.proofs.Common.{ap, sym, ◌∙◌}
 use Rattle.std.specs.Prelude.{bytes_eq, string_bytes}
 use Rattle.std.specs.List.{list_any}
 use Rattle.service_model.specs.Signals.{was_signaled}
-use Rattle.mutable_state.specs.View.{texts}
+use Rattle.mutable_state.specs.RunView.{texts}
 use Rattle.mutable_state.proofs.AddLemmas.{list_any-map}
 use Rattle.mutable_state.proofs.requests.has.Goals as goal
 

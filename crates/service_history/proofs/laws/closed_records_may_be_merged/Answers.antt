@@ -1,5 +1,5 @@
 use Rattle.history.proofs.RunLemmas.{history-ticketed}
-use Rattle.service.specs.Ends.{base_of}
+use Rattle.service.specs.AtClose.{base_of}
 use Rattle.service_history.proofs.laws.closed_records_may_be_merged.Goals as goal
 
 pub returns : goal.returns

@@ -1,7 +1,7 @@
 use Rattle.std.proofs.Common.{◌≡◌, ◌∙◌, ◌++◌, ap, sym, subst}
 use Rattle.service_model.specs.WholeRuns.{IsWhole, Whole}
 use Rattle.service.specs.Contents.{setup_of}
-use Rattle.service.specs.Ends.{base_of}
+use Rattle.service.specs.AtClose.{base_of}
 use Rattle.history.proofs.RunLemmas.{merged-run, run-records}
 use Rattle.service_history.proofs.laws.what_is_merged_is_the_history.Goals as goal
 

@@ -5,7 +5,7 @@ use Rattle.service_model.specs.RunState.{RunState, is_open, used}
 use Rattle.service_model.specs.Tasks.{pending_row}
 use Rattle.mutable_state.specs.Activities.{row_said}
 use Rattle.mutable_state.specs.Steps.{has_id}
-use Rattle.shard_store.specs.View.{run_in, runs_in}
+use Rattle.shard_store.specs.ShardView.{run_in, runs_in}
 use Rattle.shard_steps.proofs.AttemptLemmas.{pending-there, pending-open, if-some}
 use Rattle.shard.proofs.activities.attempt_for.Goals as goal
 

@@ -5,7 +5,7 @@ use Rattle.service_model.specs.Outcome.{Outcome, answered, has_run, run_at}
 use Rattle.service_model.specs.Tasks.{take_row, pending_row}
 use Rattle.shard_steps.specs.Attempts.{task_for}
 use Rattle.shard_store.specs.Fitting.{FitsStep}
-use Rattle.shard_store.specs.View.{runs_at}
+use Rattle.shard_store.specs.ShardView.{runs_at}
 use Rattle.shard_steps.proofs.AttemptLemmas.{taking, taken-by}
 use Rattle.shard.proofs.StartLemmas.{fits-answered}
 use Rattle.shard.proofs.activities.take_activity.Goals as goal

@@ -4,7 +4,7 @@ use Rattle.service_model_types.specs.declared.journal.Fact.{Fact}
 use Rattle.service_model_types.specs.declared.journal.Note.TheVariants.{Taken}
 use Rattle.service_model.specs.Outcome.{adds, noted}
 use Rattle.mutable_state.specs.Steps.{FitStep}
-use Rattle.shard_store.specs.View.{ordinal_of, run_in}
+use Rattle.shard_store.specs.ShardView.{ordinal_of, run_in}
 use Rattle.shard_store.specs.Fitting.{FitsStep}
 use Rattle.shard_steps.proofs.AttemptLemmas.{taken-fits}
 use Rattle.shard.proofs.activities.take_attempt.Goals as goal

@@ -6,7 +6,7 @@ use Rattle.service_model.specs.Tasks.{pending_row}
 use Rattle.mutable_state.specs.declared.activity.Activity.{Activity}
 use Rattle.mutable_state.specs.Activities.{row_said}
 use Rattle.shard_steps.specs.Attempts.{has_run_of}
-use Rattle.shard_store.specs.View.{run_in, runs_in}
+use Rattle.shard_store.specs.ShardView.{run_in, runs_in}
 use Rattle.shard.proofs.RunningLemmas.{has-attempt}
 use Rattle.shard.proofs.attempts.attempt_running.Goals as goal
 

@@ -4,7 +4,7 @@ use Rattle.service_model.specs.Activities.{ends_activity}
 use Rattle.service_model.specs.Outcome.{Outcome, adds, run_at}
 use Rattle.mutable_state.specs.Steps.{FitStep}
 use Rattle.shard_store.specs.Fitting.{FitsStep}
-use Rattle.shard_store.specs.View.{ordinal_of, run_in, runs_at}
+use Rattle.shard_store.specs.ShardView.{ordinal_of, run_in, runs_at}
 use Rattle.shard.specs.Running.{row_of}
 use Rattle.shard_steps.proofs.EndingLemmas.{ending-fits}
 use Rattle.shard.proofs.attempts.end_activity.Goals as goal

@@ -7,7 +7,7 @@ use Rattle.service_model_types.specs.declared.journal.Fact.{Fact}
 use Rattle.service_model.specs.Cancels.{cancel_open}
 use Rattle.service_model.specs.Outcome.{Outcome, outside, adds, made_by}
 use Rattle.mutable_state.specs.Steps.{FitStep}
-use Rattle.shard_store.specs.View.{ordinal_of, run_in, runs_at}
+use Rattle.shard_store.specs.ShardView.{ordinal_of, run_in, runs_at}
 use Rattle.shard_store.specs.Fitting.{FitsStep}
 use Rattle.shard_steps.proofs.StartLemmas.{cancel-fits}
 use Rattle.shard.proofs.ends.request_cancel_of_run.Goals as goal

@@ -5,7 +5,7 @@ use Rattle.service_model_types.specs.declared.journal.Fact.{Fact}
 use Rattle.service_model.specs.Journal.{plain}
 use Rattle.service_model.specs.Outcome.{Outcome, adds}
 use Rattle.mutable_state.specs.Steps.{FitStep}
-use Rattle.shard_store.specs.View.{ordinal_of, run_in}
+use Rattle.shard_store.specs.ShardView.{ordinal_of, run_in}
 use Rattle.shard_store.specs.Fitting.{FitsStep}
 use Rattle.shard_steps.proofs.StartLemmas.{terminate-fits}
 use Rattle.shard.proofs.ends.terminate_run.Goals as goal

@@ -8,7 +8,7 @@ use Rattle.service_model.specs.Starts.{start_request}
 use Rattle.shard_steps.specs.Starts.{MayBegin, first_facts}
 use Rattle.shard_steps.proofs.StartLemmas.{first-fits}
 use Rattle.shard.specs.Following.{following}
-use Rattle.shard_store.specs.View.{ordinal_of, runs_at}
+use Rattle.shard_store.specs.ShardView.{ordinal_of, runs_at}
 use Rattle.shard.proofs.FollowLemmas.{follows}
 use Rattle.shard.proofs.followers.make_follower_by.Goals as goal
 

@@ -3,7 +3,7 @@ use Rattle.std.specs.Prelude.{Ok}
 use Rattle.service_model.specs.Outcome.{adds}
 use Rattle.shard_store.specs.declared.plan.Plan.{Plan}
 use Rattle.shard_store.specs.Fitting.{FitsStep}
-use Rattle.shard_store.specs.View.{ordinal_of}
+use Rattle.shard_store.specs.ShardView.{ordinal_of}
 use Rattle.shard.proofs.StartLemmas.{more-fits}
 use Rattle.shard.proofs.more.add_facts.Goals as goal
 

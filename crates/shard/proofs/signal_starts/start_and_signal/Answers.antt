@@ -1,7 +1,7 @@
 use Rattle.std.proofs.Common.{◌≡◌, ℕ, ◌-◌, false, Option, IfOk, IfSome, subst, ap, sym}
 use Rattle.service_model.specs.RunState.{is_open}
 use Rattle.service_model.specs.Outcome.{Outcome, latest_run}
-use Rattle.shard_store.specs.View.{runs_at, states}
+use Rattle.shard_store.specs.ShardView.{runs_at, states}
 use Rattle.shard_store.specs.Fitting.{FitsStep, state_at}
 use Rattle.shard.specs.Deciding.{signaled_by}
 use Rattle.shard.proofs.StartLemmas.{signaled-none}

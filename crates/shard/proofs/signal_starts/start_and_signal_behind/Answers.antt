@@ -2,7 +2,7 @@ use Rattle.std.proofs.Common.{◌≡◌, ℕ, ◌-◌, ◌∙◌, false, Option,
 use Rattle.service_model.specs.RunState.{is_open}
 use Rattle.service_model.specs.Signals.{start_in}
 use Rattle.id_policy.specs.Decisions.{says}
-use Rattle.shard_store.specs.View.{ordinal_of, runs_at, states}
+use Rattle.shard_store.specs.ShardView.{ordinal_of, runs_at, states}
 use Rattle.shard_store.specs.Fitting.{state_at}
 use Rattle.shard_steps.proofs.StartLemmas.{decides-fail, decides-new}
 use Rattle.shard.proofs.signal_starts.start_and_signal_behind.Goals as goal

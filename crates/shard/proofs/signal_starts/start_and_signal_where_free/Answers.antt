@@ -3,7 +3,7 @@ use Rattle.service_model.specs.Starts.{starts_new}
 use Rattle.shard_steps.specs.declared.starts.Beginning.{Beginning}
 use Rattle.shard_steps.specs.Starts.{first_facts, MayBegin}
 use Rattle.shard_steps.proofs.StartLemmas.{signaled-fits}
-use Rattle.shard_store.specs.View.{runs_at, states}
+use Rattle.shard_store.specs.ShardView.{runs_at, states}
 use Rattle.shard_store.specs.Fitting.{FitsStep, IsFree}
 use Rattle.shard.proofs.signal_starts.start_and_signal_where_free.Goals as goal
 

@@ -5,7 +5,7 @@ use Rattle.service_model_types.specs.declared.journal.Fact.{Fact}
 use Rattle.service_model.specs.Outcome.{Outcome, outside, adds, answered}
 use Rattle.service_model.specs.Signals.{was_signaled, signal_fact}
 use Rattle.mutable_state.specs.Steps.{FitStep}
-use Rattle.shard_store.specs.View.{ordinal_of, run_in, runs_at}
+use Rattle.shard_store.specs.ShardView.{ordinal_of, run_in, runs_at}
 use Rattle.shard_store.specs.Fitting.{FitsStep}
 use Rattle.shard_steps.proofs.StartLemmas.{signal-fits}
 use Rattle.shard.proofs.signals.add_signal.Goals as goal

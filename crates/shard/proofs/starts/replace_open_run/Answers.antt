@@ -12,7 +12,7 @@ use Rattle.shard_steps.specs.declared.starts.Beginning.{Beginning}
 use Rattle.shard_steps.proofs.ClosingLemmas.{terminated-behind}
 use Rattle.shard_steps.proofs.StartLemmas.{first-fits, terminate-fits}
 use Rattle.shard_store.specs.Fitting.{IsPrepared}
-use Rattle.shard_store.specs.View.{ordinal_of, run_in, runs_at}
+use Rattle.shard_store.specs.ShardView.{ordinal_of, run_in, runs_at}
 use Rattle.shard.proofs.FollowLemmas.{both-fits}
 use Rattle.shard_store.proofs.IndexLemmas.{length-states}
 use Rattle.shard_store.proofs.PlanLemmas.{stays-prepared}

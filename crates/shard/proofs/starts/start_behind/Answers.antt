@@ -1,7 +1,7 @@
 use Rattle.std.proofs.Common.{◌≡◌, ℕ, ◌-◌, ◌∙◌, false, Option, IfSome, subst, ap, sym}
 use Rattle.service_model.specs.RunState.{is_open}
 use Rattle.id_policy.specs.Decisions.{says}
-use Rattle.shard_store.specs.View.{ordinal_of, runs_at, states}
+use Rattle.shard_store.specs.ShardView.{ordinal_of, runs_at, states}
 use Rattle.shard_store.specs.Fitting.{state_at}
 use Rattle.shard_steps.proofs.StartLemmas.{decides-new, decides-open}
 use Rattle.shard_store.proofs.OpenLemmas.{latest-named, latest-there}

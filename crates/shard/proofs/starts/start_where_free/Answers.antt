@@ -3,7 +3,7 @@ use Rattle.service_model.specs.Starts.{starts_new}
 use Rattle.shard_steps.specs.declared.starts.Beginning.{Beginning}
 use Rattle.shard_steps.specs.Starts.{first_facts, started_by, MayBegin}
 use Rattle.shard_steps.proofs.StartLemmas.{first-fits}
-use Rattle.shard_store.specs.View.{runs_at, states}
+use Rattle.shard_store.specs.ShardView.{runs_at, states}
 use Rattle.shard_store.specs.Fitting.{FitsStep, IsFree}
 use Rattle.shard.proofs.starts.start_where_free.Goals as goal
 

@@ -5,10 +5,10 @@ use Rattle.service_model_types.specs.declared.answer.Answer.{Answer}
 use Rattle.service_model.specs.Completion.{Judged, judge_all}
 use Rattle.service_model.specs.Outcome.{Runs, next_ordinal, run_at, run_id}
 use Rattle.service_model.specs.Tasks.{complete_judged, continued}
-use Rattle.task_completion.specs.Ends.{IsCompletion}
+use Rattle.task_completion.specs.PlannedEnds.{IsCompletion}
 use Rattle.shard_store.specs.Fitting.{FitsCreated, FitsStep, state_at, view_at}
 use Rattle.shard.specs.Following.{continuing}
-use Rattle.shard_store.specs.View.{ordinal_of, runs_at, states}
+use Rattle.shard_store.specs.ShardView.{ordinal_of, runs_at, states}
 use Rattle.shard_store.specs.declared.plan.Count.TheVariants as count
 use Rattle.shard_store.proofs.IndexLemmas.{at-place, length-states}
 use Rattle.shard_steps.proofs.TaskLemmas.{running-started}

@@ -6,9 +6,9 @@ use Rattle.service_model_types.specs.declared.answer.Answer.TheVariants.{Failed}
 use Rattle.service_model.specs.Completion.{failed_task}
 use Rattle.service_model.specs.Journal.{plain}
 use Rattle.service_model.specs.Outcome.{Outcome, adds, run_at}
-use Rattle.task_completion.specs.Ends.{IsPlanned}
+use Rattle.task_completion.specs.PlannedEnds.{IsPlanned}
 use Rattle.shard_store.specs.Fitting.{FitsStep, view_at}
-use Rattle.shard_store.specs.View.{ordinal_of, runs_at}
+use Rattle.shard_store.specs.ShardView.{ordinal_of, runs_at}
 use Rattle.shard_store.specs.declared.plan.Plan.{Plan}
 use Rattle.shard_store.proofs.IndexLemmas.{at-place}
 use Rattle.shard_steps.proofs.TaskLemmas.{running-started}

@@ -8,7 +8,7 @@ use Rattle.service_model.specs.Journal.{plain}
 use Rattle.service_model.specs.Outcome.{Outcome, run_at, run_id, adds, answered}
 use Rattle.service_model.specs.RunState.{RunState, id_of}
 use Rattle.mutable_state.specs.Steps.{FitStep}
-use Rattle.shard_store.specs.View.{ordinal_of, run_in, runs_at}
+use Rattle.shard_store.specs.ShardView.{ordinal_of, run_in, runs_at}
 use Rattle.shard_store.specs.Fitting.{FitsStep}
 use Rattle.shard_steps.proofs.TaskLemmas.{waiting-scheduled, take-fits}
 use Rattle.shard.proofs.tasks.take_waiting_task.Goals as goal

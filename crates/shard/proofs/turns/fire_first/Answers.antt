@@ -14,7 +14,7 @@ use Rattle.timeouts.specs.Slots.{IsOneOf, run_due}
 use Rattle.timeouts.proofs.ClassLemmas.{due-there}
 use Rattle.timeouts.proofs.FirstLemmas.{due-of-run}
 use Rattle.shard_store.specs.Fitting.{FitsStep}
-use Rattle.shard_store.specs.View.{ordinal_of, run_in, runs_at, states}
+use Rattle.shard_store.specs.ShardView.{ordinal_of, run_in, runs_at, states}
 use Rattle.shard_store.specs.declared.plan.Plan.{Plan}
 use Rattle.shard_steps.proofs.TurnLemmas.{fire-fits}
 use Rattle.shard.proofs.TurnLemmas.{adding-fires, fired_as, taking-fits}

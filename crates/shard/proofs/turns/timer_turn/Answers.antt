@@ -2,7 +2,7 @@ use Rattle.std.proofs.Common.{◌≡◌, sym, ap, subst, ◌∙◌}
 use Rattle.std.specs.Prelude.{Some, option_map}
 use Rattle.service_model.specs.TimerTurns.{all_dues, due_now, least}
 use Rattle.timeouts.specs.Slots.{run_due}
-use Rattle.shard_store.specs.View.{ShardState}
+use Rattle.shard_store.specs.ShardView.{ShardState}
 use Rattle.shard.proofs.turns.timer_turn.Goals as goal
 
 pub fire_first-requires-clause-first : goal.fire_first-requires-clause-first

@@ -7,7 +7,7 @@ use Rattle.service_model.specs.Deadlines.{scheduled_fields}
 use Rattle.service_model.specs.Outcome.{Outcome}
 use Rattle.service_model.specs.Retry.{FailedAttempt, Verdict}
 use Rattle.shard_store.specs.Fitting.{FitsStep}
-use Rattle.shard_store.specs.View.{runs_at}
+use Rattle.shard_store.specs.ShardView.{runs_at}
 use Rattle.shard.specs.Running.{row_of}
 use Rattle.shard_steps.proofs.EndingLemmas.{failed-by}
 use Rattle.shard.proofs.verdicts.fail_activity.Goals as goal

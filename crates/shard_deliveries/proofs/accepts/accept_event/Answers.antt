@@ -7,7 +7,7 @@ use Rattle.service_model.specs.Outcome.{outside, run_at}
 use Rattle.service_model.specs.RunState.{RunState}
 use Rattle.mutable_state.specs.Steps.{FitStep}
 use Rattle.shard_store.specs.Fitting.{FitsStep}
-use Rattle.shard_store.specs.View.{ordinal_of, runs_in}
+use Rattle.shard_store.specs.ShardView.{ordinal_of, runs_in}
 use Rattle.shard_deliveries.proofs.FitLemmas.{outside-fits}
 use Rattle.shard_deliveries.proofs.accepts.accept_event.Goals as goal
 

@@ -3,7 +3,7 @@ use Rattle.std.specs.Prelude.{IfSome}
 use Rattle.wf_event.specs.declared.role.Class.TheVariants.{Child}
 use Rattle.wf_event_values.specs.declared.policies.Cause.TheVariants.{WorkflowAlreadyExists}
 use Rattle.service_model.specs.Outcome.{run_at}
-use Rattle.shard_store.specs.View.{ordinal_of, runs_in}
+use Rattle.shard_store.specs.ShardView.{ordinal_of, runs_in}
 use Rattle.shard_deliveries.specs.Pending.{IsPending}
 use Rattle.shard_deliveries.specs.declared.pending.PendingRequest.{PendingRequest}
 use Rattle.shard_deliveries.proofs.FitLemmas.{child-failed-comes}

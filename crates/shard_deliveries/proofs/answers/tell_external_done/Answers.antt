@@ -8,7 +8,7 @@ use Rattle.service_model.specs.RunState.{pending}
 use Rattle.service_model.proofs.ThereLemmas.{open-there}
 use Rattle.mutable_state.specs.Steps.{has_id}
 use Rattle.shard_store.specs.Fitting.{FitsStep}
-use Rattle.shard_store.specs.View.{ordinal_of, runs_at, runs_in}
+use Rattle.shard_store.specs.ShardView.{ordinal_of, runs_at, runs_in}
 use Rattle.shard_deliveries.specs.Accepting.{IsFromOutside}
 use Rattle.shard_deliveries.specs.Pending.{IsPending, said}
 use Rattle.shard_deliveries.specs.declared.pending.PendingRequest.{PendingRequest}

@@ -7,7 +7,7 @@ use Rattle.service_model.specs.Outcome.{run_at}
 use Rattle.mutable_state.specs.Steps.{FitStep}
 use Rattle.shard_steps.proofs.StartLemmas.{terminate-fits}
 use Rattle.shard_store.specs.Fitting.{FitsStep}
-use Rattle.shard_store.specs.View.{ordinal_of, runs_in}
+use Rattle.shard_store.specs.ShardView.{ordinal_of, runs_in}
 use Rattle.shard_deliveries.proofs.children.terminate_child.Goals as goal
 
 pub accept_facts-requires-clause-fits : goal.accept_facts-requires-clause-fits

@@ -1,6 +1,6 @@
 use Rattle.wf_event_values.specs.declared.policies.CancelSource.TheVariants.{External}
 use Rattle.service_model.specs.Outcome.{run_at}
-use Rattle.shard_store.specs.View.{ordinal_of, runs_in}
+use Rattle.shard_store.specs.ShardView.{ordinal_of, runs_in}
 use Rattle.shard_deliveries.proofs.FitLemmas.{cancel-comes}
 use Rattle.shard_deliveries.proofs.externals.deliver_cancel_request_to_run.Goals as goal
 

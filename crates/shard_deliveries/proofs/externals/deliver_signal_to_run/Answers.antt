@@ -1,5 +1,5 @@
 use Rattle.service_model.specs.Outcome.{run_at}
-use Rattle.shard_store.specs.View.{ordinal_of, runs_in}
+use Rattle.shard_store.specs.ShardView.{ordinal_of, runs_in}
 use Rattle.shard_deliveries.proofs.FitLemmas.{signal-comes}
 use Rattle.shard_deliveries.proofs.externals.deliver_signal_to_run.Goals as goal
 

@@ -4,7 +4,7 @@ use Rattle.wf_event_values.specs.declared.policies.ConflictPolicy.TheVariants.{F
 use Rattle.service_model.specs.Deliveries.{is_new}
 use Rattle.service_model.specs.IdPolicy.{decide}
 use Rattle.service_model.specs.Outcome.{run_at}
-use Rattle.shard_store.specs.View.{runs_in}
+use Rattle.shard_store.specs.ShardView.{runs_in}
 use Rattle.shard_deliveries.proofs.starts.is_free_for.Goals as goal
 
 pub returns-in-None : goal.returns-in-None

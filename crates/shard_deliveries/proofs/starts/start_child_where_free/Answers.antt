@@ -4,7 +4,7 @@ use Rattle.service_model_types.specs.declared.answer.Answer.TheVariants.{Accepte
 use Rattle.service_model.specs.Outcome.{run_id}
 use Rattle.shard_steps.specs.Starts.{MayBegin}
 use Rattle.shard_store.specs.Fitting.{FitsStep}
-use Rattle.shard_store.specs.View.{runs_at}
+use Rattle.shard_store.specs.ShardView.{runs_at}
 use Rattle.shard_store.specs.declared.plan.Count.TheVariants.{Accepts}
 use Rattle.shard_steps.proofs.StartLemmas.{first-fits}
 use Rattle.shard_deliveries.specs.Children.{child_beginning, starts_child}

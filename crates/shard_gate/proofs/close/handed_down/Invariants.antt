@@ -1,6 +1,6 @@
 use Rattle.std.proofs.Common.{◌≡◌, ◌++◌, ◌≤◌, length, map, vec_len, vec_capacity}
 use Rattle.gate.specs.Passes.{view as seen_by}
-use Rattle.shard_gate.specs.Views.{PassView}
+use Rattle.shard_gate.specs.GateViews.{PassView}
 use Rattle.shard_gate.proofs.close.handed_down.Given as goal
 
 abbrev pub invariant-loop-pass : goal.invariant-loop-pass

@@ -1,6 +1,6 @@
 use Rattle.std.proofs.Common.{◌≡◌, ◌++◌, map}
 use Rattle.gate.specs.Passes.{view as seen_by}
-use Rattle.shard_gate.specs.Views.{PassView}
+use Rattle.shard_gate.specs.GateViews.{PassView}
 use Rattle.shard_gate.proofs.open.as_shard_passes.Given as goal
 
 abbrev pub invariant-loop-inner : goal.invariant-loop-inner

@@ -1,8 +1,8 @@
 use Rattle.std.proofs.Common.{ap, ◌∙◌, ◌+◌, sym, arith, ◌++◌}
 use Rattle.std.proofs.Math.ListN.{get_or}
 use Rattle.service_model.specs.Waiting.{all_waiting, waiting_of}
-use Rattle.mutable_state.specs.View.{RunView}
-use Rattle.shard_store.specs.View.{states}
+use Rattle.mutable_state.specs.RunView.{RunView}
+use Rattle.shard_store.specs.ShardView.{states}
 use Rattle.shard_store.proofs.WaitingLemmas.{next-wait, all-wait}
 use Rattle.shard_store.proofs.waiting.waiting_in.Goals as goal
 

@@ -1,6 +1,6 @@
 use Rattle.std.proofs.Common.{◌≡◌, take}
 use Rattle.service_model.specs.Waiting.{all_waiting}
-use Rattle.shard_store.specs.View.{states}
+use Rattle.shard_store.specs.ShardView.{states}
 use Rattle.shard_store.proofs.waiting.waiting_in.Given as goal
 
 abbrev pub invariant-loop-index : goal.invariant-loop-index

@@ -1,6 +1,6 @@
 use Rattle.std.proofs.Common.{◌≡◌, ◌∙◌, ap, List, Some, ◌∷◌, [], ◌++◌, length, refl}
 use Rattle.std.specs.Prelude.{slice_get}
-use Rattle.service.specs.Views.{Pass}
+use Rattle.service.specs.ServiceViews.{Pass}
 use Rattle.task_bench.proofs.phases.open.Goals as goal
 
 get-last : (l : List Pass) (p : Pass) → slice_get (l ++ p ∷ []) (length l) ≡ Some p

@@ -1,6 +1,6 @@
 use Rattle.std.proofs.Common.{subst, arith, take, take_all}
 use Rattle.indexmap.specs.IndexSet.{contains_text}
-use Rattle.task_completion.specs.Named.{Covers}
+use Rattle.task_completion.specs.NameCovers.{Covers}
 use Rattle.task_completion.proofs.NameLemmas.{covers-none, covers-next}
 use Rattle.task_completion.proofs.named.names_of.Goals as goal
 

@@ -1,6 +1,6 @@
 use Rattle.std.proofs.Common.{◌≡◌, ◌∙◌, ap, List, Some, ◌∷◌, [], ◌++◌, length, refl}
 use Rattle.std.specs.Prelude.{slice_get}
-use Rattle.service.specs.Views.{Pass}
+use Rattle.service.specs.ServiceViews.{Pass}
 use Rattle.cases.proofs.calls.Opened.open.Goals as goal
 
 -- what was put at the end of a list stands at its length

@@ -2,7 +2,7 @@ use Rattle.std.proofs.Common.{rules, arith, refl, sym, ap, ap₂, ◌∙◌, ℕ
 use Rattle.crossbeam_queue.specs.Stamps.{stamp}
 use Rattle.crossbeam_queue.proofs.Keeps.{claims, publishes}
 use mathlib.Core.Option.{some-injective}
-use Rattle.matching.specs.Plays.{Puts}
+use Rattle.matching.specs.PassSteps.{Puts}
 use Rattle.matching.proofs.Keeps.{puts}
 use Rattle.matching.proofs.line.Line.claim.Goals as goal
 

@@ -2,7 +2,7 @@ use Rattle.std.proofs.Common.{rules, arith, sym, ap, ap₂, ◌∙◌, ℕ, ◌+
 use Rattle.crossbeam_queue.specs.Stamps.{stamp, one_lap}
 use Rattle.crossbeam_queue.proofs.Keeps.{fetches, releases}
 use Rattle.atomic_table.specs.Table.{rest}
-use Rattle.matching.specs.Plays.{Takes}
+use Rattle.matching.specs.PassSteps.{Takes}
 use Rattle.matching.proofs.Keeps.{takes}
 use Rattle.matching.proofs.line.Line.fetch.Goals as goal
 

@@ -45,4 +45,4 @@ returns-clause-agree c =
     agree_of c.args.first.now.me.0.client c.args.second.now.me.0.client c.join_seat.new.seat.me.0.client c.load.new.seat.me.0.client
     c.join_seat-2.new.seat.me.0.client c.split_seat-note-2.new.seat.me.0.client c.split_seat-note.result.me.0.client c.split_seat-note-2.result.me.0.client
     c.requires.quiet.1 (ap (λ m. m.0.client) gave.4) (ap (λ m. m.0.client) has.2) saw.2.1 (ap (λ m. m.0.client) note.4)
-    (ap (λ m. m.0.client) took.2 ∙ ap (λ v. Rattle.matching.specs.Told.adopted v c.split_seat-note-2.result.me.0.client) (ap (λ m. m.0.client) gave.2)) (ap (λ m. m.0.client) note.2)
+    (ap (λ m. m.0.client) took.2 ∙ ap (λ v. Rattle.matching.specs.ToldHints.adopted v c.split_seat-note-2.result.me.0.client) (ap (λ m. m.0.client) gave.2)) (ap (λ m. m.0.client) note.2)

@@ -5,7 +5,7 @@ use Rattle.crossbeam_queue.proofs.Stamps.{next_power_lap}
 use Rattle.atomic_table.specs.Table.{opening}
 use Rattle.service_model_types.specs.declared.request.Hint.{Hint}
 use Rattle.matching.specs.Rule.{Kept}
-use Rattle.matching.specs.Plays.{maker}
+use Rattle.matching.specs.PassSteps.{maker}
 use Rattle.matching.proofs.Keeps.{begins}
 use Rattle.matching.proofs.Starts.{starts}
 use Rattle.matching.proofs.line.Line.open.Goals as goal

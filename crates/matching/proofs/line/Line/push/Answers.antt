@@ -2,7 +2,7 @@ use Rattle.std.proofs.Common.{sym, subst, ap, ◌∙◌, ℕ, ◌+◌, ◌-◌, 
 use Rattle.crossbeam_queue.specs.Stamps.{stamp}
 use Rattle.crossbeam_queue.proofs.Stamps.{lap_back, lap_past}
 use Rattle.crossbeam_queue.specs.Fifo.{Held}
-use Rattle.matching.specs.Plays.{Sees}
+use Rattle.matching.specs.PassSteps.{Sees}
 use Rattle.matching.proofs.line.Line.push.Goals as goal
 
 pub head_if_full-requires-clause-seen : goal.head_if_full-requires-clause-seen

@@ -2,10 +2,10 @@ use Rattle.std.proofs.Common.{rules, arith, ◌≡◌, ◌∙◌, ◌<◌, ℕ, 
 use Rattle.std.proofs.lemmas.Grind.{common_steps}
 use lib.ListN.{length-map}
 use Rattle.matching.specs.declared.queues.QueuesPass.{QueuesPass}
-use Rattle.matching.specs.Ends.{IsEnd}
+use Rattle.matching.specs.AtClose.{IsEnd}
 use Rattle.matching.specs.Queues.{known_by as known}
 use Rattle.matching.specs.Named.{at, known_by, held_of, held_at, given_of, parts_at}
-use Rattle.matching.specs.Told.{taken_in}
+use Rattle.matching.specs.ToldHints.{taken_in}
 use Rattle.matching.proofs.Ended.{AllTaken, taken_self, taken_more, taken_new, unused, ended}
 use Rattle.matching.proofs.Lists.{comes_next, each_snoc}
 use Rattle.matching.proofs.queues.Queues.close.Goals as goal

@@ -1,6 +1,6 @@
 use Rattle.std.proofs.Common.{subst, sym}
-use Rattle.service.specs.Helds.{IsHeldBy}
-use Rattle.service.specs.Views.{Held}
+use Rattle.service.specs.HeldPasses.{IsHeldBy}
+use Rattle.service.specs.ServiceViews.{Held}
 use Rattle.service.proofs.held.Held.leave.Goals as goal
 
 pub returns-clause-own : goal.returns-clause-own

@@ -1,5 +1,5 @@
 use Rattle.std.proofs.Common.{subst, sym}
-use Rattle.shard_gate.specs.Views.{SeenGrounds}
+use Rattle.shard_gate.specs.GateViews.{SeenGrounds}
 use Rattle.service.specs.Services.{known_by}
 use Rattle.service.proofs.service.Service.acknowledge.Goals as goal
 

@@ -2,10 +2,10 @@ use Rattle.std.proofs.Common.{ℕ, ap, sym, ◌∙◌, subst, arith}
 use Rattle.std.proofs.lemmas.List.{length-map}
 use Rattle.std.specs.Prelude.{slice_get, length}
 use Rattle.matching.specs.Named as matching
-use Rattle.matching.specs.Ends as of_queue
-use Rattle.shard_gate.specs.Views as gates
-use Rattle.service.specs.Ends.{held_at, parts_at}
-use Rattle.service.specs.Views.{Pass}
+use Rattle.matching.specs.AtClose as of_queue
+use Rattle.shard_gate.specs.GateViews as gates
+use Rattle.service.specs.AtClose.{held_at, parts_at}
+use Rattle.service.specs.ServiceViews.{Pass}
 use Rattle.service.proofs.CloseLemmas.{ends-with, has-done, history-as, opened-by}
 use Rattle.service_model.proofs.ListLemmas.{get-map, map-get}
 use Rattle.service.proofs.service.Service.close.Goals as goal

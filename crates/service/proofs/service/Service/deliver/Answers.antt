@@ -1,8 +1,8 @@
 use Rattle.std.proofs.Common.{◌∙◌, subst, sym}
 use Rattle.service_model_types.specs.declared.transfer.Transfer.{Transfer}
-use Rattle.service.specs.Asks.{to_acknowledge}
+use Rattle.service.specs.CallRequests.{to_acknowledge}
 use Rattle.service.specs.Services.{IsServedAtLast, known_by}
-use Rattle.shard_gate.specs.Views.{SeenGrounds}
+use Rattle.shard_gate.specs.GateViews.{SeenGrounds}
 use Rattle.service.proofs.GroundLemmas.{delivery-grounds}
 use Rattle.service.proofs.TransferLemmas.{not-acknowledged}
 use Rattle.service.proofs.service.Service.deliver.Goals as goal

@@ -3,7 +3,7 @@ use Rattle.wf_event_values.specs.declared.refusal.Refusal.{Refusal}
 use Rattle.service_model_types.specs.declared.request.Request.{Request}
 use Rattle.service.specs.Contents.{shard_refusal}
 use Rattle.service.specs.Services.{Answered, IsServedAtLast, known_by}
-use Rattle.service.specs.Views.{Service}
+use Rattle.service.specs.ServiceViews.{Service}
 use Rattle.service.proofs.TurnLemmas.{next-below}
 use Rattle.service.proofs.service.Service.next_dispatch.Goals as goal
 

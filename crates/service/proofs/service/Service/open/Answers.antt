@@ -2,7 +2,7 @@ use Rattle.std.proofs.Common.{◌≡◌, List, length, ap, sym, ◌∙◌, subst
 use Rattle.std.proofs.lemmas.List.{length-map}
 use Rattle.std.proofs.lemmas.Result.{err_from_is_err_and}
 use Rattle.std.specs.Prelude.{◌<◌, All, slice_get, Ok}
-use Rattle.gate.specs.Gated.{at}
+use Rattle.gate.specs.SlotRule.{at}
 use Rattle.service_model_types.specs.declared.content.Dispatch.{Dispatch}
 use Rattle.service_model_types.specs.declared.content.Setup.{Setup}
 use Rattle.service_model_types.specs.declared.settings.Settings.{Settings}
@@ -10,7 +10,7 @@ use Rattle.service_model.specs.Service.{Entry}
 use Rattle.service.specs.Contents.{opening_contents}
 use Rattle.service.specs.Reopening.{records_fault}
 use Rattle.service.specs.Services.{IsInRange}
-use Rattle.service.specs.Views.{Pass}
+use Rattle.service.specs.ServiceViews.{Pass}
 use Rattle.service_model.proofs.ListLemmas.{map-get}
 use Rattle.service.proofs.OpenLemmas.{in-range}
 use Rattle.service.proofs.ReopenLemmas.{base-is, given-count, opens-as, opens-with, records-right, setups-fit, waiting-is, waiting-there}

@@ -1,10 +1,10 @@
 use Rattle.std.proofs.Common.{subst, sym}
 use Rattle.std.specs.Prelude.{Ok, Some}
 use Rattle.matching.specs.Named.{Pops, known_by as waits_by}
-use Rattle.service.specs.Asks.{to_start_task}
+use Rattle.service.specs.CallRequests.{to_start_task}
 use Rattle.service.specs.Services.{IsServedAtLast, hints_by, known_by}
 use Rattle.service.specs.Turns.{place_of}
-use Rattle.service.specs.Views.{Pass, Service}
+use Rattle.service.specs.ServiceViews.{Pass, Service}
 use Rattle.service.proofs.TurnLemmas.{polled}
 use Rattle.service.proofs.service.Service.poll.Goals as goal
 

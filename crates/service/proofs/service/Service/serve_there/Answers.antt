@@ -2,9 +2,9 @@ use Rattle.std.proofs.Common.{ℕ, ap, subst, arith}
 use Rattle.service_model.specs.Growth.{KeepsHistories}
 use Rattle.service_model.specs.Service.{after, answer}
 use Rattle.gate.specs.Passes.{Stamped, SteppedAt}
-use Rattle.shard_gate.specs.Views as gates
+use Rattle.shard_gate.specs.GateViews as gates
 use Rattle.service.specs.Services.{known_by}
-use Rattle.service.specs.Views.{Pass, Service}
+use Rattle.service.specs.ServiceViews.{Pass, Service}
 use Rattle.service.proofs.ServedLemmas.{served-at-last}
 use Rattle.service.proofs.service.Service.serve_there.Goals as goal
 

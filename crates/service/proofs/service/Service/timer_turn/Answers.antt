@@ -1,5 +1,5 @@
 use Rattle.std.proofs.Common.{◌<◌, ◌∙◌, ap, sym, subst}
-use Rattle.service.specs.Views.{Service}
+use Rattle.service.specs.ServiceViews.{Service}
 use Rattle.service.proofs.ServedLemmas.{named-below}
 use Rattle.service.proofs.service.Service.timer_turn.Goals as goal
 

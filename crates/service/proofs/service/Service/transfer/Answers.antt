@@ -1,7 +1,7 @@
 use Rattle.std.proofs.Common.{subst, sym}
 use Rattle.service.specs.Services.{IsServedAtLast, known_by}
 use Rattle.service.proofs.ServedLemmas.{weaker}
-use Rattle.shard_gate.specs.Views.{SeenGrounds}
+use Rattle.shard_gate.specs.GateViews.{SeenGrounds}
 use Rattle.service.proofs.GroundLemmas.{read-grounds}
 use Rattle.service.proofs.TransferLemmas.{then-delivered, then-kept}
 use Rattle.service.proofs.service.Service.transfer.Goals as goal

@@ -4,10 +4,10 @@ use Rattle.service_model.specs.Growth.{KeepsHistories}
 use Rattle.service_model.specs.Service.{answer, after}
 use Rattle.gate.specs.Passes.{Stamped, Stepped}
 use Rattle.matching.specs.Named as matching
-use Rattle.shard_gate.specs.Views as gates
+use Rattle.shard_gate.specs.GateViews as gates
 use Rattle.service.specs.Contents.{refusal_of}
 use Rattle.service.specs.Services.{known_by, IsServed}
-use Rattle.service.specs.Views.{Service}
+use Rattle.service.specs.ServiceViews.{Service}
 use Rattle.service.proofs.ServedLemmas.{served, shard-below}
 use Rattle.service.proofs.service.Service.try_enter_start.Goals as goal
 

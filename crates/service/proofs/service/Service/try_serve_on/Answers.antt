@@ -3,8 +3,8 @@ use Rattle.std.specs.Prelude.{IfErr, IfOk}
 use Rattle.service_model.specs.Growth.{KeepsHistories}
 use Rattle.service_model.specs.Service.{after, answer}
 use Rattle.gate.specs.Passes.{Stepped}
-use Rattle.shard_gate.specs.Views as gates
-use Rattle.service.specs.Views.{Service}
+use Rattle.shard_gate.specs.GateViews as gates
+use Rattle.service.specs.ServiceViews.{Service}
 use Rattle.service.proofs.ServedLemmas.{by-refusal, needs-nothing, tried}
 use Rattle.service.proofs.service.Service.try_serve_on.Goals as goal
 

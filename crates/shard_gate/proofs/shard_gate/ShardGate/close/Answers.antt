@@ -7,12 +7,12 @@ use Rattle.service_model_types.specs.declared.content.Content.{Content}
 use Rattle.service_model_types.specs.declared.request.Request.{Request}
 use Rattle.gate.specs.declared.view.Origin.{Origin}
 use Rattle.gate.specs.declared.view.View.{View}
-use Rattle.gate.specs.Ends.{IsEnd, HasDone}
-use Rattle.gate.specs.Gated.{at}
+use Rattle.gate.specs.AtClose.{IsEnd, HasDone}
+use Rattle.gate.specs.SlotRule.{at}
 use Rattle.gate.specs.Passes.{number, tickets}
 use Rattle.gate.specs.Passes.{view as seen_by}
 use Rattle.gate.specs.Records.{Begins, replay}
-use Rattle.shard_gate.specs.Views.{PassView}
+use Rattle.shard_gate.specs.GateViews.{PassView}
 use Rattle.shard_gate.proofs.CloseLemmas.{history-as, image-at, one-at}
 use Rattle.shard_gate.proofs.shard_gate.ShardGate.close.Goals as goal
 

@@ -5,7 +5,7 @@ use Rattle.service_model_types.specs.declared.request.Request.{Request}
 use Rattle.gate.specs.declared.view.View.{View}
 use Rattle.gate.specs.Passes.{IsFresh}
 use Rattle.gate.specs.Passes.{view as seen_by}
-use Rattle.shard_gate.specs.Views.{PassView}
+use Rattle.shard_gate.specs.GateViews.{PassView}
 use Rattle.shard_gate.proofs.CloseLemmas.{image-at}
 use Rattle.shard_gate.proofs.shard_gate.ShardGate.open.Goals as goal
 

@@ -1,5 +1,5 @@
 use Rattle.std.proofs.Common.{ap}
-use Rattle.shard_gate.specs.Views.{PassView}
+use Rattle.shard_gate.specs.GateViews.{PassView}
 use Rattle.shard_gate.proofs.StepLemmas.{stepped-as, weaker}
 use Rattle.shard_gate.proofs.shard_gate.ShardGate.try_step.Goals as goal
 

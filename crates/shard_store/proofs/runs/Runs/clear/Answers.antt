@@ -1,6 +1,6 @@
 use Rattle.std.proofs.Common.{◌≡◌, ◌≢◌, ℕ, ◌+◌, ◌-◌, ◌<◌, ◌≤◌, ◌∙◌, ap, arith, length, List, map, subst, sym, slice_index_or, slice_set}
 use Rattle.std.proofs.lemmas.List.{get_or_default, length-map}
-use Rattle.mutable_state.specs.View.{RunView}
+use Rattle.mutable_state.specs.RunView.{RunView}
 use Rattle.shard_store.specs.Places.{AreSlots, RunsView, empty_place, in_slot}
 use Rattle.shard_store.proofs.SlotLemmas.{IsFreed, IsMoved, freed-last, freed-other, items-cleared, items-freed, slot_of, slots-freed}
 use Rattle.shard_store.proofs.runs.Runs.clear.Goals as goal

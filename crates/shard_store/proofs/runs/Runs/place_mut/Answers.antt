@@ -1,6 +1,6 @@
 use Rattle.std.proofs.Common.{◌≡◌, ◌≢◌, ℕ, List, ◌<◌, ◌∙◌, ap, arith, length, map, subst, sym, refl, slice_index_or, slice_set}
 use Rattle.std.proofs.lemmas.List.{get_or_default, length-map}
-use Rattle.mutable_state.specs.View.{RunView}
+use Rattle.mutable_state.specs.RunView.{RunView}
 use Rattle.shard_store.specs.Places.{AreSlots, RunsView, empty_place, in_slot}
 use Rattle.shard_store.proofs.SlotLemmas.{item-at, items-written, slot_of, there-low, there-slot, written}
 use Rattle.shard_store.proofs.runs.Runs.place_mut.Goals as goal

@@ -7,9 +7,9 @@ use Rattle.service_model_types.specs.declared.transfer.TransferContent.{Transfer
 use Rattle.shard_steps.specs.Sending.{all_outgoing}
 use Rattle.shard_steps.specs.declared.transfers.Unsent.{Unsent}
 use Rattle.shard_steps.proofs.SendingLemmas.{added-sends, keeps-more}
-use Rattle.shard_store.specs.View.{ShardState, ShardView, ordinal_of, state, states}
+use Rattle.shard_store.specs.ShardView.{ShardState, ShardView, ordinal_of, state, states}
 use Rattle.timeouts.specs.declared.due.Due.{Due}
-use Rattle.shard_steps.specs.Kept.{HasFirsts, HasShown}
+use Rattle.shard_steps.specs.Outstanding.{HasFirsts, HasShown}
 use Rattle.service_model.specs.RunState.{RunState}
 use Rattle.shard_store.specs.Fitting.{after_created}
 use Rattle.service_model_types.specs.declared.content.Dispatch.{Dispatch}

@@ -4,7 +4,7 @@ use Rattle.shard_steps.specs.Issuing.{all_waiting}
 use Rattle.shard_steps.specs.Sending.{TransfersView}
 use Rattle.shard_steps.proofs.SendingLemmas.{answered-sends}
 use Rattle.shard_store.specs.Fitting.{MayAnswer, after_answer}
-use Rattle.shard_store.specs.View.{ShardView, state, states}
+use Rattle.shard_store.specs.ShardView.{ShardView, state, states}
 use Rattle.shard_store.proofs.OutgoingLemmas.{both-moved}
 use Rattle.shard_store.proofs.store.Store.answer_by.Goals as goal
 

@@ -1,6 +1,6 @@
 use Rattle.std.proofs.Common.{◌∙◌, ap, sym}
 use Rattle.shard_store.specs.Fitting.{after_added, after_answer, after_count, after_created, after_taken}
-use Rattle.shard_store.specs.View.{state}
+use Rattle.shard_store.specs.ShardView.{state}
 use Rattle.shard_store.proofs.store.Store.carry_on.Goals as goal
 
 pub returns : goal.returns

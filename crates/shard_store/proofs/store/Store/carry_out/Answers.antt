@@ -1,7 +1,7 @@
 use Rattle.std.proofs.Common.{◌∙◌, ap, subst, sym, IfSome, Option, ℕ}
 use Rattle.service_model.specs.Aging.{IsOldestRun}
 use Rattle.shard_store.specs.Fitting.{FitsTaken, after_change}
-use Rattle.shard_store.specs.View.{state, states}
+use Rattle.shard_store.specs.ShardView.{state, states}
 use Rattle.shard_store.specs.declared.plan.Change.{Change}
 use Rattle.shard_store.proofs.store.Store.carry_out.Goals as goal
 

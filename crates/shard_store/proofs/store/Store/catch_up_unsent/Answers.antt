@@ -3,12 +3,12 @@ use Rattle.std.specs.Prelude.{drop}
 use Rattle.service_model.specs.Issued.{transfers_by}
 use Rattle.service_model.specs.Outcome.{run_id}
 use Rattle.service_model.specs.RunState.{no_run}
-use Rattle.mutable_state.specs.View.{RunView}
+use Rattle.mutable_state.specs.RunView.{RunView}
 use Rattle.shard_steps.specs.Issuing.{all_waiting}
 use Rattle.shard_steps.specs.Sending.{TransfersView, KeepsTransfers, sent_since}
 use Rattle.shard_steps.specs.declared.transfers.Unsent.{Unsent}
 use Rattle.shard_steps.proofs.SendingLemmas.{length-sent, sent-looked-up}
-use Rattle.shard_store.specs.View.{ShardView, state, states}
+use Rattle.shard_store.specs.ShardView.{ShardView, state, states}
 use Rattle.shard_store.proofs.IndexLemmas.{states-at}
 use Rattle.shard_store.proofs.OutgoingLemmas.{both-moved}
 use Rattle.shard_store.proofs.store.Store.catch_up_unsent.Goals as goal

@@ -5,7 +5,7 @@ use Rattle.shard_steps.specs.Sending.{all_outgoing}
 use Rattle.shard_steps.proofs.EachLemmas.{each-same}
 use Rattle.shard_store.specs.Fitting.{state_at}
 use Rattle.shard_store.specs.Places.{empty_place}
-use Rattle.shard_store.specs.View.{ShardView, states}
+use Rattle.shard_store.specs.ShardView.{ShardView, states}
 use Rattle.shard_store.proofs.PlaceLemmas.{started-full}
 use Rattle.shard_store.proofs.IndexLemmas.{states-at, states-same, indexed-same}
 use Rattle.shard_store.proofs.store.Store.complete_in.Goals as goal

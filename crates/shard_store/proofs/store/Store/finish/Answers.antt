@@ -1,7 +1,7 @@
 use Rattle.std.proofs.Common.{ap, subst, sym, IfSome}
 use Rattle.service_model.specs.Aging.{IsOldestRun}
 use Rattle.shard_store.specs.Fitting.{FitsChange}
-use Rattle.shard_store.specs.View.{states}
+use Rattle.shard_store.specs.ShardView.{states}
 use Rattle.shard_store.specs.declared.plan.Change.{Change}
 use Rattle.shard_store.proofs.TakenLemmas.{oldest-taken}
 use Rattle.shard_store.proofs.store.Store.finish.Goals as goal

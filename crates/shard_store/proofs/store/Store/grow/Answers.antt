@@ -13,12 +13,12 @@ use Rattle.transfer.specs.Logs.{Waiting, with_issued}
 use Rattle.shard_steps.specs.Issuing.{all_waiting, readied}
 use Rattle.shard_steps.specs.declared.changed.Changed.{Changed}
 use Rattle.shard_steps.proofs.DispatchLemmas.{grown-waits}
-use Rattle.shard_steps.specs.Kept.{HasShown, IsCaughtUp, outstanding}
+use Rattle.shard_steps.specs.Outstanding.{HasShown, IsCaughtUp, outstanding}
 use Rattle.indexmap.specs.IndexMap.{get_by_text}
 use Rattle.shard_steps.specs.Sending.{TransfersView, KeepsTransfers, all_outgoing}
 use Rattle.shard_steps.proofs.SendingLemmas.{grown-sends, runs-caught-up}
 use Rattle.shard_store.specs.Places.{empty_place}
-use Rattle.shard_store.specs.View.{IsIndexed, ShardState, ShardView, state, states}
+use Rattle.shard_store.specs.ShardView.{IsIndexed, ShardState, ShardView, state, states}
 use Rattle.shard_steps.proofs.EachLemmas.{each-grown, each-same}
 use Rattle.shard_store.proofs.IndexLemmas.{length-states, states-at, states-set, latest_run-set}
 use Rattle.shard_store.proofs.store.Store.grow.Goals as goal

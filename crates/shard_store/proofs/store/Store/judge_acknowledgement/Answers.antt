@@ -4,7 +4,7 @@ use Rattle.service_model.specs.Counts.{acknowledgement_of}
 use Rattle.transfer.specs.Logs.{Waiting, count_issued}
 use Rattle.transfer.specs.Outboxes.{waiting_to}
 use Rattle.shard_store.proofs.OutgoingLemmas.{all-issued}
-use Rattle.shard_store.specs.View.{states}
+use Rattle.shard_store.specs.ShardView.{states}
 use Rattle.shard_store.proofs.store.Store.judge_acknowledgement.Goals as goal
 
 pub returns : goal.returns

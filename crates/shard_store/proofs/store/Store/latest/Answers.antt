@@ -2,7 +2,7 @@ use Rattle.std.proofs.Common.{ap, ◌∙◌}
 use Rattle.std.specs.Prelude.{option_map}
 use Rattle.indexmap.specs.IndexMap.{get_by_text}
 use Rattle.service_model.specs.Outcome.{latest_run}
-use Rattle.shard_store.specs.View.{ordinal_of, states}
+use Rattle.shard_store.specs.ShardView.{ordinal_of, states}
 use Rattle.shard_store.proofs.IndexLemmas.{latest_run-within, place-within}
 use Rattle.shard_store.proofs.OpenLemmas.{run-latest}
 use Rattle.shard_store.proofs.store.Store.latest.Goals as goal

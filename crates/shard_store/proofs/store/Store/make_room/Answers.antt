@@ -2,7 +2,7 @@ use Rattle.std.proofs.Common.{◌≡◌, ◌<◌, ◌≤◌, ◌∙◌, ℕ, Lis
 use Rattle.std.proofs.lemmas.List.{get_or-set_same}
 use Rattle.std.specs.Prelude.{Result, Ok, Err, IfOk, OnOk}
 use Rattle.service_model.specs.RunState.{is_there}
-use Rattle.mutable_state.specs.View.{HasRoomFor, RunView}
+use Rattle.mutable_state.specs.RunView.{HasRoomFor, RunView}
 use Rattle.mutable_state.specs.declared.change.Change.{Change}
 use Rattle.mutable_state.specs.declared.change.Plan.{Plan}
 use Rattle.shard_steps.specs.Issuing.{all_waiting}
@@ -10,7 +10,7 @@ use Rattle.shard_steps.specs.Sending.{all_outgoing}
 use Rattle.shard_steps.proofs.EachLemmas.{each-same}
 use Rattle.shard_store.specs.Fitting.{view_at}
 use Rattle.shard_store.specs.Places.{empty_place}
-use Rattle.shard_store.specs.View.{ShardView}
+use Rattle.shard_store.specs.ShardView.{ShardView}
 use Rattle.shard_store.proofs.PlaceLemmas.{there-full}
 use Rattle.shard_store.proofs.IndexLemmas.{run-at, run-within, states-same, indexed-same}
 use Rattle.shard_store.proofs.store.Store.make_room.Goals as goal

@@ -6,7 +6,7 @@ use Rattle.shard_steps.specs.Issuing.{all_waiting}
 use Rattle.shard_steps.specs.Sending.{TransfersView, KeepsTransfers}
 use Rattle.shard_steps.proofs.SendingLemmas.{acknowledged-sends, length-counted}
 use Rattle.shard_store.specs.Fitting.{MayCount, after_count}
-use Rattle.shard_store.specs.View.{ShardView, state, states}
+use Rattle.shard_store.specs.ShardView.{ShardView, state, states}
 use Rattle.shard_store.specs.declared.plan.Count.TheVariants.{Acknowledges}
 use Rattle.shard_store.proofs.OutgoingLemmas.{all-issued, both-moved}
 use Rattle.shard_store.proofs.store.Store.move_on.Goals as goal

@@ -4,7 +4,7 @@ use Rattle.service_model_types.specs.declared.transfer.TransferContent.{Transfer
 use Rattle.transfer.specs.Logs.{Waiting}
 use Rattle.transfer.specs.Outboxes.{waiting_to}
 use Rattle.shard_store.proofs.OutgoingLemmas.{all-issued}
-use Rattle.shard_store.specs.View.{states}
+use Rattle.shard_store.specs.ShardView.{states}
 use Rattle.shard_store.proofs.store.Store.next_transfer.Goals as goal
 
 pub returns-clause-content : goal.returns-clause-content

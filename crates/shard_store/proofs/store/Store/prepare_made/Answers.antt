@@ -1,6 +1,6 @@
 use Rattle.std.proofs.Common.{◌∙◌, ap, sym}
 use Rattle.service_model.specs.RunState.{id_of, is_there}
-use Rattle.mutable_state.specs.View.{RunView}
+use Rattle.mutable_state.specs.RunView.{RunView}
 use Rattle.shard_store.proofs.StepLemmas.{id-of-begun, there-begun}
 use Rattle.shard_store.proofs.store.Store.prepare_made.Goals as goal
 

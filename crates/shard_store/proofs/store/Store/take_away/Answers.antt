@@ -2,20 +2,20 @@ use Rattle.std.proofs.Common.{◌≡◌, ℕ, ◌<◌, ◌∙◌, length, length
 use Rattle.service_model.specs.Aging.{IsOldestRun}
 use Rattle.service_model.specs.RunState.{RunState, id_of, is_there, no_run}
 use Rattle.service_model_types.specs.declared.transfer.TransferContent.{TransferContent}
-use Rattle.mutable_state.specs.View.{RunView}
+use Rattle.mutable_state.specs.RunView.{RunView}
 use Rattle.timeouts.specs.declared.due.Due.{Due}
 use Rattle.indexmap.specs.IndexMap.{get_by_text}
 use Rattle.service_model_types.specs.declared.content.Dispatch.{Dispatch}
 use Rattle.transfer.specs.Logs.{Waiting}
 use Rattle.shard_steps.specs.Issuing.{all_waiting}
-use Rattle.shard_steps.specs.Kept.{HasFirsts, HasShown, IsCaughtUp, outstanding}
+use Rattle.shard_steps.specs.Outstanding.{HasFirsts, HasShown, IsCaughtUp, outstanding}
 use Rattle.shard_steps.specs.Sending.{KeepsTransfers, all_outgoing}
 use Rattle.shard_steps.proofs.EachLemmas.{each-same}
 use Rattle.shard_steps.proofs.SendingLemmas.{runs-caught-up}
 use Rattle.shard_steps.proofs.TakenLemmas.{firsts-taken, shown-taken, taken-sends, taken-waits}
 use Rattle.shard_store.specs.Fitting.{after_taken, state_at}
 use Rattle.shard_store.specs.Places.{empty_place}
-use Rattle.shard_store.specs.View.{IsIndexed, ShardState, ShardView, state, states}
+use Rattle.shard_store.specs.ShardView.{IsIndexed, ShardState, ShardView, state, states}
 use Rattle.shard_store.proofs.IndexLemmas.{length-states, states-at, states-set, there-within}
 use Rattle.shard_store.proofs.TakenLemmas.{indexed-taken}
 use Rattle.shard_store.proofs.store.Store.take_away.Goals as goal

@@ -2,7 +2,7 @@ use Rattle.std.proofs.Common.{◌∙◌, sym, ap, subst}
 use Rattle.std.specs.Prelude.{option_map}
 use Rattle.indexmap.specs.IndexSet.{contains_text}
 use Rattle.task_completion.specs.Judging.{event_named}
-use Rattle.task_completion.specs.Named.{Covers, Covered}
+use Rattle.task_completion.specs.NameCovers.{Covers, Covered}
 use Rattle.task_completion.proofs.NameLemmas.{was-not}
 use Rattle.task_completion.proofs.named.NamedRows.is_free.Goals as goal
 

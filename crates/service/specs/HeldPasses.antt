@@ -4,12 +4,12 @@ use Rattle.service_model_types.specs.declared.content.Content.{Content}
 use Rattle.service_model_types.specs.declared.request.Request.{Request}
 use Rattle.service_model_types.specs.Replies.{Reply}
 use Rattle.gate.specs.declared.view.View.{View}
-use Rattle.shard_gate.specs.Views as gates
+use Rattle.shard_gate.specs.GateViews as gates
 use Rattle.matching.specs.declared.view.View.{View as HintView}
 use Rattle.matching.specs.Named as matching
-use Rattle.service.specs.Views.{Held}
-use Rattle.service.specs.Views.{Service}
-use Rattle.service.specs.Views.{Pass}
+use Rattle.service.specs.ServiceViews.{Held}
+use Rattle.service.specs.ServiceViews.{Service}
+use Rattle.service.specs.ServiceViews.{Pass}
 use Rattle.service.specs.Services.{known_by, IsOpened, IsServed}
 
 -- what the pass will know once it has left

@@ -2,7 +2,7 @@
 use Rattle.std.specs.Prelude.{◌≡◌, ◌⊎◌, List}
 use Rattle.matching.specs.declared.view.View.{View}
 use Rattle.matching.specs.Entries.{Entry, Begins}
-use Rattle.matching.specs.Plays.{with_seen}
+use Rattle.matching.specs.PassSteps.{with_seen}
 
 -- of two lists one begins the other, and the third is the longer
 abbrev pub IsLonger : List Entry → List Entry → List Entry → Type 0

@@ -7,8 +7,8 @@ use Rattle.service_model_types.specs.Replies.{Reply}
 use Rattle.service_model.specs.Service.{Entry, after}
 use Rattle.gate.specs.declared.view.Origin.{Origin}
 use Rattle.gate.specs.declared.view.View.{View}
-use Rattle.gate.specs.Ends.{IsHistory}
-use Rattle.gate.specs.Gated.{at}
+use Rattle.gate.specs.AtClose.{IsHistory}
+use Rattle.gate.specs.SlotRule.{at}
 use Rattle.gate.specs.Passes.{seen, starts}
 use Rattle.gate.specs.Records.{grounds_by}
 use Rattle.shard_gate.specs.Grounding.{grounds}

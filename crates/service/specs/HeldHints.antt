@@ -7,7 +7,7 @@ use Rattle.service_model.specs.Service.{Entry}
 use Rattle.matching.specs.declared.queues.QueuesPass.{QueuesPass}
 use Rattle.matching.specs.Holding.{held_by}
 use Rattle.matching.specs.Named as matching
-use Rattle.service.specs.Views.{Pass}
+use Rattle.service.specs.ServiceViews.{Pass}
 use Rattle.service.specs.Reopening.{opens}
 
 -- What passes of queues know once these dispatches were pushed: each knows all that the queues hold then, as pushed by the first pass

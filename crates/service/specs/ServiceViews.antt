@@ -3,7 +3,7 @@
 use Rattle.service_model_types.specs.declared.settings.Settings.{Settings}
 use Rattle.matching.specs.declared.queues.Queues.{Queues}
 use Rattle.matching.specs.declared.queues.QueuesPass.{QueuesPass}
-use Rattle.shard_gate.specs.Views as gates
+use Rattle.shard_gate.specs.GateViews as gates
 
 pub record Service : Type 0 where
   pub settings : Settings

@@ -2,15 +2,15 @@
 use Rattle.std.specs.Prelude.{ℕ, List, [], map, slice_index_or}
 use Rattle.service_model.specs.Service.{Entry, after}
 use Rattle.service_model_types.specs.declared.request.Hint.{Hint}
-use Rattle.gate.specs.Ends as of_gate_end
-use Rattle.shard_gate.specs.Views as gates
+use Rattle.gate.specs.AtClose as of_gate_end
+use Rattle.shard_gate.specs.GateViews as gates
 use Rattle.gate.specs.Records.{grounds_by}
 use Rattle.shard_gate.specs.Grounding.{grounds}
 use Rattle.service.specs.Contents.{opening_contents}
 use Rattle.matching.specs.Named as matching
 use Rattle.matching.specs.declared.view.Part.{Part}
-use Rattle.service.specs.Views.{Pass}
-use Rattle.service.specs.Views.{Service}
+use Rattle.service.specs.ServiceViews.{Pass}
+use Rattle.service.specs.ServiceViews.{Service}
 
 -- the record with which a shard was opened
 abbrev pub base_of : Service → ℕ → List Entry

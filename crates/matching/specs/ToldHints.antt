@@ -3,8 +3,8 @@ use Rattle.std.specs.Prelude.{◌≡◌, ◌⊎◌, List, [], ◌∷◌, ◌++�
 use Rattle.matching.specs.declared.view.View.{View}
 use Rattle.matching.specs.declared.view.Holder.TheVariants.{Note}
 use Rattle.matching.specs.Entries.{Entry, Begins}
-use Rattle.matching.specs.Plays.{nobody}
-use Rattle.matching.specs.Ends.{part_of}
+use Rattle.matching.specs.PassSteps.{nobody}
+use Rattle.matching.specs.AtClose.{part_of}
 
 -- the longer of two lists
 abbrev pub longer : List Entry → List Entry → List Entry
