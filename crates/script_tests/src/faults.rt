@@ -5,6 +5,7 @@ use std::alloc::AllocError;
 use std::io::{Error, ErrorKind};
 use std::test::Fail;
 use wfserve_run::{Fault, status};
+use workflow_service::Shard;
 
 #[test]
 fn faults_by_their_texts(rt: HostRuntime) -> Result<(), Fail> {
@@ -23,7 +24,7 @@ fn faults_by_their_texts(rt: HostRuntime) -> Result<(), Fail> {
     for (fault, expected) in faults {
         let text = fault.to_string(rt.alloc())?;
         assert_eq!(rt; text.as_str(), expected);
-        assert_eq!(rt; status(&Err(fault)), 2);
+        assert_eq!(rt; status::<Shard>(&Err(fault)), 2);
     }
     Ok(())
 }

@@ -7,6 +7,7 @@ ghost use Rattle.service_tests.specs.Passes.{ComesBack};
 use crate::asked::{boxed, id, signal, start, taken, text, two_shards, waiting};
 use crate::passes::{open, take_pass};
 use crate::shown::shown;
+use service::{KeepsShard, Pass, Service};
 use service_model_types::request::{
     ActivityText, CompleteWorkflowTask, FailActivity, FailWorkflowTask, Read, RequestCancel,
     SignalWithStart, TakenTask, Terminate,
@@ -18,7 +19,6 @@ use wf_command::Command;
 use wf_command::command::ScheduleActivityTask;
 use wf_event::payloads::PolicyFields;
 use wf_event_values::{Items, Moment, ReusePolicy, Span, TaskKind, Text};
-use workflow_service::{Pass, Service};
 
 /// The form in which a call is made.
 #[derive(Clone, Copy)]
@@ -227,10 +227,10 @@ fn failure<R: Abort + AllocGlobal>(rt: &R, task: TakenTask) -> FailActivity {
 }
 
 /// Starts a workflow.
-pub(crate) fn start_one<R: Abort + AllocGlobal + Wait>(
+pub(crate) fn start_one<S: KeepsShard, R: Abort + AllocGlobal + Wait>(
     rt: &R,
-    service: &Service,
-    pass: &mut Pass,
+    service: &Service<S>,
+    pass: &mut Pass<S>,
     workflow_id: &str,
 )
     requires { IsPassOf pass.old service.now }
@@ -246,10 +246,10 @@ pub(crate) fn start_one<R: Abort + AllocGlobal + Wait>(
 }
 
 /// What comes of the call on an activity, in the form that may wait.
-fn activity_may_wait<R: Abort + AllocGlobal + Wait>(
+fn activity_may_wait<S: KeepsShard, R: Abort + AllocGlobal + Wait>(
     rt: &R,
-    service: &Service,
-    pass: &mut Pass,
+    service: &Service<S>,
+    pass: &mut Pass<S>,
     task: TakenTask,
     call: ActivityCall,
 ) -> &'static str
@@ -272,10 +272,10 @@ fn activity_may_wait<R: Abort + AllocGlobal + Wait>(
 }
 
 /// What comes of the call, in the form that may wait.
-fn may_wait<R: Abort + AllocGlobal + Wait>(
+fn may_wait<S: KeepsShard, R: Abort + AllocGlobal + Wait>(
     rt: &R,
-    service: &Service,
-    pass: &mut Pass,
+    service: &Service<S>,
+    pass: &mut Pass<S>,
     shard: u16,
     call: Call,
 ) -> &'static str
@@ -325,10 +325,10 @@ fn may_wait<R: Abort + AllocGlobal + Wait>(
 }
 
 /// What comes of the call on an activity, in the form that never waits.
-fn activity_never_waits<R: Abort + AllocGlobal>(
+fn activity_never_waits<S: KeepsShard, R: Abort + AllocGlobal>(
     rt: &R,
-    service: &Service,
-    pass: &mut Pass,
+    service: &Service<S>,
+    pass: &mut Pass<S>,
     task: TakenTask,
     call: ActivityCall,
 ) -> &'static str
@@ -351,10 +351,10 @@ fn activity_never_waits<R: Abort + AllocGlobal>(
 }
 
 /// What comes of the call, in the form that never waits.
-fn never_waits<R: Abort + AllocGlobal>(
+fn never_waits<S: KeepsShard, R: Abort + AllocGlobal>(
     rt: &R,
-    service: &Service,
-    pass: &mut Pass,
+    service: &Service<S>,
+    pass: &mut Pass<S>,
     shard: u16,
     call: Call,
 ) -> &'static str
@@ -402,10 +402,10 @@ fn never_waits<R: Abort + AllocGlobal>(
 }
 
 /// What a call comes to.
-fn came_of<R: Abort + AllocGlobal + Wait>(
+fn came_of<S: KeepsShard, R: Abort + AllocGlobal + Wait>(
     rt: &R,
-    service: &Service,
-    pass: &mut Pass,
+    service: &Service<S>,
+    pass: &mut Pass<S>,
     form: Form,
     shard: u16,
     call: Call,
@@ -420,10 +420,10 @@ fn came_of<R: Abort + AllocGlobal + Wait>(
 }
 
 /// All calls on one shard's workflow.
-fn assert_calls<R: Abort + AllocGlobal + Wait>(
+fn assert_calls<S: KeepsShard, R: Abort + AllocGlobal + Wait>(
     rt: &R,
-    service: &Service,
-    pass: &mut Pass,
+    service: &Service<S>,
+    pass: &mut Pass<S>,
     form: Form,
     shard: u16,
 )
@@ -437,10 +437,9 @@ fn assert_calls<R: Abort + AllocGlobal + Wait>(
     }
 }
 
-#[test]
-fn each_call_by_its_name(rt: HostRuntime) {
-    let (service, mut passes) = open(&rt, &two_shards(&rt));
+pub(crate) fn each_call_by_its_name<S: KeepsShard, R: Abort + AllocGlobal + Wait>(rt: &R) {
+    let (service, mut passes) = open::<S, R>(rt, &two_shards(rt));
     let mut pass = take_pass(&service, &mut passes);
-    assert_calls(&rt, &service, &mut pass, Form::MayWait, 0);
-    assert_calls(&rt, &service, &mut pass, Form::NeverWaits, 1);
+    assert_calls(rt, &service, &mut pass, Form::MayWait, 0);
+    assert_calls(rt, &service, &mut pass, Form::NeverWaits, 1);
 }

@@ -11,6 +11,7 @@ use crate::calls::start_one;
 use crate::passes::{close, give_back, open, take_pass};
 use crate::shown::shown;
 use event_pieces::SharedEvents;
+use service::{KeepsShard, Pass, Service};
 use service_model_types::answer::{Answer, Reply};
 use service_model_types::request::{Operation, Read, Request};
 use std::alloc::AllocGlobal;
@@ -18,7 +19,6 @@ use std::process::Abort;
 use std::sync::Wait;
 use std::thread::{self, Threads};
 use step_record::Record;
-use workflow_service::{Pass, Service};
 
 /// How many signals each thread sends.
 const SIGNALS: u64 = 1000;
@@ -30,7 +30,12 @@ const ALL: usize = 4002;
 const READS: u64 = 100_000_000;
 
 /// What is answered to a read of `a`.
-fn read<R: Abort + AllocGlobal + Wait>(rt: &R, service: &Service, pass: &mut Pass, at: u64) -> Reply
+fn read<S: KeepsShard, R: Abort + AllocGlobal + Wait>(
+    rt: &R,
+    service: &Service<S>,
+    pass: &mut Pass<S>,
+    at: u64,
+) -> Reply
     requires { IsPassOf pass.old service.now }
     ensures { ComesBack service.now pass.old pass.new }
 {
@@ -79,7 +84,11 @@ fn begins(others: &SharedEvents, events: &SharedEvents) -> bool {
 }
 
 /// Signals `a` at rising moments.
-fn signal_often<R: Abort + AllocGlobal + Wait>(rt: &R, service: &Service, mut pass: Pass) -> Pass
+fn signal_often<S: KeepsShard, R: Abort + AllocGlobal + Wait>(
+    rt: &R,
+    service: &Service<S>,
+    mut pass: Pass<S>,
+) -> Pass<S>
     requires { IsPassOf pass service.now }
     ensures { ComesBack service.now pass result }
 {
@@ -91,7 +100,11 @@ fn signal_often<R: Abort + AllocGlobal + Wait>(rt: &R, service: &Service, mut pa
 }
 
 /// Reads `a` until all signals are there. Each read begins the next, and the first one stays as it was.
-fn read_often<R: Abort + AllocGlobal + Wait>(rt: &R, service: &Service, mut pass: Pass) -> Pass
+fn read_often<S: KeepsShard, R: Abort + AllocGlobal + Wait>(
+    rt: &R,
+    service: &Service<S>,
+    mut pass: Pass<S>,
+) -> Pass<S>
     requires { IsPassOf pass service.now }
     ensures { ComesBack service.now pass result }
 {
@@ -113,17 +126,17 @@ fn read_often<R: Abort + AllocGlobal + Wait>(rt: &R, service: &Service, mut pass
 
 /// The passes of two threads.
 #[derive(Drop)]
-struct Two {
-    one: Pass,
-    two: Pass,
+struct Two<S: KeepsShard> {
+    one: Pass<S>,
+    two: Pass<S>,
 }
 
 /// Two threads signal at the same time.
-fn signal_both<R: Abort + AllocGlobal + Wait + Threads + Sync>(
+fn signal_both<S: KeepsShard + Send + Sync, R: Abort + AllocGlobal + Wait + Threads + Sync>(
     rt: &R,
-    service: &Service,
-    passes: Two,
-) -> Two
+    service: &Service<S>,
+    passes: Two<S>,
+) -> Two<S>
     requires { IsPassOf passes.one service.now × IsPassOf passes.two service.now }
     ensures one { ComesBack service.now passes.one result.one }
     ensures two { ComesBack service.now passes.two result.two }
@@ -131,11 +144,11 @@ fn signal_both<R: Abort + AllocGlobal + Wait + Threads + Sync>(
     let Two { one, two } = passes;
     let (one, two) = thread::join(
         rt,
-        move || -> Pass
+        move || -> Pass<S>
             requires { IsSync R.row × IsPassOf one service.now }
             ensures { ComesBack service.entry.now one result }
         { signal_often(rt, service, one) },
-        move || -> Pass
+        move || -> Pass<S>
             requires { IsSync R.row × IsPassOf two service.now }
             ensures { ComesBack service.entry.now two result }
         { signal_often(rt, service, two) },
@@ -144,12 +157,12 @@ fn signal_both<R: Abort + AllocGlobal + Wait + Threads + Sync>(
 }
 
 /// Two threads signal while a third one reads.
-fn signal_and_read<R: Abort + AllocGlobal + Wait + Threads + Sync>(
+fn signal_and_read<S: KeepsShard + Send + Sync, R: Abort + AllocGlobal + Wait + Threads + Sync>(
     rt: &R,
-    service: &Service,
-    signals: Two,
-    reads: Pass,
-) -> (Two, Pass)
+    service: &Service<S>,
+    signals: Two<S>,
+    reads: Pass<S>,
+) -> (Two<S>, Pass<S>)
     requires signals { IsPassOf signals.one service.now × IsPassOf signals.two service.now }
     requires reads { IsPassOf reads service.now }
     ensures signals { ComesBack service.now signals.one result.0.one
@@ -158,13 +171,13 @@ fn signal_and_read<R: Abort + AllocGlobal + Wait + Threads + Sync>(
 {
     thread::join(
         rt,
-        move || -> Two
+        move || -> Two<S>
             requires { IsSync R.row × IsPassOf signals.one service.now
                 × IsPassOf signals.two service.now }
             ensures { ComesBack service.entry.now signals.one result.one
                 × ComesBack service.entry.now signals.two result.two }
         { signal_both(rt, service, signals) },
-        move || -> Pass
+        move || -> Pass<S>
             requires { IsSync R.row × IsPassOf reads service.now }
             ensures { ComesBack service.entry.now reads result }
         { read_often(rt, service, reads) },
@@ -172,13 +185,13 @@ fn signal_and_read<R: Abort + AllocGlobal + Wait + Threads + Sync>(
 }
 
 /// Four threads signal, and a fifth one reads meanwhile.
-fn write_and_read<R: Abort + AllocGlobal + Wait + Threads + Sync>(
+fn write_and_read<S: KeepsShard + Send + Sync, R: Abort + AllocGlobal + Wait + Threads + Sync>(
     rt: &R,
-    service: &Service,
-    one: Two,
-    two: Two,
-    reads: Pass,
-) -> (Two, (Two, Pass))
+    service: &Service<S>,
+    one: Two<S>,
+    two: Two<S>,
+    reads: Pass<S>,
+) -> (Two<S>, (Two<S>, Pass<S>))
     requires one { IsPassOf one.one service.now × IsPassOf one.two service.now }
     requires two { IsPassOf two.one service.now × IsPassOf two.two service.now }
     requires reads { IsPassOf reads service.now }
@@ -190,12 +203,12 @@ fn write_and_read<R: Abort + AllocGlobal + Wait + Threads + Sync>(
 {
     thread::join(
         rt,
-        move || -> Two
+        move || -> Two<S>
             requires { IsSync R.row × IsPassOf one.one service.now × IsPassOf one.two service.now }
             ensures { ComesBack service.entry.now one.one result.one
                 × ComesBack service.entry.now one.two result.two }
         { signal_both(rt, service, one) },
-        move || -> (Two, Pass)
+        move || -> (Two<S>, Pass<S>)
             requires { IsSync R.row × IsPassOf two.one service.now × IsPassOf two.two service.now
                 × IsPassOf reads service.now }
             ensures { ComesBack service.entry.now two.one result.0.one
@@ -229,24 +242,26 @@ fn assert_in_order<R: Abort>(rt: &R, records: &[Record<Request>]) {
     }
 }
 
-#[test]
-fn a_history_is_read_while_four_threads_write_it(rt: HostRuntime) {
-    let (service, mut passes) = open(&rt, &settings(&rt, 1, 5, 1));
+pub(crate) fn a_history_is_read_while_four_threads_write_it<
+    S: KeepsShard + Send + Sync,
+    R: Abort + AllocGlobal + Threads + Wait + Sync,
+>(rt: &R) {
+    let (service, mut passes) = open::<S, R>(rt, &settings(rt, 1, 5, 1));
     let reads = take_pass(&service, &mut passes);
     let d = take_pass(&service, &mut passes);
     let c = take_pass(&service, &mut passes);
     let b = take_pass(&service, &mut passes);
     let mut a = take_pass(&service, &mut passes);
-    start_one(&rt, &service, &mut a, "a");
+    start_one(rt, &service, &mut a, "a");
     let one = Two { one: a, two: b };
     let two = Two { one: c, two: d };
-    let (one, (two, reads)) = write_and_read(&rt, &service, one, two, reads);
+    let (one, (two, reads)) = write_and_read(rt, &service, one, two, reads);
     let Two { one: a, two: b } = one;
     let Two { one: c, two: d } = two;
-    give_back(&rt, &service, &mut passes, a);
-    give_back(&rt, &service, &mut passes, b);
-    give_back(&rt, &service, &mut passes, c);
-    give_back(&rt, &service, &mut passes, d);
-    give_back(&rt, &service, &mut passes, reads);
-    assert_in_order(&rt, &close(service, passes));
+    give_back(rt, &service, &mut passes, a);
+    give_back(rt, &service, &mut passes, b);
+    give_back(rt, &service, &mut passes, c);
+    give_back(rt, &service, &mut passes, d);
+    give_back(rt, &service, &mut passes, reads);
+    assert_in_order(rt, &close(service, passes));
 }

@@ -25,6 +25,8 @@ mod retention;
 #[cfg(test)]
 mod shown;
 #[cfg(test)]
+mod tests;
+#[cfg(test)]
 mod threads;
 #[cfg(test)]
 mod timers;

@@ -7,13 +7,14 @@ use crate::asked::{boxed, id, settings, signal, start};
 use crate::histories::count;
 use crate::passes::{close, give_back, open, take_pass};
 use crate::shown::shown;
+use service::{KeepsShard, Pass, Service};
 use service_model_types::answer::{Answer, Reply};
 use service_model_types::request::{Read, Request};
 use std::alloc::AllocGlobal;
 use std::process::Abort;
+use std::sync::Wait;
 use step_record::Record;
 use wf_event_values::Moment;
-use workflow_service::{Pass, Service};
 
 /// The largest number that a service may have.
 const LAST_SERVICE: u64 = 281_474_976_710_655;
@@ -32,10 +33,10 @@ fn started_on<E: Drop>(came: Result<Reply, E>, shard: u16) -> u64 {
 }
 
 /// Starts a run, which lies on this shard and has this ordinal.
-fn assert_starts<R: Abort + AllocGlobal>(
+fn assert_starts<S: KeepsShard, R: Abort + AllocGlobal>(
     rt: &R,
-    service: &Service,
-    pass: &mut Pass,
+    service: &Service<S>,
+    pass: &mut Pass<S>,
     workflow_id: &str,
     wanted: (u16, u64),
 )
@@ -60,20 +61,26 @@ fn assert_last_stepped<R: Abort>(rt: &R, records: &[Record<Request>]) {
 }
 
 /// The last pass steps on the last shard, and meets the one before it.
-#[test]
-fn as_many_shards_and_passes_as_there_may_be(rt: HostRuntime) {
-    let (service, mut passes) = open(&rt, &settings(&rt, 64, 256, LAST_SERVICE));
+pub(crate) fn as_many_shards_and_passes_as_there_may_be<
+    S: KeepsShard,
+    R: Abort + AllocGlobal + Wait,
+>(rt: &R) {
+    let (service, mut passes) = open::<S, R>(rt, &settings(rt, 64, 256, LAST_SERVICE));
     let mut last = take_pass(&service, &mut passes);
     let mut other = take_pass(&service, &mut passes);
-    assert_starts(&rt, &service, &mut last, "cw", (63, 1));
+    assert_starts(rt, &service, &mut last, "cw", (63, 1));
     service.meet(&mut other, &mut last);
-    give_back(&rt, &service, &mut passes, other);
-    give_back(&rt, &service, &mut passes, last);
-    assert_last_stepped(&rt, &close(service, passes));
+    give_back(rt, &service, &mut passes, other);
+    give_back(rt, &service, &mut passes, last);
+    assert_last_stepped(rt, &close(service, passes));
 }
 
 /// Starts runs of different workflows on one shard.
-fn start_each<R: Abort + AllocGlobal>(rt: &R, service: &Service, pass: &mut Pass)
+fn start_each<S: KeepsShard, R: Abort + AllocGlobal>(
+    rt: &R,
+    service: &Service<S>,
+    pass: &mut Pass<S>,
+)
     requires { IsPassOf pass.old service.now }
     ensures { IsPassOf pass.new service.now }
 {
@@ -86,7 +93,11 @@ fn start_each<R: Abort + AllocGlobal>(rt: &R, service: &Service, pass: &mut Pass
 }
 
 /// Signals the first run.
-fn signal_often<R: Abort + AllocGlobal>(rt: &R, service: &Service, pass: &mut Pass)
+fn signal_often<S: KeepsShard, R: Abort + AllocGlobal>(
+    rt: &R,
+    service: &Service<S>,
+    pass: &mut Pass<S>,
+)
     requires { IsPassOf pass.old service.now }
     ensures { IsPassOf pass.new service.now }
 {
@@ -97,7 +108,11 @@ fn signal_often<R: Abort + AllocGlobal>(rt: &R, service: &Service, pass: &mut Pa
 }
 
 /// How many events the history of the first run has, if their ids count from 1.
-fn length_of_history<R: Abort + AllocGlobal>(rt: &R, service: &Service, pass: &mut Pass) -> usize
+fn length_of_history<S: KeepsShard, R: Abort + AllocGlobal>(
+    rt: &R,
+    service: &Service<S>,
+    pass: &mut Pass<S>,
+) -> usize
     requires { IsPassOf pass.old service.now }
     ensures { IsPassOf pass.new service.now }
 {
@@ -111,11 +126,12 @@ fn length_of_history<R: Abort + AllocGlobal>(rt: &R, service: &Service, pass: &m
     }
 }
 
-#[test]
-fn runs_and_events_by_the_thousand(rt: HostRuntime) {
-    let (service, mut passes) = open(&rt, &settings(&rt, 1, 1, 1));
+pub(crate) fn runs_and_events_by_the_thousand<S: KeepsShard, R: Abort + AllocGlobal + Wait>(
+    rt: &R,
+) {
+    let (service, mut passes) = open::<S, R>(rt, &settings(rt, 1, 1, 1));
     let mut pass = take_pass(&service, &mut passes);
-    start_each(&rt, &service, &mut pass);
-    signal_often(&rt, &service, &mut pass);
-    assert_eq!(rt; length_of_history(&rt, &service, &mut pass), 21_000);
+    start_each(rt, &service, &mut pass);
+    signal_often(rt, &service, &mut pass);
+    assert_eq!(rt; length_of_history(rt, &service, &mut pass), 21_000);
 }

@@ -5,15 +5,18 @@ ghost use Rattle.gate.specs.Passes.{number};
 ghost use Rattle.service.specs.Services.{IsPassOf, known_by, settings_of};
 ghost use Rattle.service_tests.specs.Passes.{InOrder};
 
+use service::{KeepsShard, Pass, Service};
 use service_model_types::request::Request;
 use service_model_types::settings::Settings;
 use std::alloc::AllocGlobal;
 use std::process::Abort;
 use step_record::Record;
-use workflow_service::{Pass, Service};
 
 /// A service, and its passes in the order of their numbers.
-pub(crate) fn open<R: Abort + AllocGlobal>(rt: &R, settings: &Settings) -> (Service, Vec<Pass>)
+pub(crate) fn open<S: KeepsShard, R: Abort + AllocGlobal>(
+    rt: &R,
+    settings: &Settings,
+) -> (Service<S>, Vec<Pass<S>>)
     ensures own { InOrder result.0 result.1.items }
     ensures count { length result.1.items ≡ settings.now.passes }
     ensures settings { settings_of result.0 ≡ settings.now }
@@ -22,11 +25,11 @@ pub(crate) fn open<R: Abort + AllocGlobal>(rt: &R, settings: &Settings) -> (Serv
 }
 
 /// The same, where the shards were left by these records.
-pub(crate) fn open_from<R: Abort + AllocGlobal>(
+pub(crate) fn open_from<S: KeepsShard, R: Abort + AllocGlobal>(
     rt: &R,
     settings: &Settings,
     records: Vec<Record<Request>>,
-) -> (Service, Vec<Pass>)
+) -> (Service<S>, Vec<Pass<S>>)
     ensures own { InOrder result.0 result.1.items }
     ensures count { length result.1.items ≡ settings.now.passes }
     ensures settings { settings_of result.0 ≡ settings.now }
@@ -38,7 +41,7 @@ pub(crate) fn open_from<R: Abort + AllocGlobal>(
 }
 
 /// Takes the last pass.
-pub(crate) fn take_pass(service: &Service, passes: &mut Vec<Pass>) -> Pass
+pub(crate) fn take_pass<S: KeepsShard>(service: &Service<S>, passes: &mut Vec<Pass<S>>) -> Pass<S>
     requires some { 0 < length passes.old.items }
     requires own { InOrder service.now passes.old.items }
     ensures own { IsPassOf result service.now }
@@ -53,7 +56,12 @@ pub(crate) fn take_pass(service: &Service, passes: &mut Vec<Pass>) -> Pass
 }
 
 /// Gives a pass back, behind those with lower numbers.
-pub(crate) fn give_back<R: Abort>(rt: &R, service: &Service, passes: &mut Vec<Pass>, pass: Pass)
+pub(crate) fn give_back<S: KeepsShard, R: Abort>(
+    rt: &R,
+    service: &Service<S>,
+    passes: &mut Vec<Pass<S>>,
+    pass: Pass<S>,
+)
     requires own { InOrder service.now passes.old.items }
     requires pass { IsPassOf pass service.now
         × (number (known_by pass) ≡ length passes.old.items) }
@@ -67,7 +75,10 @@ pub(crate) fn give_back<R: Abort>(rt: &R, service: &Service, passes: &mut Vec<Pa
 }
 
 /// The records of the service, where its passes lie in the order of their numbers.
-pub(crate) fn close(service: Service, passes: Vec<Pass>) -> Vec<Record<Request>>
+pub(crate) fn close<S: KeepsShard>(
+    service: Service<S>,
+    passes: Vec<Pass<S>>,
+) -> Vec<Record<Request>>
     requires own { InOrder service passes.items }
     requires count { length passes.items ≡ (settings_of service).passes }
     ensures { length result.items ≡ (settings_of service).shards }
@@ -76,11 +87,11 @@ pub(crate) fn close(service: Service, passes: Vec<Pass>) -> Vec<Record<Request>>
 }
 
 /// The records of a service that has two passes.
-pub(crate) fn close_two<R: Abort + AllocGlobal>(
+pub(crate) fn close_two<S: KeepsShard, R: Abort + AllocGlobal>(
     rt: &R,
-    service: Service,
-    first: Pass,
-    second: Pass,
+    service: Service<S>,
+    first: Pass<S>,
+    second: Pass<S>,
 ) -> Vec<Record<Request>>
     requires first { IsPassOf first service × (number (known_by first) ≡ 0) }
     requires second { IsPassOf second service × (number (known_by second) ≡ 1) }

@@ -8,13 +8,13 @@ use crate::calls::start_one;
 use crate::passes::{open, take_pass};
 use crate::shown::{polled, turned};
 use crate::turns::{assert_dispatch, assert_poll};
+use service::{KeepsShard, Pass, Service};
 use service_model_types::call::Stop;
 use std::alloc::AllocGlobal;
 use std::process::Abort;
 use std::sync::Wait;
 use std::thread::{self, Threads};
 use wf_event_values::Moment;
-use workflow_service::{Pass, Service};
 
 /// How many workflows the two threads hand on and take.
 const COUNT: u64 = 300;
@@ -23,7 +23,11 @@ const COUNT: u64 = 300;
 const TURNS: u64 = 100_000_000;
 
 /// Turns until so many dispatches are counted.
-fn turn_often<R: Abort + AllocGlobal + Wait>(rt: &R, service: &Service, mut pass: Pass) -> Pass
+fn turn_often<S: KeepsShard, R: Abort + AllocGlobal + Wait>(
+    rt: &R,
+    service: &Service<S>,
+    mut pass: Pass<S>,
+) -> Pass<S>
     requires { IsPassOf pass service.now }
     ensures { IsPassOf result service.now }
 {
@@ -43,7 +47,11 @@ fn turn_often<R: Abort + AllocGlobal + Wait>(rt: &R, service: &Service, mut pass
 }
 
 /// Polls until so many tasks were taken.
-fn poll_often<R: Abort + AllocGlobal + Wait>(rt: &R, service: &Service, mut pass: Pass) -> Pass
+fn poll_often<S: KeepsShard, R: Abort + AllocGlobal + Wait>(
+    rt: &R,
+    service: &Service<S>,
+    mut pass: Pass<S>,
+) -> Pass<S>
     requires { IsPassOf pass service.now }
     ensures { IsPassOf result service.now }
 {
@@ -64,7 +72,11 @@ fn poll_often<R: Abort + AllocGlobal + Wait>(rt: &R, service: &Service, mut pass
 }
 
 /// Starts so many workflows.
-fn start_often<R: Abort + AllocGlobal + Wait>(rt: &R, service: &Service, pass: &mut Pass)
+fn start_often<S: KeepsShard, R: Abort + AllocGlobal + Wait>(
+    rt: &R,
+    service: &Service<S>,
+    pass: &mut Pass<S>,
+)
     requires { IsPassOf pass.old service.now }
     ensures { IsPassOf pass.new service.now }
 {
@@ -78,22 +90,22 @@ fn start_often<R: Abort + AllocGlobal + Wait>(rt: &R, service: &Service, pass: &
 }
 
 /// One thread turns and the other polls, at the same time.
-fn hand_on<R: Abort + AllocGlobal + Wait + Threads + Sync>(
+fn hand_on<S: KeepsShard + Send + Sync, R: Abort + AllocGlobal + Wait + Threads + Sync>(
     rt: &R,
-    service: &Service,
-    first: Pass,
-    second: Pass,
-) -> (Pass, Pass)
+    service: &Service<S>,
+    first: Pass<S>,
+    second: Pass<S>,
+) -> (Pass<S>, Pass<S>)
     requires { IsPassOf first service.now × IsPassOf second service.now }
     ensures { IsPassOf result.0 service.now × IsPassOf result.1 service.now }
 {
     thread::join(
         rt,
-        move || -> Pass
+        move || -> Pass<S>
             requires { IsSync R.row × IsPassOf first service.now }
             ensures { IsPassOf result service.entry.now }
         { turn_often(rt, service, first) },
-        move || -> Pass
+        move || -> Pass<S>
             requires { IsSync R.row × IsPassOf second service.now }
             ensures { IsPassOf result service.entry.now }
         { poll_often(rt, service, second) },
@@ -101,15 +113,17 @@ fn hand_on<R: Abort + AllocGlobal + Wait + Threads + Sync>(
 }
 
 /// Each task comes through a queue that is often full and often empty, and none comes twice.
-#[test]
-fn two_threads_hand_tasks_on(rt: HostRuntime) {
-    let mut two = settings(&rt, 1, 2, 1);
+pub(crate) fn two_threads_hand_tasks_on<
+    S: KeepsShard + Send + Sync,
+    R: Abort + AllocGlobal + Threads + Wait + Sync,
+>(rt: &R) {
+    let mut two = settings(rt, 1, 2, 1);
     two.capacity = 16;
-    let (service, mut passes) = open(&rt, &two);
+    let (service, mut passes) = open::<S, R>(rt, &two);
     let second = take_pass(&service, &mut passes);
     let mut first = take_pass(&service, &mut passes);
-    start_often(&rt, &service, &mut first);
-    let (mut first, mut second) = hand_on(&rt, &service, first, second);
-    assert_dispatch(&rt, &service, &mut first, 0, "none");
-    assert_poll(&rt, &service, &mut second, "main", "empty");
+    start_often(rt, &service, &mut first);
+    let (mut first, mut second) = hand_on(rt, &service, first, second);
+    assert_dispatch(rt, &service, &mut first, 0, "none");
+    assert_poll(rt, &service, &mut second, "main", "empty");
 }

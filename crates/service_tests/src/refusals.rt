@@ -7,6 +7,7 @@ ghost use Rattle.service_tests.specs.Passes.{ComesBack};
 use crate::asked::{settings, taken, waiting};
 use crate::passes::{close, give_back, open, take_pass};
 use crate::shown::shown;
+use service::{KeepsShard, Pass, Service};
 use service_model_types::client::{ClientRequest, is_clients};
 use service_model_types::request::{
     CompleteWorkflowTask, FailWorkflowTask, Operation, Request, TakenTask,
@@ -18,7 +19,6 @@ use step_record::Record;
 use wf_command::Command;
 use wf_command::command::RecordMarker;
 use wf_event_values::{Items, Moment, TaskKind, Text};
-use workflow_service::{Pass, Service};
 
 /// The first task of a shard's first run.
 fn task(shard: u16) -> TakenTask {
@@ -53,10 +53,10 @@ fn fail<R: AllocGlobal>(rt: &R, task: TakenTask) -> Operation {
 
 /// The operation is refused by the call that may wait, by an invalid argument of this field or by a
 /// refusal of this name.
-fn assert_refused<R: Abort + Wait>(
+fn assert_refused<S: KeepsShard, R: Abort + Wait>(
     rt: &R,
-    service: &Service,
-    pass: &mut Pass,
+    service: &Service<S>,
+    pass: &mut Pass<S>,
     operation: Operation,
     expected: &'static str,
 )
@@ -73,7 +73,11 @@ fn assert_refused<R: Abort + Wait>(
 }
 
 /// A token that counts from 0 is refused, and one of a shard that is not there.
-fn assert_no_tokens<R: Abort + AllocGlobal + Wait>(rt: &R, service: &Service, pass: &mut Pass)
+fn assert_no_tokens<S: KeepsShard, R: Abort + AllocGlobal + Wait>(
+    rt: &R,
+    service: &Service<S>,
+    pass: &mut Pass<S>,
+)
     requires { IsPassOf pass.old service.now }
     ensures { ComesBack service.now pass.old pass.new }
 {
@@ -101,7 +105,11 @@ fn assert_no_tokens<R: Abort + AllocGlobal + Wait>(rt: &R, service: &Service, pa
 
 /// A hint of a shard that is not there is refused, and so are the requests of turns, which name no
 /// shard.
-fn assert_no_shards<R: Abort + Wait>(rt: &R, service: &Service, pass: &mut Pass)
+fn assert_no_shards<S: KeepsShard, R: Abort + Wait>(
+    rt: &R,
+    service: &Service<S>,
+    pass: &mut Pass<S>,
+)
     requires { IsPassOf pass.old service.now }
     ensures { ComesBack service.now pass.old pass.new }
 {
@@ -119,12 +127,13 @@ fn assert_no_steps<R: Abort>(rt: &R, records: &[Record<Request>]) {
     assert!(rt; records.iter().all(|record| record.is_empty()));
 }
 
-#[test]
-fn what_is_refused_enters_no_shard(rt: HostRuntime) {
-    let (service, mut passes) = open(&rt, &settings(&rt, 2, 1, 1));
+pub(crate) fn what_is_refused_enters_no_shard<S: KeepsShard, R: Abort + AllocGlobal + Wait>(
+    rt: &R,
+) {
+    let (service, mut passes) = open::<S, R>(rt, &settings(rt, 2, 1, 1));
     let mut pass = take_pass(&service, &mut passes);
-    assert_no_tokens(&rt, &service, &mut pass);
-    assert_no_shards(&rt, &service, &mut pass);
-    give_back(&rt, &service, &mut passes, pass);
-    assert_no_steps(&rt, &close(service, passes));
+    assert_no_tokens(rt, &service, &mut pass);
+    assert_no_shards(rt, &service, &mut pass);
+    give_back(rt, &service, &mut passes, pass);
+    assert_no_steps(rt, &close(service, passes));
 }

@@ -7,6 +7,7 @@ ghost use Rattle.service_tests.specs.Passes.{ComesBack};
 use crate::asked::{boxed, id, start, two_shards};
 use crate::passes::{close, give_back, open, open_from, take_pass};
 use crate::shown::{polled, shown};
+use service::{KeepsShard, Pass, Service};
 use service_model_types::request::Request;
 use service_model_types::settings::Settings;
 use std::alloc::AllocGlobal;
@@ -14,10 +15,14 @@ use std::process::Abort;
 use std::sync::Wait;
 use step_record::Record;
 use wf_event_values::{Moment, Refusal};
-use workflow_service::{Pass, Service};
 
 /// Starts a workflow.
-fn assert_started<R: Abort + AllocGlobal>(rt: &R, service: &Service, pass: &mut Pass, name: &str)
+fn assert_started<S: KeepsShard, R: Abort + AllocGlobal>(
+    rt: &R,
+    service: &Service<S>,
+    pass: &mut Pass<S>,
+    name: &str,
+)
     requires { IsPassOf pass.old service.now }
     ensures { ComesBack service.now pass.old pass.new }
 {
@@ -26,8 +31,8 @@ fn assert_started<R: Abort + AllocGlobal>(rt: &R, service: &Service, pass: &mut 
 }
 
 /// The records of two shards, on each of which a workflow was started and waits to be taken.
-fn started_twice<R: Abort + AllocGlobal>(rt: &R) -> Vec<Record<Request>> {
-    let (service, mut passes) = open(rt, &two_shards(rt));
+fn started_twice<S: KeepsShard, R: Abort + AllocGlobal>(rt: &R) -> Vec<Record<Request>> {
+    let (service, mut passes) = open::<S, R>(rt, &two_shards(rt));
     let mut pass = take_pass(&service, &mut passes);
     assert_started(rt, &service, &mut pass, "a");
     assert_started(rt, &service, &mut pass, "b");
@@ -36,10 +41,10 @@ fn started_twice<R: Abort + AllocGlobal>(rt: &R) -> Vec<Record<Request>> {
 }
 
 /// A poll of the queue comes to this.
-fn assert_polled<R: Abort + AllocGlobal + Wait>(
+fn assert_polled<S: KeepsShard, R: Abort + AllocGlobal + Wait>(
     rt: &R,
-    service: &Service,
-    pass: &mut Pass,
+    service: &Service<S>,
+    pass: &mut Pass<S>,
     wanted: &str,
 )
     requires { IsPassOf pass.old service.now }
@@ -50,28 +55,28 @@ fn assert_polled<R: Abort + AllocGlobal + Wait>(
 }
 
 /// The last pass finds both tasks, though none was dispatched, and the other one then finds none.
-#[test]
-fn what_waited_is_found_again(rt: HostRuntime) {
-    let records = started_twice(&rt);
-    let (service, mut passes) = open_from(&rt, &two_shards(&rt), records);
+pub(crate) fn what_waited_is_found_again<S: KeepsShard, R: Abort + AllocGlobal + Wait>(rt: &R) {
+    let records = started_twice::<S, R>(rt);
+    let (service, mut passes) = open_from::<S, R>(rt, &two_shards(rt), records);
     let mut last = take_pass(&service, &mut passes);
     let mut first = take_pass(&service, &mut passes);
-    assert_polled(&rt, &service, &mut last, "task");
-    assert_polled(&rt, &service, &mut last, "task");
-    assert_polled(&rt, &service, &mut first, "empty");
-    give_back(&rt, &service, &mut passes, first);
-    give_back(&rt, &service, &mut passes, last);
+    assert_polled(rt, &service, &mut last, "task");
+    assert_polled(rt, &service, &mut last, "task");
+    assert_polled(rt, &service, &mut first, "empty");
+    give_back(rt, &service, &mut passes, first);
+    give_back(rt, &service, &mut passes, last);
     let records = close(service, passes);
     assert_eq!(rt; records.len(), 2);
     assert!(rt; records.iter().all(|record| record.len() == 2));
 }
 
 /// Why no service is opened.
-fn refused<R: Abort>(rt: &R, settings: &Settings, records: Vec<Record<Request>>) -> &'static str
-where
-    R: AllocGlobal,
-{
-    match Service::open(rt.alloc(), settings, records) {
+fn refused<S: KeepsShard, R: Abort + AllocGlobal>(
+    rt: &R,
+    settings: &Settings,
+    records: Vec<Record<Request>>,
+) -> &'static str {
+    match Service::<S>::open(rt.alloc(), settings, records) {
         Err(Refusal::InvalidArgument(field)) => field.name(),
         Err(refusal) => refusal.name(),
         Ok(_) => panic!(rt; "a service was opened"),
@@ -79,12 +84,14 @@ where
 }
 
 /// What waits has to fit into its queue, and there is a record for each shard.
-#[test]
-fn records_that_open_no_service(rt: HostRuntime) {
-    let mut settings = two_shards(&rt);
+pub(crate) fn records_that_open_no_service<S: KeepsShard, R: Abort + AllocGlobal>(rt: &R) {
+    let mut settings = two_shards(rt);
     settings.capacity = 1;
-    assert_eq!(rt; refused(&rt, &settings, started_twice(&rt)), "QueueFull");
-    let mut records = started_twice(&rt);
+    assert_eq!(rt;
+        refused::<S, R>(rt, &settings, started_twice::<S, R>(rt)),
+        "QueueFull"
+    );
+    let mut records = started_twice::<S, R>(rt);
     records.pop();
-    assert_eq!(rt; refused(&rt, &two_shards(&rt), records), "records");
+    assert_eq!(rt; refused::<S, R>(rt, &two_shards(rt), records), "records");
 }

@@ -7,6 +7,7 @@ ghost use Rattle.std.specs.Thread.{IsSync};
 use crate::asked::{boxed, id, moment, settings, start, text, waiting};
 use crate::passes::{open, take_pass};
 use crate::shown::shown;
+use service::{KeepsShard, Pass, Service};
 use service_model_types::answer::{Answer, Reply};
 use service_model_types::request::{Read, Terminate};
 use service_model_types::settings::Settings;
@@ -15,7 +16,6 @@ use std::process::Abort;
 use std::sync::Wait;
 use std::thread::{self, Threads};
 use wf_event_values::{DeadlineClass, Moment, ReusePolicy, TaskKind};
-use workflow_service::{Pass, Service};
 
 /// For how long a run that has closed is kept.
 const RETENTION: u64 = 5;
@@ -55,10 +55,10 @@ fn taken_away<E: Drop>(came: Result<Reply, E>) -> u64 {
 }
 
 /// Starts the workflow and ends it. The ordinal of its run.
-fn come_and_close<R: Abort + AllocGlobal + Wait>(
+fn come_and_close<S: KeepsShard, R: Abort + AllocGlobal + Wait>(
     rt: &R,
-    service: &Service,
-    pass: &mut Pass,
+    service: &Service<S>,
+    pass: &mut Pass<S>,
     at: Moment,
 ) -> u64
     requires { IsPassOf pass.old service.now }
@@ -77,10 +77,10 @@ fn come_and_close<R: Abort + AllocGlobal + Wait>(
 }
 
 /// Reading the workflow's history comes to this.
-fn assert_read<R: Abort + AllocGlobal + Wait>(
+fn assert_read<S: KeepsShard, R: Abort + AllocGlobal + Wait>(
     rt: &R,
-    service: &Service,
-    pass: &mut Pass,
+    service: &Service<S>,
+    pass: &mut Pass<S>,
     wanted: &str,
 )
     requires { IsPassOf pass.old service.now }
@@ -97,7 +97,13 @@ fn assert_read<R: Abort + AllocGlobal + Wait>(
 }
 
 /// A turn at this moment takes this run away, or none where it is 0.
-fn assert_turn<R: Abort + Wait>(rt: &R, service: &Service, pass: &mut Pass, at: u64, ordinal: u64)
+fn assert_turn<S: KeepsShard, R: Abort + Wait>(
+    rt: &R,
+    service: &Service<S>,
+    pass: &mut Pass<S>,
+    at: u64,
+    ordinal: u64,
+)
     requires { IsPassOf pass.old service.now }
     ensures { IsPassOf pass.new service.now }
 {
@@ -106,10 +112,10 @@ fn assert_turn<R: Abort + Wait>(rt: &R, service: &Service, pass: &mut Pass, at: 
 }
 
 /// What starts the workflow only where none of its runs is kept comes to this.
-fn assert_only_start<R: Abort + AllocGlobal + Wait>(
+fn assert_only_start<S: KeepsShard, R: Abort + AllocGlobal + Wait>(
     rt: &R,
-    service: &Service,
-    pass: &mut Pass,
+    service: &Service<S>,
+    pass: &mut Pass<S>,
     wanted: &str,
 )
     requires { IsPassOf pass.old service.now }
@@ -124,25 +130,30 @@ fn assert_only_start<R: Abort + AllocGlobal + Wait>(
 }
 
 /// Its history is found as long as it is kept, and then its task is stale and its workflow ID free.
-#[test]
-fn a_workflow_goes_and_comes_again(rt: HostRuntime) {
-    let (service, mut passes) = open(&rt, &keeping(&rt, 1));
+pub(crate) fn a_workflow_goes_and_comes_again<S: KeepsShard, R: Abort + AllocGlobal + Wait>(
+    rt: &R,
+) {
+    let (service, mut passes) = open::<S, R>(rt, &keeping(rt, 1));
     let mut pass = take_pass(&service, &mut passes);
-    assert_eq!(rt; come_and_close(&rt, &service, &mut pass, Moment::zero()), 1);
-    assert_turn(&rt, &service, &mut pass, RETENTION - 1, 0);
-    assert_read(&rt, &service, &mut pass, "history");
-    assert_only_start(&rt, &service, &mut pass, "AlreadyStarted");
-    assert_turn(&rt, &service, &mut pass, RETENTION, 1);
-    assert_read(&rt, &service, &mut pass, "NotFound");
+    assert_eq!(rt; come_and_close(rt, &service, &mut pass, Moment::zero()), 1);
+    assert_turn(rt, &service, &mut pass, RETENTION - 1, 0);
+    assert_read(rt, &service, &mut pass, "history");
+    assert_only_start(rt, &service, &mut pass, "AlreadyStarted");
+    assert_turn(rt, &service, &mut pass, RETENTION, 1);
+    assert_read(rt, &service, &mut pass, "NotFound");
     let hint = waiting(TaskKind::Workflow, 0, 2, 1);
-    let came = service.start_task(&rt, &mut pass, hint, Moment::zero());
+    let came = service.start_task(rt, &mut pass, hint, Moment::zero());
     assert_eq!(rt; shown(came), "stale");
-    assert_only_start(&rt, &service, &mut pass, "started");
-    assert_read(&rt, &service, &mut pass, "history");
+    assert_only_start(rt, &service, &mut pass, "started");
+    assert_read(rt, &service, &mut pass, "history");
 }
 
 /// Lets the runs come and close, at one moment after another.
-fn come_often<R: Abort + AllocGlobal + Wait>(rt: &R, service: &Service, mut pass: Pass) -> Pass
+fn come_often<S: KeepsShard, R: Abort + AllocGlobal + Wait>(
+    rt: &R,
+    service: &Service<S>,
+    mut pass: Pass<S>,
+) -> Pass<S>
     requires { IsPassOf pass service.now }
     ensures { IsPassOf result service.now }
 {
@@ -154,7 +165,11 @@ fn come_often<R: Abort + AllocGlobal + Wait>(rt: &R, service: &Service, mut pass
 }
 
 /// Turns until all are gone that closed so long before the last one, each after the one before it.
-fn turn_often<R: Abort + AllocGlobal + Wait>(rt: &R, service: &Service, mut pass: Pass) -> Pass
+fn turn_often<S: KeepsShard, R: Abort + AllocGlobal + Wait>(
+    rt: &R,
+    service: &Service<S>,
+    mut pass: Pass<S>,
+) -> Pass<S>
     requires { IsPassOf pass service.now }
     ensures { IsPassOf result service.now }
 {
@@ -174,22 +189,22 @@ fn turn_often<R: Abort + AllocGlobal + Wait>(rt: &R, service: &Service, mut pass
 }
 
 /// One thread lets the runs come, and the other takes them away, at the same time.
-fn come_and_go<R: Abort + AllocGlobal + Wait + Threads + Sync>(
+fn come_and_go<S: KeepsShard + Send + Sync, R: Abort + AllocGlobal + Wait + Threads + Sync>(
     rt: &R,
-    service: &Service,
-    first: Pass,
-    second: Pass,
-) -> (Pass, Pass)
+    service: &Service<S>,
+    first: Pass<S>,
+    second: Pass<S>,
+) -> (Pass<S>, Pass<S>)
     requires { IsPassOf first service.now × IsPassOf second service.now }
     ensures { IsPassOf result.0 service.now × IsPassOf result.1 service.now }
 {
     thread::join(
         rt,
-        move || -> Pass
+        move || -> Pass<S>
             requires { IsSync R.row × IsPassOf first service.now }
             ensures { IsPassOf result service.entry.now }
         { come_often(rt, service, first) },
-        move || -> Pass
+        move || -> Pass<S>
             requires { IsSync R.row × IsPassOf second service.now }
             ensures { IsPassOf result service.entry.now }
         { turn_often(rt, service, second) },
@@ -197,7 +212,11 @@ fn come_and_go<R: Abort + AllocGlobal + Wait + Threads + Sync>(
 }
 
 /// Takes the runs away that are left.
-fn take_rest<R: Abort + AllocGlobal + Wait>(rt: &R, service: &Service, pass: &mut Pass)
+fn take_rest<S: KeepsShard, R: Abort + AllocGlobal + Wait>(
+    rt: &R,
+    service: &Service<S>,
+    pass: &mut Pass<S>,
+)
     requires { IsPassOf pass.old service.now }
     ensures { IsPassOf pass.new service.now }
 {
@@ -209,13 +228,15 @@ fn take_rest<R: Abort + AllocGlobal + Wait>(rt: &R, service: &Service, pass: &mu
 }
 
 /// Each run is taken away once, in the order in which they came, while others come.
-#[test]
-fn two_threads_let_runs_come_and_go(rt: HostRuntime) {
-    let (service, mut passes) = open(&rt, &keeping(&rt, 2));
+pub(crate) fn two_threads_let_runs_come_and_go<
+    S: KeepsShard + Send + Sync,
+    R: Abort + AllocGlobal + Threads + Wait + Sync,
+>(rt: &R) {
+    let (service, mut passes) = open::<S, R>(rt, &keeping(rt, 2));
     let second = take_pass(&service, &mut passes);
     let first = take_pass(&service, &mut passes);
-    let (mut first, mut second) = come_and_go(&rt, &service, first, second);
-    assert_read(&rt, &service, &mut first, "history");
-    take_rest(&rt, &service, &mut second);
-    assert_read(&rt, &service, &mut first, "NotFound");
+    let (mut first, mut second) = come_and_go(rt, &service, first, second);
+    assert_read(rt, &service, &mut first, "history");
+    take_rest(rt, &service, &mut second);
+    assert_read(rt, &service, &mut first, "NotFound");
 }

@@ -1,10 +1,10 @@
 //! What was answered, in a word.
 
+use service::Turned;
 use service_model_types::answer::{Answer, Reply};
 use service_model_types::request::Hint;
 use std::alloc::AllocError;
 use wf_event_values::Refusal;
-use workflow_service::Turned;
 
 fn name_of(answer: &Answer) -> &'static str {
     match answer {

@@ -10,6 +10,7 @@ use crate::asked::{boxed, id, is_first_run, moment, settings, signal, start, two
 use crate::calls::start_one;
 use crate::passes::{close, close_two, give_back, open, take_pass};
 use crate::shown::shown;
+use service::{KeepsShard, Pass, Refused, Service};
 use service_model_types::answer::{Answer, Reply};
 use service_model_types::request::{Operation, Request};
 use std::alloc::AllocGlobal;
@@ -19,7 +20,6 @@ use std::thread;
 use std::thread::Threads;
 use step_record::Record;
 use wf_event_values::{Moment, Refusal};
-use workflow_service::{Pass, Refused, Service};
 
 /// The workflows that the four threads signal, and how many signals each thread sends.
 const WORKFLOWS: [&str; 5] = ["a", "b", "c", "d", "e"];
@@ -82,7 +82,11 @@ fn is_kept_out(came: Result<Reply, (Refused, Request)>) -> bool {
 }
 
 /// While another pass stays on the shard of `a`, `b` can be started and `a` can't.
-fn start_both<R: Abort + AllocGlobal>(rt: &R, service: &Service, mut pass: Pass) -> Pass
+fn start_both<S: KeepsShard, R: Abort + AllocGlobal>(
+    rt: &R,
+    service: &Service<S>,
+    mut pass: Pass<S>,
+) -> Pass<S>
     requires { IsPassOf pass service.now }
     ensures { ComesBack service.now pass result }
 {
@@ -95,7 +99,11 @@ fn start_both<R: Abort + AllocGlobal>(rt: &R, service: &Service, mut pass: Pass)
 }
 
 /// Once it has left, `a` is found started.
-fn start_again<R: Abort + AllocGlobal>(rt: &R, service: &Service, pass: &mut Pass)
+fn start_again<S: KeepsShard, R: Abort + AllocGlobal>(
+    rt: &R,
+    service: &Service<S>,
+    pass: &mut Pass<S>,
+)
     requires { IsPassOf pass.old service.now }
     ensures { ComesBack service.now pass.old pass.new }
 {
@@ -104,17 +112,17 @@ fn start_again<R: Abort + AllocGlobal>(rt: &R, service: &Service, pass: &mut Pas
 }
 
 /// The other pass makes its calls on a thread of its own.
-fn start_beside<R: Abort + AllocGlobal + Threads + Sync>(
+fn start_beside<S: KeepsShard + Send + Sync, R: Abort + AllocGlobal + Threads + Sync>(
     rt: &R,
-    service: &Service,
-    pass: Pass,
-) -> Pass
+    service: &Service<S>,
+    pass: Pass<S>,
+) -> Pass<S>
     requires { IsPassOf pass service.now }
     ensures { ComesBack service.now pass result }
 {
     let (pass, ()) = thread::join(
         rt,
-        move || -> Pass
+        move || -> Pass<S>
             requires { IsSync R.row × IsPassOf pass service.now }
             ensures { IsPassOf result service.entry.now
                 × (number (known_by result) ≡ number (known_by pass)) }
@@ -125,12 +133,12 @@ fn start_beside<R: Abort + AllocGlobal + Threads + Sync>(
 }
 
 /// One pass stays on the shard of `a` while another makes its calls, and then leaves.
-fn stay_and_leave<R: Abort + AllocGlobal + Threads + Sync>(
+fn stay_and_leave<S: KeepsShard + Send + Sync, R: Abort + AllocGlobal + Threads + Sync>(
     rt: &R,
-    service: &Service,
-    first: Pass,
-    second: Pass,
-) -> (Pass, Pass)
+    service: &Service<S>,
+    first: Pass<S>,
+    second: Pass<S>,
+) -> (Pass<S>, Pass<S>)
     requires { IsPassOf first service.now × IsPassOf second service.now }
     ensures own { IsPassOf result.0 service.now × IsPassOf result.1 service.now }
     ensures named { (number (known_by result.0) ≡ number (known_by first))
@@ -152,14 +160,16 @@ fn assert_kept_out<R: Abort>(rt: &R, records: &[Record<Request>]) {
     assert!(rt; has_steps(&records[1], &[(1, "b")]));
 }
 
-#[test]
-fn a_pass_on_a_shard_keeps_others_out(rt: HostRuntime) {
-    let (service, mut passes) = open(&rt, &two_shards(&rt));
+pub(crate) fn a_pass_on_a_shard_keeps_others_out<
+    S: KeepsShard + Send + Sync,
+    R: Abort + AllocGlobal + Threads + Wait + Sync,
+>(rt: &R) {
+    let (service, mut passes) = open::<S, R>(rt, &two_shards(rt));
     let second = take_pass(&service, &mut passes);
     let first = take_pass(&service, &mut passes);
-    let (first, mut second) = stay_and_leave(&rt, &service, first, second);
-    start_again(&rt, &service, &mut second);
-    assert_kept_out(&rt, &close_two(&rt, service, first, second));
+    let (first, mut second) = stay_and_leave(rt, &service, first, second);
+    start_again(rt, &service, &mut second);
+    assert_kept_out(rt, &close_two(rt, service, first, second));
 }
 
 /// Whether a start won over the one that was made at the same time.
@@ -172,12 +182,12 @@ fn has_won<R: Abort>(rt: &R, came: &str) -> bool {
 }
 
 /// Starts `a` under a request id, waiting for its shard. False where `a` was found started.
-fn start_as<R: Abort + AllocGlobal + Wait>(
+fn start_as<S: KeepsShard, R: Abort + AllocGlobal + Wait>(
     rt: &R,
-    service: &Service,
-    mut pass: Pass,
+    service: &Service<S>,
+    mut pass: Pass<S>,
     request_id: &str,
-) -> (Pass, bool)
+) -> (Pass<S>, bool)
     requires { IsPassOf pass service.now }
     ensures { ComesBack service.now pass result.0 }
 {
@@ -187,23 +197,23 @@ fn start_as<R: Abort + AllocGlobal + Wait>(
 }
 
 /// Two passes start `a` at the same time. Which of them did.
-fn start_at_once<R: Abort + AllocGlobal + Wait + Threads + Sync>(
+fn start_at_once<S: KeepsShard + Send + Sync, R: Abort + AllocGlobal + Wait + Threads + Sync>(
     rt: &R,
-    service: &Service,
-    first: Pass,
-    second: Pass,
-) -> ((Pass, bool), (Pass, bool))
+    service: &Service<S>,
+    first: Pass<S>,
+    second: Pass<S>,
+) -> ((Pass<S>, bool), (Pass<S>, bool))
     requires { IsPassOf first service.now × IsPassOf second service.now }
     ensures first { ComesBack service.now first result.0.0 }
     ensures second { ComesBack service.now second result.1.0 }
 {
     thread::join(
         rt,
-        move || -> (Pass, bool)
+        move || -> (Pass<S>, bool)
             requires { IsSync R.row × IsPassOf first service.now }
             ensures { ComesBack service.entry.now first result.0 }
         { start_as(rt, service, first, "r1") },
-        move || -> (Pass, bool)
+        move || -> (Pass<S>, bool)
             requires { IsSync R.row × IsPassOf second service.now }
             ensures { ComesBack service.entry.now second result.0 }
         { start_as(rt, service, second, "r2") },
@@ -220,17 +230,23 @@ fn assert_one_won<R: Abort>(rt: &R, won: (bool, bool), records: &[Record<Request
     assert!(rt; records[1].is_empty());
 }
 
-#[test]
-fn two_threads_start_one_workflow(rt: HostRuntime) {
-    let (service, mut passes) = open(&rt, &two_shards(&rt));
+pub(crate) fn two_threads_start_one_workflow<
+    S: KeepsShard + Send + Sync,
+    R: Abort + AllocGlobal + Threads + Wait + Sync,
+>(rt: &R) {
+    let (service, mut passes) = open::<S, R>(rt, &two_shards(rt));
     let second = take_pass(&service, &mut passes);
     let first = take_pass(&service, &mut passes);
-    let ((first, one), (second, two)) = start_at_once(&rt, &service, first, second);
-    assert_one_won(&rt, (one, two), &close_two(&rt, service, first, second));
+    let ((first, one), (second, two)) = start_at_once(rt, &service, first, second);
+    assert_one_won(rt, (one, two), &close_two(rt, service, first, second));
 }
 
 /// Signals the workflows in turn. The moments rise by one from one signal to the next.
-fn signal_in_turn<R: Abort + AllocGlobal + Wait>(rt: &R, service: &Service, mut pass: Pass) -> Pass
+fn signal_in_turn<S: KeepsShard, R: Abort + AllocGlobal + Wait>(
+    rt: &R,
+    service: &Service<S>,
+    mut pass: Pass<S>,
+) -> Pass<S>
     requires { IsPassOf pass service.now }
     ensures { ComesBack service.now pass result }
 {
@@ -243,23 +259,23 @@ fn signal_in_turn<R: Abort + AllocGlobal + Wait>(rt: &R, service: &Service, mut 
 }
 
 /// Two passes at the same time, which meet afterwards.
-fn signal_both<R: Abort + AllocGlobal + Wait + Threads + Sync>(
+fn signal_both<S: KeepsShard + Send + Sync, R: Abort + AllocGlobal + Wait + Threads + Sync>(
     rt: &R,
-    service: &Service,
-    one: Pass,
-    two: Pass,
-) -> (Pass, Pass)
+    service: &Service<S>,
+    one: Pass<S>,
+    two: Pass<S>,
+) -> (Pass<S>, Pass<S>)
     requires { IsPassOf one service.now × IsPassOf two service.now }
     ensures one { ComesBack service.now one result.0 }
     ensures two { ComesBack service.now two result.1 }
 {
     let (mut one, mut two) = thread::join(
         rt,
-        move || -> Pass
+        move || -> Pass<S>
             requires { IsSync R.row × IsPassOf one service.now }
             ensures { ComesBack service.entry.now one result }
         { signal_in_turn(rt, service, one) },
-        move || -> Pass
+        move || -> Pass<S>
             requires { IsSync R.row × IsPassOf two service.now }
             ensures { ComesBack service.entry.now two result }
         { signal_in_turn(rt, service, two) },
@@ -269,7 +285,11 @@ fn signal_both<R: Abort + AllocGlobal + Wait + Threads + Sync>(
 }
 
 /// Starts the workflows.
-fn start_all<R: Abort + AllocGlobal + Wait>(rt: &R, service: &Service, pass: &mut Pass)
+fn start_all<S: KeepsShard, R: Abort + AllocGlobal + Wait>(
+    rt: &R,
+    service: &Service<S>,
+    pass: &mut Pass<S>,
+)
     requires { IsPassOf pass.old service.now }
     ensures { ComesBack service.now pass.old pass.new }
 {
@@ -306,12 +326,12 @@ fn has_signals(records: &[Record<Request>], pass: u8, workflow: &str, first: u64
 }
 
 /// Four passes at the same time, of which two pairs meet, and then one of each pair.
-fn signal_all<R: Abort + AllocGlobal + Wait + Threads + Sync>(
+fn signal_all<S: KeepsShard + Send + Sync, R: Abort + AllocGlobal + Wait + Threads + Sync>(
     rt: &R,
-    service: &Service,
-    one: (Pass, Pass),
-    two: (Pass, Pass),
-) -> ((Pass, Pass), (Pass, Pass))
+    service: &Service<S>,
+    one: (Pass<S>, Pass<S>),
+    two: (Pass<S>, Pass<S>),
+) -> ((Pass<S>, Pass<S>), (Pass<S>, Pass<S>))
     requires one { IsPassOf one.0 service.now × IsPassOf one.1 service.now }
     requires two { IsPassOf two.0 service.now × IsPassOf two.1 service.now }
     ensures one { ComesBack service.now one.0 result.0.0
@@ -321,12 +341,12 @@ fn signal_all<R: Abort + AllocGlobal + Wait + Threads + Sync>(
 {
     let (mut one, mut two) = thread::join(
         rt,
-        move || -> (Pass, Pass)
+        move || -> (Pass<S>, Pass<S>)
             requires { IsSync R.row × IsPassOf one.0 service.now × IsPassOf one.1 service.now }
             ensures { ComesBack service.entry.now one.0 result.0
                 × ComesBack service.entry.now one.1 result.1 }
         { signal_both(rt, service, one.0, one.1) },
-        move || -> (Pass, Pass)
+        move || -> (Pass<S>, Pass<S>)
             requires { IsSync R.row × IsPassOf two.0 service.now × IsPassOf two.1 service.now }
             ensures { ComesBack service.entry.now two.0 result.0
                 × ComesBack service.entry.now two.1 result.1 }
@@ -363,18 +383,20 @@ fn assert_all_signaled<R: Abort>(rt: &R, records: &[Record<Request>]) {
     }
 }
 
-#[test]
-fn four_threads_signal_on_four_shards(rt: HostRuntime) {
-    let (service, mut passes) = open(&rt, &settings(&rt, 4, 4, 1));
+pub(crate) fn four_threads_signal_on_four_shards<
+    S: KeepsShard + Send + Sync,
+    R: Abort + AllocGlobal + Threads + Wait + Sync,
+>(rt: &R) {
+    let (service, mut passes) = open::<S, R>(rt, &settings(rt, 4, 4, 1));
     let d = take_pass(&service, &mut passes);
     let c = take_pass(&service, &mut passes);
     let b = take_pass(&service, &mut passes);
     let mut a = take_pass(&service, &mut passes);
-    start_all(&rt, &service, &mut a);
-    let ((a, b), (c, d)) = signal_all(&rt, &service, (a, b), (c, d));
-    give_back(&rt, &service, &mut passes, a);
-    give_back(&rt, &service, &mut passes, b);
-    give_back(&rt, &service, &mut passes, c);
-    give_back(&rt, &service, &mut passes, d);
-    assert_all_signaled(&rt, &close(service, passes));
+    start_all(rt, &service, &mut a);
+    let ((a, b), (c, d)) = signal_all(rt, &service, (a, b), (c, d));
+    give_back(rt, &service, &mut passes, a);
+    give_back(rt, &service, &mut passes, b);
+    give_back(rt, &service, &mut passes, c);
+    give_back(rt, &service, &mut passes, d);
+    assert_all_signaled(rt, &close(service, passes));
 }

@@ -6,6 +6,7 @@ use crate::asked::{id, moment, settings, taken, waiting};
 use crate::calls::start_one;
 use crate::passes::{open, take_pass};
 use crate::shown::shown;
+use service::{KeepsShard, Pass, Service};
 use service_model_types::answer::{Answer, Reply};
 use service_model_types::request::CompleteWorkflowTask;
 use std::alloc::AllocGlobal;
@@ -14,7 +15,6 @@ use std::sync::Wait;
 use wf_command::Command;
 use wf_command::command::StartTimer;
 use wf_event_values::{Field, Items, Moment, Span, TaskKind};
-use workflow_service::{Pass, Service};
 
 const TIMERS: u64 = 10_000;
 
@@ -51,7 +51,11 @@ fn timers<R: Abort + AllocGlobal>(rt: &R) -> Items<Command> {
 }
 
 /// Takes the task of the first run, and completes it by all timers.
-fn start_timers<R: Abort + AllocGlobal + Wait>(rt: &R, service: &Service, pass: &mut Pass)
+fn start_timers<S: KeepsShard, R: Abort + AllocGlobal + Wait>(
+    rt: &R,
+    service: &Service<S>,
+    pass: &mut Pass<S>,
+)
     requires { IsPassOf pass.old service.now }
     ensures { IsPassOf pass.new service.now }
 {
@@ -75,7 +79,12 @@ fn fired<E: Drop>(came: Result<Reply, E>) -> u64 {
 }
 
 /// A turn for each timer fires them in the order of their events.
-fn fire_all<R: Abort + Wait>(rt: &R, service: &Service, pass: &mut Pass, at: Moment)
+fn fire_all<S: KeepsShard, R: Abort + Wait>(
+    rt: &R,
+    service: &Service<S>,
+    pass: &mut Pass<S>,
+    at: Moment,
+)
     requires { IsPassOf pass.old service.now }
     ensures { IsPassOf pass.new service.now }
 {
@@ -86,15 +95,16 @@ fn fire_all<R: Abort + Wait>(rt: &R, service: &Service, pass: &mut Pass, at: Mom
 }
 
 /// Timers of one moment fire in the order in which one completion started them, and none before it.
-#[test]
-fn ten_thousand_timers_fire_in_order(rt: HostRuntime) {
-    let (service, mut passes) = open(&rt, &settings(&rt, 1, 1, 1));
+pub(crate) fn ten_thousand_timers_fire_in_order<S: KeepsShard, R: Abort + AllocGlobal + Wait>(
+    rt: &R,
+) {
+    let (service, mut passes) = open::<S, R>(rt, &settings(rt, 1, 1, 1));
     let mut pass = take_pass(&service, &mut passes);
-    start_one(&rt, &service, &mut pass, "a");
-    start_timers(&rt, &service, &mut pass);
-    let at = moment(&rt, DURATION);
-    let early = service.timer_turn(&rt, &mut pass, 0, moment(&rt, DURATION - 1));
+    start_one(rt, &service, &mut pass, "a");
+    start_timers(rt, &service, &mut pass);
+    let at = moment(rt, DURATION);
+    let early = service.timer_turn(rt, &mut pass, 0, moment(rt, DURATION - 1));
     assert_eq!(rt; shown(early), "none");
-    fire_all(&rt, &service, &mut pass, at);
-    assert_eq!(rt; shown(service.timer_turn(&rt, &mut pass, 0, at)), "none");
+    fire_all(rt, &service, &mut pass, at);
+    assert_eq!(rt; shown(service.timer_turn(rt, &mut pass, 0, at)), "none");
 }

@@ -8,6 +8,7 @@ use crate::calls::start_one;
 use crate::passes::{open, take_pass};
 use crate::shown::shown;
 use event_pieces::SharedEvents;
+use service::{KeepsShard, Pass, Service};
 use service_model_types::answer::Answer;
 use service_model_types::call::Stop;
 use service_model_types::request::{CompleteWorkflowTask, Read};
@@ -19,7 +20,6 @@ use wf_command::Command;
 use wf_command::command::SignalExternal;
 use wf_event::{Attributes, Event};
 use wf_event_values::{Items, Moment, TaskKind};
-use workflow_service::{Pass, Service};
 
 /// How many signals the workflow of the first shard sends.
 const COUNT: u64 = 50;
@@ -53,7 +53,11 @@ fn signals<R: Abort + AllocGlobal>(rt: &R) -> Items<Command> {
 }
 
 /// Takes the task of the first shard's workflow, and completes it by all signals.
-fn send<R: Abort + AllocGlobal + Wait>(rt: &R, service: &Service, pass: &mut Pass)
+fn send<S: KeepsShard, R: Abort + AllocGlobal + Wait>(
+    rt: &R,
+    service: &Service<S>,
+    pass: &mut Pass<S>,
+)
     requires { IsPassOf pass.old service.now }
     ensures { IsPassOf pass.new service.now }
 {
@@ -69,7 +73,11 @@ fn send<R: Abort + AllocGlobal + Wait>(rt: &R, service: &Service, pass: &mut Pas
 }
 
 /// A workflow on each shard, of which the first one has sent the second one all signals.
-fn open_sent<R: Abort + AllocGlobal + Wait>(rt: &R, service: &Service, pass: &mut Pass)
+fn open_sent<S: KeepsShard, R: Abort + AllocGlobal + Wait>(
+    rt: &R,
+    service: &Service<S>,
+    pass: &mut Pass<S>,
+)
     requires { IsPassOf pass.old service.now }
     ensures { IsPassOf pass.new service.now }
 {
@@ -79,11 +87,11 @@ fn open_sent<R: Abort + AllocGlobal + Wait>(rt: &R, service: &Service, pass: &mu
 }
 
 /// Turns until no transfer waits. How many were accepted.
-fn turn_often<R: Abort + AllocGlobal + Wait>(
+fn turn_often<S: KeepsShard, R: Abort + AllocGlobal + Wait>(
     rt: &R,
-    service: &Service,
-    mut pass: Pass,
-) -> (Pass, u64)
+    service: &Service<S>,
+    mut pass: Pass<S>,
+) -> (Pass<S>, u64)
     requires { IsPassOf pass service.now }
     ensures { IsPassOf result.0 service.now }
 {
@@ -102,22 +110,22 @@ fn turn_often<R: Abort + AllocGlobal + Wait>(
 }
 
 /// Both threads turn at the same time. How many were accepted over both.
-fn turn_both<R: Abort + AllocGlobal + Wait + Threads + Sync>(
+fn turn_both<S: KeepsShard + Send + Sync, R: Abort + AllocGlobal + Wait + Threads + Sync>(
     rt: &R,
-    service: &Service,
-    first: Pass,
-    second: Pass,
-) -> (Pass, u64)
+    service: &Service<S>,
+    first: Pass<S>,
+    second: Pass<S>,
+) -> (Pass<S>, u64)
     requires { IsPassOf first service.now × IsPassOf second service.now }
     ensures { IsPassOf result.0 service.now }
 {
     let ((first, one), (_second, two)) = thread::join(
         rt,
-        move || -> (Pass, u64)
+        move || -> (Pass<S>, u64)
             requires { IsSync R.row × IsPassOf first service.now }
             ensures { IsPassOf result.0 service.entry.now }
         { turn_often(rt, service, first) },
-        move || -> (Pass, u64)
+        move || -> (Pass<S>, u64)
             requires { IsSync R.row × IsPassOf second service.now }
             ensures { IsPassOf result.0 service.entry.now }
         { turn_often(rt, service, second) },
@@ -148,7 +156,11 @@ fn are_signals(alloc: Global, events: &SharedEvents, count: u64) -> bool {
     place as u64 == count.saturating_add(2)
 }
 
-fn assert_signals<R: Abort + AllocGlobal + Wait>(rt: &R, service: &Service, pass: &mut Pass)
+fn assert_signals<S: KeepsShard, R: Abort + AllocGlobal + Wait>(
+    rt: &R,
+    service: &Service<S>,
+    pass: &mut Pass<S>,
+)
     requires { IsPassOf pass.old service.now }
     ensures { IsPassOf pass.new service.now }
 {
@@ -165,13 +177,15 @@ fn assert_signals<R: Abort + AllocGlobal + Wait>(rt: &R, service: &Service, pass
 }
 
 /// Each signal comes once and in its order, whichever thread delivers it.
-#[test]
-fn two_threads_deliver_signals(rt: HostRuntime) {
-    let (service, mut passes) = open(&rt, &two_shards(&rt));
+pub(crate) fn two_threads_deliver_signals<
+    S: KeepsShard + Send + Sync,
+    R: Abort + AllocGlobal + Threads + Wait + Sync,
+>(rt: &R) {
+    let (service, mut passes) = open::<S, R>(rt, &two_shards(rt));
     let second = take_pass(&service, &mut passes);
     let mut first = take_pass(&service, &mut passes);
-    open_sent(&rt, &service, &mut first);
-    let (mut first, accepted) = turn_both(&rt, &service, first, second);
+    open_sent(rt, &service, &mut first);
+    let (mut first, accepted) = turn_both(rt, &service, first, second);
     assert_eq!(rt; accepted, COUNT);
-    assert_signals(&rt, &service, &mut first);
+    assert_signals(rt, &service, &mut first);
 }

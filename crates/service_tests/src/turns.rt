@@ -6,18 +6,18 @@ ghost use Rattle.service.specs.Services.{IsPassOf};
 use crate::asked::{id, two_shards};
 use crate::passes::{open, take_pass};
 use crate::shown::{polled, shown, turned};
+use service::{KeepsShard, Pass, Service};
 use service_model_types::call::Stop;
 use std::alloc::AllocGlobal;
 use std::process::Abort;
 use std::sync::Wait;
 use wf_event_values::Moment;
-use workflow_service::{Pass, Service};
 
 /// A dispatch turn on a shard comes to this.
-pub(crate) fn assert_dispatch<R: Abort + Wait>(
+pub(crate) fn assert_dispatch<S: KeepsShard, R: Abort + Wait>(
     rt: &R,
-    service: &Service,
-    pass: &mut Pass,
+    service: &Service<S>,
+    pass: &mut Pass<S>,
     shard: u16,
     wanted: &str,
 )
@@ -30,10 +30,10 @@ pub(crate) fn assert_dispatch<R: Abort + Wait>(
 }
 
 /// A transfer turn from one shard to another comes to this.
-fn assert_transfer<R: Abort + Wait>(
+fn assert_transfer<S: KeepsShard, R: Abort + Wait>(
     rt: &R,
-    service: &Service,
-    pass: &mut Pass,
+    service: &Service<S>,
+    pass: &mut Pass<S>,
     ends: (u16, u16),
     wanted: &str,
 )
@@ -46,10 +46,10 @@ fn assert_transfer<R: Abort + Wait>(
 }
 
 /// A queue's polls for tasks of both kinds come to this.
-pub(crate) fn assert_poll<R: Abort + AllocGlobal + Wait>(
+pub(crate) fn assert_poll<S: KeepsShard, R: Abort + AllocGlobal + Wait>(
     rt: &R,
-    service: &Service,
-    pass: &mut Pass,
+    service: &Service<S>,
+    pass: &mut Pass<S>,
     queue: &str,
     wanted: &str,
 )
@@ -63,15 +63,14 @@ pub(crate) fn assert_poll<R: Abort + AllocGlobal + Wait>(
     assert_eq!(rt; activity, wanted);
 }
 
-#[test]
-fn turns_and_polls(rt: HostRuntime) {
-    let (service, mut passes) = open(&rt, &two_shards(&rt));
+pub(crate) fn turns_and_polls<S: KeepsShard, R: Abort + AllocGlobal + Wait>(rt: &R) {
+    let (service, mut passes) = open::<S, R>(rt, &two_shards(rt));
     let mut pass = take_pass(&service, &mut passes);
-    assert_dispatch(&rt, &service, &mut pass, 2, "shard");
-    assert_dispatch(&rt, &service, &mut pass, 1, "none");
-    assert_transfer(&rt, &service, &mut pass, (2, 2), "from");
-    assert_transfer(&rt, &service, &mut pass, (1, 2), "to");
-    assert_transfer(&rt, &service, &mut pass, (1, 0), "none");
-    assert_poll(&rt, &service, &mut pass, "nobody", "UnknownTaskQueue");
-    assert_poll(&rt, &service, &mut pass, "main", "empty");
+    assert_dispatch(rt, &service, &mut pass, 2, "shard");
+    assert_dispatch(rt, &service, &mut pass, 1, "none");
+    assert_transfer(rt, &service, &mut pass, (2, 2), "from");
+    assert_transfer(rt, &service, &mut pass, (1, 2), "to");
+    assert_transfer(rt, &service, &mut pass, (1, 0), "none");
+    assert_poll(rt, &service, &mut pass, "nobody", "UnknownTaskQueue");
+    assert_poll(rt, &service, &mut pass, "main", "empty");
 }
