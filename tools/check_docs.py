@@ -196,7 +196,7 @@ def wrong_markers(files: list[Path]) -> list[str]:
     said = f"{len(meaning)} files, {sum(map(size_of, meaning)):,} lines"
     architecture = (TOP / "docs/ARCHITECTURE.md").read_text()
     if said not in architecture:
-        wrong.append(f"docs/ARCHITECTURE.md: what must be believed are {said}")
+        wrong.append(f"docs/ARCHITECTURE.md: it doesn't say how much must be believed, which is {said}")
     names = [str(file.relative_to(TOP / "crates").with_suffix("")) for file in meaning]
     return wrong + [f"docs/ARCHITECTURE.md: {fault}"
                     for fault in docs_claims.not_to_be_believed(architecture, names)]
@@ -244,6 +244,8 @@ def main() -> int:
         print(f"note: {note}", file=sys.stderr)
     for fault in faults:
         print(fault)
+    if faults:
+        print(f"faults of the documents: {len(faults)}", file=sys.stderr)
     return 1 if faults else 0
 
 
