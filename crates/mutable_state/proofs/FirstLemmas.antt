@@ -19,8 +19,8 @@ use Rattle.service_model.specs.TimerTurns.{RunDue, is_before, lesser, least, cla
 use Rattle.timeouts.specs.declared.due.Due.{Due as Kept}
 use Rattle.timeouts.specs.Firsts.{of_run, first_of}
 use Rattle.timeouts.specs.Slots.{run_due, lesser_of_two, IsOneOf}
-use Rattle.timeouts.proofs.FirstLemmas.{first_of-append}
-use Rattle.timeouts.proofs.LeastLemmas.{least-append, least-fires, least-is, least-none, one-left, one-right}
+use Rattle.timeouts.proofs.FirstLemmas.{first_of-append, either as one-either}
+use Rattle.timeouts.proofs.LeastLemmas.{least-append, least-fires, least-is, least-none, one-left, one-right, all_of_members as all-of}
 use Rattle.buffered.specs.Buffers.{Buffer, event_at, with_ids, with_id, pushed, flushed, held_back}
 use Rattle.mutable_state.specs.declared.notes.Notes.{Notes}
 use Rattle.mutable_state.specs.declared.open.Open.{Open}
@@ -228,11 +228,6 @@ run-first n (d ∷ ds) = by (first_of 0 ds) refl (run-first n ds)
         by_test true h = ap (λ b. Some (with_run n (cond b e (record { run = 0; at = d })))) h ∙ sym (ap (λ b. Some (cond b (with_run n e) (record { run = n; at = d }))) (sym same ∙ h))
         by_test false h = ap (λ b. Some (with_run n (cond b e (record { run = 0; at = d })))) h ∙ sym (ap (λ b. Some (cond b (with_run n e) (record { run = n; at = d }))) (sym same ∙ h))
 
--- two lists with the same members have the same least one
-all-of : (P : RunDue → Type 0) (ds : List RunDue) → ((x : RunDue) → IsOneOf x ds → P x) → AllByRecursion P ds
-all-of P [] h = tt
-all-of P (x ∷ ds) h = (h x (inl refl), all-of P ds (λ y one. h y (inr one)))
-
 at-one : (P : RunDue → Type 0) (ds : List RunDue) (x : RunDue) → AllByRecursion P ds → IsOneOf x ds → P x
 at-one P [] x h one = absurd one
 at-one P (d ∷ ds) x h (inl is) = subst P (sym is) h.0
@@ -254,11 +249,6 @@ same-least xs ys to from = by (least xs) refl
     by (Some x) is =
         let first = least-fires xs x is in
         is ∙ sym (least-is ys x (to x first.0, all-of _ ys (λ y one. at-one (λ e. is_before e x ≡ false) xs y first.1 (from y one))))
-
-one-either : (x : RunDue) (xs ys : List RunDue) (P : Type 0) → (IsOneOf x xs → P) → (IsOneOf x ys → P) → IsOneOf x (xs ++ ys) → P
-one-either x [] ys P left right one = right one
-one-either x (y ∷ xs) ys P left right (inl is) = left (inl is)
-one-either x (y ∷ xs) ys P left right (inr rest) = one-either x xs ys P (λ one. left (inr one)) right rest
 
 -- the order of four makes nothing of the first of them
 changed-about : (a t p q : List RunDue) (x : RunDue) → IsOneOf x ((a ++ t) ++ (p ++ q)) → IsOneOf x ((a ++ p) ++ (t ++ q))

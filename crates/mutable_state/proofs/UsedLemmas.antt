@@ -19,6 +19,7 @@ use Rattle.buffered.specs.Courses.{cancels_timer}
 use Rattle.mutable_state.specs.Formed.{is_kept_beside, Settles}
 use Rattle.mutable_state.specs.Steps.{buffer_of, carried, is_held_back, comes_last, unheld_by, with_new, unsettled, left_by, opened_by, used_with, event_id, itself, has_id, may_settle, MaySettle}
 use Rattle.mutable_state.proofs.OpenLemmas.{filter-map, all-filter, found, in_use_by, Same, same-as, Aims, Keeps, keeps-hold, keeps-flush, keeps-push, keeps-cancel}
+use Rattle.buffered.proofs.CourseLemmas.{outside-cancels as outside-stays}
 
 -- lists that f maps to one another stay so
 pub used-map : {X Y : Type 0} (f : X → Y) (c : Class) (id : Y → ℕ) (make : Event → X) (t : Task) (held : List NewEvent) (e : Event) (xs : List X) →
@@ -152,10 +153,6 @@ aims-flushed es b a stays aims = record {
 pub record More (es : List Made) (b : Buffer) (closes : Bool) (kept : Class → List Event) : Type 0 where
   pub settles_so : Settles es b
   pub uses : (c : Class) → kept c ≡ cond closes [] (filter (is_kept_beside c es b.held) b.events)
-
-outside-stays : (r : Role) → is_outside_role r ≡ true → cancels_timer r ≡ false
-outside-stays (TimerCancels s) h = absurd (cc)
-outside-stays _ h = refl
 
 outside-open : (r : Role) → is_outside_role r ≡ true → is_closing_role r ≡ false
 outside-open r h = by_role r h

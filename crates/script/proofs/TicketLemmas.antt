@@ -6,12 +6,11 @@ use Rattle.gate.specs.declared.view.View.{View}
 use Rattle.gate.specs.AtClose.{IsHistory}
 use Rattle.gate.specs.Merges.{beside}
 use Rattle.gate.specs.Passes.{IsSame, mine, tickets, width}
-use Rattle.gate.specs.Records.{Begins, Run, on, tickets_from}
-use Rattle.history.specs.Merged.{numbered}
-use Rattle.history.proofs.NumberLemmas.{numbered-whole}
+use Rattle.gate.specs.Records.{Begins, on, tickets_from}
 use Rattle.history.proofs.StepLemmas.{map-push}
 use Rattle.script.specs.Sorted.{sorted, stamped_seen, steps_seen}
 use Rattle.script.proofs.SortLemmas.{below-beside, beside-push, sorted-none, sorted-push, sorted-run, sorted-same}
+use Rattle.gate.proofs.Merges.{numbered_whole as numbered-whole}
 
 nothing : {A : Type 0} (rest : List A) → length rest ≡ 0 → rest ≡ []
 nothing [] h = refl

@@ -28,6 +28,7 @@ use Rattle.service.specs.HeldHints.{HoldAtOpening}
 use Rattle.service.specs.Ranges.{range_fault}
 use Rattle.service.specs.Services.{IsInRange}
 use Rattle.service.specs.Reopening.{are_records, content_from, opens, record_at, records_fault, unless_fault, waiting_from}
+use Rattle.service_model.proofs.QueueLemmas.{all-both as all-append}
 
 -- the records of a list, one by one from a number on
 each-from : (xs ys : List (List Entry)) (n : ℕ) → ((k : ℕ) → record_at ys k ≡ record_at xs (n + k)) → map (record_at xs) (range_with_len n (length ys)) ≡ ys
@@ -189,10 +190,6 @@ GoesToQueue K d = (d.hint.shard < K.shards) × ((n : ℕ) × (place_in K.queues 
 goes-from : (K : Settings) (n : ℕ) → n < K.shards → (ds : List Dispatch) → AllByRecursion (IsNamed (setup_of K n)) ds → AllByRecursion (GoesToQueue K) ds
 goes-from K n below [] h = tt
 goes-from K n below (d ∷ ds) h = ((subst (λ s. s < K.shards) (sym h.0.shard) below, place-known (setup_of K n) d h.0), goes-from K n below ds h.1)
-
-all-append : {A : Type 0} (P : A → Type 0) (xs ys : List A) → AllByRecursion P xs → AllByRecursion P ys → AllByRecursion P (xs ++ ys)
-all-append P [] ys h k = k
-all-append P (x ∷ xs) ys h k = (h.0, all-append P xs ys h.1 k)
 
 all-go : (K : Settings) (R : List (List Entry)) (n m : ℕ) → n + m ≤ K.shards → AllByRecursion (GoesToQueue K) (flat_map waiting (map (content_from K R) (range_with_len n m)))
 all-go K R n zero below = tt

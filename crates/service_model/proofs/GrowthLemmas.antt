@@ -30,7 +30,7 @@ set-on (z ∷ xs) zero x y (suc n) is = inr is
 set-on (z ∷ xs) (suc i) x y zero is = inr is
 set-on (z ∷ xs) (suc i) x y (suc n) is = ⊎_elim (λ e. inl (ap suc e.0, e.1)) (λ e. inr e) (set-on xs i x y n is)
 
-set-from : {A : Type 0} (xs : List A) (i : ℕ) (x y : A) (n : ℕ) → slice_get (slice_set xs i x) n ≡ Some y → (z : A) × (slice_get xs n ≡ Some z) × (((n ≡ i) × (y ≡ x)) ⊎ (y ≡ z))
+pub set-from : {A : Type 0} (xs : List A) (i : ℕ) (x y : A) (n : ℕ) → slice_get (slice_set xs i x) n ≡ Some y → (z : A) × (slice_get xs n ≡ Some z) × (((n ≡ i) × (y ≡ x)) ⊎ (y ≡ z))
 set-from [] i x y n is = absurd (cc)
 set-from (z ∷ xs) zero x y zero is = (z, refl, inl (refl, same-some y x (sym is)))
 set-from (z ∷ xs) zero x y (suc n) is = (y, is, inr refl)
@@ -49,7 +49,7 @@ push-from [] x y (suc n) is = absurd (cc)
 push-from (z ∷ xs) x y zero is = inl is
 push-from (z ∷ xs) x y (suc n) is = ⊎_elim (λ e. inl e) (λ e. inr (ap suc e.0, e.1)) (push-from xs x y n is)
 
-below : {A : Type 0} (xs : List A) (n : ℕ) (x : A) → slice_get xs n ≡ Some x → n < length xs
+pub below : {A : Type 0} (xs : List A) (n : ℕ) (x : A) → slice_get xs n ≡ Some x → n < length xs
 below [] n x is = absurd (cc)
 below (y ∷ xs) zero x is = omega arith
 below (y ∷ xs) (suc n) x is = let l = below xs n x is in omega (arith, l)

@@ -5,7 +5,6 @@ use Rattle.service_model_types.specs.declared.content.Content.{Content}
 use Rattle.service_model_types.specs.declared.request.Operation.{Operation}
 use Rattle.service_model_types.specs.declared.request.Operation.TheVariants as served
 use Rattle.service_model_types.specs.declared.request.Request.{Request}
-use Rattle.service_model.specs.Aging.{AreAged}
 use Rattle.service_model.specs.Growth.{KeepsHistories}
 use Rattle.service_model.specs.Outcome.{Outcome}
 use Rattle.service_model.specs.Service.{after, moment_of, outcome}
@@ -13,9 +12,7 @@ use Rattle.transfer.specs.Outboxes.{AreIssued}
 use Rattle.shard_steps.proofs.DispatchLemmas.{count-is, next-is}
 use Rattle.shard_steps.proofs.SendingLemmas.{count-to-is, next-to-is}
 use Rattle.shard_store.specs.Fitting.{FitsStep, state_after}
-use Rattle.shard_store.specs.Open.{IsOneOpen}
-use Rattle.shard_store.specs.ShardView.{ShardState, ShardView, state, states}
-use Rattle.shard_store.proofs.OpenLemmas.{of-journals}
+use Rattle.shard_store.specs.ShardView.{ShardView, state}
 use Rattle.shard_store.specs.declared.plan.Plan.{Plan}
 use Rattle.shard_store.proofs.KeptLemmas.{keeps-after}
 use Rattle.shard_store.proofs.StepLemmas.{stands-after}
@@ -45,13 +42,6 @@ outcome-in S m (served.Deliver t) low issued = refl
 outcome-in S m (served.Acknowledge q) low issued = count-to-is S.setup S.outgoing q issued
 outcome-in S m served.NextDispatch low issued = next-is S
 outcome-in S m (served.Dispatched number) low issued = count-is S number low
-
--- of each workflow ID a shard has one open run at most, and its older runs closed first
-pub one-open : (v : ShardView) (S : Content) → StandsFor v S → IsOneOpen (states v.runs)
-one-open v S h = subst (λ l. IsOneOpen l) (sym (ap (λ s. s.runs) h.says)) (of-journals S h.one)
-
-pub in-order : (v : ShardView) (S : Content) → StandsFor v S → AreAged v.last (states v.runs)
-in-order v S h = subst (λ (s : ShardState). AreAged s.last s.runs) (sym h.says) h.aged
 
 -- what was prepared on a shard that stands for a content is ready for it
 pub prepared : {T : Type 0} (v w : ShardView) (S : Content) (q : Request) (plan : Plan T) → StandsFor v S → state w ≡ state v → FitsStep w plan (max q.at v.last) (outcome_in (state v) (max q.at v.last) q.operation) → IsReady w S q plan

@@ -18,22 +18,10 @@ use Rattle.shard_store.specs.ShardView.{ShardView, ordinal_of, run_in, states}
 use Rattle.shard_store.specs.Fitting.{IsFree, state_at}
 use Rattle.shard_store.specs.Open.{HasClosed, IsOneOpen}
 use Rattle.shard_store.proofs.IndexLemmas.{bears, latest_from}
+use Rattle.service_model.proofs.GrowthLemmas.{set-from as get-set}
 
 pub same-some : {A : Type 0} (x y : A) → Some x ≡ Some y → x ≡ y
 same-some x y e = cc
-
--- what stands in a list one member of which is another
-pub get-set : {A : Type 0} (xs : List A) (i : ℕ) (x y : A) (n : ℕ) → slice_get (slice_set xs i x) n ≡ Some y → (z : A) × (slice_get xs n ≡ Some z) × (((n ≡ i) × (y ≡ x)) ⊎ (y ≡ z))
-get-set [] i x y n is = absurd (cc)
-get-set (z ∷ xs) zero x y zero is = (z, refl, inl (refl, same-some y x (sym is)))
-get-set (z ∷ xs) zero x y (suc n) is = (y, is, inr refl)
-get-set (z ∷ xs) (suc i) x y zero is = (y, is, inr refl)
-get-set (z ∷ xs) (suc i) x y (suc n) is = let r = get-set xs i x y n is in (r.0, r.1, ⊎_elim (λ e. inl (ap suc e.0, e.1)) (λ e. inr e) r.2)
-
-pub get-below : {A : Type 0} (xs : List A) (n : ℕ) (x : A) → slice_get xs n ≡ Some x → n < length xs
-get-below [] n x is = absurd (cc)
-get-below (y ∷ xs) zero x is = omega arith
-get-below (y ∷ xs) (suc n) x is = let l = get-below xs n x is in omega (arith, l)
 
 pub state-there : (runs : List RunState) (n : ℕ) (s : RunState) → slice_get runs n ≡ Some s → state_at runs n ≡ s
 state-there [] n s is = absurd (cc)

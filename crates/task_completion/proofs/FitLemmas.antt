@@ -38,7 +38,8 @@ use Rattle.mutable_state.proofs.OpenLemmas.{any-push, filter-map, left-is, nat-s
 use Rattle.buffered.specs.Courses.{cancels_timer}
 use Rattle.task_completion.specs.Judging.{IsSoFar, scheduled_by}
 use Rattle.task_completion.specs.Outward.{child_asked, external_signal, external_cancel}
-use Rattle.task_completion.proofs.SoFarLemmas.{next_event, Comes, uses-more, so-far-more, so-far-none, settled-more, left-settled, comes-pending, comes-quiet, comes-cancel, id-low, found-in, used-ids, length-push, all-in-use}
+use Rattle.task_completion.proofs.SoFarLemmas.{next_event, Comes, uses-more, so-far-more, so-far-none, left-settled, comes-pending, comes-quiet, comes-cancel, id-low, found-in, used-ids, length-push, all-in-use}
+use Rattle.mutable_state.proofs.SoFarLemmas.{settled-more}
 
 -- a run in the course of a completion, behind the task's end and the facts so far
 record Now (s : RunState) (F : List Attributes) (t : RunState) : Type 0 where

@@ -18,7 +18,8 @@ use Rattle.mutable_state.specs.declared.pending.Pending.{Pending}
 use Rattle.task_completion.specs.Judging.{IsSoFar}
 use Rattle.task_completion.specs.Outward.{is_outward, count_of, one_more, Counts}
 use Rattle.task_completion.specs.declared.outward.Outward.{Outward}
-use Rattle.task_completion.proofs.SoFarLemmas.{next_event, opened-push, settled-more, unseen}
+use Rattle.task_completion.proofs.SoFarLemmas.{next_event, opened-push, unseen}
+use Rattle.mutable_state.proofs.SoFarLemmas.{settled-more}
 
 -- whether a fact settles or opens something that was asked of another workflow
 abbrev pub settles_outward : Option Opener → Bool

@@ -9,7 +9,7 @@ use Rattle.wf_event.specs.declared.attributes.Attributes.TheVariants.{TimerCance
 use Rattle.wf_event.specs.declared.role.Class.{Class}
 use Rattle.wf_event.specs.declared.role.Class.TheVariants.{Timer}
 use Rattle.wf_event.specs.declared.role.Opener.{Opener}
-use Rattle.wf_event.specs.Role.{Role, TimerFires, TimerCancels, role, is_outside_role, opens, settles}
+use Rattle.wf_event.specs.Role.{Role, TimerFires, role, is_outside_role, opens, settles}
 use Rattle.service_model_types.specs.declared.journal.NewEvent.{NewEvent}
 use Rattle.service_model.specs.Shown.{is_cancel}
 use Rattle.service_model.specs.Pending.{is_opening, is_settling, is_settled}
@@ -20,12 +20,10 @@ use Rattle.buffered.specs.Courses.{cancels_timer}
 use Rattle.mutable_state.specs.Formed.{IdsTo, IsFromOutside}
 use Rattle.mutable_state.specs.Readers.{IsGrounded}
 use Rattle.mutable_state.specs.Steps.{carried, left_by, opened_by, event_id, itself, has_id}
-use Rattle.mutable_state.proofs.OpenLemmas.{any-push, filter-twice, filter-map, all-filter, all-weaker, all-append, found, or-assoc, or-false, or-either, left-is, nat-same, not-found, nat-self, use-push, use-cancel, unheld-settled, same-as}
+use Rattle.mutable_state.proofs.OpenLemmas.{any-push, filter-twice, filter-map, all-filter, all-weaker, found, or-either, left-is, nat-same, not-found, nat-self, use-push, use-cancel, unheld-settled, same-as}
 use Rattle.task_completion.specs.Judging.{IsSoFar}
-
--- whether what was opened under an id is in use so far
-abbrev pub in_use_now : Class → ℕ → RunState → List Attributes → Bool
-in_use_now c id s F = not (is_settled_so_far c id s F) || is_settled c id (still_held s F)
+use Rattle.service_model.proofs.QueueLemmas.{all-both as all-append}
+use Rattle.mutable_state.proofs.SoFarLemmas.{still-same, settled-more, in_use_now}
 
 -- one more fact, under the id that its event gets
 abbrev pub next_event : RunState → List Attributes → Attributes → Event
@@ -43,11 +41,6 @@ opened-push c s F a =
     ap (λ l. used c s ++ filter q l) (events-push (length s.shown + 2) F a)
     ∙ ap (λ l. used c s ++ l) (filter-append q (command_events s F) (next_event s F a ∷ []))
     ∙ sym (append_assoc (used c s) (filter q (command_events s F)) (opened_by c itself (next_event s F a)))
-
-pub settled-more : (c : Class) (id : ℕ) (s : RunState) (F : List Attributes) (a : Attributes) → is_settled_so_far c id s (F ++ a ∷ []) ≡ (is_settled_so_far c id s F || is_settling c id (settles a))
-settled-more c id s F a =
-    ap (λ b. is_settled c id (held_attributes s) || b) (any-push (λ x. is_settling c id (settles x)) F a)
-    ∙ or-assoc (is_settled c id (held_attributes s)) (is_settled c id F) (is_settling c id (settles a))
 
 -- how one more fact turns what is in use, and that what it settles is there
 pub record Comes (s : RunState) (F : List Attributes) (a : Attributes) : Type 0 where
@@ -125,21 +118,9 @@ so-far-none s g = record {
 none-settling : (c : Class) (id : ℕ) (o : Option Opener) → o ≡ None → is_settling c id o ≡ false
 none-settling c id o h = ap (is_settling c id) h
 
-no-cancel : (n : ℕ) (r : Role) → cancels_timer r ≡ false → is_cancel n r ≡ false
-no-cancel n (TimerCancels s) h = absurd (cc)
-no-cancel n _ h = refl
-
-taken-same : (F : List Attributes) (a : Attributes) (r : Role) → cancels_timer (role a) ≡ false → is_taken_away (F ++ a ∷ []) r ≡ is_taken_away F r
-taken-same F a (TimerFires n) h =
-    any-push (λ x. is_cancel n (role x)) F a ∙ ap (λ b. list_any (λ x. is_cancel n (role x)) F || b) (no-cancel n (role a) h) ∙ or-false (list_any (λ x. is_cancel n (role x)) F)
-taken-same F a _ h = refl
-
 filter-agree : (p q : Attributes → Bool) → ((a : Attributes) → p a ≡ q a) → (l : List Attributes) → filter p l ≡ filter q l
 filter-agree p q f [] = refl
 filter-agree p q f (x ∷ l) = ap (λ t. cond t (x ∷ filter p l) (filter p l)) (f x) ∙ ap (λ t. cond (q x) (x ∷ t) t) (filter-agree p q f l)
-
-pub still-same : (s : RunState) (F : List Attributes) (a : Attributes) → cancels_timer (role a) ≡ false → still_held s (F ++ a ∷ []) ≡ still_held s F
-still-same s F a h = filter-agree (λ x. not (is_taken_away (F ++ a ∷ []) (role x))) (λ x. not (is_taken_away F (role x))) (λ x. ap not (taken-same F a (role x) h)) (held_attributes s)
 
 -- what is left of what is held back settles no more than all of it
 pub left-settled : (c : Class) (id : ℕ) (q : Attributes → Bool) (l : List Attributes) → is_settled c id (filter q l) ≡ true → is_settled c id l ≡ true

@@ -53,7 +53,7 @@ here x (Some d) (inr rest) = absurd rest
 one-of : (d : Kept) (o : Option Kept) → o ≡ Some d → IsOneOf (run_due d) (option_to_list (option_map run_due o))
 one-of d o is = subst (λ (x : Option Kept). IsOneOf (run_due d) (option_to_list (option_map run_due x))) (sym is) (inl refl)
 
-either : (x : RunDue) (xs ys : List RunDue) (P : Type 0) → (IsOneOf x xs → P) → (IsOneOf x ys → P) → IsOneOf x (xs ++ ys) → P
+pub either : (x : RunDue) (xs ys : List RunDue) (P : Type 0) → (IsOneOf x xs → P) → (IsOneOf x ys → P) → IsOneOf x (xs ++ ys) → P
 either x [] ys P left right one = right one
 either x (y ∷ xs) ys P left right (inl is) = left (inl is)
 either x (y ∷ xs) ys P left right (inr rest) = either x xs ys P (λ one. left (inr one)) right rest
