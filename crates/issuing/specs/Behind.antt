@@ -1,5 +1,5 @@
 -- MEANING: the transfers that a run issues, by the events that it shows
-use Rattle.std.specs.Prelude.{Bool, cond, List, [], ◌++◌, filter_map, Option}
+use Rattle.std.specs.Prelude.{Bool, if◌then◌else◌, List, [], ◌++◌, filter_map, Option}
 use Rattle.wf_event.specs.declared.event.Event.{Event}
 use Rattle.wf_event.specs.declared.payloads.Parent.{Parent}
 use Rattle.wf_event_values.specs.Run.{Run}
@@ -15,4 +15,4 @@ closings_behind setup run parent events later =
 -- as the definitions have it of the run's state
 abbrev pub transfers_behind : Setup → Run → Bool → Option Parent → List Event → List Event → List Sent
 transfers_behind setup run is_open parent events later =
-    requests_of setup run later ++ cond is_open [] (closings_behind setup run parent events later)
+    requests_of setup run later ++ (if is_open then [] else closings_behind setup run parent events later)

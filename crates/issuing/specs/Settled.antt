@@ -1,5 +1,5 @@
 -- MEANING: the children that events settle, by the events that asked for them
-use Rattle.std.specs.Prelude.{◌≡◌, ℕ, ◌==◌, cond, List, map, Option, None, Some}
+use Rattle.std.specs.Prelude.{◌≡◌, ℕ, ◌==◌, if◌then◌else◌, List, map, Option, None, Some}
 use Rattle.std.specs.List.{list_any}
 use Rattle.wf_event.specs.declared.event.Event.{Event}
 use Rattle.wf_event.specs.declared.role.Class.{Class}
@@ -25,4 +25,4 @@ IsSettledBy events ids = (id : ℕ) → list_any (λ n. id == n) ids ≡ is_sett
 
 -- what is asked of the child that an event asked for, where none of these events settles it
 abbrev pub left_transfer : Setup → Run → List Event → Event → Option Sent
-left_transfer setup run events e = cond (is_left events e) (close_transfer setup run e) None
+left_transfer setup run events e = if is_left events e then close_transfer setup run e else None

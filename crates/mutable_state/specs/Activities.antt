@@ -1,5 +1,5 @@
 -- PROOF: the activities of a run as they are asked for
-use Rattle.std.specs.Prelude.{◌≡◌, ℕ, Bool, false, cond, List, [], filter_map, find, map, Option, None, option_map, option_and_then}
+use Rattle.std.specs.Prelude.{◌≡◌, ℕ, Bool, false, if◌then◌else◌, List, [], filter_map, find, map, Option, None, option_map, option_and_then}
 use Rattle.wf_event.specs.declared.event.Event.{Event}
 use Rattle.service_model.specs.Completion.{is_running_phase}
 use Rattle.service_model.specs.RunState.{RunState, ActivityRow, is_open}
@@ -18,7 +18,7 @@ is_activity id o = is_one (activity_of id) o
 
 -- that of a thing that is kept, where no event that settles it is held back
 abbrev pub pending_at : List Event → ℕ → Open → Option ActivityRow
-pending_at es id o = cond o.is_settled None (option_map (kept_row o.notes) (event_at id es))
+pending_at es id o = if o.is_settled then None else option_map (kept_row o.notes) (event_at id es)
 
 -- the row of the activity that this event scheduled, by what is kept
 abbrev pub kept_activity : List Event → List Open → ℕ → Option ActivityRow

@@ -1,5 +1,5 @@
 -- PROOF: the deadlines that a run has of itself, and those of its pending timers and activities
-use Rattle.std.specs.Prelude.{ℕ, cond, List, [], ◌++◌, flat_map, Option, None, Some}
+use Rattle.std.specs.Prelude.{ℕ, if◌then◌else◌, List, [], ◌++◌, flat_map, Option, None, Some}
 use Rattle.wf_event.specs.declared.event.Event.{Event}
 use Rattle.wf_event.specs.declared.payloads.WorkflowExecutionStarted.{WorkflowExecutionStarted as StartedAttributes}
 use Rattle.wf_event_values.specs.declared.policies.DeadlineClass.TheVariants.{RunTimeout, WorkflowTask as TaskTimeout}
@@ -18,7 +18,7 @@ use Rattle.mutable_state.specs.Tasks.{phase_in}
 
 -- that of its workflow task, where a worker has it
 abbrev pub task_dues : StartedAttributes → WorkflowTask → List Due
-task_dues a t = cond (is_started_task (phase_in t.phase)) (due_after t.started_at a.task_timeout TaskTimeout t.scheduled) []
+task_dues a t = if is_started_task (phase_in t.phase) then due_after t.started_at a.task_timeout TaskTimeout t.scheduled else []
 
 -- the deadline of its workflow's execution, its own timeout, where it began at this moment, and that of its workflow task
 abbrev pub own_dues : ℕ → StartedAttributes → WorkflowTask → List Due
@@ -34,7 +34,7 @@ dues_of (Some e) = timer_dues e
 
 -- that of a thing that is kept, where it is a pending timer
 abbrev pub kept_dues : List Event → Open → List Due
-kept_dues es o = cond (is_pending_of Timer o) (dues_of (event_at o.opener.event es)) []
+kept_dues es o = if is_pending_of Timer o then dues_of (event_at o.opener.event es) else []
 
 -- the deadlines of a run's pending activities
 abbrev pub pending_activity_dues : RunState → List Due
@@ -46,7 +46,7 @@ activity_dues_of n (Some e) = activity_dues (kept_row n e)
 
 -- the deadlines of a thing that is kept, where it is a pending activity
 abbrev pub kept_activity_dues : List Event → Open → List Due
-kept_activity_dues es o = cond (is_pending_of Activity o) (activity_dues_of o.notes (event_at o.opener.event es)) []
+kept_activity_dues es o = if is_pending_of Activity o then activity_dues_of o.notes (event_at o.opener.event es) else []
 
 -- all of a thing that is kept
 abbrev pub row_dues : List Event → Open → List Due

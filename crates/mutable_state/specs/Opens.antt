@@ -1,5 +1,5 @@
 -- PROOF: what is kept of what is in use in a run: each thing by its class and the id of the event that opened it
-use Rattle.std.specs.Prelude.{◌≡◌, ◌<◌, ℕ, Bool, true, false, cond, not, ◌&&◌, ◌||◌, ◌==◌, List, [], ◌∷◌, ◌++◌, filter, filter_map, find, map, length, Option, None, Some, option_map, IsSome}
+use Rattle.std.specs.Prelude.{◌≡◌, ◌<◌, ℕ, Bool, true, false, if◌then◌else◌, not, ◌&&◌, ◌||◌, ◌==◌, List, [], ◌∷◌, ◌++◌, filter, filter_map, find, map, length, Option, None, Some, option_map, IsSome}
 use Rattle.std.specs.List.{AllByRecursion}
 use Rattle.wf_event.specs.declared.event.Event.{Event}
 use Rattle.wf_event.specs.declared.attributes.Attributes.{Attributes}
@@ -86,7 +86,9 @@ asks_of _ = None
 -- the first that is the activity, with one more note
 abbrev pub noted_in : ℕ → NoteFact → List Open → List Open
 noted_in at n [] = []
-noted_in at n (o ∷ os) = cond (is_one (activity_of n.activity) o) (record o { notes = noted at n.note o.notes } ∷ os) (o ∷ noted_in at n os)
+noted_in at n (o ∷ os) =
+    if is_one (activity_of n.activity) o then record o { notes = noted at n.note o.notes } ∷ os
+    else (o ∷ noted_in at n os)
 
 -- the note may be made on the first that is the activity
 abbrev pub MayAddTo : NoteFact → Option Open → Type 0
@@ -112,7 +114,7 @@ is_of c o = class_number c == class_number o.opener.class
 
 -- the event that opened it, where it is of the class
 abbrev pub opened_at : Class → List Event → Open → Option Event
-opened_at c es o = cond (is_of c o) (event_at o.opener.event es) None
+opened_at c es o = if is_of c o then event_at o.opener.event es else None
 
 -- the events of a history that opened what is kept of a class
 abbrev pub used_in : Class → List Open → List Event → List Event
@@ -132,9 +134,9 @@ is_pending_of c o = is_unmarked o && is_of c o
 -- what is kept with one more event, which asks no activity to cancel, and has this id where it is written
 abbrev pub open_with : Task → Attributes → ℕ → List Open → List Open
 open_with t a id os =
-    cond (is_held_back t a) (marked (settles a) os)
-    (cond (is_closing_role (role a)) []
-    (added (opens a) id (without (settles a) (cond (comes_last t a) (unmarked os) os))))
+    if is_held_back t a then marked (settles a) os
+    else if is_closing_role (role a) then []
+    else (added (opens a) id (without (settles a) (if comes_last t a then unmarked os else os)))
 
 -- what is kept stands in the order of the events that opened it
 abbrev pub Ascending : List Open → Type 0

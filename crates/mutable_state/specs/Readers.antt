@@ -1,5 +1,5 @@
 -- PROOF: what a run answers when it is asked what is in use in it, and what is held back
-use Rattle.std.specs.Prelude.{◌≡◌, ℕ, Bool, false, cond, bytes_eq, List, map, length, Option, None, Some, option_map}
+use Rattle.std.specs.Prelude.{◌≡◌, ℕ, Bool, false, if◌then◌else◌, bytes_eq, List, map, length, Option, None, Some, option_map}
 use Rattle.std.specs.Option.{option_map_or}
 use Rattle.std.specs.List.{AllByRecursion}
 use Rattle.wf_event.specs.declared.event.Event.{Event}
@@ -37,11 +37,11 @@ used_row c s e = record { event = e.id; name = name_of e.attributes; is_settled 
 
 -- what is kept of a thing in use, where it is of the class and the history has its event
 abbrev pub used_at : Class → List Event → Open → Option UsedRow
-used_at c es o = cond (is_of c o) (option_map (λ (e : Event). record {
+used_at c es o = if is_of c o then (option_map (λ (e : Event). record {
   event = o.opener.event;
   name = name_of e.attributes;
   is_settled = o.is_settled;
-}) (event_at o.opener.event es)) None
+}) (event_at o.opener.event es)) else None
 
 -- what is in use of a class
 abbrev pub used_rows : Class → RunState → List UsedRow

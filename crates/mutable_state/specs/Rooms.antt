@@ -1,5 +1,5 @@
 -- PROOF: how much room a step's facts need in a run's tables
-use Rattle.std.specs.Prelude.{ℕ, ◌+◌, ◌≤◌, Bool, ◌||◌, cond, List, [], ◌∷◌, length, Option, is_some}
+use Rattle.std.specs.Prelude.{ℕ, ◌+◌, ◌≤◌, Bool, ◌||◌, if◌then◌else◌, List, [], ◌∷◌, length, Option, is_some}
 use Rattle.wf_event.specs.declared.attributes.Attributes.{Attributes}
 use Rattle.wf_event.specs.Role.{opens}
 use Rattle.service_model_types.specs.declared.journal.Fact.{Fact}
@@ -23,7 +23,7 @@ plus a b = record {
 
 -- one, where it is so
 abbrev pub one_if : Bool → ℕ
-one_if b = cond b 1 0
+one_if b = if b then 1 else 0
 
 -- whether an event is remembered as a request: it is one to cancel, or a signal that bears a request id
 abbrev pub is_remembered : Option (List ℕ) → Attributes → Bool

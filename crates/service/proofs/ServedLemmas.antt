@@ -2,7 +2,7 @@
 use Rattle.std.proofs.Common.{◌≡◌, ℕ, ◌+◌, ◌<◌, ◌≤◌, Bool, true, false, List, refl, sym, ap, subst, ◌∙◌, arith, zero, suc, Option, Some, None, IfOk, IfErr, Ok, Err}
 use Rattle.std.proofs.lemmas.Bool.Decides.{nat_tests}
 use Rattle.std.proofs.lemmas.Nat.{mod_below}
-use Rattle.std.specs.Prelude.{length, map, slice_get, unwrap_or, if◌then◌else◌, nat_lt, ◌&&◌, Result}
+use Rattle.std.specs.Prelude.{length, map, option_or, slice_get, unwrap_or, if◌then◌else◌, nat_lt, ◌&&◌, Result}
 use Rattle.std.specs.List.{range_with_len}
 use Rattle.wf_event_values.specs.declared.field.Field.TheVariants as field
 use Rattle.wf_event_values.specs.declared.refusal.Refusal.{Refusal}
@@ -19,6 +19,7 @@ use Rattle.service_model.specs.Grounds.{Grounds}
 use Rattle.service_model.specs.Growth.{KeepsHistories}
 use Rattle.service_model_types.specs.Clients.{is_clients}
 use Rattle.service_model_types.specs.Replies.{Reply}
+use Rattle.service_model_types.specs.Homes.{Home, Workflow, Token, Part, home}
 use Rattle.service_model_types.specs.Routing.{hash_of}
 use Rattle.service_model.specs.Service.{answer, after, opening}
 use Rattle.gate.specs.declared.object.Refused.{Refused}
@@ -29,7 +30,7 @@ use Rattle.gate.specs.Records.{Begins, past}
 use Rattle.shard_gate.specs.GateViews as gates
 use Rattle.service.specs.ServiceViews.{Service}
 use Rattle.service.specs.ServiceViews.{Pass}
-use Rattle.service.specs.Contents.{setup_of, opening_contents, ends_refusal, is_token, refusal_of, refusal_of_step, shard_of, shard_refusal, slot_of_step}
+use Rattle.service.specs.Contents.{setup_of, commands_refusal, ends_refusal, home_refusal, is_token, opening_contents, refusal_of, refusal_of_step, shard_at, shard_of, shard_refusal, slot_of_step}
 use Rattle.service.specs.Services.{known_by, Answered, IsPassOf, IsServedAtLast, IsServedOn, IsServedOnBy, IsTriedOn}
 
 get-range : {X : Type 0} (f : ℕ → X) (a n k : ℕ) → k < n → slice_get (map f (range_with_len a n)) k ≡ Some (f (a + k))
@@ -49,6 +50,10 @@ unrefused : (b : Bool) (rest : Option Refusal) (e : Refusal) → ◌≡◌ {A = 
 unrefused true rest e none = refl
 unrefused false rest e none = absurd (cc)
 
+first-none : (one other : Option Refusal) → option_or one other ≡ None → one ≡ None
+first-none None other none = refl
+first-none (Some e) other none = absurd (cc)
+
 first-test : (a b : Bool) → (a && b) ≡ true → a ≡ true
 first-test true b h = refl
 first-test false b h = absurd (cc)
@@ -57,27 +62,13 @@ token-below : (K : Settings) (t : TakenTask) → is_token K t ≡ true → t.sha
 token-below K t h = let there : nat_lt t.shard K.shards ≡ true = first-test _ _ h in grind (arith, nat_tests)
 
 -- the shard of an operation that nothing refuses is there
+home-below : (K : Settings) (h : Home) (rest : Option Refusal) → 1 ≤ K.shards → option_or (home_refusal K h) rest ≡ None → shard_at K h < K.shards
+home-below K (Workflow id) rest some none = mod_below (hash_of id) K.shards (omega (arith, some))
+home-below K (Token t) rest some none = token-below K t (unrefused _ _ _ (first-none _ rest none))
+home-below K Part rest some none = absurd (cc)
+
 pub shard-below : (K : Settings) (o : Operation) → 1 ≤ K.shards → refusal_of K o ≡ None → shard_of K o < K.shards
-shard-below K (operation.Start q) some none = mod_below (hash_of q.workflow_id) K.shards (omega (arith, some))
-shard-below K (operation.Signal q) some none = mod_below (hash_of q.workflow_id) K.shards (omega (arith, some))
-shard-below K (operation.SignalWithStart q) some none = mod_below (hash_of q.workflow_id) K.shards (omega (arith, some))
-shard-below K (operation.RequestCancel q) some none = mod_below (hash_of q.workflow_id) K.shards (omega (arith, some))
-shard-below K (operation.Terminate q) some none = mod_below (hash_of q.workflow_id) K.shards (omega (arith, some))
-shard-below K (operation.StartTask t) some none = absurd (cc)
-shard-below K (operation.CompleteWorkflowTask q) some none = token-below K q.task (unrefused _ _ _ none)
-shard-below K (operation.FailWorkflowTask q) some none = token-below K q.task (unrefused _ _ _ none)
-shard-below K (operation.CompleteActivity q) some none = token-below K q.task (unrefused _ _ _ none)
-shard-below K (operation.FailActivity q) some none = token-below K q.task (unrefused _ _ _ none)
-shard-below K (operation.CancelActivity q) some none = token-below K q.task (unrefused _ _ _ none)
-shard-below K (operation.Heartbeat q) some none = token-below K q.task (unrefused _ _ _ none)
-shard-below K (operation.History q) some none = mod_below (hash_of q.workflow_id) K.shards (omega (arith, some))
-shard-below K (operation.Describe q) some none = mod_below (hash_of q.workflow_id) K.shards (omega (arith, some))
-shard-below K operation.TimerTurn some none = absurd (cc)
-shard-below K (operation.NextTransfer to) some none = absurd (cc)
-shard-below K (operation.Deliver t) some none = absurd (cc)
-shard-below K (operation.Acknowledge q) some none = absurd (cc)
-shard-below K operation.NextDispatch some none = absurd (cc)
-shard-below K (operation.Dispatched number) some none = absurd (cc)
+shard-below K o some none = home-below K (home o) (commands_refusal o) some none
 
 -- a shard that nothing refuses is there
 pub named-below : (K : Settings) (shard : ℕ) → shard_refusal K shard ≡ None → shard < K.shards

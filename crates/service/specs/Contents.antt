@@ -1,6 +1,6 @@
 -- MEANING: the shards of a service: what each is opened with, which calls are refused before any is entered, and on
 -- which one the others are served
-use Rattle.std.specs.Prelude.{ℕ, ◌%◌, ◌&&◌, nat_le, nat_lt, Bool, if◌then◌else◌, List, length, map, Option, None, Some}
+use Rattle.std.specs.Prelude.{ℕ, ◌%◌, ◌&&◌, nat_le, nat_lt, Bool, if◌then◌else◌, List, length, map, Option, None, Some, option_or}
 use Rattle.std.specs.List.{range_with_len}
 use Rattle.wf_event_values.specs.declared.field.Field.TheVariants as field
 use Rattle.wf_event_values.specs.declared.refusal.Refusal.{Refusal}
@@ -9,12 +9,12 @@ use Rattle.service_model_types.specs.declared.call.StepCall.{StepCall}
 use Rattle.service_model_types.specs.declared.call.StepCall.TheVariants as call
 use Rattle.service_model_types.specs.declared.content.Content.{Content}
 use Rattle.service_model_types.specs.declared.content.Setup.{Setup}
-use Rattle.service_model_types.specs.declared.request.CompleteWorkflowTask.{CompleteWorkflowTask}
 use Rattle.service_model_types.specs.declared.request.Operation.{Operation}
 use Rattle.service_model_types.specs.declared.request.Operation.TheVariants as operation
 use Rattle.service_model_types.specs.declared.request.Request.{Request}
 use Rattle.service_model_types.specs.declared.request.TakenTask.{TakenTask}
 use Rattle.service_model_types.specs.declared.settings.Settings.{Settings}
+use Rattle.service_model_types.specs.Homes.{Home, Workflow, Token, Part, home}
 use Rattle.service_model_types.specs.Limits.{most_commands}
 use Rattle.service_model_types.specs.Routing.{hash_of}
 use Rattle.service_model.specs.Service.{opening}
@@ -44,62 +44,36 @@ ends_refusal K from to =
 abbrev pub token_refusal : Settings → TakenTask → Option Refusal
 token_refusal K t = if is_token K t then None else Some InvalidToken
 
--- the token is looked at before the commands are counted
-abbrev pub completion_refusal : Settings → CompleteWorkflowTask → Option Refusal
-completion_refusal K q =
-    if is_token K q.task then (if nat_le (length q.commands) most_commands then None else Some (InvalidArgument field.Commands))
-    else Some InvalidToken
+-- as what an operation is refused for what it names its shard by; what names none is served for a call that does
+abbrev pub home_refusal : Settings → Home → Option Refusal
+home_refusal K (Workflow id) = None
+home_refusal K (Token t) = token_refusal K t
+home_refusal K Part = Some (InvalidArgument field.Shard)
 
--- as what an operation is refused before any shard is entered, where it is; those that name none are served for a
--- call that names their shard
+-- as what a completion is refused for its commands
+abbrev pub commands_refusal : Operation → Option Refusal
+commands_refusal (operation.CompleteWorkflowTask q) =
+    if nat_le (length q.commands) most_commands then None else Some (InvalidArgument field.Commands)
+commands_refusal _ = None
+
+-- as what an operation is refused before any shard is entered, where it is: its token is looked at before its commands
+-- are counted
 abbrev pub refusal_of : Settings → Operation → Option Refusal
-refusal_of K (operation.Start q) = None
-refusal_of K (operation.Signal q) = None
-refusal_of K (operation.SignalWithStart q) = None
-refusal_of K (operation.RequestCancel q) = None
-refusal_of K (operation.Terminate q) = None
-refusal_of K (operation.StartTask t) = Some (InvalidArgument field.Shard)
-refusal_of K (operation.CompleteWorkflowTask q) = completion_refusal K q
-refusal_of K (operation.FailWorkflowTask q) = token_refusal K q.task
-refusal_of K (operation.CompleteActivity q) = token_refusal K q.task
-refusal_of K (operation.FailActivity q) = token_refusal K q.task
-refusal_of K (operation.CancelActivity q) = token_refusal K q.task
-refusal_of K (operation.Heartbeat q) = token_refusal K q.task
-refusal_of K (operation.History q) = None
-refusal_of K (operation.Describe q) = None
-refusal_of K operation.TimerTurn = Some (InvalidArgument field.Shard)
-refusal_of K (operation.NextTransfer to) = Some (InvalidArgument field.Shard)
-refusal_of K (operation.Deliver t) = Some (InvalidArgument field.Shard)
-refusal_of K (operation.Acknowledge q) = Some (InvalidArgument field.Shard)
-refusal_of K operation.NextDispatch = Some (InvalidArgument field.Shard)
-refusal_of K (operation.Dispatched number) = Some (InvalidArgument field.Shard)
+refusal_of K o = option_or (home_refusal K (home o)) (commands_refusal o)
 
 -- the shard of a workflow ID: its hash modulo the number of shards
 abbrev pub shard_of_id : Settings → List ℕ → ℕ
 shard_of_id K id = hash_of id % K.shards
 
--- the shard of an operation: that of its workflow ID, or the one that its token names; where it names none, the first
+-- the shard that a home names; where it names none, the first
+abbrev pub shard_at : Settings → Home → ℕ
+shard_at K (Workflow id) = shard_of_id K id
+shard_at K (Token t) = t.shard
+shard_at K Part = 0
+
+-- the shard of an operation
 abbrev pub shard_of : Settings → Operation → ℕ
-shard_of K (operation.Start q) = shard_of_id K q.workflow_id
-shard_of K (operation.Signal q) = shard_of_id K q.workflow_id
-shard_of K (operation.SignalWithStart q) = shard_of_id K q.workflow_id
-shard_of K (operation.RequestCancel q) = shard_of_id K q.workflow_id
-shard_of K (operation.Terminate q) = shard_of_id K q.workflow_id
-shard_of K (operation.StartTask t) = 0
-shard_of K (operation.CompleteWorkflowTask q) = q.task.shard
-shard_of K (operation.FailWorkflowTask q) = q.task.shard
-shard_of K (operation.CompleteActivity q) = q.task.shard
-shard_of K (operation.FailActivity q) = q.task.shard
-shard_of K (operation.CancelActivity q) = q.task.shard
-shard_of K (operation.Heartbeat q) = q.task.shard
-shard_of K (operation.History q) = shard_of_id K q.workflow_id
-shard_of K (operation.Describe q) = shard_of_id K q.workflow_id
-shard_of K operation.TimerTurn = 0
-shard_of K (operation.NextTransfer to) = 0
-shard_of K (operation.Deliver t) = 0
-shard_of K (operation.Acknowledge q) = 0
-shard_of K operation.NextDispatch = 0
-shard_of K (operation.Dispatched number) = 0
+shard_of K o = shard_at K (home o)
 
 abbrev pub slot_of : Settings → Request → ℕ
 slot_of K q = shard_of K q.operation

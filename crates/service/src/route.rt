@@ -1,12 +1,14 @@
 //! To which shard a request goes, and which requests go to none.
 
 ghost use Rattle.std.specs.Prelude.{◌≡◌, ◌<◌};
-ghost use Rattle.service.specs.Contents.{completion_refusal, ends_refusal, is_token, refusal_of, refusal_of_step, shard_of_id, shard_refusal, slot_of_step, token_refusal};
+ghost use Rattle.service_model_types.specs.Homes.{home_said};
+ghost use Rattle.service.specs.Contents.{commands_refusal, ends_refusal, home_refusal, is_token, refusal_of, refusal_of_step, shard_of_id, shard_refusal, slot_of_step, token_refusal};
 
 use crate::service::Service;
 use service_model_types::call::StepCall;
+use service_model_types::home::Home;
 use service_model_types::limits::MOST_COMMANDS;
-use service_model_types::request::{CompleteWorkflowTask, Operation, Request, TakenTask};
+use service_model_types::request::{Operation, Request, TakenTask};
 use service_model_types::routing::hash_of;
 use service_model_types::settings::Settings;
 use shard_gate::KeepsShard;
@@ -15,34 +17,12 @@ use wf_event_values::{Field, Id, Refusal};
 impl<S: KeepsShard> Service<S> {
     ghost use Rattle.service.specs.Services.{settings_of, shard_of_request};
 
-    /// As what an operation is refused before any shard is entered, where it is. A task that waits, a
-    /// timer turn and the parts of other turns don't name their shard: they are served for a call that
-    /// does.
+    /// As what an operation is refused before any shard is entered, where it is: its token is looked at
+    /// before its commands are counted.
     pub(crate) fn refusal_of(&self, operation: &Operation) -> Option<Refusal>
         ensures { result ≡ refusal_of (settings_of self.now) operation.now }
     {
-        match operation {
-            Operation::CompleteWorkflowTask(asked) => completion_refusal(&self.settings, asked),
-            Operation::FailWorkflowTask(asked) => token_refusal(&self.settings, &asked.task),
-            Operation::CompleteActivity(asked)
-            | Operation::CancelActivity(asked)
-            | Operation::Heartbeat(asked) => token_refusal(&self.settings, &asked.task),
-            Operation::FailActivity(asked) => token_refusal(&self.settings, &asked.task),
-            Operation::Start(_)
-            | Operation::Signal(_)
-            | Operation::SignalWithStart(_)
-            | Operation::RequestCancel(_)
-            | Operation::Terminate(_)
-            | Operation::History(_)
-            | Operation::Describe(_) => None,
-            Operation::StartTask(_)
-            | Operation::TimerTurn
-            | Operation::NextTransfer(_)
-            | Operation::Deliver(_)
-            | Operation::Acknowledge(_)
-            | Operation::NextDispatch
-            | Operation::Dispatched(_) => Some(Refusal::InvalidArgument(Field::Shard)),
-        }
+        home_refusal(&self.settings, operation.home()).or(commands_refusal(operation))
     }
 
     /// The slot of a request's shard.
@@ -50,31 +30,10 @@ impl<S: KeepsShard> Service<S> {
         requires { 0 < (settings_of self.now).shards }
         ensures { result ≡ shard_of_request self.now request.now }
     {
-        match &request.operation {
-            Operation::Start(start) => shard_of_id(&self.settings, &start.get().workflow_id),
-            Operation::Signal(signal) => shard_of_id(&self.settings, &signal.workflow_id),
-            Operation::SignalWithStart(both) => shard_of_id(
-                &self.settings,
-                &both.get().workflow_id,
-            ),
-            Operation::RequestCancel(cancel) => { shard_of_id(&self.settings, &cancel.workflow_id) }
-            Operation::Terminate(end) => shard_of_id(&self.settings, &end.workflow_id),
-            Operation::History(read) | Operation::Describe(read) => {
-                shard_of_id(&self.settings, &read.workflow_id)
-            }
-            Operation::CompleteWorkflowTask(asked) => usize::from(asked.task.shard),
-            Operation::FailWorkflowTask(asked) => usize::from(asked.task.shard),
-            Operation::CompleteActivity(asked)
-            | Operation::CancelActivity(asked)
-            | Operation::Heartbeat(asked) => usize::from(asked.task.shard),
-            Operation::FailActivity(asked) => usize::from(asked.task.shard),
-            Operation::StartTask(_)
-            | Operation::TimerTurn
-            | Operation::NextTransfer(_)
-            | Operation::Deliver(_)
-            | Operation::Acknowledge(_)
-            | Operation::NextDispatch
-            | Operation::Dispatched(_) => 0,
+        match request.operation.home() {
+            Home::Workflow(id) => shard_of_id(&self.settings, id),
+            Home::Token(task) => usize::from(task.shard),
+            Home::Part => 0,
         }
     }
 
@@ -153,15 +112,27 @@ fn token_refusal(settings: &Settings, task: &TakenTask) -> Option<Refusal>
     }
 }
 
-/// The token is looked at before the commands are counted.
-fn completion_refusal(settings: &Settings, asked: &CompleteWorkflowTask) -> Option<Refusal>
-    ensures { result ≡ completion_refusal settings.now asked.now }
+/// What an operation names its shard by has to be there. What names none is served for a call that does.
+fn home_refusal(settings: &Settings, home: Home<'_>) -> Option<Refusal>
+    ensures { result ≡ home_refusal settings.now (home_said home) }
 {
-    if !is_token(settings, &asked.task) {
-        return Some(Refusal::InvalidToken);
+    match home {
+        Home::Workflow(_) => None,
+        Home::Token(task) => token_refusal(settings, &task),
+        Home::Part => Some(Refusal::InvalidArgument(Field::Shard)),
     }
-    if asked.commands.as_slice().len() > MOST_COMMANDS {
-        return Some(Refusal::InvalidArgument(Field::Commands));
+}
+
+/// A completion has at most so many commands as a step takes.
+fn commands_refusal(operation: &Operation) -> Option<Refusal>
+    ensures { result ≡ commands_refusal operation.now }
+{
+    match operation {
+        Operation::CompleteWorkflowTask(asked)
+            if asked.commands.as_slice().len() > MOST_COMMANDS =>
+        {
+            Some(Refusal::InvalidArgument(Field::Commands))
+        }
+        _ => None,
     }
-    None
 }

@@ -2,7 +2,7 @@
 -- object of the gate can name them)
 use Rattle.std.proofs.Common.{◌≡◌, le_refl, refl, ap, ◌∙◌, subst}
 use Rattle.std.proofs.Math.Nat.{le_trans, le-add_right}
-use Rattle.std.specs.Prelude.{ℕ, zero, suc, ◌+◌, ◌-◌, ◌==◌, ◌≤◌, Bool, true, false, cond, List, [], ◌∷◌, ◌++◌, Option, None, Some, unwrap_or, slice_get, slice_set, slice_index_or}
+use Rattle.std.specs.Prelude.{ℕ, zero, suc, ◌+◌, ◌-◌, ◌==◌, ◌≤◌, Bool, true, false, if◌then◌else◌, List, [], ◌∷◌, ◌++◌, Option, None, Some, unwrap_or, slice_get, slice_set, slice_index_or}
 use Rattle.service_model_types.specs.declared.content.Content.{Content}
 use Rattle.service_model_types.specs.declared.content.Outgoing.{Outgoing}
 use Rattle.service_model_types.specs.declared.request.Acknowledge.{Acknowledge}
@@ -26,10 +26,10 @@ acknowledged-issued [] at to = refl
 acknowledged-issued (o ∷ os) at to = go (at == 0) to (λ n. acknowledged-issued os (at - 1) n)
   where
     go : (b : Bool) (to : ℕ) → ((n : ℕ) → (outgoing_to (one_more_acknowledged os (at - 1)) n).issued ≡ (outgoing_to os n).issued)
-        → (outgoing_to (cond b (record {
+        → (outgoing_to (if b then record {
           issued = o.issued;
           acknowledged = o.acknowledged + 1;
-        } ∷ os) (o ∷ one_more_acknowledged os (at - 1))) to).issued ≡ (outgoing_to (o ∷ os) to).issued
+        } ∷ os else (o ∷ one_more_acknowledged os (at - 1))) to).issued ≡ (outgoing_to (o ∷ os) to).issued
     go true zero rest = refl
     go true (suc n) rest = refl
     go false zero rest = refl

@@ -1,5 +1,5 @@
 -- MEANING: the tasks of a shard that wait to be taken: their hints are pushed anew when a service is opened again
-use Rattle.std.specs.Prelude.{ℕ, cond, ◌&&◌, ◌==◌, List, filter_map, flat_map, map, Option, None, option_and_then}
+use Rattle.std.specs.Prelude.{ℕ, if◌then◌else◌, ◌&&◌, ◌==◌, List, filter_map, flat_map, map, Option, None, option_and_then}
 use Rattle.std.specs.List.{enumerate_from}
 use Rattle.wf_event.specs.declared.event.Event.{Event}
 use Rattle.wf_event.specs.declared.attributes.Attributes.{Attributes}
@@ -13,7 +13,7 @@ use Rattle.service_model.specs.Tasks.{is_queued, is_scheduled_task, pending_row}
 
 -- an activity's attempt waits while it is queued
 abbrev pub queued_dispatch : Setup → ℕ → ActivityRow → Option Dispatch
-queued_dispatch setup run r = cond (is_queued r.phase) (row_dispatch setup run r) None
+queued_dispatch setup run r = if is_queued r.phase then row_dispatch setup run r else None
 
 -- the task that an event schedules, where it waits: the run's workflow task while it is scheduled, the attempt of a
 -- pending activity while that is queued
@@ -22,7 +22,7 @@ waiting_task setup run s e = by_kind e.attributes
   where
     by_kind : Attributes → Option Dispatch
     by_kind (WorkflowTaskScheduled a) =
-        cond (is_scheduled_task s.task && ((last_task s).scheduled == e.id)) (task_dispatch setup run e) None
+        if is_scheduled_task s.task && ((last_task s).scheduled == e.id) then task_dispatch setup run e else None
     by_kind (ActivityTaskScheduled a) = option_and_then (queued_dispatch setup run) (pending_row s e.id)
     by_kind _ = None
 

@@ -1,5 +1,5 @@
 -- MEANING: a run of the whole service: the steps of all shards, one after another
-use Rattle.std.specs.Prelude.{◌≡◌, ℕ, ◌==◌, ◌-◌, ◌≤◌, Bool, true, false, cond, List, [], ◌∷◌, ◌++◌, take, slice_get, Some}
+use Rattle.std.specs.Prelude.{◌≡◌, ℕ, ◌==◌, ◌-◌, ◌≤◌, Bool, true, false, if◌then◌else◌, List, [], ◌∷◌, ◌++◌, take, slice_get, Some}
 use Rattle.service_model_types.specs.declared.content.Content.{Content}
 use Rattle.service_model_types.specs.declared.content.Setup.{Setup}
 use Rattle.service_model_types.specs.declared.request.Acknowledge.{Acknowledge}
@@ -19,7 +19,7 @@ Whole = List (ℕ × Entry)
 -- the entries of a shard
 abbrev pub on : ℕ → Whole → List Entry
 on s [] = []
-on s (x ∷ xs) = cond (s == x.0) (x.1 ∷ on s xs) (on s xs)
+on s (x ∷ xs) = if s == x.0 then x.1 ∷ on s xs else on s xs
 
 -- each shard's content after the steps
 abbrev pub content_at : (ℕ → Setup) → Whole → ℕ → Content

@@ -241,7 +241,7 @@ fn times(counts: &[Count], name: &str) -> u64 {
 /// Notes that so many events of a run were shown. It answers how many had been shown before.
 fn note_shown(shown: &mut Vec<Shown>, run: RunId, events: u64) -> Result<u64, AllocError> {
     for known in shown.iter_mut() {
-        if known.run.shard() == run.shard() && known.run.ordinal() == run.ordinal() {
+        if known.run == run {
             let before = known.events;
             known.events = events;
             return Ok(before);

@@ -12,6 +12,7 @@ use crate::passes::{close, close_two, give_back, open, take_pass};
 use crate::shown::shown;
 use service::{KeepsShard, Pass, Refused, Service};
 use service_model_types::answer::{Answer, Reply};
+use service_model_types::home::Home;
 use service_model_types::request::{Operation, Request};
 use std::alloc::AllocGlobal;
 use std::process::Abort;
@@ -42,26 +43,9 @@ fn is_started(reply: &Reply, shard: u16) -> bool {
 
 /// The workflow ID that a request names, where it names one.
 fn workflow_of(request: &Request) -> &str {
-    match &request.operation {
-        Operation::Start(asked) => asked.get().workflow_id.as_str(),
-        Operation::Signal(asked) => asked.workflow_id.as_str(),
-        Operation::SignalWithStart(asked) => asked.get().workflow_id.as_str(),
-        Operation::RequestCancel(asked) => asked.workflow_id.as_str(),
-        Operation::Terminate(asked) => asked.workflow_id.as_str(),
-        Operation::History(asked) | Operation::Describe(asked) => asked.workflow_id.as_str(),
-        Operation::StartTask(_)
-        | Operation::CompleteWorkflowTask(_)
-        | Operation::FailWorkflowTask(_)
-        | Operation::CompleteActivity(_)
-        | Operation::FailActivity(_)
-        | Operation::CancelActivity(_)
-        | Operation::Heartbeat(_)
-        | Operation::TimerTurn
-        | Operation::NextTransfer(_)
-        | Operation::Deliver(_)
-        | Operation::Acknowledge(_)
-        | Operation::NextDispatch
-        | Operation::Dispatched(_) => "",
+    match request.operation.home() {
+        Home::Workflow(id) => id.as_str(),
+        _ => "",
     }
 }
 

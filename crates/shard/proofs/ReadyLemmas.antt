@@ -3,11 +3,10 @@ use Rattle.std.proofs.Common.{arith, ◌≡◌, ℕ, ◌≤◌, length, refl, sy
 use Rattle.std.specs.Prelude.{max}
 use Rattle.service_model_types.specs.declared.content.Content.{Content}
 use Rattle.service_model_types.specs.declared.request.Operation.{Operation}
-use Rattle.service_model_types.specs.declared.request.Operation.TheVariants as served
 use Rattle.service_model_types.specs.declared.request.Request.{Request}
 use Rattle.service_model.specs.Growth.{KeepsHistories}
 use Rattle.service_model.specs.Outcome.{Outcome}
-use Rattle.service_model.specs.Service.{after, moment_of, outcome}
+use Rattle.service_model.specs.Service.{after, issues_of, moment_of, outcome, outcome_of, runs_of}
 use Rattle.transfer.specs.Outboxes.{AreIssued}
 use Rattle.shard_steps.proofs.DispatchLemmas.{count-is, next-is}
 use Rattle.shard_steps.proofs.SendingLemmas.{count-to-is, next-to-is}
@@ -16,32 +15,22 @@ use Rattle.shard_store.specs.ShardView.{ShardView, state}
 use Rattle.shard_store.specs.declared.plan.Plan.{Plan}
 use Rattle.shard_store.proofs.KeptLemmas.{keeps-after}
 use Rattle.shard_store.proofs.StepLemmas.{stands-after}
-use Rattle.shard.specs.Deciding.{outcome_in}
+use Rattle.shard.specs.Deciding.{issues_known, outcome_in}
 use Rattle.shard.specs.Standing.{IsReady, StandsFor}
 use Rattle.shard_store.specs.Standing.{known}
 
+-- what waits is read and counted as all that was issued
+issues-known : (S : Content) → S.dispatched ≤ length S.dispatches → AreIssued S.outgoing → issues_of S ≡ issues_known (known S)
+issues-known S low issued i = record {
+  next_transfer = λ to. next-to-is S.setup S.outgoing to i;
+  acknowledge = λ q. count-to-is S.setup S.outgoing q issued i;
+  next_dispatch = next-is S i;
+  dispatched = λ number. count-is S number low i;
+}
+
 outcome-in : (S : Content) (m : ℕ) (op : Operation) → S.dispatched ≤ length S.dispatches → AreIssued S.outgoing → outcome S m op ≡ outcome_in (known S) m op
 unfolding outcome
-outcome-in S m (served.Start q) low issued = refl
-outcome-in S m (served.Signal q) low issued = refl
-outcome-in S m (served.SignalWithStart q) low issued = refl
-outcome-in S m (served.RequestCancel q) low issued = refl
-outcome-in S m (served.Terminate q) low issued = refl
-outcome-in S m (served.StartTask h) low issued = refl
-outcome-in S m (served.CompleteWorkflowTask q) low issued = refl
-outcome-in S m (served.FailWorkflowTask q) low issued = refl
-outcome-in S m (served.CompleteActivity q) low issued = refl
-outcome-in S m (served.FailActivity q) low issued = refl
-outcome-in S m (served.CancelActivity q) low issued = refl
-outcome-in S m (served.Heartbeat q) low issued = refl
-outcome-in S m (served.History q) low issued = refl
-outcome-in S m (served.Describe q) low issued = refl
-outcome-in S m served.TimerTurn low issued = refl
-outcome-in S m (served.NextTransfer to) low issued = next-to-is S.setup S.outgoing to
-outcome-in S m (served.Deliver t) low issued = refl
-outcome-in S m (served.Acknowledge q) low issued = count-to-is S.setup S.outgoing q issued
-outcome-in S m served.NextDispatch low issued = next-is S
-outcome-in S m (served.Dispatched number) low issued = count-is S number low
+outcome-in S m op low issued = ap (λ x. outcome_of (runs_of S m) S.accepted x op) (issues-known S low issued)
 
 -- what was prepared on a shard that stands for a content is ready for it
 pub prepared : {T : Type 0} (v w : ShardView) (S : Content) (q : Request) (plan : Plan T) → StandsFor v S → state w ≡ state v → FitsStep w plan (max q.at v.last) (outcome_in (state v) (max q.at v.last) q.operation) → IsReady w S q plan

@@ -4,16 +4,10 @@ use Rattle.service_model_types.specs.declared.journal.Fact.{Fact}
 use Rattle.service_model_types.specs.declared.request.SignalWithStart.{SignalWithStart}
 use Rattle.service_model_types.specs.declared.request.Start.{Start}
 use Rattle.service_model_types.specs.declared.request.Operation.{Operation}
-use Rattle.service_model_types.specs.declared.request.Operation.TheVariants as served
 use Rattle.service_model.specs.Outcome.{Outcome, Runs, latest_run}
-use Rattle.service_model.specs.Starts.{started_fact, first_task, start, decision, by_decision}
-use Rattle.service_model.specs.Signals.{signal, signal_fact, signal_with_start, start_in}
-use Rattle.service_model.specs.Cancels.{request_cancel, terminate}
-use Rattle.service_model.specs.Reads.{history, describe}
-use Rattle.service_model.specs.Tasks.{start_task, complete_workflow_task, fail_workflow_task}
-use Rattle.service_model.specs.Activities.{complete_activity, fail_activity, cancel_activity, heartbeat}
-use Rattle.service_model.specs.TimerTurns.{timer_turn}
-use Rattle.service_model.specs.Deliveries.{deliver}
+use Rattle.service_model.specs.Service.{Issues, outcome_of}
+use Rattle.service_model.specs.Starts.{started_fact, first_task, decision, by_decision}
+use Rattle.service_model.specs.Signals.{signal_fact, start_in}
 use Rattle.shard_steps.specs.Issuing.{next_waiting, count_waiting}
 use Rattle.shard_steps.specs.Sending.{count_to, next_to}
 use Rattle.shard_store.specs.ShardView.{ShardState}
@@ -38,25 +32,15 @@ signaled_by R q latest_one = by_decision R (unwrap_or latest_one 0) (signaled_fa
 abbrev pub runs_known : ShardState → ℕ → Runs
 runs_known s at = record { setup = s.setup; moment = at; states = s.runs }
 
+-- how what waits of what it issued is read and counted
+abbrev pub issues_known : ShardState → Issues
+issues_known s = record {
+  next_transfer = next_to s.setup s.outgoing;
+  acknowledge = count_to s.setup s.outgoing;
+  next_dispatch = next_waiting s.waiting;
+  dispatched = count_waiting s.waiting;
+}
+
 -- what an operation does to a shard of which this is known, at the step's moment
 abbrev pub outcome_in : ShardState → ℕ → Operation → Outcome
-outcome_in s at (served.Start q) = start (runs_known s at) q
-outcome_in s at (served.Signal q) = signal (runs_known s at) q
-outcome_in s at (served.SignalWithStart q) = signal_with_start (runs_known s at) q
-outcome_in s at (served.RequestCancel q) = request_cancel (runs_known s at) q
-outcome_in s at (served.Terminate q) = terminate (runs_known s at) q
-outcome_in s at (served.StartTask h) = start_task (runs_known s at) h
-outcome_in s at (served.CompleteWorkflowTask q) = complete_workflow_task (runs_known s at) q
-outcome_in s at (served.FailWorkflowTask q) = fail_workflow_task (runs_known s at) q
-outcome_in s at (served.CompleteActivity q) = complete_activity (runs_known s at) q
-outcome_in s at (served.FailActivity q) = fail_activity (runs_known s at) q
-outcome_in s at (served.CancelActivity q) = cancel_activity (runs_known s at) q
-outcome_in s at (served.Heartbeat q) = heartbeat (runs_known s at) q
-outcome_in s at (served.History q) = history (runs_known s at) q
-outcome_in s at (served.Describe q) = describe (runs_known s at) q
-outcome_in s at served.TimerTurn = timer_turn (runs_known s at)
-outcome_in s at (served.NextTransfer to) = next_to s.setup s.outgoing to
-outcome_in s at (served.Deliver t) = deliver (runs_known s at) s.accepted t
-outcome_in s at (served.Acknowledge q) = count_to s.setup s.outgoing q
-outcome_in s at served.NextDispatch = next_waiting s.waiting
-outcome_in s at (served.Dispatched number) = count_waiting s.waiting number
+outcome_in s at o = outcome_of (runs_known s at) s.accepted (issues_known s) o

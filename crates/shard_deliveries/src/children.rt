@@ -53,12 +53,7 @@ fn is_child_of<T: KeepsRun>(run: &Run<T>, parent: RunId, initiated: u64) -> bool
     ensures { result ≡ is_child_of parent initiated (parent_of run.now.state) }
 {
     match &run.started().parent {
-        Some(own) => {
-            own.run.service() == parent.service()
-                && own.run.shard() == parent.shard()
-                && own.run.ordinal() == parent.ordinal()
-                && own.event == initiated
-        }
+        Some(own) => own.run == parent && own.event == initiated,
         None => false,
     }
 }

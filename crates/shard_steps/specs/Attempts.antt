@@ -1,5 +1,5 @@
 -- PROOF: the attempt of an activity that a hint or a token names
-use Rattle.std.specs.Prelude.{ℕ, ◌<◌, Bool, cond, ◌&&◌, ◌==◌, List, Option, None, Some}
+use Rattle.std.specs.Prelude.{ℕ, ◌<◌, Bool, if◌then◌else◌, ◌&&◌, ◌==◌, List, Option, None, Some}
 use Rattle.wf_event.specs.declared.attributes.Attributes.{Attributes}
 use Rattle.wf_event.specs.declared.attributes.Attributes.TheVariants.{ActivityTaskCompleted, ActivityTaskFailed, ActivityTaskTimedOut, ActivityTaskCanceled}
 use Rattle.wf_event.specs.declared.payloads.ActivityTaskScheduled.{ActivityTaskScheduled as ScheduledAttributes}
@@ -20,8 +20,8 @@ waits_at attempt r = is_queued r.phase && (r.attempt == attempt)
 abbrev pub task_by : WaitingTask → Run → List ℕ → ActivityRow → Option ScheduledAttributes → Option ActivityTask
 task_by h run id r None = None
 task_by h run id r (Some a) =
-    cond (waits_at h.attempt r)
-    (Some (record {
+    if waits_at h.attempt r then
+    Some (record {
       activity_id = a.activity_id;
       activity_type = a.activity_type;
       attempt = h.attempt;
@@ -30,8 +30,8 @@ task_by h run id r (Some a) =
       run = run;
       scheduled = h.event;
       workflow_id = id;
-    }))
-    None
+    })
+    else None
 
 abbrev pub task_of : WaitingTask → Run → List ℕ → ActivityRow → Option ActivityTask
 task_of h run id r = task_by h run id r (scheduled_fields r.opened.attributes)

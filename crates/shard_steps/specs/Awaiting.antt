@@ -1,5 +1,5 @@
 -- PROOF: which of the tasks that a run scheduled wait, by the dispatches that were issued for them
-use Rattle.std.specs.Prelude.{ℕ, Bool, cond, ◌&&◌, ◌==◌, Option, None, Some, option_and_then}
+use Rattle.std.specs.Prelude.{ℕ, Bool, if◌then◌else◌, ◌&&◌, ◌==◌, Option, None, Some, option_and_then}
 use Rattle.wf_event_values.specs.declared.policies.TaskKind.{TaskKind}
 use Rattle.wf_event_values.specs.declared.policies.TaskKind.TheVariants.{Workflow, Activity}
 use Rattle.service_model_types.specs.declared.content.Dispatch.{Dispatch}
@@ -19,7 +19,7 @@ is_waiting task last id = is_scheduled_task task && (last.scheduled == id)
 
 -- what waits of a task that was dispatched, by its kind: it, or the attempt at which its activity is
 abbrev pub waiting_by : Setup → ℕ → RunState → Dispatch → TaskKind → Option Dispatch
-waiting_by setup run s d Workflow = cond (is_waiting s.task (last_task s) d.hint.event) (Some d) None
+waiting_by setup run s d Workflow = if is_waiting s.task (last_task s) d.hint.event then Some d else None
 waiting_by setup run s d Activity = waiting_attempt setup run s d.hint.event
 
 abbrev pub still_waiting : Setup → ℕ → RunState → Dispatch → Option Dispatch

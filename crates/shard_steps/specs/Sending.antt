@@ -1,5 +1,5 @@
 -- PROOF: the transfers that a shard sent and accepted, and what of it is looked up behind the step that sends it
-use Rattle.std.specs.Prelude.{◌≡◌, ℕ, ◌+◌, ◌<◌, List, [], ◌++◌, cond, drop, length, nat_lt, option_to_list, slice_get, slice_index_or, Option, None, Some, IfSome}
+use Rattle.std.specs.Prelude.{◌≡◌, ℕ, ◌+◌, ◌<◌, List, [], ◌++◌, if◌then◌else◌, drop, length, nat_lt, option_to_list, slice_get, slice_index_or, Option, None, Some, IfSome}
 use Rattle.wf_event_values.specs.declared.field.Field.TheVariants as field
 use Rattle.wf_event_values.specs.declared.refusal.Refusal.TheVariants.{InvalidArgument}
 use Rattle.service_model_types.specs.declared.content.Setup.{Setup}
@@ -38,16 +38,16 @@ all_outgoing setup t runs = with_all_sent (of_unsent setup t.unsent runs ++ opti
 -- the first transfer to a shard that waits, under its number
 unfoldable pub next_to : Setup → List (Waiting TransferContent) → ℕ → Outcome
 next_to setup all to =
-    cond (nat_lt to setup.shards)
+    if nat_lt to setup.shards then
     (let w = waiting_to all to in answered (next_answer setup (w.counted + 1) (slice_get w.items 0)))
-    (refused (InvalidArgument field.To))
+    else refused (InvalidArgument field.To)
 
 -- a transfer is acknowledged, where it is the first to its shard that waits
 unfoldable pub count_to : Setup → List (Waiting TransferContent) → Acknowledge → Outcome
 count_to setup all q =
-    cond (nat_lt q.to setup.shards)
+    if nat_lt q.to setup.shards then
     (let w = waiting_to all q.to in acknowledges (count_issued w) w.counted q.number (AcknowledgesTo q.to))
-    (refused (InvalidArgument field.To))
+    else refused (InvalidArgument field.To)
 
 -- there is an outbox and an inbox for each of so many shards, and the events that were not looked up are those of one of so many runs
 pub record KeepsTransfers (shards runs : ℕ) (t : TransfersView) : Type 0 where

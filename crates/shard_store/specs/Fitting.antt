@@ -1,5 +1,5 @@
 -- PROOF: a plan that was made for a step on a shard as it is
-use Rattle.std.specs.Prelude.{◌≡◌, ℕ, ◌+◌, ◌-◌, ◌<◌, ◌^◌, ◌==◌, cond, true, false, IfSome, ◌∷◌, ◌++◌, [], List, Option, None, Some, length, slice_index_or, slice_set}
+use Rattle.std.specs.Prelude.{◌≡◌, ℕ, ◌+◌, ◌-◌, ◌<◌, ◌^◌, ◌==◌, if◌then◌else◌, true, false, IfSome, ◌∷◌, ◌++◌, [], List, Option, None, Some, length, slice_index_or, slice_set}
 use Rattle.std.specs.Prelude.{string_bytes}
 use Rattle.service_model_types.specs.declared.content.Dispatch.{Dispatch}
 use Rattle.service_model_types.specs.declared.journal.Fact.{Fact}
@@ -276,4 +276,4 @@ MayAdd v (Some n) = HasPlace v n
 -- the place that the index knows, but for one that it is to forget
 abbrev pub without : ℕ → Option ℕ → Option ℕ
 without index None = None
-without index (Some n) = cond (n == index) None (Some n)
+without index (Some n) = if n == index then None else Some n

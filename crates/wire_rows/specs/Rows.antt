@@ -1,5 +1,5 @@
 -- MEANING: an object as a list of rows, in the order of their keys
-use Rattle.std.specs.Prelude.{◌≡◌, ℕ, ◌==◌, List, [], ◌∷◌, Bool, true, false, ◌&&◌, cond, bytes_eq, codes, map, Option, Some, None, option_map}
+use Rattle.std.specs.Prelude.{◌≡◌, ℕ, ◌==◌, List, [], ◌∷◌, Bool, true, false, ◌&&◌, if◌then◌else◌, bytes_eq, codes, map, Option, Some, None, option_map}
 use Rattle.std.specs.Cmp.Lexicographic.{slice_cmp}
 use Rattle.std.specs.Ordering.{nat_cmp, is_lt}
 use Rattle.serde_json.specs.Data.{Data, number, unsigned, string, boolean, object, Members, no_members, member}
@@ -34,7 +34,7 @@ if_count key n = (key, option_map (λ x. number (unsigned x)) n)
 
 -- a number, where it is not 0
 abbrev pub unless_zero : ℕ → Option ℕ
-unless_zero n = cond (n == 0) None (Some n)
+unless_zero n = if n == 0 then None else Some n
 
 abbrev pub if_run : List ℕ → Option Run → Row
 if_run key r = (key, option_map (λ x. string (run_text x)) r)
@@ -65,7 +65,7 @@ add_rows (row ∷ rows) s = add_rows rows (add_row row s)
 -- the value under a key
 abbrev pub lookup : List ℕ → List Row → Option Data
 lookup key [] = None
-lookup key (row ∷ rows) = cond (bytes_eq key row.0) row.1 (lookup key rows)
+lookup key (row ∷ rows) = if bytes_eq key row.0 then row.1 else lookup key rows
 
 -- a key is below these rows' keys
 abbrev pub below : List ℕ → List Row → Bool
