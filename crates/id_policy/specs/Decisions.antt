@@ -2,9 +2,7 @@
 use Rattle.std.specs.Prelude.{ℕ, Bool, false, List, Option, None, Some, option_map, option_copied}
 use Rattle.wf_event_values.specs.declared.policies.Status.{Status}
 use Rattle.id_policy.specs.declared.decision.Latest.{Latest}
-use Rattle.id_policy.specs.declared.decision.Decision.{Decision}
-use Rattle.id_policy.specs.declared.decision.Decision.TheVariants as decision
-use Rattle.service_model.specs.IdPolicy.{Decision as Decided, New, Same, Existing, TerminateThenNew, Refused, is_same_request}
+use Rattle.service_model.specs.IdPolicy.{is_same_request}
 
 -- where the latest run stands
 abbrev pub status_of : Option Latest → Option Status
@@ -14,11 +12,3 @@ status_of latest = option_map (λ (l : Latest). l.status) latest
 abbrev pub bears : Option Latest → Option (List ℕ) → Bool
 bears None request_id = false
 bears (Some latest) request_id = is_same_request request_id (option_copied latest.request_id)
-
--- what a decision says
-abbrev pub says : Decision → Decided
-says decision.New = New
-says decision.Same = Same
-says decision.Existing = Existing
-says decision.TerminateThenNew = TerminateThenNew
-says decision.Refused = Refused

@@ -6,8 +6,9 @@
 ghost use Rattle.std.specs.Prelude.{◌≡◌, ◌≢◌, Some, option_copied};
 ghost use Rattle.service_model.specs.IdPolicy.{decide, is_same_request, is_failed, on_open, on_closed, New as NewRun};
 ghost use Rattle.wf_event_values.specs.declared.policies.Status.TheVariants.{Running};
-ghost use Rattle.id_policy.specs.Decisions.{says, status_of, bears};
+ghost use Rattle.id_policy.specs.Decisions.{status_of, bears};
 
+use service_model_types::decided::Decision;
 use wf_event_values::{ConflictPolicy, Id, ReusePolicy, Status};
 
 /// The latest run of a workflow ID: where it stands, and the request id of its start, if it had one.
@@ -15,21 +16,6 @@ use wf_event_values::{ConflictPolicy, Id, ReusePolicy, Status};
 pub struct Latest<'a> {
     pub status: Status,
     pub request_id: Option<&'a Id>,
-}
-
-/// What a start does.
-#[derive(Clone, Copy)]
-pub enum Decision {
-    /// A new run is made.
-    New,
-    /// The latest run is the one that this very request started.
-    Same,
-    /// The open run is answered, and none is made.
-    Existing,
-    /// The open run is terminated, and a new one is made in the same step.
-    TerminateThenNew,
-    /// The latest run is in the way.
-    Refused,
 }
 
 /// What a start does where the ID's latest run is this one, or none.
@@ -44,10 +30,10 @@ pub fn decide(
     request_id: Option<&Id>,
 ) -> Decision
     ensures value { let run = option_copied latest.entry in
-        says result
+        result
         ≡ decide (status_of run) (bears run (option_copied request_id.entry)) reuse conflict }
     // An ID has at most one open run.
-    ensures one_open { says result ≡ NewRun
+    ensures one_open { result ≡ NewRun
         → status_of (option_copied latest.entry) ≢ Some Running }
 {
     let Some(latest) = latest else {
@@ -74,7 +60,7 @@ fn is_same_request(given: Option<&Id>, first: Option<&Id>) -> bool
 
 /// The decision where the latest run is open (Temporal, Workflow ID conflict policy).
 fn on_open(conflict: ConflictPolicy) -> Decision
-    ensures { says result ≡ on_open conflict }
+    ensures { result ≡ on_open conflict }
 {
     match conflict {
         ConflictPolicy::Fail => Decision::Refused,
@@ -85,7 +71,7 @@ fn on_open(conflict: ConflictPolicy) -> Decision
 
 /// The decision where the latest run is closed (Temporal, Workflow ID reuse policy).
 fn on_closed(reuse: ReusePolicy, status: Status) -> Decision
-    ensures { says result ≡ on_closed reuse status }
+    ensures { result ≡ on_closed reuse status }
 {
     match reuse {
         ReusePolicy::AllowDuplicate => Decision::New,

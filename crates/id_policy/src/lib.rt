@@ -4,4 +4,4 @@
 
 mod decision;
 
-pub use decision::{Decision, Latest, decide};
+pub use decision::{Latest, decide};

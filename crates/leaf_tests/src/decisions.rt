@@ -1,6 +1,7 @@
 //! The table of decisions.
 
-use id_policy::{Decision, Latest, decide};
+use id_policy::{Latest, decide};
+use service_model_types::decided::Decision;
 use std::test::Fail;
 use wf_event_values::{ConflictPolicy, Field, Id, ReusePolicy, Status};
 

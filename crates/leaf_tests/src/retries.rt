@@ -1,6 +1,7 @@
 //! Vectors of waits and verdicts.
 
-use retry::{Ended, Verdict, verdict_on, wait_after};
+use retry::{Ended, verdict_on, wait_after};
+use service_model_types::decided::Verdict;
 use std::alloc::{AllocError, Global};
 use std::test::Fail;
 use wf_event::RetryPolicy;

@@ -25,9 +25,9 @@ use Rattle.mutable_state.specs.declared.open.Open.{Open}
 use Rattle.mutable_state.specs.Opens.{is_of, is_unmarked, unmarked, used_in, rows_in, AgreesWith}
 use Rattle.mutable_state.specs.Noted.{kept_row}
 use Rattle.mutable_state.specs.declared.task.WorkflowTask.{WorkflowTask}
-use Rattle.mutable_state.specs.declared.task.TaskPhase.TheVariants as kept
-use Rattle.mutable_state.specs.declared.task.TaskPhase.{TaskPhase}
-use Rattle.mutable_state.specs.Tasks.{phase_in, numbers_in}
+use Rattle.service_model_types.specs.declared.phase.TaskPhase.TheVariants as kept
+use Rattle.service_model_types.specs.declared.phase.TaskPhase.{TaskPhase}
+use Rattle.mutable_state.specs.Tasks.{numbers_in}
 use Rattle.mutable_state.specs.RunView.{beginning_in, state_in}
 use Rattle.mutable_state.proofs.KeptLemmas.{used-unmarked, rows-unmarked}
 
@@ -46,7 +46,7 @@ some-first request (x ∷ events) None h is = absurd (cc)
 some-first request (x ∷ events) (Some e) h is = refl
 
 -- the timeout of the task, by its numbers
-task-part : (s : RunState) (a : StartedAttributes) (t : WorkflowTask) (p : TaskPhase) → t.phase ≡ p → phase_in p ≡ s.task → numbers_in t ≡ last_task s → task_timeout s ≡ a.task_timeout → workflow_task_dues s s.task ≡ task_dues a (record t { phase = p })
+task-part : (s : RunState) (a : StartedAttributes) (t : WorkflowTask) (p : TaskPhase) → t.phase ≡ p → p ≡ s.task → numbers_in t ≡ last_task s → task_timeout s ≡ a.task_timeout → workflow_task_dues s s.task ≡ task_dues a (record t { phase = p })
 task-part s a t kept.None is same numbers timeout = ap (workflow_task_dues s) (sym same)
 task-part s a t kept.Scheduled is same numbers timeout = ap (workflow_task_dues s) (sym same)
 task-part s a t kept.Started is same numbers timeout =
@@ -67,7 +67,7 @@ own-parts s (Some b) begun a is at carries =
 
 -- an open run's deadlines: its own, those of its pending activities and those of its pending timers
 pub dues-parts : (retention : ℕ) (s : RunState) (begun : ℕ) (a : StartedAttributes) (t : WorkflowTask) → is_open s ≡ true → option_map (λ (b : Beginning). b.at) s.beginning ≡ Some begun → option_map (λ (b : Beginning). b.attributes) s.beginning ≡ Some a →
-    phase_in t.phase ≡ s.task → numbers_in t ≡ last_task s → dues retention s ≡ own_dues begun a t ++ flat_map activity_dues (pending_rows s) ++ pending_timer_dues s
+    t.phase ≡ s.task → numbers_in t ≡ last_task s → dues retention s ≡ own_dues begun a t ++ flat_map activity_dues (pending_rows s) ++ pending_timer_dues s
 unfolding dues
 dues-parts retention s begun a t opened at carries phase numbers =
     let parts = own-parts s s.beginning begun a refl at carries in
@@ -80,7 +80,7 @@ dues-parts retention s begun a t opened at carries phase numbers =
 
 -- and the first of them
 pub dues-firsts : (retention : ℕ) (s : RunState) (n begun : ℕ) (a : StartedAttributes) (t : WorkflowTask) → is_open s ≡ true → option_map (λ (b : Beginning). b.at) s.beginning ≡ Some begun → option_map (λ (b : Beginning). b.attributes) s.beginning ≡ Some a →
-    phase_in t.phase ≡ s.task → numbers_in t ≡ last_task s →
+    t.phase ≡ s.task → numbers_in t ≡ last_task s →
     first_of n (dues retention s) ≡ lesser_of_two (first_of n (own_dues begun a t)) (lesser_of_two (first_of n (pending_activity_dues s)) (first_of n (pending_timer_dues s)))
 dues-firsts retention s n begun a t opened at carries phase numbers =
     ap (first_of n) (dues-parts retention s begun a t opened at carries phase numbers ∙ append_assoc (own_dues begun a t) (pending_activity_dues s) (pending_timer_dues s))

@@ -27,7 +27,7 @@ use Rattle.mutable_state.specs.declared.open.Open.{Open}
 use Rattle.mutable_state.specs.Dues.{dues_of, kept_dues, activity_dues_of, kept_activity_dues, first_in}
 use Rattle.mutable_state.specs.Dues as kept
 use Rattle.mutable_state.specs.Filed.{all_firsts, with_run, IsOfEvent, KeepsDues}
-use Rattle.mutable_state.specs.Noted.{kept_row, phase_said}
+use Rattle.mutable_state.specs.Noted.{kept_row}
 use Rattle.mutable_state.specs.Opens.{OpenRows, is_unmarked, is_of, is_pending_of}
 use Rattle.mutable_state.specs.Rows.{asked_one}
 use Rattle.mutable_state.specs.Steps.{unheld_by, is_held_back, comes_last, with_new}
@@ -123,7 +123,7 @@ phase-asked n e a IsWaiting = refl
 
 fields-asked : (n : Notes) (e : Event) (s : Option ScheduledAttributes) → row_dues (kept_row (record n { cancel_requested = true }) e) s ≡ row_dues (kept_row n e) s
 fields-asked n e None = refl
-fields-asked n e (Some a) = ap (λ l. due_after e.at a.schedule_to_close ScheduleToClose e.id ++ l) (phase-asked n e a (phase_said n.phase))
+fields-asked n e (Some a) = ap (λ l. due_after e.at a.schedule_to_close ScheduleToClose e.id ++ l) (phase-asked n e a n.phase)
 
 activity-asked : (n : Notes) (o : Option Event) → activity_dues_of (record n { cancel_requested = true }) o ≡ activity_dues_of n o
 activity-asked n None = refl

@@ -14,11 +14,10 @@ use Rattle.mutable_state.specs.declared.open.Open.{Open}
 use Rattle.mutable_state.specs.declared.notes.Notes.{Notes}
 use Rattle.mutable_state.specs.Noted.{kept_row}
 use Rattle.mutable_state.specs.Opens.{event_at, is_pending_of}
-use Rattle.mutable_state.specs.Tasks.{phase_in}
 
 -- that of its workflow task, where a worker has it
 abbrev pub task_dues : StartedAttributes → WorkflowTask → List Due
-task_dues a t = if is_started_task (phase_in t.phase) then due_after t.started_at a.task_timeout TaskTimeout t.scheduled else []
+task_dues a t = if is_started_task t.phase then due_after t.started_at a.task_timeout TaskTimeout t.scheduled else []
 
 -- the deadline of its workflow's execution, its own timeout, where it began at this moment, and that of its workflow task
 abbrev pub own_dues : ℕ → StartedAttributes → WorkflowTask → List Due

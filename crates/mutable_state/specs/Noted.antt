@@ -3,22 +3,14 @@ use Rattle.std.specs.Prelude.{◌≡◌, ℕ, ◌+◌, Bool, false, ◌||◌, �
 use Rattle.wf_event.specs.declared.event.Event.{Event}
 use Rattle.service_model_types.specs.declared.journal.Note.{Note}
 use Rattle.service_model_types.specs.declared.journal.Note.TheVariants.{Taken, Ended, Ready, Beat}
-use Rattle.service_model.specs.Pending.{Phase, IsQueued, IsRunning, IsWaiting}
+use Rattle.service_model.specs.Pending.{IsQueued, IsRunning, IsWaiting}
 use Rattle.service_model.specs.RunState.{ActivityRow}
-use Rattle.mutable_state.specs.declared.notes.ActivityPhase.{ActivityPhase}
-use Rattle.mutable_state.specs.declared.notes.ActivityPhase.TheVariants as kept
 use Rattle.mutable_state.specs.declared.notes.Notes.{Notes}
-
--- where the activity stands
-abbrev pub phase_said : ActivityPhase → Phase
-phase_said kept.Queued = IsQueued
-phase_said kept.Running = IsRunning
-phase_said kept.Waiting = IsWaiting
 
 -- before the first note
 abbrev pub no_notes : Notes
 no_notes = record {
-  phase = kept.Queued;
+  phase = IsQueued;
   attempt = 1;
   ready = None;
   taken = None;
@@ -30,9 +22,9 @@ no_notes = record {
 
 -- notes with one more, at this moment
 abbrev pub noted : ℕ → Note → Notes → Notes
-noted at Taken n = record n { phase = kept.Running; taken = Some at; sign_of_life = Some at }
-noted at Ended n = record n { phase = kept.Waiting; attempt = n.attempt + 1; ended = Some at }
-noted at Ready n = record n { phase = kept.Queued; ready = Some at }
+noted at Taken n = record n { phase = IsRunning; taken = Some at; sign_of_life = Some at }
+noted at Ended n = record n { phase = IsWaiting; attempt = n.attempt + 1; ended = Some at }
+noted at Ready n = record n { phase = IsQueued; ready = Some at }
 noted at (Beat details) n = record n { sign_of_life = Some at; details = Some details }
 
 -- a note may be made: an attempt that ends has a number after it
@@ -48,7 +40,7 @@ asked here n = record n { cancel_requested = n.cancel_requested || here }
 abbrev pub kept_row : Notes → Event → ActivityRow
 kept_row n e = record {
   opened = e;
-  phase = phase_said n.phase;
+  phase = n.phase;
   attempt = n.attempt;
   ready = n.ready;
   taken = n.taken;

@@ -8,21 +8,22 @@ ghost use Rattle.timeouts.specs.Firsts.{first_of, first_due, HasTimer};
 ghost use Rattle.timeouts.specs.Slots.{run_due};
 ghost use Rattle.service_model.specs.Deadlines.{timer_dues, activity_dues, by_phase, deadline_dues, is_closing_event, retention_dues};
 ghost use Rattle.service_model.specs.Pending.{IsQueued, IsRunning, IsWaiting};
-ghost use Rattle.mutable_state.specs.Noted.{kept_row, phase_said};
+ghost use Rattle.mutable_state.specs.Noted.{kept_row};
 ghost use Rattle.service_model.specs.TimerTurns.{timer_name};
 ghost use Rattle.mutable_state.specs.Readers.{started_timer};
 ghost use Rattle.mutable_state.specs.Rows.{NamedBy};
 ghost use Rattle.mutable_state.specs.Filed.{IsOfEvent, with_run};
 ghost use Rattle.mutable_state.specs.Dues.{own_dues, task_dues, kept_dues, kept_activity_dues, first_in};
 
-use crate::notes::{ActivityPhase, Notes};
+use crate::notes::Notes;
 use crate::open::Open;
 use crate::rows::Row;
 use crate::run::Run;
-use crate::task::WorkflowTask;
+use crate::task::{WorkflowTask, is_started};
 use buffered::History;
 use event_pieces::Events;
 use retry::wait_after;
+use service_model_types::phase::ActivityPhase;
 use timeouts::{Due, due_after, first_of_two};
 use wf_event::payloads::{ActivityTaskScheduled, WorkflowExecutionStarted};
 use wf_event::{Attributes, Class, Event};
@@ -158,7 +159,7 @@ fn phase_due(
     ordinal: u64,
 ) -> Option<Due>
     ensures { option_map run_due result ≡ first_of ordinal
-        (by_phase (kept_row notes.now event.now) activity.now (phase_said notes.now.phase)) }
+        (by_phase (kept_row notes.now event.now) activity.now notes.now.phase) }
 {
     match notes.phase {
         ActivityPhase::Queued => queued_due(event, activity, notes, ordinal),
@@ -332,7 +333,7 @@ fn execution_due(started: &WorkflowExecutionStarted, ordinal: u64) -> Option<Due
 fn task_due(started: &WorkflowExecutionStarted, task: WorkflowTask, ordinal: u64) -> Option<Due>
     ensures { option_map run_due result ≡ first_of ordinal (task_dues started.now task) }
 {
-    if !task.phase.is_started() {
+    if !is_started(task.phase) {
         return None;
     }
     due_after(

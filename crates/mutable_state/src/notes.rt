@@ -2,22 +2,12 @@
 
 ghost use Rattle.std.specs.Prelude.{◌≡◌, IfOk};
 ghost use Rattle.service_model.specs.Completion.{is_running_phase};
-ghost use Rattle.mutable_state.specs.Noted.{MayAdd, no_notes, noted, phase_said};
+ghost use Rattle.mutable_state.specs.Noted.{MayAdd, no_notes, noted};
 
 use service_model_types::journal::Note;
+use service_model_types::phase::ActivityPhase;
 use std::alloc::AllocError;
 use wf_event_values::{Moment, Text};
-
-/// Where an activity stands.
-#[derive(Clone, Copy)]
-pub enum ActivityPhase {
-    /// An attempt waits to be taken.
-    Queued,
-    /// A worker has the attempt.
-    Running,
-    /// An attempt ended, and the next one waits for its moment.
-    Waiting,
-}
 
 /// What the notes on an activity say, and whether it was asked to cancel.
 pub struct Notes {
@@ -71,7 +61,7 @@ impl Notes {
 
     /// Whether a worker has an attempt.
     pub fn is_running(&self) -> bool
-        ensures { result ≡ is_running_phase (phase_said self.now.phase) }
+        ensures { result ≡ is_running_phase self.now.phase }
     {
         matches!(self.phase, ActivityPhase::Running)
     }

@@ -3,10 +3,10 @@
 ghost use Rattle.std.specs.Prelude.{◌≡◌, ◌^◌, ◌<◌, length};
 ghost use Rattle.service_model_types.specs.declared.journal.Fact.TheVariants.{Event as an_event};
 ghost use Rattle.mutable_state.specs.Rooms.{AreAtMost, IsWithin, is_remembered, need_of, needs, no_rooms, one_if, plus, task_behind};
-ghost use Rattle.mutable_state.specs.Tasks.{phase_in};
 
-use crate::task::{TaskPhase, WorkflowTask, turn_of};
+use crate::task::{WorkflowTask, is_started, turn_of};
 use service_model_types::journal::{EventFact, Fact};
+use service_model_types::phase::TaskPhase;
 use wf_event::Attributes;
 use wf_event_values::Moment;
 
@@ -42,7 +42,7 @@ impl Rooms {
     /// With what one more fact needs, where the workflow task stands so before it.
     fn with(self, phase: TaskPhase, fact: &Fact) -> Rooms
         requires { AreAtMost (2 ^ 63) self }
-        ensures { result ≡ plus self (need_of (phase_in phase) fact.now) }
+        ensures { result ≡ plus self (need_of phase fact.now) }
     {
         match fact {
             Fact::Event(event) => self.with_event(phase, event),
@@ -55,13 +55,13 @@ impl Rooms {
 
     fn with_event(self, phase: TaskPhase, event: &EventFact) -> Rooms
         requires { AreAtMost (2 ^ 63) self }
-        ensures { result ≡ plus self (need_of (phase_in phase) (an_event event.now)) }
+        ensures { result ≡ plus self (need_of phase (an_event event.now)) }
     {
         let attributes = &event.attributes;
         let opened = one_if(attributes.opens().is_some());
         Rooms {
             events: self.events + 1,
-            held: self.held + one_if(phase.is_started() && attributes.is_outside()),
+            held: self.held + one_if(is_started(phase) && attributes.is_outside()),
             requests: self.requests + one_if(is_remembered(event)),
             rows: self.rows + opened,
             deadlines: self.deadlines + opened,
@@ -72,7 +72,7 @@ impl Rooms {
 /// Room for all of these facts, where this is the run's workflow task before them.
 pub(crate) fn rooms_for(task: WorkflowTask, facts: &[Fact]) -> Rooms
     requires { length facts.now < 2 ^ 63 }
-    ensures { IsWithin (needs (phase_in task.phase) facts.now) result }
+    ensures { IsWithin (needs task.phase facts.now) result }
 {
     let mut task = task;
     let mut rooms = Rooms::none();
@@ -85,7 +85,7 @@ pub(crate) fn rooms_for(task: WorkflowTask, facts: &[Fact]) -> Rooms
 
 /// The workflow task behind a fact. Of its numbers nothing is asked.
 fn behind(task: WorkflowTask, fact: &Fact) -> WorkflowTask
-    ensures { phase_in result.phase ≡ task_behind fact.now (phase_in task.phase) }
+    ensures { result.phase ≡ task_behind fact.now task.phase }
 {
     match fact {
         Fact::Event(event) => task.turned(turn_of(&event.attributes), 0, Moment::zero()),

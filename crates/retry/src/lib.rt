@@ -4,5 +4,5 @@
 mod verdict;
 mod waits;
 
-pub use verdict::{Ended, Verdict, verdict_on};
+pub use verdict::{Ended, verdict_on};
 pub use waits::{maximum_of, wait_after};

@@ -4,9 +4,10 @@
 
 ghost use Rattle.std.specs.Prelude.{◌≡◌, ◌==◌, ◌&&◌, ◌||◌, not, nat_le, option_copied};
 ghost use Rattle.service_model.specs.Retry.{verdict, is_non_retryable, is_listed};
-ghost use Rattle.retry.specs.Verdicts.{ending_of, says};
+ghost use Rattle.retry.specs.Verdicts.{ending_of};
 
 use crate::waits::wait_after;
+use service_model_types::decided::Verdict;
 use wf_event::RetryPolicy;
 use wf_event_values::{Moment, RetryState, Text};
 
@@ -20,15 +21,6 @@ pub enum Ended<'a> {
         error_type: Option<&'a Text>,
         non_retryable: bool,
     },
-}
-
-/// What becomes of an activity whose attempt ended without success.
-#[derive(Clone, Copy)]
-pub enum Verdict {
-    /// It is tried again, from this moment on, in milliseconds.
-    Retry { ready: u64 },
-    /// It is not, and why.
-    GiveUp(RetryState),
 }
 
 /// The verdict on an attempt that ended at a moment, where the activity is to be closed by the
@@ -46,7 +38,7 @@ pub fn verdict_on(
     at: Moment,
     deadline: Option<u64>,
 ) -> Verdict
-    ensures { says result
+    ensures { result
         ≡ verdict policy.now (ending_of ended.entry) cancel_requested attempt at deadline }
 {
     if cancel_requested {

@@ -8,8 +8,8 @@ use Rattle.service_model.specs.Growth.{KeepsHistories}
 use Rattle.service_model.specs.Outcome.{Outcome}
 use Rattle.service_model.specs.Service.{after, issues_of, moment_of, outcome, outcome_of, runs_of}
 use Rattle.transfer.specs.Outboxes.{AreIssued}
-use Rattle.shard_steps.proofs.DispatchLemmas.{count-is, next-is}
-use Rattle.shard_steps.proofs.SendingLemmas.{count-to-is, next-to-is}
+use Rattle.shard_issued.proofs.DispatchLemmas.{count-is, next-is}
+use Rattle.shard_issued.proofs.SendingLemmas.{count-to-is, next-to-is}
 use Rattle.shard_store.specs.Fitting.{FitsStep, state_after}
 use Rattle.shard_store.specs.ShardView.{ShardView, state}
 use Rattle.shard_store.specs.declared.plan.Plan.{Plan}

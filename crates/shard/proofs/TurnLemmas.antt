@@ -13,7 +13,7 @@ use Rattle.timeouts.specs.declared.due.Due.{Due}
 use Rattle.timeouts.proofs.AgeLemmas.{oldest-goes}
 use Rattle.timeouts.proofs.ClassLemmas.{due-closed, due-there}
 use Rattle.timeouts.proofs.FirstLemmas.{due-of-run}
-use Rattle.shard_steps.specs.Outstanding.{IsCaughtUp}
+use Rattle.shard_issued.specs.Outstanding.{IsCaughtUp}
 use Rattle.shard_store.specs.Fitting.{FitsStep, state_at, taking}
 use Rattle.shard_store.specs.ShardView.{ShardView, ordinal_of, runs_at, states}
 use Rattle.shard_store.specs.declared.plan.Plan.{Plan}

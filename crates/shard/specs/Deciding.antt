@@ -8,8 +8,8 @@ use Rattle.service_model.specs.Outcome.{Outcome, Runs, latest_run}
 use Rattle.service_model.specs.Service.{Issues, outcome_of}
 use Rattle.service_model.specs.Starts.{started_fact, first_task, decision, by_decision}
 use Rattle.service_model.specs.Signals.{signal_fact, start_in}
-use Rattle.shard_steps.specs.Issuing.{next_waiting, count_waiting}
-use Rattle.shard_steps.specs.Sending.{count_to, next_to}
+use Rattle.shard_issued.specs.Issuing.{next_waiting, count_waiting}
+use Rattle.shard_issued.specs.Sending.{count_to, next_to}
 use Rattle.shard_store.specs.ShardView.{ShardState}
 
 -- what a start of a known queue does, by the workflow ID's latest run

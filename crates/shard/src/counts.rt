@@ -4,7 +4,7 @@
 
 ghost use Rattle.std.specs.Prelude.{◌≡◌, IfOk};
 ghost use Rattle.service_model.specs.Outcome.{answered};
-ghost use Rattle.shard_steps.specs.Issuing.{next_waiting, count_waiting};
+ghost use Rattle.shard_issued.specs.Issuing.{next_waiting, count_waiting};
 ghost use Rattle.shard_store.specs.Fitting.{FitsStep};
 ghost use Rattle.shard_store.specs.ShardView.{state};
 

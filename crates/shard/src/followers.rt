@@ -6,7 +6,7 @@ ghost use Rattle.std.specs.Prelude.{◌≡◌, ◌<◌, length, IfOk, OnOk, opti
 ghost use Rattle.service_model.specs.RunState.{is_there};
 ghost use Rattle.service_model.specs.Journal.{latest};
 ghost use Rattle.service_model.specs.Tasks.{continue_part, continued};
-ghost use Rattle.shard_steps.specs.Outstanding.{IsCaughtUp};
+ghost use Rattle.shard_issued.specs.Outstanding.{IsCaughtUp};
 ghost use Rattle.shard_store.specs.Fitting.{FitsCreated};
 ghost use Rattle.shard.specs.Following.{continuing, following};
 ghost use Rattle.shard_store.specs.ShardView.{ordinal_of, run_in, runs_at, state};

@@ -13,9 +13,9 @@ ghost use Rattle.shard.specs.Deciding.{signaled_by, signaled_facts};
 
 use crate::signals::add_signal;
 use crate::starts::{begin_run, decision_by};
-use id_policy::Decision;
 use mutable_state_keeper::KeepsRun;
 use service_model_types::answer::Answer;
+use service_model_types::decided::Decision;
 use service_model_types::request::SignalWithStart;
 use shard_steps::signaled_beginning;
 use shard_store::{Plan, Store, answered, refused};

@@ -5,7 +5,6 @@
 //! starts, policies, continued_runs.
 
 ghost use Rattle.std.specs.Prelude.{◌≡◌, ◌<◌, length, IfOk, Some, None, ◌∷◌, [], true};
-ghost use Rattle.id_policy.specs.Decisions.{says};
 ghost use Rattle.service_model.specs.IdPolicy.{TerminateThenNew, decide, is_same_request};
 ghost use Rattle.service_model.specs.Outcome.{latest_run};
 ghost use Rattle.service_model.specs.RunState.{id_of, is_open, is_there};
@@ -15,9 +14,10 @@ ghost use Rattle.shard_steps.specs.Starts.{first_facts, MayBegin};
 ghost use Rattle.shard_store.specs.Fitting.{FitsStep, IsFree};
 ghost use Rattle.shard.specs.Deciding.{decided, decided_by};
 
-use id_policy::{Decision, Latest, decide};
+use id_policy::{Latest, decide};
 use mutable_state_keeper::KeepsRun;
 use service_model_types::answer::Answer;
+use service_model_types::decided::Decision;
 use service_model_types::request::Start;
 use shard_steps::{Beginning, beginning_of, replaced_reason, terminated_facts};
 use shard_store::{Change, Count, Plan, Store, answered, refused};
@@ -97,7 +97,7 @@ pub(crate) fn decision_by<T: KeepsRun>(
     requires there { index < length store.now.runs }
     requires begun { is_there (run_in store.now index) ≡ true }
     ensures { let latest = run_in store.now index in
-        says result ≡ decide (Some latest.status)
+        result ≡ decide (Some latest.status)
         (is_same_request given.now (start_request latest)) reuse conflict }
 {
     let run = store.run(index);

@@ -17,6 +17,7 @@ ghost use Rattle.shard_store.specs.Fitting.{FitsStep};
 use crate::activities::take_activity;
 use crate::followers::make_follower;
 use crate::more::add_facts;
+use mutable_state::{is_scheduled, is_started};
 use mutable_state_keeper::KeepsRun;
 use service_model_types::answer::{Answer, WorkflowTask};
 use service_model_types::request::{
@@ -106,7 +107,7 @@ fn find_waiting<T: KeepsRun>(
         return Ok(None);
     };
     let task = store.run(index).task(store.alloc())?;
-    if task.phase.is_scheduled()
+    if is_scheduled(task.phase)
         && task.scheduled == wanted.event
         && task.attempt == wanted.attempt
     {
@@ -131,7 +132,7 @@ fn find_running<T: KeepsRun>(
         return Ok(None);
     };
     let task = store.run(index).task(store.alloc())?;
-    if task.phase.is_started() && task.scheduled == taken.event && task.attempt == taken.attempt {
+    if is_started(task.phase) && task.scheduled == taken.event && task.attempt == taken.attempt {
         Ok(Some(index))
     } else {
         Ok(None)

@@ -5,7 +5,7 @@
 
 ghost use Rattle.std.specs.Prelude.{◌≡◌, IfOk, Some};
 ghost use Rattle.service_model.specs.TimerTurns.{all_dues, due_now, fire_due, is_retention, least, timer_turn};
-ghost use Rattle.shard_steps.specs.Outstanding.{IsCaughtUp};
+ghost use Rattle.shard_issued.specs.Outstanding.{IsCaughtUp};
 ghost use Rattle.timeouts.specs.Slots.{run_due};
 ghost use Rattle.shard_store.specs.ShardView.{runs_at, state, states};
 ghost use Rattle.shard_store.specs.Fitting.{FitsStep};

@@ -5,7 +5,6 @@
 
 ghost use Rattle.std.specs.Prelude.{◌≡◌, IfOk};
 ghost use Rattle.service_model.specs.Activities.{by_verdict, fail_activity};
-ghost use Rattle.retry.specs.Verdicts.{says};
 ghost use Rattle.shard_store.specs.Fitting.{FitsStep};
 ghost use Rattle.shard.specs.Running.{HasAttempt, row_of};
 ghost use Rattle.shard_store.specs.ShardView.{runs_at, state};
@@ -14,8 +13,9 @@ ghost use Rattle.shard_steps.specs.Attempts.{HasNext};
 use crate::attempts::{RunningAttempt, attempt_running, end_activity};
 use crate::heartbeats::note_attempt;
 use mutable_state_keeper::KeepsRun;
-use retry::{Ended, Verdict};
+use retry::Ended;
 use service_model_types::answer::{Answer, Retrying};
+use service_model_types::decided::Verdict;
 use service_model_types::journal::Note;
 use service_model_types::request::FailActivity;
 use shard_steps::{failure, verdict_of};
@@ -58,10 +58,10 @@ fn fail_by_verdict<T: KeepsRun>(
 ) -> Result<Plan<T>, AllocError>
     requires running { HasAttempt store.old request.now.task attempt.now.index
         (row_of attempt.now) }
-    requires next { HasNext request.now.task.attempt (says verdict) }
+    requires next { HasNext request.now.task.attempt verdict }
     ensures same { state store.new ≡ state store.old }
     ensures plan { IfOk result (λ plan. FitsStep store.new plan moment
-        (by_verdict (runs_at store.old moment) request.now (row_of attempt.now) (says verdict))) }
+        (by_verdict (runs_at store.old moment) request.now (row_of attempt.now) verdict)) }
 {
     match verdict {
         Verdict::GiveUp(state) => {

@@ -15,7 +15,7 @@ use Rattle.service_model.specs.IdPolicy.{decide}
 use Rattle.service_model.specs.Outcome.{Runs, latest_run, run_at, run_id}
 use Rattle.service_model.proofs.ThereLemmas.{closed-status}
 use Rattle.service_model.specs.RunState.{RunState, id_of, is_open, is_open_status}
-use Rattle.shard_steps.specs.Outstanding.{IsCaughtUp}
+use Rattle.shard_issued.specs.Outstanding.{IsCaughtUp}
 use Rattle.shard_steps.specs.Starts.{first_facts}
 use Rattle.shard_steps.specs.declared.starts.Beginning.{Beginning}
 use Rattle.shard_store.specs.declared.plan.Count.TheVariants as count

@@ -5,7 +5,7 @@ use Rattle.wf_event.specs.Role.{ComesFromOutside, closing_status, role, settles}
 use Rattle.service_model.specs.RunState.{RunState, is_open, signal_request_by}
 use Rattle.service_model_types.specs.declared.transfer.Transfer.{Transfer}
 use Rattle.mutable_state.specs.Steps.{MaySettle, is_start, may_ask}
-use Rattle.shard_steps.specs.Outstanding.{IsCaughtUp}
+use Rattle.shard_issued.specs.Outstanding.{IsCaughtUp}
 use Rattle.shard_store.specs.Fitting.{CountsAccepted}
 use Rattle.shard_store.specs.ShardView.{ShardView}
 

@@ -3,7 +3,7 @@
 //! Rule: PROFILE, Children and other workflows. Definition: Counts. Rows: -. Cases: transfer_turns.
 
 ghost use Rattle.std.specs.Prelude.{◌≡◌, ◌<◌, IfOk};
-ghost use Rattle.shard_steps.specs.Sending.{count_to, next_to};
+ghost use Rattle.shard_issued.specs.Sending.{count_to, next_to};
 ghost use Rattle.shard_store.specs.Fitting.{FitsStep};
 ghost use Rattle.shard_store.specs.ShardView.{state};
 
@@ -19,7 +19,7 @@ use wf_event_values::{Field, Moment, Refusal};
 
 /// The first transfer to a shard that is not acknowledged. A shard that is not there is an invalid
 /// argument `to`.
-#[tactic(auto, unfolding(shard_steps::specs::Sending::next_to))]
+#[tactic(auto, unfolding(shard_issued::specs::Sending::next_to))]
 pub fn read_next_transfer<T: KeepsRun>(
     store: &mut Store<T>,
     moment: Moment,
@@ -44,7 +44,7 @@ pub fn read_next_transfer<T: KeepsRun>(
 
 /// A transfer to a shard was delivered: it is counted, where it is the first that was not. A shard that
 /// is not there is an invalid argument `to`.
-#[tactic(auto, unfolding(shard_steps::specs::Sending::count_to))]
+#[tactic(auto, unfolding(shard_issued::specs::Sending::count_to))]
 pub fn acknowledge_transfer<T: KeepsRun>(
     store: &mut Store<T>,
     moment: Moment,

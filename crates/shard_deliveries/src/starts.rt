@@ -12,9 +12,10 @@ ghost use Rattle.shard_deliveries.specs.Accepting.{MayAccept};
 ghost use Rattle.shard_deliveries.specs.Children.{child_beginning, is_free_for, starts_child};
 
 use crate::accepts::accept_with;
-use id_policy::{Decision, Latest, decide};
+use id_policy::{Latest, decide};
 use mutable_state_keeper::KeepsRun;
 use service_model_types::answer::Answer;
+use service_model_types::decided::Decision;
 use service_model_types::limits::used_task_timeout;
 use service_model_types::transfer::{
     ChildStartFailed, ChildStarted, Sent, StartChildTransfer, Transfer, TransferContent,

@@ -1,7 +1,3 @@
 pub mod Attempts
-pub mod Awaiting
-pub mod Issuing
-pub mod Outstanding
-pub mod Sending
 pub mod Starts
 pub mod Tasks

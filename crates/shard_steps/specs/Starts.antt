@@ -11,7 +11,7 @@ use Rattle.service_model.specs.RunState.{RunState}
 use Rattle.service_model.specs.Signals.{signal_fact, start_in}
 use Rattle.service_model.specs.Starts.{deadline_of, first_task}
 use Rattle.mutable_state.specs.Steps.{begun, after_step, Place, FitFrom}
-use Rattle.shard_steps.specs.Issuing.{readied}
+use Rattle.service_model.specs.Issued.{readied}
 use Rattle.shard_steps.specs.declared.starts.Beginning.{Beginning}
 
 -- what a start writes first in a run that is made at that moment

@@ -6,8 +6,9 @@ ghost use Rattle.std.specs.Prelude.{◌≡◌, IfOk};
 ghost use Rattle.mutable_state.specs.Activities.{row_said};
 ghost use Rattle.shard_steps.specs.Attempts.{task_of, waits_at};
 
-use mutable_state::{Activity, ActivityPhase};
+use mutable_state::Activity;
 use service_model_types::answer::ActivityTask;
+use service_model_types::phase::ActivityPhase;
 use service_model_types::request::WaitingTask;
 use std::alloc::AllocError;
 use wf_event::Attributes;

@@ -9,7 +9,6 @@ ghost use Rattle.service_model.specs.Completion.{is_running_phase};
 ghost use Rattle.service_model.specs.Tasks.{pending_row};
 ghost use Rattle.service_model.specs.TimerTurns.{activity_over, attempt_over, attempt_verdict, timed_out};
 ghost use Rattle.mutable_state.specs.Activities.{row_said};
-ghost use Rattle.retry.specs.Verdicts.{says};
 
 use crate::attempts::{attempt_started, ended_facts, is_taken};
 use crate::notes::note_facts;
@@ -17,7 +16,8 @@ use crate::outside::from_outside;
 use crate::verdicts::verdict_of;
 use mutable_state::{Activity, plain};
 use mutable_state_keeper::{KeepsRun, Run};
-use retry::{Ended, Verdict};
+use retry::Ended;
+use service_model_types::decided::Verdict;
 use service_model_types::journal::{Fact, Note};
 use std::alloc::{AllocError, Global};
 use wf_event::Attributes;
@@ -97,7 +97,7 @@ fn attempt_over_by<T: KeepsRun>(
     verdict: Verdict,
 ) -> Result<Items<Fact>, AllocError>
     ensures { IfOk result (λ facts.
-        facts ≡ attempt_over run.now.state (row_said activity.now) kind (says verdict)) }
+        facts ≡ attempt_over run.now.state (row_said activity.now) kind verdict) }
 {
     let id = activity.scheduled.id;
     match verdict {

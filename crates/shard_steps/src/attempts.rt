@@ -10,9 +10,10 @@ ghost use Rattle.mutable_state.specs.Activities.{row_said};
 ghost use Rattle.shard_steps.specs.Attempts.{runs_at};
 
 use crate::outside::from_outside;
-use mutable_state::{Activity, ActivityPhase, plain};
+use mutable_state::{Activity, plain};
 use mutable_state_keeper::{KeepsRun, Run};
 use service_model_types::journal::Fact;
+use service_model_types::phase::ActivityPhase;
 use std::alloc::{AllocError, Global};
 use wf_event::Attributes;
 use wf_event::payloads::ActivityTaskStarted;

@@ -4,11 +4,11 @@
 
 ghost use Rattle.std.specs.Prelude.{◌≡◌, IfOk};
 ghost use Rattle.service_model.specs.Outcome.{outside, is_no_task};
-ghost use Rattle.mutable_state.specs.Tasks.{phase_in};
 
-use mutable_state::{TaskPhase, plain};
+use mutable_state::plain;
 use mutable_state_keeper::{KeepsRun, Run};
 use service_model_types::journal::Fact;
+use service_model_types::phase::TaskPhase;
 use std::alloc::{AllocError, Global};
 use wf_event_values::Items;
 
@@ -29,7 +29,7 @@ pub fn from_outside<T: KeepsRun>(
 
 /// Whether no workflow task is scheduled or started.
 pub(crate) fn is_none(phase: TaskPhase) -> bool
-    ensures { result ≡ is_no_task (phase_in phase) }
+    ensures { result ≡ is_no_task phase }
 {
     matches!(phase, TaskPhase::None)
 }

@@ -9,11 +9,12 @@ ghost use Rattle.service_model.specs.Activities.{verdict_at};
 ghost use Rattle.service_model.specs.Deadlines.{scheduled_fields};
 ghost use Rattle.service_model.specs.Retry.{verdict};
 ghost use Rattle.mutable_state.specs.Activities.{row_said};
-ghost use Rattle.retry.specs.Verdicts.{ending_of, says};
+ghost use Rattle.retry.specs.Verdicts.{ending_of};
 ghost use Rattle.shard_steps.specs.Attempts.{HasNext};
 
 use mutable_state::Activity;
-use retry::{Ended, Verdict, verdict_on};
+use retry::{Ended, verdict_on};
+use service_model_types::decided::Verdict;
 use service_model_types::request::FailActivity;
 use std::alloc::{AllocError, Global};
 use wf_event::payloads::ActivityTaskFailed;
@@ -22,10 +23,10 @@ use wf_event_values::{Moment, RetryState, Span, Text};
 
 /// The verdict on the attempt of an activity that ended so at a moment.
 pub fn verdict_of(activity: &Activity, ended: Ended, moment: Moment) -> Option<Verdict>
-    ensures verdict { option_map says result
+    ensures verdict { result
         ≡ option_map (λ a. verdict_at (row_said activity.now) a (ending_of ended.entry) moment)
         (scheduled_fields activity.now.scheduled.attributes) }
-    ensures next { IfSome result (λ verdict. HasNext activity.now.notes.attempt (says verdict)) }
+    ensures next { IfSome result (λ verdict. HasNext activity.now.notes.attempt verdict) }
 {
     let Attributes::ActivityTaskScheduled(scheduled) = &activity.scheduled.attributes else {
         return None;
@@ -50,9 +51,9 @@ fn judged(
     at: Moment,
     deadline: Option<u64>,
 ) -> Verdict
-    ensures verdict { says result
+    ensures verdict { result
         ≡ verdict policy.now (ending_of ended.entry) cancel_requested attempt at deadline }
-    ensures next { HasNext attempt (says result) }
+    ensures next { HasNext attempt result }
 {
     verdict_on(policy, ended, cancel_requested, attempt, at, deadline)
 }

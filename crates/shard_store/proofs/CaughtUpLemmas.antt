@@ -2,8 +2,8 @@
 use Rattle.std.proofs.Common.{◌≡◌, ℕ, ◌∙◌, List, length-set, ap, sym, slice_set, Some}
 use Rattle.std.proofs.lemmas.List.{get_or-set_other}
 use Rattle.service_model.specs.RunState.{RunState}
-use Rattle.shard_steps.specs.Outstanding.{KeepsEach}
-use Rattle.shard_steps.specs.declared.changed.Changed.{Changed}
+use Rattle.shard_issued.specs.Outstanding.{KeepsEach}
+use Rattle.shard_issued.specs.declared.changed.Changed.{Changed}
 
 pub each-grown : {A B : Type 0} {says : A → B} {fact : ℕ → RunState → B} {d : A} (slots : List A) (changed : Changed) (runs : List RunState) (n : ℕ) (x : A) → changed.grown ≡ Some n →
     KeepsEach says fact d slots changed runs → KeepsEach says fact d (slice_set slots n x) changed runs

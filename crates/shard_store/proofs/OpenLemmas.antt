@@ -13,7 +13,7 @@ use Rattle.service_model.specs.Outcome.{latest_run}
 use Rattle.service_model.specs.RunState.{RunState, id_of, is_open, is_open_status, is_there, state_of}
 use Rattle.service_model.proofs.ListLemmas.{get-map}
 use Rattle.service_model.proofs.ThereLemmas.{open-there}
-use Rattle.shard_steps.proofs.DispatchLemmas.{get-at}
+use Rattle.shard_issued.proofs.DispatchLemmas.{get-at}
 use Rattle.shard_store.specs.ShardView.{ShardView, ordinal_of, run_in, states}
 use Rattle.shard_store.specs.Fitting.{IsFree, state_at}
 use Rattle.shard_store.specs.Open.{HasClosed, IsOneOpen}

@@ -5,9 +5,9 @@ use Rattle.service_model_types.specs.declared.content.Setup.{Setup}
 use Rattle.service_model.specs.RunState.{RunState}
 use Rattle.service_model_types.specs.declared.content.Dispatch.{Dispatch}
 use Rattle.transfer.specs.Logs.{Waiting}
-use Rattle.shard_steps.specs.Outstanding.{IsCaughtUp, Outstanding}
-use Rattle.shard_steps.specs.Sending.{TransfersView, all_outgoing}
-use Rattle.shard_steps.proofs.SendingLemmas.{all-sent}
+use Rattle.shard_issued.specs.Outstanding.{IsCaughtUp, Outstanding}
+use Rattle.shard_issued.specs.Sending.{TransfersView, all_outgoing}
+use Rattle.shard_issued.proofs.SendingLemmas.{all-sent}
 use Rattle.shard_store.specs.ShardView.{ShardState}
 
 -- where all was looked up, the outbox has all that was issued

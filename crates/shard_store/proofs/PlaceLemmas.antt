@@ -18,7 +18,7 @@ use Rattle.service_model.specs.Waiting.{waiting_of}
 use Rattle.service_model.specs.Windows.{placed}
 use Rattle.mutable_state.specs.Steps.{after_step, FitStep}
 use Rattle.mutable_state.specs.RunView.{RunView}
-use Rattle.shard_steps.specs.Issuing.{issued_since}
+use Rattle.shard_issued.specs.Issuing.{issued_since}
 use Rattle.timeouts.specs.Firsts.{first_due}
 use Rattle.shard_store.specs.Places.{empty_place}
 

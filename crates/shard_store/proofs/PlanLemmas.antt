@@ -7,7 +7,7 @@ use Rattle.service_model.specs.RunState.{RunState, no_run}
 use Rattle.mutable_state.specs.declared.change.Change.{Change as MoreFacts}
 use Rattle.mutable_state.specs.Steps.{FitStep}
 use Rattle.mutable_state.specs.RunView.{HasRoomFor, RunView}
-use Rattle.shard_steps.specs.Outstanding.{IsCaughtUp}
+use Rattle.shard_issued.specs.Outstanding.{IsCaughtUp}
 use Rattle.shard_store.specs.declared.plan.MoreOf.{MoreOf}
 use Rattle.shard_store.specs.Fitting.{FitsAdded, FitsMore, FitsStep, IsPrepared, MayTake, state_at, taking, view_at}
 use Rattle.shard_store.specs.ShardView.{ShardView, ordinal_of, runs_in, state, states}

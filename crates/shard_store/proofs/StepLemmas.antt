@@ -30,7 +30,7 @@ use Rattle.shard_store.specs.ShardView.{ShardView, ShardState, state, states}
 use Rattle.shard_store.specs.Fitting.{FitsAdded, FitsAnswer, FitsChange, FitsCount, FitsCreated, FitsMore, FitsStep, FitsTaken, IsMade, accepted_by, acknowledged_by, after_added, after_answer, after_change, after_count, after_taken, counted_by, grown, issued_for, issued_new, outgoing_added, outgoing_answered, runs_added, runs_created, runs_taken, state_after, state_at, transfers_for, waiting_added, waiting_created}
 use Rattle.transfer.specs.Logs.{Waiting, one_counted, with_issued}
 use Rattle.transfer.specs.Outboxes.{AreIssued, counted_to, rest_of, waiting_to, with_all_sent}
-use Rattle.shard_steps.specs.Issuing.{queued_dispatch, waiting_in}
+use Rattle.shard_issued.specs.Issuing.{queued_dispatch, waiting_in}
 use Rattle.shard_steps.specs.Starts.{first_facts, new_run}
 use Rattle.shard_steps.specs.declared.starts.Beginning.{Beginning as NewBeginning}
 use Rattle.shard_store.specs.Standing.{StandsFor, Grows}
@@ -40,7 +40,7 @@ use Rattle.shard_store.specs.declared.plan.Count.TheVariants as count
 use Rattle.shard_store.specs.declared.plan.MoreOf.{MoreOf}
 use Rattle.shard_store.specs.declared.plan.NewRun.{NewRun}
 use Rattle.shard_store.specs.declared.plan.Plan.{Plan}
-use Rattle.shard_steps.proofs.DispatchLemmas.{ready-facts}
+use Rattle.shard_issued.proofs.DispatchLemmas.{ready-facts}
 use Rattle.service_model.proofs.ListLemmas.{all-push, map-push}
 use Rattle.shard_store.proofs.IndexLemmas.{length-states}
 use Rattle.transfer.proofs.ContentLemmas.{counted-sent, issued-counted as acknowledged-issued, issued-sent, rest-counted, rest-sent, waits-more, with_all_sent-behind, with_all_sent-nil}

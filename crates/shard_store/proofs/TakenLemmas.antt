@@ -13,7 +13,7 @@ use Rattle.shard_store.specs.Places.{empty_place}
 use Rattle.shard_store.specs.ShardView.{IsIndexed, ShardView, ordinal_of, states}
 use Rattle.shard_store.specs.declared.plan.Change.{Change}
 use Rattle.shard_store.proofs.IndexLemmas.{latest_from, length-states, states-set}
-use Rattle.shard_steps.proofs.DispatchLemmas.{get-at}
+use Rattle.shard_issued.proofs.DispatchLemmas.{get-at}
 use Rattle.shard_store.proofs.OpenLemmas.{IsLatest, is-latest, same-some, set-there}
 use Rattle.shard_store.proofs.PlaceLemmas.{none-there}
 use Rattle.service_model.proofs.GrowthLemmas.{set-from as get-set, below as get-below}

@@ -14,8 +14,8 @@ use Rattle.mutable_state.specs.RunView.{HasRoomFor, RunView}
 use Rattle.mutable_state.specs.Steps.{after_step, FitStep}
 use Rattle.transfer.specs.Outboxes.{counted_to, waiting_to, with_all_sent}
 use Rattle.transfer.specs.Logs.{Waiting, one_counted, with_issued}
-use Rattle.shard_steps.specs.Issuing.{issued_first}
-use Rattle.shard_steps.specs.Outstanding.{IsCaughtUp}
+use Rattle.shard_issued.specs.Issuing.{issued_first}
+use Rattle.shard_issued.specs.Outstanding.{IsCaughtUp}
 use Rattle.shard_steps.specs.Starts.{MayBegin, first_facts, new_run}
 use Rattle.shard_steps.specs.declared.starts.Beginning.{Beginning}
 use Rattle.shard_store.specs.Places.{empty_place}

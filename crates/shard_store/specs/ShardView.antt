@@ -8,7 +8,7 @@ use Rattle.service_model.specs.RunState.{RunState}
 use Rattle.service_model.specs.Outcome.{Runs, latest_run, run_at}
 use Rattle.mutable_state.specs.RunView.{RunView}
 use Rattle.transfer.specs.Logs.{Waiting}
-use Rattle.shard_steps.specs.Outstanding.{Outstanding}
+use Rattle.shard_issued.specs.Outstanding.{Outstanding}
 
 -- a shard: its setup, its runs in the order of their ordinals, with that of no run at the place of one that was taken
 -- away, what was not looked up since the last step, its last moment, for how many more runs there is room, its

@@ -8,7 +8,7 @@ use Rattle.service_model.specs.Growth.{HasOneOpen}
 use Rattle.service_model.specs.RunState.{RunState, no_run, state_of}
 use Rattle.mutable_state.specs.Formed.{IsFormed}
 use Rattle.transfer.specs.Outboxes.{AreIssued, rest_of}
-use Rattle.shard_steps.specs.Issuing.{waiting_in}
+use Rattle.shard_issued.specs.Issuing.{waiting_in}
 use Rattle.shard_store.specs.ShardView.{ShardView, ShardState, state}
 
 -- what can be known of a content

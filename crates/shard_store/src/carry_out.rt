@@ -12,7 +12,7 @@ use crate::store::Store;
 use indexmap::IndexMap;
 use mutable_state_keeper::KeepsRun;
 use service_model_types::transfer::Sent;
-use shard_steps::{Changed, readied};
+use shard_issued::{Changed, readied};
 use wf_event::Boxed;
 use wf_event_values::Id;
 

@@ -3,7 +3,7 @@
 ghost use Rattle.std.specs.Prelude.{◌≡◌, None, option_map, IfOk, OnOk};
 ghost use Rattle.service_model.specs.TimerTurns.{all_dues, due_now, least};
 ghost use Rattle.timeouts.specs.Slots.{run_due};
-ghost use Rattle.shard_steps.specs.Outstanding.{IsCaughtUp};
+ghost use Rattle.shard_issued.specs.Outstanding.{IsCaughtUp};
 ghost use Rattle.shard_store.specs.ShardView.{state, states};
 
 use crate::store::Store;

@@ -8,7 +8,7 @@ ghost use Rattle.service_model.specs.Pending.{IsStarted};
 ghost use Rattle.service_model.specs.RunState.{is_there};
 ghost use Rattle.mutable_state.specs.RunView.{HasRoomFor};
 ghost use Rattle.task_completion.specs.PlannedEnds.{IsPlanned, IsCompletion};
-ghost use Rattle.shard_steps.specs.Outstanding.{IsCaughtUp};
+ghost use Rattle.shard_issued.specs.Outstanding.{IsCaughtUp};
 ghost use Rattle.shard_store.specs.ShardView.{run_in, state, states};
 ghost use Rattle.shard_store.specs.Fitting.{IsPrepared, state_at, view_at};
 

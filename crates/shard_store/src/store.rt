@@ -6,7 +6,7 @@ ghost use Rattle.service_model.specs.Outcome.{Outcome};
 ghost use Rattle.service_model_types.specs.Routing.{shard_of};
 ghost use Rattle.service_model.specs.RunState.{is_there};
 ghost use Rattle.service_model.specs.Service.{opening};
-ghost use Rattle.shard_steps.specs.Outstanding.{IsCaughtUp};
+ghost use Rattle.shard_issued.specs.Outstanding.{IsCaughtUp};
 ghost use Rattle.shard_store.specs.ShardView.{IsSetup, run_in, state, states};
 ghost use Rattle.shard_store.specs.Fitting.{FitsChange, state_after};
 ghost use Rattle.shard_store.specs.Open.{IsOneOpen};
@@ -19,7 +19,7 @@ use indexmap::IndexMap;
 use mutable_state_keeper::{KeepsRun, Run};
 use service_model_types::answer::Reply;
 use service_model_types::content::{Dispatch, Setup};
-use shard_steps::{Changed, Dispatches, Transfers};
+use shard_issued::{Changed, Dispatches, Transfers};
 use std::alloc::{AllocError, Global};
 use std::marker::Model;
 use timeouts::ByPlace;
@@ -65,9 +65,9 @@ impl<T: KeepsRun> Model for Store<T> {
     ghost use Rattle.std.specs.Prelude.{◌<◌, ◌^◌, length, min};
     ghost use Rattle.indexmap.specs.IndexMap.{get_by_text, spare};
     ghost use Rattle.shard_store.specs.ShardView.{ShardView, IsIndexed, IsSetup, states};
-    ghost use Rattle.shard_steps.specs.Issuing.{all_waiting};
-    ghost use Rattle.shard_steps.specs.Outstanding.{HasFirsts, HasShown, outstanding};
-    ghost use Rattle.shard_steps.specs.Sending.{all_outgoing, KeepsTransfers};
+    ghost use Rattle.shard_issued.specs.Issuing.{all_waiting};
+    ghost use Rattle.shard_issued.specs.Outstanding.{HasFirsts, HasShown, outstanding};
+    ghost use Rattle.shard_issued.specs.Sending.{all_outgoing, KeepsTransfers};
 
     ghost Value = { ShardView };
 

@@ -6,7 +6,7 @@ ghost use Rattle.service_model.specs.Deliveries.{accepted_from, delivery_of};
 ghost use Rattle.service_model_types.specs.declared.transfer.Delivery.TheVariants.{Accepted as IsNext};
 ghost use Rattle.transfer.specs.Logs.{count_issued};
 ghost use Rattle.transfer.specs.Outboxes.{waiting_to};
-ghost use Rattle.shard_steps.specs.Outstanding.{IsCaughtUp};
+ghost use Rattle.shard_issued.specs.Outstanding.{IsCaughtUp};
 ghost use Rattle.shard_store.specs.ShardView.{state};
 
 use crate::store::Store;

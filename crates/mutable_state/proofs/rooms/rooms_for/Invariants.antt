@@ -1,9 +1,8 @@
 use Rattle.std.proofs.Common.{drop}
 use Rattle.mutable_state.specs.Rooms.{AreAtMost, IsWithin, needs, plus}
-use Rattle.mutable_state.specs.Tasks.{phase_in}
 use Rattle.mutable_state.proofs.rooms.rooms_for.Given as goal
 
 abbrev pub invariant-loop-fact : goal.invariant-loop-fact
 invariant-loop-fact l =
-    IsWithin (needs (phase_in l.fn.task.phase) l.facts) (plus l.rooms (needs (phase_in l.task.phase) (drop l.fact-index l.facts)))
+    IsWithin (needs l.fn.task.phase l.facts) (plus l.rooms (needs l.task.phase (drop l.fact-index l.facts)))
     × AreAtMost l.fact-index l.rooms

@@ -1,7 +1,6 @@
 use Rattle.std.proofs.Common.{◌≡◌, ◌∙◌, sym, ap, subst, Some}
 use Rattle.std.specs.Prelude.{option_map}
 use Rattle.wf_event.specs.declared.payloads.ActivityTaskScheduled.{ActivityTaskScheduled as ScheduledAttributes}
-use Rattle.retry.specs.Verdicts.{says}
 use Rattle.service_model.specs.Activities.{verdict_at}
 use Rattle.service_model.specs.Deadlines.{scheduled_fields}
 use Rattle.service_model.specs.Outcome.{Outcome}
@@ -17,9 +16,9 @@ returns-clause-plan g c =
     let R = runs_at c.args.store.now c.args.moment in
     let q = c.args.request.now in
     let row = row_of c.in-Some.attempt in
-    let v : Verdict = says c.in-Some-verdict_of.verdict in
+    let v : Verdict = c.in-Some-verdict_of.verdict in
     let found = sym c.in_ok-attempt.ensures.found ∙ ap (option_map row_of) c.in-Some.is in
     let judged : Some v ≡ option_map (λ (a : ScheduledAttributes). verdict_at row a (FailedAttempt q.error_type q.non_retryable) c.args.moment) (scheduled_fields row.opened.attributes) =
-    ap (option_map says) (sym c.in-Some-verdict_of.is) ∙ c.verdict_of.ensures.verdict ∙ ap (λ o. option_map (λ (a : ScheduledAttributes). verdict_at row a (FailedAttempt o q.non_retryable) c.args.moment) (scheduled_fields row.opened.attributes)) c.as_ref.ensures.value in
+    (sym c.in-Some-verdict_of.is) ∙ c.verdict_of.ensures.verdict ∙ ap (λ o. option_map (λ (a : ScheduledAttributes). verdict_at row a (FailedAttempt o q.non_retryable) c.args.moment) (scheduled_fields row.opened.attributes)) c.as_ref.ensures.value in
     let P : Outcome → Type 0 = λ o. FitsStep {T = g.row.T.Denot} c.fail_by_verdict.new.store c.in_ok-plan.plan c.args.moment o in
     subst P (sym (failed-by R q row v found judged)) c.in_ok-plan.ensures.plan

@@ -4,19 +4,19 @@ use Rattle.std.proofs.lemmas.Map.Text.{hash_map_updates_text}
 use Rattle.indexmap.specs.IndexMap.{get_by_text}
 use Rattle.service_model.specs.Outcome.{latest_run}
 use Rattle.service_model_types.specs.declared.transfer.TransferContent.{TransferContent}
-use Rattle.shard_steps.specs.Sending.{all_outgoing}
-use Rattle.shard_steps.specs.declared.transfers.Unsent.{Unsent}
-use Rattle.shard_steps.proofs.SendingLemmas.{added-sends, keeps-more}
+use Rattle.shard_issued.specs.Sending.{all_outgoing}
+use Rattle.shard_issued.specs.declared.transfers.Unsent.{Unsent}
+use Rattle.shard_issued.proofs.SendingLemmas.{added-sends, keeps-more}
 use Rattle.shard_store.specs.ShardView.{ShardState, ShardView, ordinal_of, state, states}
 use Rattle.timeouts.specs.declared.due.Due.{Due}
-use Rattle.shard_steps.specs.Outstanding.{HasFirsts, HasShown}
+use Rattle.shard_issued.specs.Outstanding.{HasFirsts, HasShown}
 use Rattle.service_model.specs.RunState.{RunState}
 use Rattle.shard_store.specs.Fitting.{after_created}
 use Rattle.service_model_types.specs.declared.content.Dispatch.{Dispatch}
 use Rattle.transfer.specs.Logs.{Waiting, with_issued}
-use Rattle.shard_steps.specs.Issuing.{all_waiting, issued_first}
-use Rattle.shard_steps.proofs.DispatchLemmas.{added-waits}
-use Rattle.shard_steps.proofs.EachLemmas.{each-added, each-same}
+use Rattle.shard_issued.specs.Issuing.{all_waiting, issued_first}
+use Rattle.shard_issued.proofs.DispatchLemmas.{added-waits}
+use Rattle.shard_issued.proofs.EachLemmas.{each-added, each-same}
 use Rattle.shard_store.proofs.IndexLemmas.{latest_run-push, length-states, states-push}
 use Rattle.shard_store.proofs.store.Store.add.Goals as goal
 

@@ -1,8 +1,8 @@
 use Rattle.std.proofs.Common.{◌∙◌, ap, sym, subst, Option, Some}
 use Rattle.service_model_types.specs.declared.transfer.Sent.{Sent}
-use Rattle.shard_steps.specs.Issuing.{all_waiting}
-use Rattle.shard_steps.specs.Sending.{TransfersView}
-use Rattle.shard_steps.proofs.SendingLemmas.{answered-sends}
+use Rattle.shard_issued.specs.Issuing.{all_waiting}
+use Rattle.shard_issued.specs.Sending.{TransfersView}
+use Rattle.shard_issued.proofs.SendingLemmas.{answered-sends}
 use Rattle.shard_store.specs.Fitting.{MayAnswer, after_answer}
 use Rattle.shard_store.specs.ShardView.{ShardView, state, states}
 use Rattle.shard_store.proofs.OutgoingLemmas.{both-moved}

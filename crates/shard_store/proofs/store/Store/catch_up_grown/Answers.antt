@@ -3,13 +3,13 @@ use Rattle.std.specs.Prelude.{slice_get}
 use Rattle.service_model.specs.RunState.{no_run}
 use Rattle.mutable_state.specs.RunView.{RunView}
 use Rattle.timeouts.specs.declared.due.Due.{Due}
-use Rattle.shard_steps.specs.Issuing.{all_waiting, issued_since}
-use Rattle.shard_steps.specs.Outstanding.{HasFirsts, HasShown}
-use Rattle.shard_steps.specs.Sending.{all_outgoing}
-use Rattle.shard_steps.specs.declared.changed.Changed.{Changed}
+use Rattle.shard_issued.specs.Issuing.{all_waiting, issued_since}
+use Rattle.shard_issued.specs.Outstanding.{HasFirsts, HasShown}
+use Rattle.shard_issued.specs.Sending.{all_outgoing}
+use Rattle.shard_issued.specs.declared.changed.Changed.{Changed}
 use Rattle.shard_store.specs.ShardView.{state, states}
-use Rattle.shard_steps.proofs.EachLemmas.{grown-caught-up}
-use Rattle.shard_steps.proofs.DispatchLemmas.{get-at, grown-looked-up}
+use Rattle.shard_issued.proofs.EachLemmas.{grown-caught-up}
+use Rattle.shard_issued.proofs.DispatchLemmas.{get-at, grown-looked-up}
 use Rattle.shard_store.proofs.IndexLemmas.{length-states, states-at}
 use Rattle.shard_store.proofs.store.Store.catch_up_grown.Goals as goal
 

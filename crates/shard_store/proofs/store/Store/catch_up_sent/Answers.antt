@@ -1,8 +1,8 @@
 use Rattle.std.proofs.Common.{◌∙◌, ap, sym, subst, length}
 use Rattle.std.specs.Prelude.{option_to_list}
-use Rattle.shard_steps.specs.Issuing.{all_waiting}
-use Rattle.shard_steps.specs.Sending.{TransfersView, KeepsTransfers}
-use Rattle.shard_steps.proofs.SendingLemmas.{answer-looked-up, length-sent}
+use Rattle.shard_issued.specs.Issuing.{all_waiting}
+use Rattle.shard_issued.specs.Sending.{TransfersView, KeepsTransfers}
+use Rattle.shard_issued.proofs.SendingLemmas.{answer-looked-up, length-sent}
 use Rattle.shard_store.specs.ShardView.{ShardView, state, states}
 use Rattle.shard_store.proofs.OutgoingLemmas.{both-moved}
 use Rattle.shard_store.proofs.store.Store.catch_up_sent.Goals as goal

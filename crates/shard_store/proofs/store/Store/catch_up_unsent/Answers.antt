@@ -4,10 +4,10 @@ use Rattle.service_model.specs.Issued.{transfers_by}
 use Rattle.service_model.specs.Outcome.{run_id}
 use Rattle.service_model.specs.RunState.{no_run}
 use Rattle.mutable_state.specs.RunView.{RunView}
-use Rattle.shard_steps.specs.Issuing.{all_waiting}
-use Rattle.shard_steps.specs.Sending.{TransfersView, KeepsTransfers, sent_since}
-use Rattle.shard_steps.specs.declared.transfers.Unsent.{Unsent}
-use Rattle.shard_steps.proofs.SendingLemmas.{length-sent, sent-looked-up}
+use Rattle.shard_issued.specs.Issuing.{all_waiting}
+use Rattle.shard_issued.specs.Sending.{TransfersView, KeepsTransfers, sent_since}
+use Rattle.shard_issued.specs.declared.transfers.Unsent.{Unsent}
+use Rattle.shard_issued.proofs.SendingLemmas.{length-sent, sent-looked-up}
 use Rattle.shard_store.specs.ShardView.{ShardView, state, states}
 use Rattle.shard_store.proofs.IndexLemmas.{states-at}
 use Rattle.shard_store.proofs.OutgoingLemmas.{both-moved}

@@ -1,8 +1,8 @@
 use Rattle.std.proofs.Common.{◌<◌, ◌∙◌, length, length-set, ap, sym}
 use Rattle.service_model.specs.RunState.{RunState}
-use Rattle.shard_steps.specs.Issuing.{all_waiting}
-use Rattle.shard_steps.specs.Sending.{all_outgoing}
-use Rattle.shard_steps.proofs.EachLemmas.{each-same}
+use Rattle.shard_issued.specs.Issuing.{all_waiting}
+use Rattle.shard_issued.specs.Sending.{all_outgoing}
+use Rattle.shard_issued.proofs.EachLemmas.{each-same}
 use Rattle.shard_store.specs.Fitting.{state_at}
 use Rattle.shard_store.specs.Places.{empty_place}
 use Rattle.shard_store.specs.ShardView.{ShardView, states}

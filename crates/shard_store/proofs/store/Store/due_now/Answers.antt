@@ -2,9 +2,9 @@ use Rattle.std.proofs.Common.{◌∙◌, ap, subst, sym}
 use Rattle.service_model.specs.TimerTurns.{all_dues, due_now, least}
 use Rattle.timeouts.proofs.FirstLemmas.{due-firsts}
 use Rattle.shard_store.specs.ShardView.{ShardState, ShardView, state, states}
-use Rattle.shard_steps.specs.Outstanding.{IsCaughtUp}
-use Rattle.shard_steps.proofs.EachLemmas.{firsts-kept}
-use Rattle.shard_steps.proofs.SendingLemmas.{runs-caught-up}
+use Rattle.shard_issued.specs.Outstanding.{IsCaughtUp}
+use Rattle.shard_issued.proofs.EachLemmas.{firsts-kept}
+use Rattle.shard_issued.proofs.SendingLemmas.{runs-caught-up}
 use Rattle.shard_store.proofs.store.Store.due_now.Goals as goal
 
 pub returns-clause-due : goal.returns-clause-due

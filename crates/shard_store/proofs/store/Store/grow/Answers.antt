@@ -10,16 +10,17 @@ use Rattle.transfer.specs.Outboxes.{with_all_sent}
 use Rattle.shard_store.specs.Fitting.{after_added, state_at}
 use Rattle.service_model_types.specs.declared.content.Dispatch.{Dispatch}
 use Rattle.transfer.specs.Logs.{Waiting, with_issued}
-use Rattle.shard_steps.specs.Issuing.{all_waiting, readied}
-use Rattle.shard_steps.specs.declared.changed.Changed.{Changed}
-use Rattle.shard_steps.proofs.DispatchLemmas.{grown-waits}
-use Rattle.shard_steps.specs.Outstanding.{HasShown, IsCaughtUp, outstanding}
+use Rattle.service_model.specs.Issued.{readied}
+use Rattle.shard_issued.specs.Issuing.{all_waiting}
+use Rattle.shard_issued.specs.declared.changed.Changed.{Changed}
+use Rattle.shard_issued.proofs.DispatchLemmas.{grown-waits}
+use Rattle.shard_issued.specs.Outstanding.{HasShown, IsCaughtUp, outstanding}
 use Rattle.indexmap.specs.IndexMap.{get_by_text}
-use Rattle.shard_steps.specs.Sending.{TransfersView, KeepsTransfers, all_outgoing}
-use Rattle.shard_steps.proofs.SendingLemmas.{grown-sends, runs-caught-up}
+use Rattle.shard_issued.specs.Sending.{TransfersView, KeepsTransfers, all_outgoing}
+use Rattle.shard_issued.proofs.SendingLemmas.{grown-sends, runs-caught-up}
 use Rattle.shard_store.specs.Places.{empty_place}
 use Rattle.shard_store.specs.ShardView.{IsIndexed, ShardState, ShardView, state, states}
-use Rattle.shard_steps.proofs.EachLemmas.{each-grown, each-same}
+use Rattle.shard_issued.proofs.EachLemmas.{each-grown, each-same}
 use Rattle.shard_store.proofs.IndexLemmas.{length-states, states-at, states-set, latest_run-set}
 use Rattle.shard_store.proofs.store.Store.grow.Goals as goal
 

@@ -5,9 +5,9 @@ use Rattle.service_model.specs.RunState.{is_there}
 use Rattle.mutable_state.specs.RunView.{HasRoomFor, RunView}
 use Rattle.mutable_state.specs.declared.change.Change.{Change}
 use Rattle.mutable_state.specs.declared.change.Plan.{Plan}
-use Rattle.shard_steps.specs.Issuing.{all_waiting}
-use Rattle.shard_steps.specs.Sending.{all_outgoing}
-use Rattle.shard_steps.proofs.EachLemmas.{each-same}
+use Rattle.shard_issued.specs.Issuing.{all_waiting}
+use Rattle.shard_issued.specs.Sending.{all_outgoing}
+use Rattle.shard_issued.proofs.EachLemmas.{each-same}
 use Rattle.shard_store.specs.Fitting.{view_at}
 use Rattle.shard_store.specs.Places.{empty_place}
 use Rattle.shard_store.specs.ShardView.{ShardView}

@@ -2,9 +2,9 @@ use Rattle.std.proofs.Common.{◌<◌, ◌∙◌, ap, sym, subst, length, List}
 use Rattle.service_model_types.specs.declared.transfer.TransferContent.{TransferContent}
 use Rattle.transfer.specs.Logs.{Waiting}
 use Rattle.transfer.specs.Outboxes.{waiting_to}
-use Rattle.shard_steps.specs.Issuing.{all_waiting}
-use Rattle.shard_steps.specs.Sending.{TransfersView, KeepsTransfers}
-use Rattle.shard_steps.proofs.SendingLemmas.{acknowledged-sends, length-counted}
+use Rattle.shard_issued.specs.Issuing.{all_waiting}
+use Rattle.shard_issued.specs.Sending.{TransfersView, KeepsTransfers}
+use Rattle.shard_issued.proofs.SendingLemmas.{acknowledged-sends, length-counted}
 use Rattle.shard_store.specs.Fitting.{MayCount, after_count}
 use Rattle.shard_store.specs.ShardView.{ShardView, state, states}
 use Rattle.shard_store.specs.declared.plan.Count.TheVariants.{Acknowledges}

@@ -7,12 +7,12 @@ use Rattle.timeouts.specs.declared.due.Due.{Due}
 use Rattle.indexmap.specs.IndexMap.{get_by_text}
 use Rattle.service_model_types.specs.declared.content.Dispatch.{Dispatch}
 use Rattle.transfer.specs.Logs.{Waiting}
-use Rattle.shard_steps.specs.Issuing.{all_waiting}
-use Rattle.shard_steps.specs.Outstanding.{HasFirsts, HasShown, IsCaughtUp, outstanding}
-use Rattle.shard_steps.specs.Sending.{KeepsTransfers, all_outgoing}
-use Rattle.shard_steps.proofs.EachLemmas.{each-same}
-use Rattle.shard_steps.proofs.SendingLemmas.{runs-caught-up}
-use Rattle.shard_steps.proofs.TakenLemmas.{firsts-taken, shown-taken, taken-sends, taken-waits}
+use Rattle.shard_issued.specs.Issuing.{all_waiting}
+use Rattle.shard_issued.specs.Outstanding.{HasFirsts, HasShown, IsCaughtUp, outstanding}
+use Rattle.shard_issued.specs.Sending.{KeepsTransfers, all_outgoing}
+use Rattle.shard_issued.proofs.EachLemmas.{each-same}
+use Rattle.shard_issued.proofs.SendingLemmas.{runs-caught-up}
+use Rattle.shard_issued.proofs.TakenLemmas.{firsts-taken, shown-taken, taken-sends, taken-waits}
 use Rattle.shard_store.specs.Fitting.{after_taken, state_at}
 use Rattle.shard_store.specs.Places.{empty_place}
 use Rattle.shard_store.specs.ShardView.{IsIndexed, ShardState, ShardView, state, states}

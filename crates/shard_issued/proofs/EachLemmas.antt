@@ -6,8 +6,8 @@ use Rattle.std.specs.Prelude.{slice_get, unwrap_or}
 use Rattle.service_model.specs.RunState.{RunState}
 use Rattle.timeouts.specs.Firsts.{first_due, KeepsFirsts}
 use Rattle.timeouts.specs.declared.due.Due.{Due}
-use Rattle.shard_steps.specs.Outstanding.{AreCaughtUp, KeepsEach, HasFirsts, HasShown, unchanged}
-use Rattle.shard_steps.specs.declared.changed.Changed.{Changed}
+use Rattle.shard_issued.specs.Outstanding.{AreCaughtUp, KeepsEach, HasFirsts, HasShown, unchanged}
+use Rattle.shard_issued.specs.declared.changed.Changed.{Changed}
 
 same-or-apart : (m n : ℕ) → (m ≡ n) ⊎ (m ≢ n)
 same-or-apart zero zero = inl refl

@@ -1,7 +1,7 @@
 //! Which runs a step changed.
 
 ghost use Rattle.std.specs.Prelude.{◌≡◌};
-ghost use Rattle.shard_steps.specs.Outstanding.{unchanged};
+ghost use Rattle.shard_issued.specs.Outstanding.{unchanged};
 
 /// The places of the runs that the last step changed, where what is kept of them was not looked up
 /// since.

@@ -1,9 +1,9 @@
 use Rattle.std.proofs.Common.{rules, arith, ◌≡◌, [], ◌∷◌, ◌++◌, ap, sym, ◌∙◌, append_assoc, append-nil}
 use Rattle.std.proofs.lemmas.Grind.{common_steps}
 use Rattle.std.specs.Prelude.{filter_map}
-use Rattle.shard_steps.specs.Awaiting.{still_waiting}
-use Rattle.shard_steps.proofs.AwaitingLemmas.{found-one, found-none, waiting-among}
-use Rattle.shard_steps.proofs.awaiting.waiting_tasks.Goals as goal
+use Rattle.shard_issued.specs.Awaiting.{still_waiting}
+use Rattle.shard_issued.proofs.AwaitingLemmas.{found-one, found-none, waiting-among}
+use Rattle.shard_issued.proofs.awaiting.waiting_tasks.Goals as goal
 
 pub loop-dispatch-preserved-in-Continue-branch-5 : goal.loop-dispatch-preserved-in-Continue-branch-5
 loop-dispatch-preserved-in-Continue-branch-5 g c =

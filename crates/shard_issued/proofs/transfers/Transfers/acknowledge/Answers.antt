@@ -1,7 +1,7 @@
 use Rattle.std.proofs.Common.{◌∙◌, ap}
 use Rattle.transfer.specs.Outboxes.{counted_to}
-use Rattle.shard_steps.specs.Sending.{TransfersView}
-use Rattle.shard_steps.proofs.transfers.Transfers.acknowledge.Goals as goal
+use Rattle.shard_issued.specs.Sending.{TransfersView}
+use Rattle.shard_issued.proofs.transfers.Transfers.acknowledge.Goals as goal
 
 pub returns : goal.returns
 returns c =

@@ -9,13 +9,13 @@ use Rattle.service_model.specs.Waiting.{waiting_of}
 use Rattle.service_model.specs.Windows.{placed}
 use Rattle.timeouts.specs.Firsts.{first_due}
 use Rattle.timeouts.specs.declared.due.Due.{Due}
-use Rattle.shard_steps.specs.Issuing.{DispatchesView, all_waiting}
-use Rattle.shard_steps.specs.Outstanding.{AreCaughtUp, HasFirsts, HasShown, IsCaughtUp, outstanding}
-use Rattle.shard_steps.specs.Sending.{TransfersView, all_outgoing}
-use Rattle.shard_steps.specs.declared.changed.Changed.{Changed}
-use Rattle.shard_steps.proofs.DispatchLemmas.{all-looked-up}
-use Rattle.shard_steps.proofs.EachLemmas.{each-set}
-use Rattle.shard_steps.proofs.SendingLemmas.{all-sent}
+use Rattle.shard_issued.specs.Issuing.{DispatchesView, all_waiting}
+use Rattle.shard_issued.specs.Outstanding.{AreCaughtUp, HasFirsts, HasShown, IsCaughtUp, outstanding}
+use Rattle.shard_issued.specs.Sending.{TransfersView, all_outgoing}
+use Rattle.shard_issued.specs.declared.changed.Changed.{Changed}
+use Rattle.shard_issued.proofs.DispatchLemmas.{all-looked-up}
+use Rattle.shard_issued.proofs.EachLemmas.{each-set}
+use Rattle.shard_issued.proofs.SendingLemmas.{all-sent}
 
 -- no run has a deadline, shows an event, or has a task that waits
 pub no-due : (retention n : ℕ) → first_due retention n no_run ≡ None

@@ -1,16 +1,15 @@
 -- PROOF: what a shard issued and has not counted yet, and what of it is looked up behind the step that issued it
-use Rattle.std.specs.Prelude.{ℕ, ◌+◌, ◌-◌, List, [], ◌++◌, drop, filter_map, length, slice_get, slice_index_or, option_to_list, Option, None, Some, option_and_then}
+use Rattle.std.specs.Prelude.{ℕ, ◌+◌, List, [], ◌++◌, drop, filter_map, slice_get, slice_index_or, option_to_list, Option, None, Some, option_and_then}
 use Rattle.service_model_types.specs.declared.content.Content.{Content}
 use Rattle.service_model_types.specs.declared.content.Dispatch.{Dispatch}
 use Rattle.service_model_types.specs.declared.content.Setup.{Setup}
-use Rattle.service_model_types.specs.declared.journal.Fact.{Fact}
 use Rattle.service_model.specs.Counts.{acknowledges, dispatch_answer}
-use Rattle.service_model.specs.Issued.{task_dispatch, row_dispatch, queued_again}
+use Rattle.service_model.specs.Issued.{task_dispatch, row_dispatch}
 use Rattle.service_model.specs.Outcome.{Outcome, CountsDispatch, answered}
 use Rattle.service_model.specs.RunState.{RunState, no_run}
 use Rattle.service_model.specs.Tasks.{pending_row}
 use Rattle.transfer.specs.Logs.{Waiting, count_issued, with_issued}
-use Rattle.shard_steps.specs.declared.changed.Changed.{Changed}
+use Rattle.shard_issued.specs.declared.changed.Changed.{Changed}
 
 -- the dispatches of a content that wait
 abbrev pub waiting_in : Content → Waiting Dispatch
@@ -23,10 +22,6 @@ pub record DispatchesView : Type 0 where
   pub shown : List ℕ
   pub ready : Option ℕ
   pub room : ℕ
-
--- the activity whose attempt the last of a step's facts queues again
-abbrev pub readied : List Fact → Option ℕ
-readied facts = option_and_then queued_again (slice_get facts (length facts - 1))
 
 -- the dispatch of the pending activity that this event scheduled
 abbrev pub queued_dispatch : Setup → ℕ → RunState → ℕ → Option Dispatch

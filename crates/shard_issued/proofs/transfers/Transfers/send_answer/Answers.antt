@@ -2,9 +2,9 @@ use Rattle.std.proofs.Common.{◌∙◌, ap, sym, List}
 use Rattle.transfer.specs.Outboxes.{issued_to, outgoing}
 use Rattle.service_model_types.specs.declared.transfer.TransferContent.{TransferContent}
 use Rattle.transfer.specs.Logs.{Waiting}
-use Rattle.shard_steps.specs.Sending.{TransfersView}
-use Rattle.shard_steps.proofs.SendingLemmas.{answer-issued, no-answer, with_answer_sent}
-use Rattle.shard_steps.proofs.transfers.Transfers.send_answer.Goals as goal
+use Rattle.shard_issued.specs.Sending.{TransfersView}
+use Rattle.shard_issued.proofs.SendingLemmas.{answer-issued, no-answer, with_answer_sent}
+use Rattle.shard_issued.proofs.transfers.Transfers.send_answer.Goals as goal
 
 pub returns-in_default-clause-ok : goal.returns-in_default-clause-ok
 returns-in_default-clause-ok c = no-answer c.args.self.now (ap (λ (v : TransfersView). v.answer) (sym c.self.view_is) ∙ c.in_default.is)

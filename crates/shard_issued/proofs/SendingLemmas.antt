@@ -16,12 +16,12 @@ use Rattle.service_model_types.specs.declared.transfer.TransferContent.{Transfer
 use Rattle.transfer.specs.Logs.{Waiting, count_issued}
 use Rattle.transfer.specs.Outboxes.{AreIssued, counted_to, issued_to, rest_of, waiting_to, with_all_sent}
 use Rattle.transfer.proofs.ContentLemmas.{count-rest, counted-sent, first-rest, rest-to, with_all_sent-behind, with_all_sent-cons, with_all_sent-nil}
-use Rattle.shard_steps.specs.Outstanding.{AreCaughtUp, HasShown, IsCaughtUp, outstanding}
-use Rattle.shard_steps.specs.Sending.{TransfersView, KeepsTransfers, all_outgoing, count_to, next_to, of_unsent, sent_since}
-use Rattle.shard_steps.specs.declared.changed.Changed.{Changed}
-use Rattle.shard_steps.specs.declared.transfers.Unsent.{Unsent}
-use Rattle.shard_steps.proofs.DispatchLemmas.{get-at, still-there}
-use Rattle.shard_steps.proofs.EachLemmas.{shown-at}
+use Rattle.shard_issued.specs.Outstanding.{AreCaughtUp, HasShown, IsCaughtUp, outstanding}
+use Rattle.shard_issued.specs.Sending.{TransfersView, KeepsTransfers, all_outgoing, count_to, next_to, of_unsent, sent_since}
+use Rattle.shard_issued.specs.declared.changed.Changed.{Changed}
+use Rattle.shard_issued.specs.declared.transfers.Unsent.{Unsent}
+use Rattle.shard_issued.proofs.DispatchLemmas.{get-at, still-there}
+use Rattle.shard_issued.proofs.EachLemmas.{shown-at}
 
 -- there are as many destinations as before
 pub length-sent : (sent : List Sent) (to : ℕ) (all : List (Waiting TransferContent)) → length (with_all_sent sent to all) ≡ length all

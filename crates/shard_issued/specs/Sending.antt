@@ -12,7 +12,7 @@ use Rattle.service_model.specs.Outcome.{Outcome, AcknowledgesTo, answered, refus
 use Rattle.service_model.specs.RunState.{RunState, no_run}
 use Rattle.transfer.specs.Logs.{Waiting, count_issued}
 use Rattle.transfer.specs.Outboxes.{waiting_to, with_all_sent}
-use Rattle.shard_steps.specs.declared.transfers.Unsent.{Unsent}
+use Rattle.shard_issued.specs.declared.transfers.Unsent.{Unsent}
 
 -- the transfers as they are kept: those to each destination that wait, how many were accepted from each source, the
 -- events whose transfers were not looked up, and the answer to a transfer that was not issued yet

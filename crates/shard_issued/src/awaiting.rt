@@ -6,14 +6,15 @@ ghost use Rattle.std.specs.Prelude.{◌≡◌, IfOk};
 ghost use Rattle.service_model.specs.Tasks.{is_queued};
 ghost use Rattle.service_model.specs.Waiting.{waiting_of};
 ghost use Rattle.mutable_state.specs.Activities.{row_said};
-ghost use Rattle.mutable_state.specs.Tasks.{phase_in, numbers_in};
+ghost use Rattle.mutable_state.specs.Tasks.{numbers_in};
 ghost use Rattle.service_model.specs.RunState.{last_task};
-ghost use Rattle.shard_steps.specs.Awaiting.{is_waiting, still_waiting, waiting_attempt};
+ghost use Rattle.shard_issued.specs.Awaiting.{is_waiting, still_waiting, waiting_attempt};
 
 use crate::dispatches::attempt_dispatch;
-use mutable_state::{Activity, ActivityPhase, WorkflowTask};
+use mutable_state::{Activity, WorkflowTask, is_scheduled};
 use mutable_state_keeper::{KeepsRun, Run};
 use service_model_types::content::{Dispatch, Setup};
+use service_model_types::phase::ActivityPhase;
 use std::alloc::{AllocError, Global};
 use wf_event_values::TaskKind;
 
@@ -48,7 +49,7 @@ fn still_waiting<T: KeepsRun>(
     task: &WorkflowTask,
     dispatch: Dispatch,
 ) -> Result<Option<Dispatch>, AllocError>
-    requires phase { phase_in task.now.phase ≡ run.now.state.task }
+    requires phase { task.now.phase ≡ run.now.state.task }
     requires numbers { numbers_in task.now ≡ last_task run.now.state }
     ensures { IfOk result (λ found.
         found ≡ still_waiting setup.now ordinal run.now.state dispatch) }
@@ -67,9 +68,9 @@ fn still_waiting<T: KeepsRun>(
 
 /// Whether a workflow task waits to be taken, and this event scheduled it.
 fn is_waiting(task: &WorkflowTask, event: u64) -> bool
-    ensures { result ≡ is_waiting (phase_in task.now.phase) (numbers_in task.now) event }
+    ensures { result ≡ is_waiting task.now.phase (numbers_in task.now) event }
 {
-    task.phase.is_scheduled() && task.scheduled == event
+    is_scheduled(task.phase) && task.scheduled == event
 }
 
 /// The attempt of the pending activity that this event scheduled, where it waits to be taken.

@@ -20,10 +20,11 @@ use Rattle.service_model.specs.RunState.{RunState, no_run, row_of, held_attribut
 use Rattle.service_model.specs.Tasks.{is_started_task, pending_row}
 use Rattle.mutable_state.specs.Steps.{Place, IsFirst, FitFrom, FitStep, MayQueue, after_step, all_written, noted_of, place_after, step_ended, with_event, with_noted}
 use Rattle.transfer.specs.Logs.{Waiting, with_issued}
-use Rattle.shard_steps.specs.Issuing.{DispatchesView, all_waiting, count_waiting, issued_first, issued_since, next_waiting, of_grown, of_made, queued_dispatch, readied, waiting_in}
-use Rattle.shard_steps.specs.Outstanding.{AreCaughtUp, HasShown, unchanged}
-use Rattle.shard_steps.specs.declared.changed.Changed.{Changed}
-use Rattle.shard_steps.proofs.EachLemmas.{index-push, shown-at}
+use Rattle.service_model.specs.Issued.{readied}
+use Rattle.shard_issued.specs.Issuing.{DispatchesView, all_waiting, count_waiting, issued_first, issued_since, next_waiting, of_grown, of_made, queued_dispatch, waiting_in}
+use Rattle.shard_issued.specs.Outstanding.{AreCaughtUp, HasShown, unchanged}
+use Rattle.shard_issued.specs.declared.changed.Changed.{Changed}
+use Rattle.shard_issued.proofs.EachLemmas.{index-push, shown-at}
 
 -- at the end of a step no event that is held back settles what none settled before
 pending-at-end : (id : ℕ) (s : RunState) → is_settled Activity id (held_attributes s) ≡ false → pending_row (step_ended s) id ≡ row_of (step_ended s) id

@@ -5,9 +5,9 @@ use Rattle.timeouts.specs.Firsts.{first_due}
 use Rattle.timeouts.specs.Slots.{run_due}
 use Rattle.timeouts.specs.declared.due.Due.{Due}
 use Rattle.service_model_types.specs.declared.transfer.Sent.{Sent}
-use Rattle.shard_steps.specs.Sending.{TransfersView}
-use Rattle.shard_steps.specs.declared.changed.Changed.{Changed}
-use Rattle.shard_steps.specs.declared.transfers.Unsent.{Unsent}
+use Rattle.shard_issued.specs.Sending.{TransfersView}
+use Rattle.shard_issued.specs.declared.changed.Changed.{Changed}
+use Rattle.shard_issued.specs.declared.transfers.Unsent.{Unsent}
 
 -- no run changed
 abbrev pub unchanged : Changed

@@ -11,7 +11,7 @@ use Rattle.service_model_types.specs.declared.content.Setup.{Setup}
 use Rattle.service_model.specs.Issued.{task_dispatch}
 use Rattle.service_model.specs.RunState.{RunState}
 use Rattle.service_model.specs.Waiting.{waiting_task}
-use Rattle.shard_steps.specs.Awaiting.{still_waiting}
+use Rattle.shard_issued.specs.Awaiting.{still_waiting}
 
 -- what waits of what an event schedules, if it schedules a task
 waiting-one : (setup : Setup) (run : ℕ) (s : RunState) (e : Event) (rest : List Dispatch) →

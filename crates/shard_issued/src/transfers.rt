@@ -50,7 +50,7 @@ impl Drop for Transfers {
 
 impl Model for Transfers {
     ghost use Rattle.transfer.specs.Outboxes.{outgoing};
-    ghost use Rattle.shard_steps.specs.Sending.{TransfersView};
+    ghost use Rattle.shard_issued.specs.Sending.{TransfersView};
 
     ghost Value = { TransfersView };
 

@@ -1,0 +1,5 @@
+pub mod AwaitingLemmas
+pub mod EachLemmas
+pub mod DispatchLemmas
+pub mod SendingLemmas
+pub mod TakenLemmas

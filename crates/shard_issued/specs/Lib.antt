@@ -1,0 +1,4 @@
+pub mod Awaiting
+pub mod Issuing
+pub mod Outstanding
+pub mod Sending
