@@ -7,7 +7,7 @@ ghost use Rattle.std.specs.Prelude.{◌≡◌, ◌<◌, List, IfOk, Some, filter
 ghost use Rattle.wf_event.specs.declared.attributes.Attributes.TheVariants.{StartChildWorkflowExecutionInitiated as a_child};
 ghost use Rattle.wf_event.specs.declared.event.Event.{Event as AnEvent};
 ghost use Rattle.issuing.specs.Settled.{IsSettledBy, left_transfer};
-ghost use Rattle.service_model.specs.Issued.{is_abandon, close_by, close_transfer, child_end, closed_transfer, children_left};
+ghost use Rattle.service_model.specs.Issued.{is_abandon, close_transfer_by, close_transfer, child_end, closed_transfer, children_left};
 
 use crate::left::{is_left, settled_children};
 use event_pieces::Events;
@@ -33,7 +33,7 @@ fn close_child(
     asked: &StartChildWorkflowExecutionInitiated,
 ) -> Result<Option<Sent>, AllocError>
     requires { 0 < setup.now.shards }
-    ensures { IfOk result (λ sent. sent ≡ close_by setup.now run id (a_child asked.now)) }
+    ensures { IfOk result (λ sent. sent ≡ close_transfer_by setup.now run id (a_child asked.now)) }
 {
     if is_abandon(asked.parent_close) {
         return Ok(None);

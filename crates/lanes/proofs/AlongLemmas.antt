@@ -27,7 +27,6 @@ use Rattle.service.specs.Reopening.{record_at}
 use Rattle.service.specs.Services.{Answered, IsServedAtLast, IsServedOn, known_by, settings_of}
 use Rattle.service.specs.TransferTurns.{AfterDelivery, AfterReading, AfterTransfer, Delivers, Transfers, goes_on}
 use Rattle.service.specs.Turns.{AfterDispatch, AfterNext, AfterPush, Polls, Pushing, Turns}
-use Rattle.service.specs.declared.dispatch_turns.Turned.{Turned}
 use Rattle.service.specs.ServiceViews.{Service}
 use Rattle.service.specs.ServiceViews.{Pass}
 use Rattle.wire_requests.specs.declared.calls.Asked.{Asked}
@@ -86,7 +85,7 @@ poll-sees x (Some place) kind at v w hs ws (Some r) h = step-sees x v w _ _ r h.
 
 -- ---- dispatch turns
 
-pushed-sees : (x : Service) (shard at : ℕ) (stop : Stop) (number : ℕ) (v w : KnownView) (r : Result (Unit {0}) Refusal) (t : Turned) → AfterPush x shard at stop number v w r t → Sees v w
+pushed-sees : (x : Service) (shard at : ℕ) (stop : Stop) (number : ℕ) (v w : KnownView) (r : Result (Unit {0}) Refusal) (t : Reply) → AfterPush x shard at stop number v w r t → Sees v w
 pushed-sees x shard at AtEnd number v w (Ok done) t h = answered-sees x v w (shard_refusal x.settings shard) shard (to_dispatched at number) h.1.reply h.1.step
 pushed-sees x shard at AfterFirstPart number v w (Ok done) t h = absurd h
 pushed-sees x shard at AfterSecondPart number v w (Ok done) t h = sees-same v w h.1
@@ -94,16 +93,16 @@ pushed-sees x shard at AtEnd number v w (Err e) t h = sees-same v w h.1
 pushed-sees x shard at AfterFirstPart number v w (Err e) t h = sees-same v w h.1
 pushed-sees x shard at AfterSecondPart number v w (Err e) t h = sees-same v w h.1
 
-dispatch-sees : (x : Service) (shard at : ℕ) (stop : Stop) (d : NumberedDispatch) (v w : KnownView) (hs ws : List HintView) (t : Turned) → AfterDispatch x shard at stop d v w hs ws t → Sees v w
+dispatch-sees : (x : Service) (shard at : ℕ) (stop : Stop) (d : NumberedDispatch) (v w : KnownView) (hs ws : List HintView) (t : Reply) → AfterDispatch x shard at stop d v w hs ws t → Sees v w
 dispatch-sees x shard at AtEnd d v w hs ws t h = pushed-sees x shard at AtEnd d.number v w h.pushed t h.rest
 dispatch-sees x shard at AfterFirstPart d v w hs ws t h = sees-same v w h.1
 dispatch-sees x shard at AfterSecondPart d v w hs ws t h = pushed-sees x shard at AfterSecondPart d.number v w h.pushed t h.rest
 
-next-sees : (x : Service) (shard at : ℕ) (stop : Stop) (r : Reply) (o : Option NumberedDispatch) (v w : KnownView) (hs ws : List HintView) (t : Turned) → AfterNext x shard at stop r o v w hs ws t → Sees v w
+next-sees : (x : Service) (shard at : ℕ) (stop : Stop) (r : Reply) (o : Option NumberedDispatch) (v w : KnownView) (hs ws : List HintView) (t : Reply) → AfterNext x shard at stop r o v w hs ws t → Sees v w
 next-sees x shard at stop r None v w hs ws t h = sees-same v w h.1
 next-sees x shard at stop r (Some d) v w hs ws t h = dispatch-sees x shard at stop d v w hs ws t h
 
-turn-sees : (x : Service) (shard at : ℕ) (stop : Stop) (v w : KnownView) (hs ws : List HintView) (t : Turned) → Turns x shard at stop v w hs ws t → Sees v w
+turn-sees : (x : Service) (shard at : ℕ) (stop : Stop) (v w : KnownView) (hs ws : List HintView) (t : Reply) → Turns x shard at stop v w hs ws t → Sees v w
 turn-sees x shard at stop v w hs ws t h =
     sees-then v h.met w (answered-sees x v h.met (shard_refusal x.settings shard) shard (to_next_dispatch at) h.next h.step)
     (next-sees x shard at stop h.next (dispatch_of h.next) h.met w hs ws t h.rest)
@@ -134,7 +133,7 @@ transfers-sees x q v w (Some e) r h = sees-same v w h.1
 pub call-sees : (x : Service) (p p' : Pass) (c : Call) (r : Reply) → CallServed x p p' c r → Sees (known_by p) (known_by p')
 call-sees x p p' (Step c) r h = answered-sees x (known_by p) (known_by p') _ _ _ r h.0
 call-sees x p p' (Poll q) r h = poll-sees x _ q.kind q.at (known_by p) (known_by p') _ _ h.polled h.polls
-call-sees x p p' (DispatchTurn q) r h = turn-sees x q.shard q.at q.stop (known_by p) (known_by p') _ _ h.turned h.turns
+call-sees x p p' (DispatchTurn q) r h = turn-sees x q.shard q.at q.stop (known_by p) (known_by p') _ _ r h
 call-sees x p p' (TransferTurn q) r h = transfers-sees x q (known_by p) (known_by p') (ends_refusal x.settings q.from q.to) r h.0
 
 -- where two passes meet, both have seen what they had seen

@@ -12,7 +12,7 @@ use std::alloc::{AllocError, Global};
 use std::sync::Wait;
 use step_record::Record;
 use wf_event_values::{Moment, Refusal, TaskKind};
-use workflow_service::{Pass, Service, Turned};
+use workflow_service::{Pass, Service};
 
 /// What a call that was refused memory leaves its caller with.
 #[derive(Drop)]

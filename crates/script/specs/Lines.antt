@@ -1,6 +1,6 @@
 -- MEANING: The lines of a text. A line ends at a line feed, and a last one without it counts.
-use Rattle.std.specs.Prelude.{ℕ, ◌==◌, List, [], ◌∷◌, length, map, nat_lt, if◌then◌else◌, Option, Some, None}
-use Rattle.std.specs.List.{slice_split}
+use Rattle.std.specs.Prelude.{ℕ, List, [], ◌∷◌, length, map, nat_lt, if◌then◌else◌, Option, Some, None}
+pub use Rattle.wire_lines.specs.Lines.{parts, before_last}
 
 -- the most bytes that a line may have
 abbrev pub limit : ℕ
@@ -12,16 +12,6 @@ Line = Option (List ℕ)
 
 abbrev pub within_limit : List ℕ → Line
 within_limit bytes = if nat_lt limit (length bytes) then None else Some bytes
-
--- the parts of a text between its line feeds; there is always one
-abbrev pub parts : List ℕ → List (List ℕ)
-parts text = slice_split (λ b. b == 10) text
-
--- all parts but the last
-abbrev pub before_last : List (List ℕ) → List (List ℕ)
-before_last [] = []
-before_last (part ∷ []) = []
-before_last (part ∷ next ∷ more) = part ∷ before_last (next ∷ more)
 
 abbrev pub unless_empty : List ℕ → List (List ℕ)
 unless_empty [] = []

@@ -1,6 +1,6 @@
 -- PROOF: The lines of a text that comes in by parts, behind a line so far.
 use Rattle.std.specs.Prelude.{ℕ, ◌==◌, List, [], ◌∷◌, ◌++◌, fold, length, nat_lt, if◌then◌else◌, Bool, true, false, Some, None}
-use Rattle.std.specs.List.{list_any}
+pub use Rattle.wire_lines.specs.Pending.{has_feed}
 use Rattle.script.specs.Lines.{Line, limit}
 
 -- a line so far, with one byte more
@@ -11,10 +11,6 @@ longer (Some bytes) byte = if nat_lt (length bytes) limit then Some (bytes ++ by
 -- a line so far, with more bytes
 abbrev pub grown : Line → List ℕ → Line
 grown line part = fold longer line part
-
--- whether a line feed stands in a text
-abbrev pub has_feed : List ℕ → Bool
-has_feed text = list_any (λ b. b == 10) text
 
 -- the lines that end in a text behind a line so far
 unfoldable pub ended : Line → List ℕ → List Line

@@ -17,8 +17,9 @@ mod serving;
 mod trace;
 
 pub use fault::ScriptFault;
-pub use line::{LINE_LIMIT, Line, cut};
+pub use line::{LINE_LIMIT, Line};
 pub use reading::asked;
 pub use run::{CHUNK, Outcome, run_from, run_one};
 pub use serving::opening_fault;
 pub use trace::print_trace;
+pub use wire_lines::cut;

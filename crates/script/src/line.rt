@@ -1,9 +1,8 @@
 //! A line as it comes in, by parts.
 
-ghost use Rattle.std.specs.Prelude.{◌≡◌, [], ◌∷◌, ◌++◌, false, Some, IfSome, IfNone, OnOk, option_map};
-ghost use Rattle.script.specs.Pending.{grown, is_empty_line, has_feed};
+ghost use Rattle.std.specs.Prelude.{◌≡◌, [], Some, OnOk, option_map};
+ghost use Rattle.script.specs.Pending.{grown, is_empty_line};
 
-use memchr::memchr;
 use std::alloc::{AllocError, Global};
 use std::marker::Model;
 
@@ -81,17 +80,4 @@ impl Line {
             None => None,
         }
     }
-}
-
-/// What stands before the first line feed and what stands behind it, where there is one.
-pub fn cut(text: &[u8]) -> Option<(&[u8], &[u8])>
-    ensures parts { IfSome result (λ p. text.now ≡ p.0.now ++ 10 ∷ p.1.now) }
-    ensures first { IfSome result (λ p. has_feed p.0.now ≡ false) }
-    ensures none { IfNone result (has_feed text.now ≡ false) }
-{
-    let Some(at) = memchr(b'\n', text) else {
-        return None;
-    };
-    let (line, rest) = text.split_at(at);
-    Some((line, &rest[1..]))
 }

@@ -9,8 +9,6 @@ use Rattle.service_model_types.specs.declared.request.Hint.{Hint}
 use Rattle.service_model_types.specs.Calls.{request_of}
 use Rattle.service_model_types.specs.Replies.{Reply}
 use Rattle.gate.specs.Passes.{Waited}
-use Rattle.service.specs.declared.dispatch_turns.Turned.{Turned}
-use Rattle.service.specs.declared.dispatch_turns.Turned.TheVariants.{First, Taken, Unpushed, Pushed, Dispatched}
 use Rattle.service.specs.ServiceViews.{Pass}
 use Rattle.service.specs.ServiceViews.{Service}
 use Rattle.service.specs.Contents.{refusal_of_step, slot_of_step}
@@ -23,25 +21,11 @@ abbrev pub reply_of_poll : Option Reply → Reply
 reply_of_poll None = Ok answer.Empty
 reply_of_poll (Some reply) = reply
 
--- the reply of a dispatch turn
-abbrev pub reply_of_turn : Turned → Reply
-reply_of_turn (First reply) = reply
-reply_of_turn (Taken number) = Ok (answer.Taken number)
-reply_of_turn (Unpushed refusal) = Err refusal
-reply_of_turn (Pushed number) = Ok (answer.Pushed number)
-reply_of_turn (Dispatched number) = Ok (answer.Dispatched number)
-
 -- a poll was answered
 pub record PollServed (x : Service) (p p' : Pass) (q : APoll) (r : Reply) : Type 0 where
   pub polled : Option Reply
   pub reply : r ≡ reply_of_poll polled
   pub polls : Polls x (place_of x q.task_queue) q.kind q.at (known_by p) (known_by p') (hints_by p) (hints_by p') polled
-
--- a dispatch turn was answered
-pub record TurnServed (x : Service) (p p' : Pass) (q : ADispatchTurn) (r : Reply) : Type 0 where
-  pub turned : Turned
-  pub reply : r ≡ reply_of_turn turned
-  pub turns : Turns x q.shard q.at q.stop (known_by p) (known_by p') (hints_by p) (hints_by p') turned
 
 -- a call was answered so: a step on its shard, which leaves what the pass knows of hints, as a transfer turn does; a
 -- poll and the turns part by part
@@ -49,7 +33,7 @@ abbrev pub CallServed : Service → Pass → Pass → Call → Reply → Type 0
 CallServed x p p' (Step c) r =
     ServedOnAtLast x p p' (refusal_of_step x.settings c) (slot_of_step x.settings c) (request_of c) r × (hints_by p' ≡ hints_by p)
 CallServed x p p' (Poll q) r = PollServed x p p' q r
-CallServed x p p' (DispatchTurn q) r = TurnServed x p p' q r
+CallServed x p p' (DispatchTurn q) r = Turns x q.shard q.at q.stop (known_by p) (known_by p') (hints_by p) (hints_by p') r
 CallServed x p p' (TransferTurn q) r = TransferTurns x q (known_by p) (known_by p') r × (hints_by p' ≡ hints_by p)
 
 -- a call was refused for memory: a step did nothing, a poll had popped a hint and made no step, a turn keeps the parts that were done

@@ -3,6 +3,7 @@ use Rattle.std.specs.Prelude.{◌≡◌, ◌⊎◌, ℕ, List, Option, None, Som
 use Rattle.wf_event_values.specs.declared.policies.TaskKind.{TaskKind}
 use Rattle.wf_event_values.specs.declared.refusal.Refusal.{Refusal}
 use Rattle.wf_event_values.specs.declared.refusal.Refusal.TheVariants.{UnknownTaskQueue}
+use Rattle.service_model_types.specs.declared.answer.Answer.TheVariants as answer
 use Rattle.service_model_types.specs.declared.answer.NumberedDispatch.{NumberedDispatch}
 use Rattle.service_model_types.specs.declared.content.Content.{Content}
 use Rattle.service_model_types.specs.declared.request.Hint.{Hint}
@@ -18,8 +19,6 @@ use Rattle.service.specs.ServiceViews.{Pass}
 use Rattle.service.specs.ServiceViews.{Service}
 use Rattle.service_model_types.specs.declared.call.Stop.{Stop}
 use Rattle.service_model_types.specs.declared.call.Stop.TheVariants.{AtEnd, AfterFirstPart, AfterSecondPart}
-use Rattle.service.specs.declared.dispatch_turns.Turned.{Turned}
-use Rattle.service.specs.declared.dispatch_turns.Turned.TheVariants.{First, Taken, Unpushed, Pushed, Dispatched}
 use Rattle.service.specs.CallRequests.{to_start_task, to_next_dispatch, to_dispatched}
 use Rattle.service.specs.Contents.{shard_refusal}
 use Rattle.service.specs.Services.{Answered, IsPassOf, IsServedAtLast, hints_by, known_by}
@@ -58,37 +57,37 @@ pub record Counts (x : Service) (shard at number : ℕ) (v w : View Request Cont
   pub step : AnsweredOn x shard v w (to_dispatched at number) reply
 
 -- what follows a push: an Ok is followed by the last part, unless the turn is to end there
-abbrev pub AfterPush : Service → (shard at : ℕ) → Stop → ℕ → (v w : View Request Content) → Result (Unit {0}) Refusal → Turned → Type 0
-AfterPush x shard at AtEnd number v w (Ok done) t = (t ≡ Dispatched number) × Counts x shard at number v w
-AfterPush x shard at AfterFirstPart number v w (Ok done) t = ⊥
-AfterPush x shard at AfterSecondPart number v w (Ok done) t = (t ≡ Pushed number) × (w ≡ v)
-AfterPush x shard at stop number v w (Err e) t = (t ≡ Unpushed e) × (w ≡ v)
+abbrev pub AfterPush : Service → (shard at : ℕ) → Stop → ℕ → (v w : View Request Content) → Result (Unit {0}) Refusal → Reply → Type 0
+AfterPush x shard at AtEnd number v w (Ok done) r = (r ≡ Ok (answer.Dispatched number)) × Counts x shard at number v w
+AfterPush x shard at AfterFirstPart number v w (Ok done) r = ⊥
+AfterPush x shard at AfterSecondPart number v w (Ok done) r = (r ≡ Ok (answer.Pushed number)) × (w ≡ v)
+AfterPush x shard at stop number v w (Err e) r = (r ≡ Err e) × (w ≡ v)
 
 -- the second part: the hint is pushed to its queue
 pub record Pushing (x : Service) (shard at : ℕ) (stop : Stop) (d : NumberedDispatch) (v w : View Request Content) (hs ws : List HintView)
-    (t : Turned) : Type 0 where
+    (r : Reply) : Type 0 where
   pub pushed : Result (Unit {0}) Refusal
   pub push : Pushes (place_of x d.dispatch.queue) (matching.capacity_of x.queues) hs ws d.dispatch.hint pushed
-  pub rest : AfterPush x shard at stop d.number v w pushed t
+  pub rest : AfterPush x shard at stop d.number v w pushed r
 
 abbrev pub AfterDispatch : Service → (shard at : ℕ) → Stop → NumberedDispatch → (v w : View Request Content) → (hs ws : List HintView)
-    → Turned → Type 0
-AfterDispatch x shard at AtEnd d v w hs ws t = Pushing x shard at AtEnd d v w hs ws t
-AfterDispatch x shard at AfterFirstPart d v w hs ws t = (t ≡ Taken d.number) × (w ≡ v) × (ws ≡ hs)
-AfterDispatch x shard at AfterSecondPart d v w hs ws t = Pushing x shard at AfterSecondPart d v w hs ws t
+    → Reply → Type 0
+AfterDispatch x shard at AtEnd d v w hs ws r = Pushing x shard at AtEnd d v w hs ws r
+AfterDispatch x shard at AfterFirstPart d v w hs ws r = (r ≡ Ok (answer.Taken d.number)) × (w ≡ v) × (ws ≡ hs)
+AfterDispatch x shard at AfterSecondPart d v w hs ws r = Pushing x shard at AfterSecondPart d v w hs ws r
 
 -- what follows the first part: without a dispatch its reply is the turn's
 abbrev pub AfterNext : Service → (shard at : ℕ) → Stop → Reply → Option NumberedDispatch → (v w : View Request Content)
-    → (hs ws : List HintView) → Turned → Type 0
-AfterNext x shard at stop r None v w hs ws t = (t ≡ First r) × (w ≡ v) × (ws ≡ hs)
-AfterNext x shard at stop r (Some d) v w hs ws t = AfterDispatch x shard at stop d v w hs ws t
+    → (hs ws : List HintView) → Reply → Type 0
+AfterNext x shard at stop next None v w hs ws r = (r ≡ next) × (w ≡ v) × (ws ≡ hs)
+AfterNext x shard at stop next (Some d) v w hs ws r = AfterDispatch x shard at stop d v w hs ws r
 
 -- A dispatch turn: the first part reads the next dispatch of the shard, and the rest follows from its reply
-pub record Turns (x : Service) (shard at : ℕ) (stop : Stop) (v w : View Request Content) (hs ws : List HintView) (t : Turned) : Type 0 where
+pub record Turns (x : Service) (shard at : ℕ) (stop : Stop) (v w : View Request Content) (hs ws : List HintView) (r : Reply) : Type 0 where
   pub next : Reply
   pub met : View Request Content
   pub step : AnsweredOn x shard v met (to_next_dispatch at) next
-  pub rest : AfterNext x shard at stop next (dispatch_of next) met w hs ws t
+  pub rest : AfterNext x shard at stop next (dispatch_of next) met w hs ws r
 
 -- Where memory was refused, it was in the first part; or the first part answered a dispatch, whose hint was pushed
 pub record TurnPushed (x : Service) (shard at : ℕ) (v w : View Request Content) (hs ws : List HintView) : Type 0 where

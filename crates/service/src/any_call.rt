@@ -3,9 +3,8 @@
 ghost use Rattle.std.specs.Prelude.{◌≡◌, IfOk, OnErr};
 ghost use Rattle.gate.specs.Passes.{number};
 ghost use Rattle.service_model_types.specs.declared.call.Call.TheVariants as a_call;
-ghost use Rattle.service.specs.Calls.{CallKept, CallServed, reply_of_poll, reply_of_turn};
+ghost use Rattle.service.specs.Calls.{CallKept, CallServed, reply_of_poll};
 
-use crate::dispatch_turns::Turned;
 use crate::service::{Pass, Service};
 use service_model_types::answer::{Answer, Reply};
 use service_model_types::call::{Call, DispatchTurn, Poll, StepCall};
@@ -97,8 +96,7 @@ impl<S: KeepsShard> Service<S> {
         ensures err { OnErr result
             (CallKept self.now pass.old pass.new (a_call.DispatchTurn turn)) }
     {
-        let turned = self.dispatch_turn(rt, pass, turn.shard, turn.stop, turn.at)?;
-        Ok(reply_of_turn(turned))
+        self.dispatch_turn(rt, pass, turn.shard, turn.stop, turn.at)
     }
 }
 
@@ -109,18 +107,5 @@ fn reply_of_poll(polled: Option<Reply>) -> Reply
     match polled {
         Some(reply) => reply,
         None => Ok(Answer::Empty),
-    }
-}
-
-/// The reply of a dispatch turn.
-fn reply_of_turn(turned: Turned) -> Reply
-    ensures { result ≡ reply_of_turn turned }
-{
-    match turned {
-        Turned::First(reply) => reply,
-        Turned::Taken(number) => Ok(Answer::Taken(number)),
-        Turned::Unpushed(refusal) => Err(refusal),
-        Turned::Pushed(number) => Ok(Answer::Pushed(number)),
-        Turned::Dispatched(number) => Ok(Answer::Dispatched(number)),
     }
 }

@@ -10,36 +10,23 @@ ghost use Rattle.service.specs.Turns.{AnsweredOn, Counts, TurnKept, Turns};
 use crate::calls::asked_by_client;
 use crate::route::shard_refusal;
 use crate::service::{Pass, Service};
-use service_model_types::answer::{NumberedDispatch, Reply};
+use service_model_types::answer::{Answer, NumberedDispatch, Reply};
 use service_model_types::call::Stop;
+use service_model_types::client::ClientRequest;
 use service_model_types::request::Operation;
 use shard_gate::KeepsShard;
 use std::alloc::AllocError;
 use std::sync::Wait;
-use wf_event_values::{Moment, Refusal};
-
-/// What a turn came to.
-#[derive(Drop)]
-pub enum Turned {
-    /// The first part's reply, which has no dispatch.
-    First(Reply),
-    /// The number of the dispatch that was read.
-    Taken(u64),
-    /// The push's refusal.
-    Unpushed(Refusal),
-    /// The number of the dispatch whose hint was pushed.
-    Pushed(u64),
-    /// The number of the dispatch that was counted.
-    Dispatched(u64),
-}
+use wf_event_values::Moment;
 
 impl<S: KeepsShard> Service<S> {
     ghost use Rattle.service.specs.Services.{IsPassOf, hints_by, known_by, settings_of};
 
     /// Reads the first dispatch of a shard that is not counted, pushes its hint to its task queue, and
-    /// counts it; it may be told to end before. A shard that is not there is an invalid argument
-    /// `shard`, which is the first part's reply. A full queue is `QueueFull`, and the dispatch is not
-    /// counted then. It may wait for ever.
+    /// counts it; it may be told to end before. It answers `Taken`, `Pushed` or `Dispatched` with the
+    /// dispatch's number, by its last part; where the first part's reply has no dispatch, that one: as
+    /// where a shard that is not there is an invalid argument `shard`. A full queue is `QueueFull`, and
+    /// the dispatch is not counted then. It may wait for ever.
     ///
     /// # Errors
     /// Where a growth was refused. The parts done before are kept, so the next turn pushes the same
@@ -51,7 +38,7 @@ impl<S: KeepsShard> Service<S> {
         shard: u16,
         stop: Stop,
         at: Moment,
-    ) -> Result<Turned, AllocError>
+    ) -> Result<Reply, AllocError>
         requires { IsPassOf pass.old self.now }
         ensures own { IsPassOf pass.new self.now }
         ensures named { number_of (known_by pass.new) ≡ number_of (known_by pass.old) }
@@ -66,11 +53,11 @@ impl<S: KeepsShard> Service<S> {
         let reply = self.next_dispatch(rt, pass, shard, at)?;
         let taken = match dispatch_in(reply) {
             Ok(taken) => taken,
-            Err(reply) => return Ok(Turned::First(reply)),
+            Err(reply) => return Ok(reply),
         };
         let number = taken.number;
         if let Stop::AfterFirstPart = stop {
-            return Ok(Turned::Taken(number));
+            return Ok(Ok(Answer::Taken(number)));
         }
         if let Err(refusal) = self.queues.push_hint(
             rt,
@@ -78,13 +65,13 @@ impl<S: KeepsShard> Service<S> {
             &taken.dispatch.queue,
             taken.dispatch.hint,
         ) {
-            return Ok(Turned::Unpushed(refusal));
+            return Ok(Err(refusal));
         }
         if let Stop::AfterSecondPart = stop {
-            return Ok(Turned::Pushed(number));
+            return Ok(Ok(Answer::Pushed(number)));
         }
         self.count_dispatch(rt, pass, shard, number, at)?;
-        Ok(Turned::Dispatched(number))
+        Ok(Ok(Answer::Dispatched(number)))
     }
 
     /// Reads the next dispatch.
@@ -107,12 +94,8 @@ impl<S: KeepsShard> Service<S> {
             → d.dispatch.hint.shard < (settings_of self.now).shards) }
         ensures err { OnErr result (Waited (known_by pass.old) (known_by pass.new) shard) }
     {
-        let refusal = shard_refusal(&self.settings, shard);
         let asked = asked_by_client(at, Operation::NextDispatch);
-        match self.serve_on(rt, pass, refusal, usize::from(shard), asked) {
-            Ok(reply) => Ok(reply),
-            Err(_) => Err(AllocError),
-        }
+        self.serve_named(rt, pass, shard, asked)
     }
 
     /// Counts a dispatch.
@@ -132,10 +115,31 @@ impl<S: KeepsShard> Service<S> {
             (Counts self.now shard at number (known_by pass.old) (known_by pass.new)) }
         ensures err { OnErr result (Waited (known_by pass.old) (known_by pass.new) shard) }
     {
-        let refusal = shard_refusal(&self.settings, shard);
         let asked = asked_by_client(at, Operation::Dispatched(number));
+        let _reply = self.serve_named(rt, pass, shard, asked)?;
+        Ok(())
+    }
+
+    /// Serves a part of a turn on the shard that the turn names; where that is not there, the reply is an
+    /// invalid argument `shard`.
+    fn serve_named<R: Wait>(
+        &self,
+        rt: &R,
+        pass: &mut Pass<S>,
+        shard: u16,
+        asked: ClientRequest,
+    ) -> Result<Reply, AllocError>
+        requires { IsPassOf pass.old self.now }
+        ensures own { IsPassOf pass.new self.now }
+        ensures named { number_of (known_by pass.new) ≡ number_of (known_by pass.old) }
+        ensures hints { hints_by pass.new ≡ hints_by pass.old }
+        ensures ok { IfOk result (λ r. AnsweredOn
+            self.now shard (known_by pass.old) (known_by pass.new) asked r) }
+        ensures err { OnErr result (Waited (known_by pass.old) (known_by pass.new) shard) }
+    {
+        let refusal = shard_refusal(&self.settings, shard);
         match self.serve_on(rt, pass, refusal, usize::from(shard), asked) {
-            Ok(_) => Ok(()),
+            Ok(reply) => Ok(reply),
             Err(_) => Err(AllocError),
         }
     }

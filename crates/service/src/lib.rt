@@ -29,7 +29,6 @@ mod transfer_turns;
 mod turns;
 mod workflows;
 
-pub use dispatch_turns::Turned;
 pub use gate::Refused;
 pub use held::Held;
 pub use laws::histories_are_in_order;

@@ -6,7 +6,7 @@ ghost use Rattle.wf_event_values.specs.declared.policies.TaskKind.{TaskKind};
 ghost use Rattle.service.specs.CallRequests.{to_start_task};
 ghost use Rattle.service.specs.Turns.{IsPolled, Polls, PollKept, place_of};
 
-use crate::calls::asked_by_client;
+use crate::calls::request;
 use crate::service::{Pass, Service};
 use service_model_types::answer::Reply;
 use service_model_types::request::{Hint, Operation};
@@ -105,10 +105,7 @@ impl<S: KeepsShard> Service<S> {
             hint.shard (to_start_task at hint) r) }
         ensures err { OnErr result (Waited (known_by pass.old) (known_by pass.new) hint.shard) }
     {
-        let asked = asked_by_client(at, Operation::StartTask(hint.task()));
-        match self.serve_on(rt, pass, None, usize::from(hint.shard), asked) {
-            Ok(reply) => Ok(reply),
-            Err(_) => Err(AllocError),
-        }
+        let asked = request(at, Operation::StartTask(hint.task()));
+        self.serve_there(rt, pass, hint.shard, asked)
     }
 }

@@ -151,7 +151,7 @@ impl<S: KeepsShard> Service<S> {
     }
 
     /// Serves a request on a shard that is there.
-    fn serve_there<R: Wait>(
+    pub(crate) fn serve_there<R: Wait>(
         &self,
         rt: &R,
         pass: &mut Pass<S>,

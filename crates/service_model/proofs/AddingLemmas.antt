@@ -7,12 +7,12 @@ use Rattle.wf_event.specs.declared.role.Class.{Class}
 use Rattle.service_model_types.specs.declared.request.TakenTask.{TakenTask}
 use Rattle.service_model_types.specs.declared.transfer.StartChildTransfer.{StartChildTransfer}
 use Rattle.wf_event_values.specs.declared.policies.ConflictPolicy.TheVariants.{Fail}
-use Rattle.service_model.specs.Activities.{beat_at, by_verdict, cancel_activity, cancel_at as cancel_attempt, complete_activity, complete_at, fail_activity, fail_at, fail_fields, heartbeat, keep_running, running_attempt, verdict_at}
-use Rattle.service_model.specs.Cancels.{cancel_at, cancel_open, is_client, is_same_or_absent, request_cancel, terminate, terminate_at}
+use Rattle.service_model.specs.Activities.{beat_at, by_verdict, cancel_activity, cancel_running, complete_activity, complete_at, fail_activity, fail_at, fail_fields, heartbeat, keep_running, running_attempt, verdict_at}
+use Rattle.service_model.specs.Cancels.{cancel_found, cancel_open, is_client, is_same_or_absent, request_cancel, terminate, terminate_at}
 use Rattle.service_model.specs.Completion.{Judged, judge_all}
 use Rattle.service_model.specs.Counts.{acknowledge, acknowledgement_of, acknowledges, by_acknowledgement, dispatched, next_dispatch, next_transfer}
 use Rattle.service_model.specs.Deadlines.{Due, activity_dues, dues, execution_dues, is_closing_event, pending_rows, retention_dues, run_timeout_dues, scheduled_fields, timer_dues, workflow_task_dues}
-use Rattle.service_model.specs.Deliveries.{accepted_from, answers_pending, asked_before, by_delivery, cancel_external, close_by, close_child, comes_from, deliver, delivery_of, effect, is_child_of, external_class, is_for_shard, is_new, own_run, pending_asked, pending_id, signal_external, start_child}
+use Rattle.service_model.specs.Deliveries.{accepted_from, answers_pending, asked_before, by_delivery, cancel_external, close_by_policy, close_child, comes_from, deliver, delivery_of, effect, is_child_of, external_class, is_for_shard, is_new, own_run, pending_asked, pending_id, signal_external, start_child}
 use Rattle.service_model.specs.IdPolicy.{Decision, New, Same, Existing, TerminateThenNew, Refused, decide}
 use Rattle.service_model.specs.Journal.{first_some, latest}
 use Rattle.service_model.specs.Outcome.{Outcome, Added, Counting, CountsDispatch, AcknowledgesTo, Runs, has_run, if_some, keep_open, latest_run, named_run, next_ordinal, on_shard, open_run, run_at, run_id}
@@ -177,7 +177,7 @@ request_cancel-adds R q = here R q.workflow_id _ (at (open_run R q.workflow_id q
     opened n None there = fine there
     opened n (Some r) there = either (is_client r.by_whom && is_same_or_absent q.request_id r.request_id) (fine tt) (fine tt)
 
-    at : (n : Option ℕ) → open_run R q.workflow_id q.run ≡ n → AddsThere R (cancel_at R q n)
+    at : (n : Option ℕ) → open_run R q.workflow_id q.run ≡ n → AddsThere R (cancel_found R q n)
     at None is = fine tt
     at (Some n) is = opened n _ (kept-there R _ n is)
 
@@ -257,7 +257,7 @@ cancel_activity-adds : (R : Runs) (q : ActivityText) → AddsThere R (cancel_act
 unfolding cancel_activity
 cancel_activity-adds R q = at (running_attempt R q.task) refl
   where
-    at : (r : Option ActivityRow) → running_attempt R q.task ≡ r → AddsThere R (cancel_attempt R q r)
+    at : (r : Option ActivityRow) → running_attempt R q.task ≡ r → AddsThere R (cancel_running R q r)
     at None is = fine tt
     at (Some r) is = either r.cancel_requested (fine (attempt-there R q.task r is)) (fine tt)
 
@@ -405,7 +405,7 @@ child-adds R t c = either (knows_queue R.setup c.task_queue && is_new (decide (o
 close-adds : (R : Runs) (t : Transfer) (c : CloseChildContent) (o : Option ℕ) → AddsThere R (close_child R t c (keep_open R o))
 close-adds R t c o = at (keep_open R o) refl
   where
-    by_policy : (n : ℕ) → is_there (run_at R n) ≡ true → (p : ParentClosePolicy) → AddsThere R (close_by R t n p)
+    by_policy : (n : ℕ) → is_there (run_at R n) ≡ true → (p : ParentClosePolicy) → AddsThere R (close_by_policy R t n p)
     by_policy n there policy.Terminate = fine there
     by_policy n there policy.RequestCancel = either (asked_before (run_at R n)) (fine tt) (fine there)
     by_policy n there policy.Abandon = fine tt

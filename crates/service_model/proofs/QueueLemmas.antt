@@ -60,12 +60,12 @@ use Rattle.service_model_types.specs.declared.transfer.Transfer.{Transfer}
 use Rattle.service_model_types.specs.declared.transfer.TransferContent.{TransferContent}
 use Rattle.service_model_types.specs.declared.transfer.TransferContent.TheVariants as content
 use Rattle.wf_event_values.specs.Run.{Run}
-use Rattle.service_model.specs.Activities.{attempt_started, beat_at, by_verdict, cancel_activity, cancel_at as cancel_attempt, complete_activity, complete_at, ends_activity, fail_activity, fail_at, fail_fields, heartbeat, running_attempt, verdict_at}
-use Rattle.service_model.specs.Cancels.{cancel_at, cancel_open, is_client, is_same_or_absent, request_cancel, terminate, terminate_at}
+use Rattle.service_model.specs.Activities.{attempt_started, beat_at, by_verdict, cancel_activity, cancel_running, complete_activity, complete_at, ends_activity, fail_activity, fail_at, fail_fields, heartbeat, running_attempt, verdict_at}
+use Rattle.service_model.specs.Cancels.{cancel_found, cancel_open, is_client, is_same_or_absent, request_cancel, terminate, terminate_at}
 use Rattle.service_model.specs.Completion.{Judged, is_running_phase, after_check, cancel_facts, cancel_timer, gives, cancels_at_once, completed_task, failed_task, go_on, goes_on, in_use_named, is_full, judge, judge_all, judge_fields_good}
 use Rattle.service_model.specs.Counts.{acknowledge, acknowledgement_of, acknowledges, by_acknowledgement, dispatched, next_dispatch, next_transfer}
 use Rattle.service_model.specs.Deadlines.{scheduled_fields}
-use Rattle.service_model.specs.Deliveries.{accepted_from, answers_pending, asked_before, by_delivery, cancel_external, child_closed_event, close_by, close_child, comes_from, deliver, delivery_of, effect, external_event, is_child_of, is_for_shard, signal_external, start_child}
+use Rattle.service_model.specs.Deliveries.{accepted_from, answers_pending, asked_before, by_delivery, cancel_external, child_closed_event, close_by_policy, close_child, comes_from, deliver, delivery_of, effect, external_event, is_child_of, is_for_shard, signal_external, start_child}
 use Rattle.service_model.specs.IdPolicy.{Decision, New, Same, Existing, TerminateThenNew, Refused}
 use Rattle.service_model.specs.Journal.{first_some, latest, plain}
 use Rattle.service_model.specs.Outcome.{Outcome, Added, Counting, CountsDispatch, AcknowledgesTo, Runs, has_run, is_no_task, made_by, named_run, on_shard, open_run, outside, run_at, schedule_task}
@@ -184,7 +184,7 @@ request_cancel-names R q all = here R q.workflow_id _ (at (open_run R q.workflow
     opened n None = names (λ there. outside-one R.setup (run_at R n) (made_by q.request_id (WorkflowExecutionCancelRequested Client)) (all n there) tt) tt
     opened n (Some r) = either (is_client r.by_whom && is_same_or_absent q.request_id r.request_id) (names tt tt) (names tt tt)
 
-    at : (n : Option ℕ) → Names R (cancel_at R q n)
+    at : (n : Option ℕ) → Names R (cancel_found R q n)
     at None = names tt tt
     at (Some n) = opened n (run_at R n).cancel_request
 
@@ -381,7 +381,7 @@ cancel_activity-names : (R : Runs) (q : ActivityText) → AllHaveQueues R → Na
 unfolding cancel_activity
 cancel_activity-names R q all = at (running_attempt R q.task)
   where
-    at : (r : Option ActivityRow) → Names R (cancel_attempt R q r)
+    at : (r : Option ActivityRow) → Names R (cancel_running R q r)
     at None = names tt tt
     at (Some r) = either r.cancel_requested (names (λ there. ends-known R.setup (run_at R q.task.run) r (ActivityTaskCanceled (record { scheduled = q.task.event; details = q.text })) (all q.task.run there) tt) tt) (names tt tt)
 
@@ -505,7 +505,7 @@ close-names : (R : Runs) (t : Transfer) (c : CloseChildContent) (n : Option ℕ)
 close-names R t c None all = names tt tt
 close-names R t c (Some n) all = either (is_child_of c.parent_run c.initiated (parent_of (run_at R n))) (by_policy c.policy) (names tt tt)
   where
-    by_policy : (p : ParentClosePolicy) → Names R (close_by R t n p)
+    by_policy : (p : ParentClosePolicy) → Names R (close_by_policy R t n p)
     by_policy policy.Terminate = names (λ there. (tt, tt)) tt
     by_policy policy.RequestCancel = either (asked_before (run_at R n)) (names tt tt) (names (λ there. outside-one R.setup (run_at R n) (plain (WorkflowExecutionCancelRequested ByParent)) (all n there) tt) tt)
     by_policy policy.Abandon = names tt tt

@@ -47,12 +47,12 @@ use Rattle.service_model_types.specs.declared.transfer.Sent.{Sent}
 use Rattle.service_model_types.specs.declared.transfer.Transfer.{Transfer}
 use Rattle.service_model_types.specs.declared.transfer.TransferContent.{TransferContent}
 use Rattle.service_model_types.specs.declared.transfer.TransferContent.TheVariants as content
-use Rattle.service_model.specs.Activities.{beat_at, by_verdict, cancel_activity, cancel_at as cancel_attempt, complete_activity, complete_at, fail_activity, fail_at, fail_fields, heartbeat, running_attempt, verdict_at}
-use Rattle.service_model.specs.Cancels.{cancel_at, cancel_open, is_client, is_same_or_absent, request_cancel, terminate, terminate_at}
+use Rattle.service_model.specs.Activities.{beat_at, by_verdict, cancel_activity, cancel_running, complete_activity, complete_at, fail_activity, fail_at, fail_fields, heartbeat, running_attempt, verdict_at}
+use Rattle.service_model.specs.Cancels.{cancel_found, cancel_open, is_client, is_same_or_absent, request_cancel, terminate, terminate_at}
 use Rattle.service_model.specs.Completion.{Judged, judge_all}
 use Rattle.service_model.specs.Deadlines.{scheduled_fields}
 use Rattle.service_model.specs.Counts.{acknowledge, acknowledgement_of, acknowledges, by_acknowledgement, dispatched, next_dispatch, next_transfer, outgoing_to}
-use Rattle.service_model.specs.Deliveries.{accepted_from, answers_pending, asked_before, by_delivery, cancel_external, close_by, close_child, comes_from, deliver, delivery_of, effect, is_child_of, is_for_shard, is_new, signal_external}
+use Rattle.service_model.specs.Deliveries.{accepted_from, answers_pending, asked_before, by_delivery, cancel_external, close_by_policy, close_child, comes_from, deliver, delivery_of, effect, is_child_of, is_for_shard, is_new, signal_external}
 use Rattle.service_model.specs.IdPolicy.{Decision, New, Same, Existing, TerminateThenNew, Refused, decide}
 use Rattle.service_model.specs.Outcome.{Outcome, Runs, Counting, CountsNothing, AcceptsFrom, AcknowledgesTo, CountsDispatch, has_run, latest_run, named_run, next_ordinal, on_shard, open_run, refused, run_at, run_id}
 use Rattle.service_model_types.specs.Routing.{knows_queue, shard_of}
@@ -123,7 +123,7 @@ request_cancel-quiet R q = here-quiet R q.workflow_id _ (at (open_run R q.workfl
     opened n None = moves refl
     opened n (Some r) = either (is_client r.by_whom && is_same_or_absent q.request_id r.request_id) (moves refl) (moves refl)
 
-    at : (n : Option ℕ) → Quiet (cancel_at R q n)
+    at : (n : Option ℕ) → Quiet (cancel_found R q n)
     at None = moves refl
     at (Some n) = opened n _
 
@@ -192,7 +192,7 @@ cancel_activity-quiet : (R : Runs) (q : ActivityText) → Quiet (cancel_activity
 unfolding cancel_activity
 cancel_activity-quiet R q = at (running_attempt R q.task)
   where
-    at : (r : Option ActivityRow) → Quiet (cancel_attempt R q r)
+    at : (r : Option ActivityRow) → Quiet (cancel_running R q r)
     at None = moves refl
     at (Some r) = either r.cancel_requested (moves refl) (moves refl)
 
@@ -256,7 +256,7 @@ close-accepts : (R : Runs) (t : Transfer) (c : CloseChildContent) (n : Option �
 close-accepts R t c None = takes refl refl
 close-accepts R t c (Some n) = takes-either (is_child_of c.parent_run c.initiated (parent_of (run_at R n))) (by_policy c.policy) (takes refl refl)
   where
-    by_policy : (p : ParentClosePolicy) → Accepts t (close_by R t n p)
+    by_policy : (p : ParentClosePolicy) → Accepts t (close_by_policy R t n p)
     by_policy policy.Terminate = takes refl refl
     by_policy policy.RequestCancel = takes-either (asked_before (run_at R n)) (takes refl refl) (takes refl refl)
     by_policy policy.Abandon = takes refl refl

@@ -12,7 +12,7 @@ use Rattle.service_model.specs.Counts.{outgoing_to}
 use Rattle.service_model.specs.Deliveries.{accepted_from}
 use Rattle.service_model.specs.Service.{Entry, after, opening, replay}
 use Rattle.service_model.specs.TransferLaws.{AcceptsNext}
-use Rattle.service_model.specs.WholeRuns.{Whole, on, content_at, Holds, Accepted, Grounded, delivered, accepts, all_accepted, Starts, TransfersInOrder}
+use Rattle.service_model.specs.WholeRuns.{Whole, on, content_at, Holds, Accepted, Grounded, delivered, accepted_in, all_accepted, Starts, TransfersInOrder}
 use Rattle.service_model.proofs.TransferLemmas.{accepts-step, CountsNext, counts-step, issued-more}
 
 abbrev Ts : Type 0
@@ -85,9 +85,9 @@ fold-more : (S : Content) (R : List Entry) (e : Entry) → fold (λ T (x : Entry
 fold-more S [] e = refl
 fold-more S (x ∷ R) e = fold-more (after S x.request) R e
 
-accepted-more : (S : Content) (from : ℕ) (R : List Entry) (e : Entry) → all_accepted S from (R ++ e ∷ []) ≡ all_accepted S from R ++ accepts (fold (λ T (x : Entry). after T x.request) S R) from e.request
-accepted-more S from [] e = append-nil (accepts S from e.request)
-accepted-more S from (x ∷ R) e = ap (λ (l : Ts). accepts S from x.request ++ l) (accepted-more (after S x.request) from R e) ∙ sym (append_assoc (accepts S from x.request) (all_accepted (after S x.request) from R) (accepts (fold (λ T (y : Entry). after T y.request) (after S x.request) R) from e.request))
+accepted-more : (S : Content) (from : ℕ) (R : List Entry) (e : Entry) → all_accepted S from (R ++ e ∷ []) ≡ all_accepted S from R ++ accepted_in (fold (λ T (x : Entry). after T x.request) S R) from e.request
+accepted-more S from [] e = append-nil (accepted_in S from e.request)
+accepted-more S from (x ∷ R) e = ap (λ (l : Ts). accepted_in S from x.request ++ l) (accepted-more (after S x.request) from R e) ∙ sym (append_assoc (accepted_in S from x.request) (all_accepted (after S x.request) from R) (accepted_in (fold (λ T (y : Entry). after T y.request) (after S x.request) R) from e.request))
 
 nothing-issued : (n to : ℕ) → outgoing_to (replicate n (record { issued = []; acknowledged = 0 })) to ≡ record { issued = []; acknowledged = 0 }
 nothing-issued zero to = refl
@@ -150,7 +150,7 @@ module _ (setups : ℕ → Setup) where
         S : Content
         S = At W s
 
-        more : got W' from s ≡ got W from s ++ accepts (At W s) from e.request
+        more : got W' from s ≡ got W from s ++ accepted_in (At W s) from e.request
         more = ap (all_accepted (opening (setups s)) from) (on-here s e W) ∙ accepted-more (opening (setups s)) from (on s W) e
 
         count : counted W' from s ≡ accepted_from (after (At W s) e.request).accepted from

@@ -44,19 +44,19 @@ abbrev pub IsWhole : (ℕ → Setup) → Whole → Type 0
 IsWhole setups W =
     (front rest : Whole) (s : ℕ) (e : Entry) → W ≡ front ++ (s, e) ∷ rest → Grounded (content_at setups front) s e.request.operation
 
--- what a step accepts of a source: nothing where its count stays, else what it delivers
+-- what a step accepted_in of a source: nothing where its count stays, else what it delivers
 abbrev pub delivered : Bool → Operation → List TransferContent
 delivered true a = []
 delivered false (operation.Deliver t) = t.content ∷ []
 delivered false _ = []
 
-abbrev pub accepts : Content → ℕ → Request → List TransferContent
-accepts S from q = delivered (accepted_from (after S q).accepted from == accepted_from S.accepted from) q.operation
+abbrev pub accepted_in : Content → ℕ → Request → List TransferContent
+accepted_in S from q = delivered (accepted_from (after S q).accepted from == accepted_from S.accepted from) q.operation
 
 -- the transfers that a record has accepted of a source, in order
 abbrev pub all_accepted : Content → ℕ → List Entry → List TransferContent
 all_accepted S from [] = []
-all_accepted S from (e ∷ es) = accepts S from e.request ++ all_accepted (after S e.request) from es
+all_accepted S from (e ∷ es) = accepted_in S from e.request ++ all_accepted (after S e.request) from es
 
 abbrev pub Starts : List TransferContent → List TransferContent → Type 0
 Starts xs ys = (rest : List TransferContent) × (ys ≡ xs ++ rest)

@@ -1,6 +1,5 @@
 //! What was answered, in a word.
 
-use service::Turned;
 use service_model_types::answer::{Answer, Reply};
 use service_model_types::request::Hint;
 use std::alloc::AllocError;
@@ -57,13 +56,12 @@ pub(crate) fn polled(came: Result<Option<Reply>, (AllocError, Hint)>) -> &'stati
 }
 
 /// What came of a dispatch turn, and the dispatch's number where it was counted.
-pub(crate) fn turned(came: Result<Turned, AllocError>) -> (&'static str, u64) {
+pub(crate) fn turned(came: Result<Reply, AllocError>) -> (&'static str, u64) {
     match &came {
-        Ok(Turned::First(reply)) => (replied(reply), 0),
-        Ok(Turned::Taken(_)) => ("taken", 0),
-        Ok(Turned::Unpushed(refusal)) => (refusal.name(), 0),
-        Ok(Turned::Pushed(_)) => ("pushed", 0),
-        Ok(Turned::Dispatched(number)) => ("dispatched", *number),
+        Ok(Ok(Answer::Taken(_))) => ("taken", 0),
+        Ok(Ok(Answer::Pushed(_))) => ("pushed", 0),
+        Ok(Ok(Answer::Dispatched(number))) => ("dispatched", *number),
+        Ok(reply) => (replied(reply), 0),
         Err(_) => ("no answer", 0),
     }
 }

@@ -5,7 +5,7 @@
 //! children.
 
 ghost use Rattle.std.specs.Prelude.{◌≡◌, ◌<◌, IfOk, length, true};
-ghost use Rattle.service_model.specs.Deliveries.{asked_before, close_by, effect, is_child_of};
+ghost use Rattle.service_model.specs.Deliveries.{asked_before, close_by_policy, effect, is_child_of};
 ghost use Rattle.service_model.specs.RunState.{is_open, parent_of, is_there};
 ghost use Rattle.service_model_types.specs.declared.transfer.TransferContent.TheVariants as content;
 ghost use Rattle.shard_store.specs.Fitting.{FitsStep};
@@ -71,7 +71,7 @@ fn terminate_child<T: KeepsRun>(
     requires open { is_open (run_in store.old index) ≡ true }
     ensures same { state store.new ≡ state store.old }
     ensures plan { IfOk result (λ plan. FitsStep store.new plan moment
-        (close_by (runs_at store.old moment) transfer.now (ordinal_of index)
+        (close_by_policy (runs_at store.old moment) transfer.now (ordinal_of index)
         ParentClosePolicy.Terminate)) }
 {
     let reason = parent_reason(store.alloc())?;
@@ -92,7 +92,7 @@ fn ask_child_to_cancel<T: KeepsRun>(
     requires open { is_open (run_in store.old index) ≡ true }
     ensures same { state store.new ≡ state store.old }
     ensures plan { IfOk result (λ plan. FitsStep store.new plan moment
-        (close_by (runs_at store.old moment) transfer.now (ordinal_of index)
+        (close_by_policy (runs_at store.old moment) transfer.now (ordinal_of index)
         ParentClosePolicy.RequestCancel)) }
 {
     if is_asked(store.run(index))? {

@@ -4,7 +4,7 @@
 //! asks of one, and the shard, which knows no pass and no call.
 #![tactic(auto)]
 
-pub use service::{Closed, Refused, Turned};
+pub use service::{Closed, Refused};
 
 /// A shard, whose runs are kept by tables.
 pub type Shard = shard::Shard<mutable_state::Run>;
