@@ -17,8 +17,9 @@ use Rattle.service_model.specs.Tasks.{pending_row, is_started_task}
 use Rattle.buffered.specs.Buffers.{Buffer, event_at}
 use Rattle.mutable_state.specs.declared.open.Open.{Open}
 use Rattle.mutable_state.specs.declared.task.WorkflowTask.{WorkflowTask}
-use Rattle.mutable_state.specs.Activities.{is_activity, pending_at, kept_activity, noted_activity, noted_activities, activity_at}
+use Rattle.mutable_state.specs.Activities.{is_activity, noted_activity, noted_activities, activity_at}
 use Rattle.mutable_state.specs.Noted.{kept_row}
+use Rattle.mutable_state.specs.PendingRows.{OpenedThing, pending_at, kept_pending}
 use Rattle.mutable_state.specs.Opens.{MayAddTo, MayNote, is_of, activity_of, opened_at, row_at, rows_in, open_with, marked, unmarked, added, without, AgreesWith}
 use Rattle.mutable_state.specs.Steps.{IsNotLast, MayEnd, carried, comes_last}
 use Rattle.mutable_state.specs.RunView.{state_in}
@@ -57,8 +58,12 @@ find-row id es (o ∷ os) h = by_class (is_of Activity o) refl (event_at o.opene
         let other : is_activity id o ≡ false = ap (λ t. t && (o.opener.event == id)) (eq-back (class_number o.opener.class) (class_number Activity) ∙ is) in
         subst Goal (sym gone) (again ∙ ap (λ b. option_and_then (row_at es) (cond b (Some o) (find (is_activity id) os))) (sym other))
 
+-- what is pending of what this activity is, as its row
+abbrev row_in : OpenedThing → ActivityRow
+row_in v = kept_row v.notes v.event
+
 pub pending-activity : (b : Buffer) (request : Option (List ℕ)) (cancel : Option CancelRequest) (status : Status) (t : WorkflowTask) (keys : List (List ℕ)) (os : List Open) (id : ℕ) → AgreesWith b os →
-    kept_activity b.events os id ≡ pending_row (state_in b request cancel status t keys os) id
+    option_map row_in (kept_pending b.events os (activity_of id)) ≡ pending_row (state_in b request cancel status t keys os) id
 pending-activity b request cancel status t keys os id h =
     by_find (find (is_activity id) os) refl
     ∙ ap (cond (is_settled Activity id (carried b.held)) None) (sym (find-row id b.events os h.there))
@@ -70,14 +75,20 @@ pending-activity b request cancel status t keys os id h =
     none true = refl
     none false = refl
 
-    by_find : (f : Option Open) → find (is_activity id) os ≡ f → option_and_then (pending_at b.events id) f ≡ cond (is_settled Activity id (carried b.held)) None (option_and_then (row_at b.events) f)
+    inside : (o : Open) (t : Bool) (q : Option Event) → option_map row_in (cond t None (option_map (λ (e : Event). record { event = e; notes = o.notes }) q)) ≡ cond t None (option_map (kept_row o.notes) q)
+    inside o true q = refl
+    inside o false None = refl
+    inside o false (Some e) = refl
+
+    by_find : (f : Option Open) → find (is_activity id) os ≡ f → option_map row_in (option_and_then (pending_at b.events id) f) ≡ cond (is_settled Activity id (carried b.held)) None (option_and_then (row_at b.events) f)
     by_find None is = none (is_settled Activity id (carried b.held))
     by_find (Some o) is =
         let f = find-passes Mark (is_activity id) os o h.marks is in
         let s = same-as o.opener.class o.opener.event (activity_of id) f.1 in
         let mark : o.is_settled ≡ is_settled Activity id (carried b.held) = f.0 ∙ ap (λ c. is_settled c o.opener.event (carried b.held)) s.class_is ∙ ap (λ n. is_settled Activity n (carried b.held)) s.id_is in
         let of_class : is_of Activity o ≡ true = ap (λ c. class_number Activity == class_number c) s.class_is in
-        ap (λ t. cond t None (option_map (kept_row o.notes) (event_at id b.events))) mark
+        inside o o.is_settled (event_at id b.events)
+        ∙ ap (λ t. cond t None (option_map (kept_row o.notes) (event_at id b.events))) mark
         ∙ ap (λ q. cond (is_settled Activity id (carried b.held)) None (option_map (kept_row o.notes) q))
         (ap (λ n. event_at n b.events) (sym s.id_is) ∙ sym (ap (λ t. cond t (event_at o.opener.event b.events) None) of_class))
 
@@ -134,10 +145,6 @@ rows-after t a status n os opened closed = rows-closing t a n os (closing-is a �
     by_status : (o : Option Status) → is_open_status (unwrap_or o status) ≡ false → closes_by o ≡ true
     by_status None h = absurd (cc (opened, h))
     by_status (Some k) h = ap not h
-
--- a run that has closed has no activity
-pub none-closed : (b : Buffer) (request : Option (List ℕ)) (cancel : Option CancelRequest) (status : Status) (t : WorkflowTask) (keys : List (List ℕ)) (os : List Open) → os ≡ [] → (state_in b request cancel status t keys os).activities ≡ []
-none-closed b request cancel status t keys os h = ap (λ l. rows_in l b.events) h
 
 -- what is noted of the activities in use
 noted-rows : (es : List Event) (os : List Open) → filter_map (activity_at es) os ≡ map noted_activity (rows_in os es)

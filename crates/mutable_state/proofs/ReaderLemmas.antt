@@ -9,14 +9,13 @@ use Rattle.wf_event.specs.declared.event.Event.{Event}
 use Rattle.wf_event.specs.declared.role.Class.{Class}
 use Rattle.wf_event_values.specs.declared.policies.Status.{Status}
 use Rattle.service_model_types.specs.declared.journal.CancelRequest.{CancelRequest}
-use Rattle.service_model_types.specs.declared.journal.NewEvent.{NewEvent}
 use Rattle.service_model.specs.Pending.{is_settled}
 use Rattle.buffered.specs.Buffers.{Buffer}
 use Rattle.mutable_state.specs.declared.open.Open.{Open}
 use Rattle.mutable_state.specs.declared.task.WorkflowTask.{WorkflowTask}
 use Rattle.mutable_state.specs.Formed.{IsFromOutside, IdsTo}
 use Rattle.mutable_state.specs.Opens.{event_at, is_of, used_in, AgreesWith}
-use Rattle.mutable_state.specs.Readers.{UsedRow, name_of, used_row, used_at, used_rows, fired_timer, IsGrounded}
+use Rattle.mutable_state.specs.Readers.{UsedRow, name_of, used_row, used_at, used_rows, IsGrounded}
 use Rattle.mutable_state.specs.Steps.{carried}
 use Rattle.mutable_state.specs.RunView.{state_in}
 use Rattle.mutable_state.proofs.KeptLemmas.{Opened, opened-is, used-state, all-used}
@@ -49,10 +48,6 @@ pub rows-are : (c : Class) (b : Buffer) (request : Option (List ℕ)) (cancel : 
 rows-are c b request cancel status t keys os agrees =
     let s = state_in b request cancel status t keys os in
     rows-in c b os agrees.marks ∙ ap (map (used_row c s)) (sym (used-state b request cancel status t keys os c))
-
-pub firings-are : (held : List NewEvent) → map (λ (e : NewEvent). fired_timer e.attributes) held ≡ map fired_timer (map (λ (e : NewEvent). e.attributes) held)
-firings-are [] = refl
-firings-are (e ∷ held) = ap (λ l. fired_timer e.attributes ∷ l) (firings-are held)
 
 pub is-grounded : (b : Buffer) (request : Option (List ℕ)) (cancel : Option CancelRequest) (status : Status) (t : WorkflowTask) (keys : List (List ℕ)) (os : List Open) → AgreesWith b os → AllByRecursion IsFromOutside b.held → IsGrounded (state_in b request cancel status t keys os)
 is-grounded b request cancel status t keys os agrees outside = record {

@@ -1,5 +1,5 @@
 -- PROOF: the activities of a run as they are asked for
-use Rattle.std.specs.Prelude.{◌≡◌, ℕ, Bool, false, if◌then◌else◌, List, [], filter_map, find, map, Option, None, option_map, option_and_then}
+use Rattle.std.specs.Prelude.{◌≡◌, ℕ, Bool, false, List, [], filter_map, map, Option, option_map}
 use Rattle.wf_event.specs.declared.event.Event.{Event}
 use Rattle.service_model.specs.Completion.{is_running_phase}
 use Rattle.service_model.specs.RunState.{RunState, ActivityRow, is_open}
@@ -7,7 +7,7 @@ use Rattle.mutable_state.specs.declared.activity.Activity.{Activity}
 use Rattle.mutable_state.specs.declared.activity.NotedActivity.{NotedActivity}
 use Rattle.mutable_state.specs.declared.open.Open.{Open}
 use Rattle.mutable_state.specs.Noted.{kept_row}
-use Rattle.mutable_state.specs.Opens.{event_at, activity_of, is_one, row_at}
+use Rattle.mutable_state.specs.Opens.{activity_of, is_one, row_at}
 
 -- the row of an activity that is in use
 abbrev pub row_said : Activity → ActivityRow
@@ -15,14 +15,6 @@ row_said a = kept_row a.notes a.scheduled
 
 abbrev pub is_activity : ℕ → Open → Bool
 is_activity id o = is_one (activity_of id) o
-
--- that of a thing that is kept, where no event that settles it is held back
-abbrev pub pending_at : List Event → ℕ → Open → Option ActivityRow
-pending_at es id o = if o.is_settled then None else option_map (kept_row o.notes) (event_at id es)
-
--- the row of the activity that this event scheduled, by what is kept
-abbrev pub kept_activity : List Event → List Open → ℕ → Option ActivityRow
-kept_activity es os id = option_and_then (pending_at es id) (find (is_activity id) os)
 
 -- what its row says of an activity in use where commands are judged
 abbrev pub noted_activity : ActivityRow → NotedActivity

@@ -1,14 +1,13 @@
 //! The activities of a run, as they are asked for.
 
-ghost use Rattle.std.specs.Prelude.{◌≡◌, filter_map, option_map, IfOk, OnOk};
-ghost use Rattle.service_model.specs.Tasks.{pending_row};
-ghost use Rattle.mutable_state.specs.Activities.{row_said, kept_activity, noted_activity, noted_activities, noted_among, activity_at, HasNoActivityClosed};
+ghost use Rattle.std.specs.Prelude.{◌≡◌, filter_map, IfOk};
+ghost use Rattle.mutable_state.specs.Activities.{noted_activity, noted_activities, noted_among, activity_at};
 ghost use Rattle.mutable_state.specs.Noted.{kept_row};
 ghost use Rattle.mutable_state.specs.Rows.{activity_in};
 
 use crate::in_use::InUse;
 use crate::notes::Notes;
-use crate::open::{Open, activity_of};
+use crate::open::Open;
 use crate::rows::Row;
 use crate::run::Run;
 use crate::table::Table;
@@ -55,16 +54,6 @@ impl NotedActivity {
 }
 
 impl Run {
-    /// The pending activity that this event scheduled.
-    pub fn pending_activity(&self, id: u64) -> Result<Option<Activity>, AllocError>
-        ensures found { IfOk result (λ found. option_map row_said found
-            ≡ pending_row self.now.state id) }
-        ensures closed { OnOk result (HasNoActivityClosed self.now.state) }
-    {
-        let found = kept_activity(&self.in_use, &self.history, id)?;
-        Ok(found)
-    }
-
     /// What is noted of the activities in use, in the order in which they were scheduled.
     pub fn noted_activities(&self, alloc: Global) -> Result<Vec<NotedActivity>, AllocError>
         ensures { IfOk result (λ noted. noted.items ≡ noted_activities self.now.state) }
@@ -140,25 +129,4 @@ fn activity_at(row: &Open, history: &History) -> Option<NotedActivity>
     }
     let event = history.event(row.opener.event)?;
     Some(NotedActivity::of(event, &row.notes))
-}
-
-/// The activity that this event scheduled, where it is kept and no event that settles it is held
-/// back.
-fn kept_activity(in_use: &InUse, history: &History, id: u64) -> Result<Option<Activity>, AllocError>
-    ensures { IfOk result (λ found. option_map row_said found
-        ≡ kept_activity history.now.lists.events in_use.now.rows id) }
-{
-    let Some(row) = in_use.find(activity_of(id)) else {
-        return Ok(None);
-    };
-    if row.is_settled {
-        return Ok(None);
-    }
-    let Some(event) = history.event(id) else {
-        return Ok(None);
-    };
-    Ok(Some(Activity {
-        scheduled: event.clone()?,
-        notes: row.notes.copy()?,
-    }))
 }

@@ -4,12 +4,11 @@
 //! TimerRows, RetentionRows. Cases: timer_turns, activity_timeouts, retention.
 
 ghost use Rattle.std.specs.Prelude.{◌≡◌, find, option_and_then, option_copied, option_map};
-ghost use Rattle.timeouts.specs.Firsts.{first_of, first_due, HasTimer};
+ghost use Rattle.timeouts.specs.Firsts.{first_of, first_due};
 ghost use Rattle.timeouts.specs.Slots.{run_due};
 ghost use Rattle.service_model.specs.Deadlines.{timer_dues, activity_dues, by_phase, deadline_dues, is_closing_event, retention_dues};
 ghost use Rattle.service_model.specs.Pending.{IsQueued, IsRunning, IsWaiting};
 ghost use Rattle.mutable_state.specs.Noted.{kept_row};
-ghost use Rattle.service_model.specs.TimerTurns.{timer_name};
 ghost use Rattle.mutable_state.specs.Readers.{started_timer};
 ghost use Rattle.mutable_state.specs.Rows.{NamedBy};
 ghost use Rattle.mutable_state.specs.Filed.{IsOfEvent, with_run};
@@ -37,7 +36,7 @@ impl Run {
     {
         let begun = self.history.first().unwrap().at;
         if !self.is_open() {
-            return retention_due(retention, &self.events(), ordinal);
+            return retention_due(retention, &self.history.events(), ordinal);
         }
         let own = first_own_due(begun, self.started(), self.task, ordinal);
         first_of_two(own, of_run(self.in_use.first_due(), ordinal))
@@ -234,19 +233,6 @@ fn waiting_due(
         class: DeadlineClass::RetryReady,
         event: event.id,
     })
-}
-
-impl Run {
-    /// The id that the worker gave to the pending timer that this event started.
-    pub fn timer_id(&self, started: u64) -> &Id
-        requires { HasTimer self.now.state started }
-        ensures { result.now ≡ timer_name self.now.state started }
-    {
-        match started_timer(self.history.event(started)) {
-            Some(id) => id,
-            None => unreachable!(),
-        }
-    }
 }
 
 /// The id that the worker gave to the timer that an event starts, if it starts one.

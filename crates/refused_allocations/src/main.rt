@@ -22,12 +22,14 @@ use crate::reopen::check_reopened;
 use crate::story::{Fault, Story, Where};
 use case_files::{Case, Step, cases_of};
 use script_settings::settings_of;
+use service::KeepsShard;
 use std::alloc::Global;
 use std::io;
 use std::process::ExitCode;
 use std::rt::{Env, Files};
 use std::sync::Wait;
 use wf_event_values::Refusal;
+use workflow_service::Shard;
 
 /// The story of a case, or nothing where its command line asks for more than one script read from
 /// standard input by one lane.
@@ -60,7 +62,10 @@ fn story_of<'a>(alloc: Global, case: &'a Case<'a>) -> Result<Option<Story<'a>>, 
 }
 
 /// Opens the service of a story, and once more where memory was refused.
-fn open_for<R: AllocGlobal + Wait>(rt: &R, story: &mut Story) -> Result<Opened, Fault> {
+fn open_for<S: KeepsShard, R: AllocGlobal + Wait>(
+    rt: &R,
+    story: &mut Story,
+) -> Result<Opened<S>, Fault> {
     let alloc = rt.alloc();
     match Opened::open(alloc, &story.settings, Vec::new(alloc)) {
         Ok(opened) => Ok(opened),
@@ -76,8 +81,8 @@ fn open_for<R: AllocGlobal + Wait>(rt: &R, story: &mut Story) -> Result<Opened, 
 }
 
 /// Serves a story to its end.
-fn serve<R: AllocGlobal + Wait>(rt: &R, story: &mut Story) -> Result<(), Fault> {
-    let mut opened = open_for(rt, story)?;
+fn serve<S: KeepsShard, R: AllocGlobal + Wait>(rt: &R, story: &mut Story) -> Result<(), Fault> {
+    let mut opened = open_for::<S, R>(rt, story)?;
     let mut answered = 0;
     for place in 0..story.steps.len() {
         answered = story.serve_at(rt, &mut opened, place, answered)?;
@@ -100,7 +105,7 @@ fn passes<R: Print + AllocGlobal + Wait>(rt: &R, file: &str, case: &Case) -> io:
         println!(rt; "{file}: {name}: can't be run")?;
         return Ok(false);
     };
-    match serve(rt, &mut story) {
+    match serve::<Shard, R>(rt, &mut story) {
         Ok(()) => {
             let refused = story.refused.name();
             println!(rt; "{file}: {name}: ok, refused {refused}")?;

@@ -3,6 +3,7 @@
 ghost use Rattle.std.specs.Prelude.{◌≡◌, ◌+◌, ◌<◌, ℕ, Some, length, slice_get};
 ghost use Rattle.service.specs.Services.{IsPassOf};
 
+use service::{KeepsShard, Pass, Service};
 use service_model_types::answer::{Answer, Reply};
 use service_model_types::call::{Call, Poll, StartTask, StepCall};
 use service_model_types::client::{ClientRequest, is_clients};
@@ -12,7 +13,6 @@ use std::alloc::{AllocError, Global};
 use std::sync::Wait;
 use step_record::Record;
 use wf_event_values::{Moment, Refusal, TaskKind};
-use workflow_service::{Pass, Service};
 
 /// What a call that was refused memory leaves its caller with.
 #[derive(Drop)]
@@ -27,21 +27,21 @@ pub(crate) enum Refused {
 
 /// A service with two passes of it.
 #[derive(Drop)]
-pub(crate) struct Opened {
-    service: Service,
-    first: Pass,
-    second: Pass,
+pub(crate) struct Opened<S: KeepsShard> {
+    service: Service<S>,
+    first: Pass<S>,
+    second: Pass<S>,
     ghost first_own: { IsPassOf first service },
     ghost second_own: { IsPassOf second service },
 }
 
-impl Opened {
+impl<S: KeepsShard> Opened<S> {
     /// Opens a service with two passes, which goes on from such records.
     pub(crate) fn open(
         alloc: Global,
         settings: &Settings,
         records: Vec<Record<Request>>,
-    ) -> Result<Opened, Refusal> {
+    ) -> Result<Opened<S>, Refusal> {
         let mut settings = settings.copy(alloc)?;
         settings.passes = 2;
         let (service, mut passes) = Service::open(alloc, &settings, records)?;
@@ -75,7 +75,7 @@ impl Opened {
 }
 
 /// Takes the last pass.
-fn take_pass(service: &Service, passes: &mut Vec<Pass>) -> Pass
+fn take_pass<S: KeepsShard>(service: &Service<S>, passes: &mut Vec<Pass<S>>) -> Pass<S>
     requires some { 0 < length passes.old.items }
     requires own { (k : ℕ) (p : _)
         → slice_get passes.old.items k ≡ Some p
@@ -93,7 +93,12 @@ fn take_pass(service: &Service, passes: &mut Vec<Pass>) -> Pass
 }
 
 /// Serves a call, and keeps what comes back where memory was refused.
-fn served<R: Wait>(rt: &R, service: &Service, pass: &mut Pass, call: Call) -> Result<Reply, Refused>
+fn served<S: KeepsShard, R: Wait>(
+    rt: &R,
+    service: &Service<S>,
+    pass: &mut Pass<S>,
+    call: Call,
+) -> Result<Reply, Refused>
     requires { IsPassOf pass.old service.now }
     ensures { IsPassOf pass.new service.now }
 {
@@ -111,10 +116,10 @@ fn served<R: Wait>(rt: &R, service: &Service, pass: &mut Pass, call: Call) -> Re
 }
 
 /// Serves a poll, and keeps the hint that it popped where memory was refused.
-fn polled<R: Wait>(
+fn polled<S: KeepsShard, R: Wait>(
     rt: &R,
-    service: &Service,
-    pass: &mut Pass,
+    service: &Service<S>,
+    pass: &mut Pass<S>,
     poll: &Poll,
 ) -> Result<Reply, Refused>
     requires { IsPassOf pass.old service.now }

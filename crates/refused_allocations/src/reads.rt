@@ -2,6 +2,7 @@
 
 use crate::opened::Opened;
 use crate::story::Fault;
+use service::KeepsShard;
 use service_model_types::settings::Settings;
 use std::alloc::{AllocError, AllocGlobal, Global};
 use std::sync::Wait;
@@ -10,10 +11,10 @@ use wire_replies::reply_text;
 use wire_requests::{Asked, read_line};
 
 /// Puts what a read of a workflow ID is answered behind a text.
-fn push_read<R: AllocGlobal + Wait>(
+fn push_read<S: KeepsShard, R: AllocGlobal + Wait>(
     rt: &R,
     settings: &Settings,
-    opened: &mut Opened,
+    opened: &mut Opened<S>,
     line: &str,
     text: &mut String,
 ) -> Result<(), Fault> {
@@ -30,11 +31,11 @@ fn push_read<R: AllocGlobal + Wait>(
 }
 
 /// The histories and descriptions of these workflow IDs, one behind the other.
-pub(crate) fn reads<R: AllocGlobal + Wait>(
+pub(crate) fn reads<S: KeepsShard, R: AllocGlobal + Wait>(
     rt: &R,
     settings: &Settings,
     ids: &[&str],
-    opened: &mut Opened,
+    opened: &mut Opened<S>,
 ) -> Result<String, Fault> {
     let alloc = rt.alloc();
     let mut text = String::new(alloc);

@@ -5,6 +5,7 @@ use crate::reads::reads;
 use crate::story::{Fault, Story, Where};
 use case_files::Step;
 use script::run_one;
+use service::KeepsShard;
 use service_model_types::request::Request;
 use service_model_types::settings::Settings;
 use std::alloc::{AllocError, AllocGlobal, Global};
@@ -12,7 +13,6 @@ use std::sync::Wait;
 use step_record::Record;
 use wf_event_values::Refusal;
 use wire_counted::Counted;
-use workflow_service::Shard;
 
 /// The lines of a case, or nothing where it has steps that no line asks for.
 fn script_of(alloc: Global, steps: &[Step]) -> Result<Option<Vec<u8>>, AllocError> {
@@ -30,7 +30,7 @@ fn script_of(alloc: Global, steps: &[Step]) -> Result<Option<Vec<u8>>, AllocErro
 }
 
 /// The records that a script leaves.
-fn records_of<R: AllocGlobal + Wait>(
+fn records_of<S: KeepsShard, R: AllocGlobal + Wait>(
     rt: &R,
     settings: &Settings,
     script: &[u8],
@@ -40,7 +40,7 @@ fn records_of<R: AllocGlobal + Wait>(
     }
     let mut reader = Counted::new(script);
     let mut writer = Counted::new(Vec::new(rt.alloc()));
-    match run_one::<Shard, _, _, _>(rt, rt.alloc(), settings, false, &mut reader, &mut writer) {
+    match run_one::<S, _, _, _>(rt, rt.alloc(), settings, false, &mut reader, &mut writer) {
         Ok(outcome) => Ok(outcome.records),
         Err(_) => Err(Fault::Memory),
     }
@@ -48,22 +48,22 @@ fn records_of<R: AllocGlobal + Wait>(
 
 /// Opens a service from the records of a story's lines, once more where memory was refused, and looks
 /// at what it answers.
-pub(crate) fn check_reopened<R: AllocGlobal + Wait>(
+pub(crate) fn check_reopened<S: KeepsShard, R: AllocGlobal + Wait>(
     rt: &R,
     story: &mut Story,
-    opened: &mut Opened,
+    opened: &mut Opened<S>,
 ) -> Result<(), Fault> {
     let alloc = rt.alloc();
     let Some(script) = script_of(alloc, story.steps)? else {
         return Ok(());
     };
-    let records = records_of(rt, &story.settings, &script)?;
-    let mut again = match Opened::open(alloc, &story.settings, records) {
+    let records = records_of::<S, R>(rt, &story.settings, &script)?;
+    let mut again = match Opened::<S>::open(alloc, &story.settings, records) {
         Ok(again) => again,
         Err(Refusal::NoMemory) => {
             story.refused = Where::Reopening;
-            let records = records_of(rt, &story.settings, &script)?;
-            match Opened::open(alloc, &story.settings, records) {
+            let records = records_of::<S, R>(rt, &story.settings, &script)?;
+            match Opened::<S>::open(alloc, &story.settings, records) {
                 Ok(again) => again,
                 Err(_) => return Err(Fault::Differs("it is not opened again", 0)),
             }

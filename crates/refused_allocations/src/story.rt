@@ -4,6 +4,7 @@ use crate::opened::{Opened, Refused};
 use crate::reads::reads;
 use case_files::{Case, Step};
 use script::LINE_LIMIT;
+use service::KeepsShard;
 use service_model_types::answer::{Answer, Reply};
 use service_model_types::call::{Call, StartTask, StepCall, Stop, TransferTurn};
 use service_model_types::client::{ClientRequest, is_clients};
@@ -153,7 +154,11 @@ impl Story<'_> {
     }
 
     /// A service that was served the steps before a place, with no refusal.
-    fn twin<R: AllocGlobal + Wait>(&self, rt: &R, place: usize) -> Result<Opened, Fault> {
+    fn twin<S: KeepsShard, R: AllocGlobal + Wait>(
+        &self,
+        rt: &R,
+        place: usize,
+    ) -> Result<Opened<S>, Fault> {
         let alloc = rt.alloc();
         let Ok(mut twin) = Opened::open(alloc, &self.settings, Vec::new(alloc)) else {
             return Err(Fault::Memory);
@@ -172,10 +177,10 @@ impl Story<'_> {
     }
 
     /// Whether the turn at a place, which was refused, left what its parts up to the delivery leave.
-    fn is_delivered<R: AllocGlobal + Wait>(
+    fn is_delivered<S: KeepsShard, R: AllocGlobal + Wait>(
         &self,
         rt: &R,
-        mut twin: Opened,
+        mut twin: Opened<S>,
         place: usize,
         read: &str,
     ) -> Result<bool, Fault> {
@@ -194,14 +199,14 @@ impl Story<'_> {
 
     /// Looks at what a call left that was refused memory: each run is as it was before, or as the
     /// parts of a turn leave it.
-    fn check_kept<R: AllocGlobal + Wait>(
+    fn check_kept<S: KeepsShard, R: AllocGlobal + Wait>(
         &self,
         rt: &R,
-        opened: &mut Opened,
+        opened: &mut Opened<S>,
         place: usize,
     ) -> Result<(), Fault> {
         let read = reads(rt, &self.settings, &self.ids, opened)?;
-        let mut twin = self.twin(rt, place)?;
+        let mut twin = self.twin::<S, R>(rt, place)?;
         let before = reads(rt, &self.settings, &self.ids, &mut twin)?;
         if read.as_str() == before.as_str() || self.is_delivered(rt, twin, place, read.as_str())? {
             return Ok(());
@@ -211,10 +216,10 @@ impl Story<'_> {
 
     /// Serves the call once more that was refused: of a step with the request that came back, of a
     /// poll with its hint, of a turn from its first part.
-    fn serve_again<R: AllocGlobal + Wait>(
+    fn serve_again<S: KeepsShard, R: AllocGlobal + Wait>(
         &mut self,
         rt: &R,
-        opened: &mut Opened,
+        opened: &mut Opened<S>,
         place: usize,
         refused: Refused,
     ) -> Result<Reply, Fault> {
@@ -237,10 +242,10 @@ impl Story<'_> {
     }
 
     /// What is answered to the step at a place, or nothing where it asks nothing.
-    fn reply_at<R: AllocGlobal + Wait>(
+    fn reply_at<S: KeepsShard, R: AllocGlobal + Wait>(
         &mut self,
         rt: &R,
-        opened: &mut Opened,
+        opened: &mut Opened<S>,
         place: usize,
     ) -> Result<Option<Reply>, Fault> {
         let call = match self.asked_at(rt.alloc(), place) {
@@ -293,10 +298,10 @@ impl Story<'_> {
 
     /// Serves the step at a place, and looks at its reply. Behind a dispatch turn that was refused a
     /// hint may wait twice: the poll that finds the second one is stale, and is made again.
-    pub(crate) fn serve_at<R: AllocGlobal + Wait>(
+    pub(crate) fn serve_at<S: KeepsShard, R: AllocGlobal + Wait>(
         &mut self,
         rt: &R,
-        opened: &mut Opened,
+        opened: &mut Opened<S>,
         place: usize,
         answered: usize,
     ) -> Result<usize, Fault> {

@@ -114,7 +114,7 @@ fn token_refusal(settings: &Settings, task: &TakenTask) -> Option<Refusal>
 
 /// What an operation names its shard by has to be there. What names none is served for a call that does.
 fn home_refusal(settings: &Settings, home: Home<'_>) -> Option<Refusal>
-    ensures { result ≡ home_refusal settings.now (home_said home) }
+    ensures { result ≡ home_refusal settings.now (home_said home.entry) }
 {
     match home {
         Home::Workflow(_) => None,
@@ -127,12 +127,12 @@ fn home_refusal(settings: &Settings, home: Home<'_>) -> Option<Refusal>
 fn commands_refusal(operation: &Operation) -> Option<Refusal>
     ensures { result ≡ commands_refusal operation.now }
 {
-    match operation {
-        Operation::CompleteWorkflowTask(asked)
-            if asked.commands.as_slice().len() > MOST_COMMANDS =>
-        {
-            Some(Refusal::InvalidArgument(Field::Commands))
-        }
-        _ => None,
+    let Operation::CompleteWorkflowTask(asked) = operation else {
+        return None;
+    };
+    if asked.commands.as_slice().len() > MOST_COMMANDS {
+        Some(Refusal::InvalidArgument(Field::Commands))
+    } else {
+        None
     }
 }

@@ -1,4 +1,4 @@
-use Rattle.std.proofs.Common.{ℕ, ap, subst, Option}
+use Rattle.std.proofs.Common.{ℕ, ◌∙◌, ap, subst, Option}
 use Rattle.wf_event_values.specs.declared.refusal.Refusal.{Refusal}
 use Rattle.service.specs.Contents.{shard_refusal}
 use Rattle.service.specs.Services.{Answered, IsServedAtLast, known_by}
