@@ -9,4 +9,6 @@ mod order;
 #[cfg(test)]
 mod passes;
 #[cfg(test)]
+mod tests;
+#[cfg(test)]
 mod turns;

@@ -8,14 +8,17 @@ ghost use Rattle.history_tests.specs.Passes.{InOrder};
 
 use crate::order::assert_in_order;
 use history::merged;
+use service::{KeepsShard, Pass, Service};
 use service_history::laws::closed_records_may_be_merged;
 use service_model_types::settings::Settings;
 use std::alloc::AllocGlobal;
 use std::process::Abort;
-use workflow_service::{Pass, Service};
 
 /// A service, and its passes in the order of their numbers.
-pub(crate) fn open<R: Abort + AllocGlobal>(rt: &R, settings: &Settings) -> (Service, Vec<Pass>)
+pub(crate) fn open<S: KeepsShard, R: Abort + AllocGlobal>(
+    rt: &R,
+    settings: &Settings,
+) -> (Service<S>, Vec<Pass<S>>)
     ensures own { InOrder result.0 result.1.items }
     ensures count { length result.1.items ≡ settings.now.passes }
     ensures settings { settings_of result.0 ≡ settings.now }
@@ -28,7 +31,7 @@ pub(crate) fn open<R: Abort + AllocGlobal>(rt: &R, settings: &Settings) -> (Serv
 }
 
 /// Takes the last pass.
-pub(crate) fn take_pass(service: &Service, passes: &mut Vec<Pass>) -> Pass
+pub(crate) fn take_pass<S: KeepsShard>(service: &Service<S>, passes: &mut Vec<Pass<S>>) -> Pass<S>
     requires some { 0 < length passes.old.items }
     requires own { InOrder service.now passes.old.items }
     ensures own { IsPassOf result service.now }
@@ -43,7 +46,12 @@ pub(crate) fn take_pass(service: &Service, passes: &mut Vec<Pass>) -> Pass
 }
 
 /// Gives a pass back, behind those with lower numbers.
-pub(crate) fn give_back<R: Abort>(rt: &R, service: &Service, passes: &mut Vec<Pass>, pass: Pass)
+pub(crate) fn give_back<S: KeepsShard, R: Abort>(
+    rt: &R,
+    service: &Service<S>,
+    passes: &mut Vec<Pass<S>>,
+    pass: Pass<S>,
+)
     requires own { InOrder service.now passes.old.items }
     requires pass { IsPassOf pass service.now
         × (number (known_by pass) ≡ length passes.old.items) }
@@ -57,7 +65,11 @@ pub(crate) fn give_back<R: Abort>(rt: &R, service: &Service, passes: &mut Vec<Pa
 }
 
 /// Closes the service, and looks at the one history of its shards.
-pub(crate) fn close_merged<R: Abort + AllocGlobal>(rt: &R, service: Service, passes: Vec<Pass>)
+pub(crate) fn close_merged<S: KeepsShard, R: Abort + AllocGlobal>(
+    rt: &R,
+    service: Service<S>,
+    passes: Vec<Pass<S>>,
+)
     requires own { InOrder service passes.items }
     requires count { length passes.items ≡ (settings_of service).passes }
     requires bases { (k : ℕ) → base_of service k ≡ [] }

@@ -6,6 +6,7 @@ ghost use Rattle.std.specs.Thread.{IsSync};
 
 use crate::asked::{first_task, settings, signals, start};
 use crate::passes::{close_merged, give_back, open, take_pass};
+use service::{KeepsShard, Pass, Service};
 use service_model_types::answer::{Answer, Reply};
 use service_model_types::call::Stop;
 use std::alloc::AllocGlobal;
@@ -13,7 +14,6 @@ use std::process::Abort;
 use std::sync::Wait;
 use std::thread::{self, Threads};
 use wf_event_values::Moment;
-use workflow_service::{Pass, Service};
 
 /// How many signals each shard's workflow sends the other one's.
 pub(crate) const COUNT: u64 = 40;
@@ -25,10 +25,10 @@ fn assert_answered<R: Abort, E: Drop>(rt: &R, came: Result<Reply, E>) {
     assert!(rt; matches!(&came, Ok(Ok(_))));
 }
 
-fn start_one<R: Abort + AllocGlobal + Wait>(
+fn start_one<S: KeepsShard, R: Abort + AllocGlobal + Wait>(
     rt: &R,
-    service: &Service,
-    pass: &mut Pass,
+    service: &Service<S>,
+    pass: &mut Pass<S>,
     workflow_id: &str,
 )
     requires { IsPassOf pass.old service.now }
@@ -39,10 +39,10 @@ fn start_one<R: Abort + AllocGlobal + Wait>(
 }
 
 /// The shard's workflow sends the other one all signals.
-fn send<R: Abort + AllocGlobal + Wait>(
+fn send<S: KeepsShard, R: Abort + AllocGlobal + Wait>(
     rt: &R,
-    service: &Service,
-    pass: &mut Pass,
+    service: &Service<S>,
+    pass: &mut Pass<S>,
     shard: u16,
     workflow_id: &str,
 )
@@ -57,7 +57,11 @@ fn send<R: Abort + AllocGlobal + Wait>(
     assert_answered(rt, came);
 }
 
-fn send_both<R: Abort + AllocGlobal + Wait>(rt: &R, service: &Service, pass: &mut Pass)
+fn send_both<S: KeepsShard, R: Abort + AllocGlobal + Wait>(
+    rt: &R,
+    service: &Service<S>,
+    pass: &mut Pass<S>,
+)
     requires { IsPassOf pass.old service.now }
     ensures { ComesBack service.now pass.old pass.new }
 {
@@ -77,13 +81,13 @@ fn found_one<R: Abort, E: Drop>(rt: &R, came: Result<Reply, E>) -> bool {
 }
 
 /// Turns from the one shard to the other until no transfer waits.
-fn turn_often<R: Abort + AllocGlobal + Wait>(
+fn turn_often<S: KeepsShard, R: Abort + AllocGlobal + Wait>(
     rt: &R,
-    service: &Service,
-    mut pass: Pass,
+    service: &Service<S>,
+    mut pass: Pass<S>,
     from: u16,
     to: u16,
-) -> Pass
+) -> Pass<S>
     requires { IsPassOf pass service.now }
     ensures { ComesBack service.now pass result }
 {
@@ -98,7 +102,11 @@ fn turn_often<R: Abort + AllocGlobal + Wait>(
 }
 
 /// What the threads left: answers to signals that came once the other direction's threads had ended.
-fn turn_rest<R: Abort + AllocGlobal + Wait>(rt: &R, service: &Service, pass: Pass) -> Pass
+fn turn_rest<S: KeepsShard, R: Abort + AllocGlobal + Wait>(
+    rt: &R,
+    service: &Service<S>,
+    pass: Pass<S>,
+) -> Pass<S>
     requires { IsPassOf pass service.now }
     ensures { ComesBack service.now pass result }
 {
@@ -108,25 +116,25 @@ fn turn_rest<R: Abort + AllocGlobal + Wait>(rt: &R, service: &Service, pass: Pas
 }
 
 /// Two passes turn from one shard to the other at the same time.
-fn turn_two<R: Abort + AllocGlobal + Wait + Threads + Sync>(
+fn turn_two<S: KeepsShard + Send + Sync, R: Abort + AllocGlobal + Wait + Threads + Sync>(
     rt: &R,
-    service: &Service,
-    one: Pass,
-    two: Pass,
+    service: &Service<S>,
+    one: Pass<S>,
+    two: Pass<S>,
     from: u16,
     to: u16,
-) -> (Pass, Pass)
+) -> (Pass<S>, Pass<S>)
     requires { IsPassOf one service.now × IsPassOf two service.now }
     ensures one { ComesBack service.now one result.0 }
     ensures two { ComesBack service.now two result.1 }
 {
     thread::join(
         rt,
-        move || -> Pass
+        move || -> Pass<S>
             requires { IsSync R.row × IsPassOf one service.now }
             ensures { ComesBack service.entry.now one result }
         { turn_often(rt, service, one, from, to) },
-        move || -> Pass
+        move || -> Pass<S>
             requires { IsSync R.row × IsPassOf two service.now }
             ensures { ComesBack service.entry.now two result }
         { turn_often(rt, service, two, from, to) },
@@ -134,12 +142,12 @@ fn turn_two<R: Abort + AllocGlobal + Wait + Threads + Sync>(
 }
 
 /// Two pairs of passes, each in its own direction.
-fn turn_all<R: Abort + AllocGlobal + Wait + Threads + Sync>(
+fn turn_all<S: KeepsShard + Send + Sync, R: Abort + AllocGlobal + Wait + Threads + Sync>(
     rt: &R,
-    service: &Service,
-    one: (Pass, Pass),
-    two: (Pass, Pass),
-) -> ((Pass, Pass), (Pass, Pass))
+    service: &Service<S>,
+    one: (Pass<S>, Pass<S>),
+    two: (Pass<S>, Pass<S>),
+) -> ((Pass<S>, Pass<S>), (Pass<S>, Pass<S>))
     requires one { IsPassOf one.0 service.now × IsPassOf one.1 service.now }
     requires two { IsPassOf two.0 service.now × IsPassOf two.1 service.now }
     ensures one { ComesBack service.now one.0 result.0.0
@@ -149,12 +157,12 @@ fn turn_all<R: Abort + AllocGlobal + Wait + Threads + Sync>(
 {
     thread::join(
         rt,
-        move || -> (Pass, Pass)
+        move || -> (Pass<S>, Pass<S>)
             requires { IsSync R.row × IsPassOf one.0 service.now × IsPassOf one.1 service.now }
             ensures { ComesBack service.entry.now one.0 result.0
                 × ComesBack service.entry.now one.1 result.1 }
         { turn_two(rt, service, one.0, one.1, 0, 1) },
-        move || -> (Pass, Pass)
+        move || -> (Pass<S>, Pass<S>)
             requires { IsSync R.row × IsPassOf two.0 service.now × IsPassOf two.1 service.now }
             ensures { ComesBack service.entry.now two.0 result.0
                 × ComesBack service.entry.now two.1 result.1 }
@@ -162,19 +170,21 @@ fn turn_all<R: Abort + AllocGlobal + Wait + Threads + Sync>(
     )
 }
 
-#[test]
-fn transfers_stand_in_order_in_one_history(rt: HostRuntime) {
-    let (service, mut passes) = open(&rt, &settings(&rt));
+pub(crate) fn transfers_stand_in_order_in_one_history<
+    S: KeepsShard + Send + Sync,
+    R: Abort + AllocGlobal + Threads + Wait + Sync,
+>(rt: &R) {
+    let (service, mut passes) = open::<S, R>(rt, &settings(rt));
     let d = take_pass(&service, &mut passes);
     let c = take_pass(&service, &mut passes);
     let b = take_pass(&service, &mut passes);
     let mut a = take_pass(&service, &mut passes);
-    send_both(&rt, &service, &mut a);
-    let ((a, b), (c, d)) = turn_all(&rt, &service, (a, b), (c, d));
-    let a = turn_rest(&rt, &service, a);
-    give_back(&rt, &service, &mut passes, a);
-    give_back(&rt, &service, &mut passes, b);
-    give_back(&rt, &service, &mut passes, c);
-    give_back(&rt, &service, &mut passes, d);
-    close_merged(&rt, service, passes);
+    send_both(rt, &service, &mut a);
+    let ((a, b), (c, d)) = turn_all(rt, &service, (a, b), (c, d));
+    let a = turn_rest(rt, &service, a);
+    give_back(rt, &service, &mut passes, a);
+    give_back(rt, &service, &mut passes, b);
+    give_back(rt, &service, &mut passes, c);
+    give_back(rt, &service, &mut passes, d);
+    close_merged(rt, service, passes);
 }

@@ -1,5 +1,6 @@
 -- how the gate over shards is closed
-use Rattle.std.proofs.Common.{◌≡◌, ℕ, zero, suc, List, [], ◌∷◌, refl, sym, ap, subst, ◌∙◌, Some}
+use Rattle.std.proofs.Common.{◌≡◌, ℕ, zero, suc, ◌+◌, ◌<◌, arith, List, [], ◌∷◌, ◌++◌, length, append_assoc, refl, sym, ap, subst, ◌∙◌, Some}
+use Rattle.std.proofs.lemmas.List.{length-append}
 use Rattle.std.specs.Prelude.{map, slice_get, slice_index_or}
 use Rattle.service_model_types.specs.declared.content.Content.{Content}
 use Rattle.service_model_types.specs.declared.request.Request.{Request}
@@ -51,3 +52,17 @@ history-as goes needs is all o o' same width width' wide logs logs' log stamps s
     let by_width = subst (λ (n : ℕ). IsHistory (grounds_by grounds after o'.starts) (at o'.bases) n (λ k. slice_index_or logs k []) (λ k. slice_index_or stamps k [])) wide by_origin in
     let by_logs = subst (λ (l : List (List Entry)). IsHistory (grounds_by grounds after o'.starts) (at o'.bases) width' (λ k. slice_index_or l k []) (λ k. slice_index_or stamps k [])) log by_width in
     subst (λ (t : List (List ℕ)). IsHistory (grounds_by grounds after o'.starts) (at o'.bases) width' (λ k. slice_index_or logs' k []) (λ k. slice_index_or t k [])) stamp by_logs
+
+-- a loop over a list: what it has done is less than all while something is left,
+pub one-left : {A : Type 0} (all done rest next : List A) (x : A) → all ≡ done ++ rest → rest ≡ x ∷ next → length done < length all
+one-left all done rest next x e f =
+    let count = ap length (e ∙ ap (λ l. done ++ l) f) ∙ length-append done (x ∷ next) in
+    omega (arith, count)
+
+-- one more then,
+pub one-more : {A : Type 0} (done : List A) (x : A) → length (done ++ x ∷ []) ≡ length done + 1
+one-more done x = length-append done (x ∷ [])
+
+-- and what is left is what comes behind that one
+pub goes-on : {A : Type 0} (all done rest next : List A) (x : A) → all ≡ done ++ rest → rest ≡ x ∷ next → all ≡ (done ++ x ∷ []) ++ next
+goes-on all done rest next x e f = e ∙ ap (λ l. done ++ l) f ∙ sym (append_assoc done (x ∷ []) next)
