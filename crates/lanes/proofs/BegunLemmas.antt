@@ -20,7 +20,7 @@ use Rattle.lanes.specs.declared.run.Script.{Script}
 use Rattle.lanes.specs.Course.{Serves, Meets, Course, InTurn, LineServed, asks_of}
 use Rattle.lanes.specs.Endings.{Beginning, Broke, Ended, Halted}
 use Rattle.lanes.specs.Lanes.{Took, WereAsked, is_barrier, own_calls, passes_of, place_in}
-use Rattle.lanes.specs.ToldLines.{Added, BeginsLine, Progress, Stopped, TellsLine, TextTold, Told}
+use Rattle.lanes.specs.ToldLines.{Added, BeginsLine, BeginsLines, BeginsMore, Progress, Stopped, TellsLine, TellsMore, TextTold, Told}
 use Rattle.lanes.proofs.PhaseLemmas.{phase-part, phase-part-barrier}
 use Rattle.lanes.proofs.PrintLemmas.{numbered-append}
 use Rattle.lanes.proofs.ToldLemmas.{asks-push, barrier-asked, barrier-places, lines-clean, lines-end, lines-last, next-number, told-longer}
@@ -48,7 +48,7 @@ begins-nothing : {serves : Serves} {meets : Meets} {K : Settings} {ps : List Pas
 begins-nothing {serves} {meets} {K} {ps} lines held = record { front = []; rest = asks_of K lines; replies = []; served = ps; parts = refl; course = refl; written = beginning_of_nothing held [] }
 
 -- a beginning for some lines is one for more
-begins-more : {serves : Serves} {meets : Meets} {K : Settings} {ps : List Pass} (lines more : List Line) (held w : Option (List ℕ)) → Beginning serves meets K ps lines held w → Beginning serves meets K ps (lines ++ more) held w
+pub begins-more : {serves : Serves} {meets : Meets} {K : Settings} {ps : List Pass} (lines more : List Line) (held w : Option (List ℕ)) → Beginning serves meets K ps lines held w → Beginning serves meets K ps (lines ++ more) held w
 begins-more {serves} {meets} {K} {ps} lines more held w b = record {
   front = b.front;
   rest = b.rest ++ asks_of K more;
@@ -90,11 +90,11 @@ module _ {Keeper Plan : Type 0} where
   }
 
   -- a phase was not printed whole
-  pub begins-phase : {serves : Serves} {meets : Meets} {K : Settings} {ps : List Pass} (lines : List Line) (s : Script Keeper Plan) (held w w' : Option (List ℕ)) → Stopped serves meets s w w' → Told serves meets K ps lines s held w → Beginning serves meets K ps lines held w'
-  begins-phase {serves} {meets} {K} {ps} lines s held w w' (inl same) h = subst (λ x. Beginning serves meets K ps lines held x) (sym same) (begins-told lines s held w h)
-  begins-phase {serves} {meets} {K} {ps} lines s held w w' (inr p) h =
+  pub begins-phase : {serves : Serves} {meets : Meets} {K : Settings} {ps : List Pass} (closes : Bool) (lines : List Line) (s : Script Keeper Plan) (held w w' : Option (List ℕ)) → Stopped serves meets closes s w w' → Told serves meets K ps lines s held w → Beginning serves meets K ps lines held w'
+  begins-phase {serves} {meets} {K} {ps} closes lines s held w w' (inl same) h = subst (λ x. Beginning serves meets K ps lines held x) (sym same) (begins-told lines s held w h)
+  begins-phase {serves} {meets} {K} {ps} closes lines s held w w' (inr p) h =
       let b = p.begun in
-      let part = phase-part serves meets h.waits s.places.items b.count b.replies s.lanes.items p.after b.left h.plain h.waiting p.phase (subst (λ x. InTurn Took p.after (take b.count x) b.replies b.left) h.waiting.places b.took) in
+      let part = phase-part serves meets closes h.waits s.places.items b.count b.replies s.lanes.items p.after b.left h.plain h.waiting p.phase (subst (λ x. InTurn Took p.after (take b.count x) b.replies b.left) h.waiting.places b.took) in
       begins-front lines s held w w' h.waits b.count b.replies part.0 lines h h.parts part.1 b.written
 
   -- a line more was read, and nothing printed
@@ -103,7 +103,7 @@ module _ {Keeper Plan : Type 0} where
 
   -- a phase that a barrier ends was not printed whole
   pub begins-barrier : {serves : Serves} {meets : Meets} {K : Settings} {ps : List Pass} (lines : List Line) (line : Line) (s s1 : Script Keeper Plan) (held w w' : Option (List ℕ)) → Added (asked K line) s s1 → is_barrier (place_in (asked K line)) ≡ true
-      → Stopped serves meets s1 w w' → Told serves meets K ps lines s held w → Beginning serves meets K ps (lines ++ line ∷ []) held w'
+      → Stopped serves meets true s1 w w' → Told serves meets K ps lines s held w → Beginning serves meets K ps (lines ++ line ∷ []) held w'
   begins-barrier {serves} {meets} {K} {ps} lines line s s1 held w w' a barrier (inl same) h = subst (λ x. Beginning serves meets K ps (lines ++ line ∷ []) held x) (sym same) (begins-line lines line s held w h)
   begins-barrier {serves} {meets} {K} {ps} lines line s s1 held w w' a barrier (inr p) h =
       let is : asked K line ≡ Ok a_barrier = barrier-asked (asked K line) barrier in
@@ -168,10 +168,10 @@ nothing-read unread held = inl (record { text = []; read = Consumes-none unread;
 
 module _ {Keeper Plan : Type 0} where
   -- behind a line feed
-  pub begins-clean : {serves : Serves} {meets : Meets} {K : Settings} {ps : List Pass} (text : List ℕ) (s : Script Keeper Plan) (held w w' : Option (List ℕ)) → is_empty_line s.line ≡ true → Stopped serves meets s w w'
+  pub begins-clean : {serves : Serves} {meets : Meets} {K : Settings} {ps : List Pass} (text : List ℕ) (s : Script Keeper Plan) (held w w' : Option (List ℕ)) → is_empty_line s.line ≡ true → Stopped serves meets true s w w'
       → TextTold serves meets K ps text s held w → Beginning serves meets K ps (all_lines text) held w'
   begins-clean {serves} {meets} {K} {ps} text s held w w' empty stop h =
-      subst (λ ls. Beginning serves meets K ps ls held w') (lines-clean text s.line h.line empty) (begins-phase (ended (Some []) text) s held w w' stop h.told)
+      subst (λ ls. Beginning serves meets K ps ls held w') (lines-clean text s.line h.line empty) (begins-phase true (ended (Some []) text) s held w w' stop h.told)
 
   -- in a last line without its line feed
   pub begins-last : {serves : Serves} {meets : Meets} {K : Settings} {ps : List Pass} (text : List ℕ) (s : Script Keeper Plan) (held w w' : Option (List ℕ)) → is_empty_line s.line ≡ false → BeginsLine serves meets K s.line s w w'
@@ -180,8 +180,36 @@ module _ {Keeper Plan : Type 0} where
       subst (λ ls. Beginning serves meets K ps ls held w') (lines-last text s.line h.line some) (step ps (ended (Some []) text) held h.told)
 
   -- behind it
-  pub begins-behind : {serves : Serves} {meets : Meets} {K : Settings} {ps : List Pass} (text : List ℕ) (s s1 : Script Keeper Plan) (held w w1 w' : Option (List ℕ)) → is_empty_line s.line ≡ false → TellsLine serves meets K s.line s s1 w w1 → Stopped serves meets s1 w1 w'
+  pub begins-behind : {serves : Serves} {meets : Meets} {K : Settings} {ps : List Pass} (text : List ℕ) (s s1 : Script Keeper Plan) (held w w1 w' : Option (List ℕ)) → is_empty_line s.line ≡ false → TellsLine serves meets K s.line s s1 w w1 → Stopped serves meets true s1 w1 w'
       → TextTold serves meets K ps text s held w → Beginning serves meets K ps (all_lines text) held w'
   begins-behind {serves} {meets} {K} {ps} text s s1 held w w1 w' some step stop h =
       subst (λ ls. Beginning serves meets K ps ls held w') (lines-last text s.line h.line some)
-      (begins-phase (ended (Some []) text ++ s.line ∷ []) s1 held w1 w' stop (step ps (ended (Some []) text) held h.told))
+      (begins-phase true (ended (Some []) text ++ s.line ∷ []) s1 held w1 w' stop (step ps (ended (Some []) text) held h.told))
+
+module _ {Keeper Plan : Type 0} where
+  -- a batch that was read was not printed whole
+  pub broke-serving : {serves : Serves} {meets : Meets} {K : Settings} {ps : List Pass} (s : Script Keeper Plan) (unread held r w w' : Option (List ℕ)) → Stopped serves meets false s w w' → Progress serves meets K ps s unread held r w → Broke serves meets K ps unread held r w'
+  broke-serving {serves} {meets} {K} {ps} s unread held r w w' stop p = record {
+    text = p.text;
+    read = p.read;
+    begun = subst (λ ls. Beginning serves meets K ps ls held w') (ended-whole p.text) (begins-phase false (ended (Some []) p.text) s held w w' stop p.told.told);
+  }
+
+  -- a part was told of, and then a beginning of what stands behind it
+  pub begins-then : {serves : Serves} {meets : Meets} {K : Settings} (a b : List ℕ) (s m : Script Keeper Plan) (w w1 w' : Option (List ℕ)) → TellsMore serves meets K a s m w w1 → BeginsMore serves meets K b m w1 w' → BeginsMore serves meets K (a ++ b) s w w'
+  begins-then {serves} {meets} {K} a b s m w w1 w' one two ps text held h = subst (λ t. Beginning serves meets K ps (ended (Some []) t) held w') (append_assoc text a b) (two ps (text ++ a) held (one ps text held h))
+
+  -- a beginning of a part, and more stands behind it
+  pub begins-early : {serves : Serves} {meets : Meets} {K : Settings} (a b : List ℕ) (s : Script Keeper Plan) (w w' : Option (List ℕ)) → BeginsMore serves meets K a s w w' → BeginsMore serves meets K (a ++ b) s w w'
+  begins-early {serves} {meets} {K} a b s w w' one ps text held h = subst (λ t. Beginning serves meets K ps (ended (Some []) t) held w') (append_assoc text a b) (begins-longer (text ++ a) b held w' (one ps text held h))
+
+  -- nothing was made of a text
+  pub begins-text : {serves : Serves} {meets : Meets} {K : Settings} (a : List ℕ) (s : Script Keeper Plan) (w : Option (List ℕ)) → BeginsMore serves meets K a s w w
+  begins-text a s w ps text held h = begins-part text a s held w h
+
+  -- a beginning of the lines of a text that begins a line
+  pub begins-lines : {serves : Serves} {meets : Meets} {K : Settings} (part : List ℕ) (s : Script Keeper Plan) (w w' : Option (List ℕ)) → s.line ≡ Some [] → BeginsLines serves meets K (ended (Some []) part) s w w' → BeginsMore serves meets K part s w w'
+  begins-lines {serves} {meets} {K} part s w w' begins step ps text held h =
+      let so_far : left (Some []) text ≡ Some [] = sym h.line ∙ begins in
+      let lines : ended (Some []) (text ++ part) ≡ ended (Some []) text ++ ended (Some []) part = ended-append (Some []) text part ∙ ap (λ l. ended (Some []) text ++ ended l part) so_far in
+      subst (λ ls. Beginning serves meets K ps ls held w') (sym lines) (step ps (ended (Some []) text) held h.told)

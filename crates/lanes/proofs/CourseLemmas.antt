@@ -13,7 +13,7 @@ use Rattle.wire_requests.specs.declared.calls.Asked.TheVariants.{Barrier as a_ba
 use Rattle.wire_requests.specs.declared.calls.LaneCall.{LaneCall}
 use Rattle.lanes.specs.declared.lane.Lane.{Lane}
 use Rattle.lanes.specs.Course.{Serves, Meets, LaneServed, LineServed}
-use Rattle.lanes.specs.Lanes.{Answered, TookFirst, TookIn, Took, calls_in, is_barrier, place_in}
+use Rattle.lanes.specs.Lanes.{Answered, TookFirst, TookIn, Took, calls_in, calls_of, is_barrier, place_in, untaken}
 use Rattle.lanes.proofs.PlaceLemmas.{get-set, get-other, there-too, gone-too}
 
 -- ---- lines that wait for their replies
@@ -23,8 +23,8 @@ module _ {Keeper Plan : Type 0} where
   pub record Ready (serves : Serves) (ps : List Pass) (lines : List (Result Asked Refusal)) (ls : List (Lane Keeper Plan)) (es : List Pass) : Type 0 where
     pub lanes : length ls ≡ length ps
     pub ends : length es ≡ length ps
-    pub runs : (k : ℕ) (p : Pass) (l : Lane Keeper Plan) (e : Pass) → slice_get ps k ≡ Some p → slice_get ls k ≡ Some l → slice_get es k ≡ Some e → Answered serves p (calls_in k lines) l.answered.items e
-    pub idle : (k : ℕ) (l : Lane Keeper Plan) → slice_get ls k ≡ Some l → l.asked.items ≡ []
+    pub runs : (k : ℕ) (p : Pass) (l : Lane Keeper Plan) (e : Pass) → slice_get ps k ≡ Some p → slice_get ls k ≡ Some l → slice_get es k ≡ Some e → Answered serves p (calls_in k lines) (untaken l) e
+    pub idle : (k : ℕ) (l : Lane Keeper Plan) → slice_get ls k ≡ Some l → calls_of l ≡ []
 
   -- one line was served, and the others wait
   pub record Step (serves : Serves) (meets : Meets) (ps : List Pass) (line : Result Asked Refusal) (lines : List (Result Asked Refusal)) (r : Option Reply) (ls : List (Lane Keeper Plan)) (es : List Pass) : Type 0 where
@@ -56,14 +56,14 @@ module _ {Keeper Plan : Type 0} where
           ends = h.ends;
           runs = λ k p l e at_p at_l at_e.
               let other : ¬ (c.lane ≡ k) = λ own. none-some p (sym none ∙ ap (slice_get ps) own ∙ at_p) in
-              subst (λ calls. Answered serves p calls l.answered.items e) (calls-other k c lines other) (h.runs k p l e at_p at_l at_e);
+              subst (λ calls. Answered serves p calls (untaken l) e) (calls-other k c lines other) (h.runs k p l e at_p at_l at_e);
           idle = h.idle;
         };
       }
 
   -- the lanes behind a call in one of them
   ready-behind : (serves : Serves) (ps : List Pass) (c : LaneCall) (lines : List (Result Asked Refusal)) (ls : List (Lane Keeper Plan)) (es : List Pass) (p q : Pass) (l left : Lane Keeper Plan) (e : Pass) → slice_get ps c.lane ≡ Some p → slice_get ls c.lane ≡ Some l → slice_get es c.lane ≡ Some e
-      → left.asked ≡ l.asked → Answered serves q (calls_in c.lane lines) left.answered.items e → Ready serves ps (Ok (in_a_lane c) ∷ lines) ls es → Ready serves (set ps c.lane q) lines (set ls c.lane left) es
+      → calls_of left ≡ calls_of l → Answered serves q (calls_in c.lane lines) (untaken left) e → Ready serves ps (Ok (in_a_lane c) ∷ lines) ls es → Ready serves (set ps c.lane q) lines (set ls c.lane left) es
   ready-behind serves ps c lines ls es p q l left e at_p at_l at_e asked rest h = record {
     lanes = length-set ls c.lane left ∙ h.lanes ∙ sym (length-set ps c.lane q);
     ends = h.ends ∙ sym (length-set ps c.lane q);
@@ -74,20 +74,20 @@ module _ {Keeper Plan : Type 0} where
       dec : (k : ℕ) → (c.lane ≡ k) ⊎ (¬ (c.lane ≡ k))
       dec k = cases_eq c.lane k
 
-      by-place : (k : ℕ) (p' : Pass) (l' : Lane Keeper Plan) (e' : Pass) → slice_get (set ps c.lane q) k ≡ Some p' → slice_get (set ls c.lane left) k ≡ Some l' → slice_get es k ≡ Some e' → (c.lane ≡ k) ⊎ (¬ (c.lane ≡ k)) → Answered serves p' (calls_in k lines) l'.answered.items e'
+      by-place : (k : ℕ) (p' : Pass) (l' : Lane Keeper Plan) (e' : Pass) → slice_get (set ps c.lane q) k ≡ Some p' → slice_get (set ls c.lane left) k ≡ Some l' → slice_get es k ≡ Some e' → (c.lane ≡ k) ⊎ (¬ (c.lane ≡ k)) → Answered serves p' (calls_in k lines) (untaken l') e'
       by-place k p' l' e' at_p' at_l' at_e' (inl own) =
           let is_p : q ≡ p' = same_Some q p' (sym (get-set ps c.lane p q at_p) ∙ ap (slice_get (set ps c.lane q)) own ∙ at_p') in
           let is_l : left ≡ l' = same_Some left l' (sym (get-set ls c.lane l left at_l) ∙ ap (slice_get (set ls c.lane left)) own ∙ at_l') in
           let is_e : e ≡ e' = same_Some e e' (sym at_e ∙ ap (slice_get es) own ∙ at_e') in
           rw (← is_p, ← is_l, ← is_e, ← own) rest
       by-place k p' l' e' at_p' at_l' at_e' (inr other) =
-          subst (λ calls. Answered serves p' calls l'.answered.items e') (calls-other k c lines other)
+          subst (λ calls. Answered serves p' calls (untaken l') e') (calls-other k c lines other)
           (h.runs k p' l' e' (sym (get-other ps c.lane k q other) ∙ at_p') (sym (get-other ls c.lane k left other) ∙ at_l') at_e')
 
-      idle-by : (k : ℕ) (l' : Lane Keeper Plan) → slice_get (set ls c.lane left) k ≡ Some l' → (c.lane ≡ k) ⊎ (¬ (c.lane ≡ k)) → l'.asked.items ≡ []
+      idle-by : (k : ℕ) (l' : Lane Keeper Plan) → slice_get (set ls c.lane left) k ≡ Some l' → (c.lane ≡ k) ⊎ (¬ (c.lane ≡ k)) → calls_of l' ≡ []
       idle-by k l' at_l' (inl own) =
           let is_l : left ≡ l' = same_Some left l' (sym (get-set ls c.lane l left at_l) ∙ ap (slice_get (set ls c.lane left)) own ∙ at_l') in
-          ap (λ (x : Lane Keeper Plan). x.asked.items) (sym is_l) ∙ ap (λ v. v.items) asked ∙ h.idle c.lane l at_l
+          ap calls_of (sym is_l) ∙ asked ∙ h.idle c.lane l at_l
       idle-by k l' at_l' (inr other) = h.idle k l' (sym (get-other ls c.lane k left other) ∙ at_l')
 
   -- a call in a lane that is there
@@ -97,7 +97,7 @@ module _ {Keeper Plan : Type 0} where
       let p = there-too ls ps c.lane l (sym h.lanes) at_l in
       let e = there-too ls es c.lane l (h.ends ∙ sym h.lanes) at_l in
       let run = h.runs c.lane p.0 l e.0 p.1 at_l e.1 in
-      let here : Answered serves p.0 (c.call ∷ calls_in c.lane lines) (t.reply ∷ t.left.answered.items) e.0 = subst (λ calls. Answered serves p.0 calls (t.reply ∷ t.left.answered.items) e.0) (calls-own c.lane c lines refl) (subst (λ rs. Answered serves p.0 (calls_in c.lane (Ok (in_a_lane c) ∷ lines)) rs e.0) t.first run) in
+      let here : Answered serves p.0 (c.call ∷ calls_in c.lane lines) (t.reply ∷ untaken t.left) e.0 = subst (λ calls. Answered serves p.0 calls (t.reply ∷ untaken t.left) e.0) (calls-own c.lane c lines refl) (subst (λ rs. Answered serves p.0 (calls_in c.lane (Ok (in_a_lane c) ∷ lines)) rs e.0) t.first run) in
       record {
         passes = set ps c.lane here.0;
         served = subst (λ o. LaneServed serves c.lane c.call o ps r (set ps c.lane here.0)) (sym p.1) (record { pass = here.0; reply = t.reply; served = here.1; is = t.is; passes = refl });

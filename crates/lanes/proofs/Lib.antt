@@ -2,6 +2,7 @@ pub mod AlongLemmas
 pub mod BegunLemmas
 pub mod CourseLemmas
 pub mod FaultLemmas
+pub mod FoundLemmas
 pub mod LaneLemmas
 pub mod MeetLemmas
 pub mod NumberLemmas

@@ -6,7 +6,7 @@ use Rattle.std.proofs.Math.Seq.{map-set_same}
 use Rattle.service.specs.ServiceViews.{Pass}
 use Rattle.lanes.specs.declared.lane.Lane.{Lane}
 use Rattle.lanes.specs.Course.{Meets, FirstMet, InTurn}
-use Rattle.lanes.specs.Lanes.{KeepsReplies, passes_of}
+use Rattle.lanes.specs.Lanes.{KeepsReplies, calls_of, passes_of, untaken}
 use Rattle.lanes.proofs.TurnLemmas.{turn-append, turn-one}
 
 -- the first of these passes, p, met the others so far, and is q
@@ -35,14 +35,14 @@ module _ {Keeper Plan : Type 0} where
       subst (λ x. HasMet meets first.pass x (passes_of ys) first'.pass) before (subst (λ x. HasMet meets first.pass (take i (passes_of xs)) x first'.pass) now h)
 
   -- one lane got another pass
-  pub kept-set : (xs ys : List (Lane Keeper Plan)) (i : ℕ) (x y : Lane Keeper Plan) → y.asked ≡ (get_or ys i x).asked → y.answered ≡ (get_or ys i x).answered → KeepsReplies xs ys → KeepsReplies xs (set ys i y)
+  pub kept-set : (xs ys : List (Lane Keeper Plan)) (i : ℕ) (x y : Lane Keeper Plan) → calls_of y ≡ calls_of (get_or ys i x) → untaken y ≡ untaken (get_or ys i x) → KeepsReplies xs ys → KeepsReplies xs (set ys i y)
   kept-set xs ys i x y asked answered h = record {
-    asked = map-set_same (λ (l : Lane Keeper Plan). l.asked) ys i y x asked ∙ h.asked;
-    answered = map-set_same (λ (l : Lane Keeper Plan). l.answered) ys i y x answered ∙ h.answered;
+    asked = map-set_same calls_of ys i y x asked ∙ h.asked;
+    answered = map-set_same untaken ys i y x answered ∙ h.answered;
   }
 
   -- the first lane too
-  pub kept-first : (x y : Lane Keeper Plan) (xs ys : List (Lane Keeper Plan)) → y.asked ≡ x.asked → y.answered ≡ x.answered → KeepsReplies xs ys → KeepsReplies (x ∷ xs) (y ∷ ys)
+  pub kept-first : (x y : Lane Keeper Plan) (xs ys : List (Lane Keeper Plan)) → calls_of y ≡ calls_of x → untaken y ≡ untaken x → KeepsReplies xs ys → KeepsReplies (x ∷ xs) (y ∷ ys)
   kept-first x y xs ys asked answered h = record {
     asked = λ i. asked i ∷ h.asked i;
     answered = λ i. answered i ∷ h.answered i;

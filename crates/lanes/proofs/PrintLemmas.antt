@@ -1,5 +1,5 @@
 -- what is printed line by line
-use Rattle.std.proofs.Common.{◌≡◌, ℕ, zero, suc, ◌+◌, ◌<◌, min, List, [], ◌∷◌, ◌++◌, take, length, get_or, Bool, true, false, ◌||◌, Option, refl, sym, ap, subst, ◌∙◌, append_assoc, arith}
+use Rattle.std.proofs.Common.{◌≡◌, ℕ, zero, suc, ◌+◌, ◌<◌, min, List, [], ◌∷◌, ◌++◌, take, length, get_or, Bool, true, false, ◌||◌, Option, Some, inl, inr, refl, sym, ap, subst, ◌∙◌, append_assoc, arith}
 use Rattle.std.proofs.lemmas.List.{append-nil, take_all, take_more, length-take-le}
 use Rattle.std.specs.List.{list_any}
 use Rattle.std.specs.Io.KnownBytes.{Keeps}
@@ -10,9 +10,10 @@ use Rattle.script.specs.Serving.{is_refusal, text_of}
 use Rattle.script.specs.Output.{numbered_from}
 use Rattle.lanes.specs.declared.lane.Lane.{Lane}
 use Rattle.lanes.specs.declared.print.Place.{Place}
+use Rattle.lanes.specs.declared.print.Place.TheVariants.{InLane}
 use Rattle.lanes.specs.Course.{InTurn}
 use Rattle.lanes.specs.Lanes.{Took}
-use Rattle.lanes.specs.Printed.{Begun, Printed, PrintedOne}
+use Rattle.lanes.specs.Printed.{Begun, BegunIn, Printed, PrintedOne}
 use Rattle.lanes.proofs.TurnLemmas.{turn-append, turn-count, turn-one}
 
 pub numbered-append : (n : ℕ) (rs ss : List (Option Reply)) → numbered_from n (rs ++ ss) ≡ numbered_from n rs ++ numbered_from (n + length rs) ss
@@ -51,6 +52,11 @@ module _ {Keeper Plan : Type 0} where
     took = turn-one Took ls left p reply took;
     written = subst (AppendsBeginning held held') (sym (append-nil (text_of number reply))) written;
   }
+
+  -- a beginning of a call's line was printed, or nothing of it
+  pub begun-in : (number : ℕ) (lane : ℕ) (ls : List (Lane Keeper Plan)) (held held' : Option (List ℕ)) → BegunIn number lane ls held held' → Begun number (InLane lane ∷ []) ls held held'
+  begun-in number lane ls held held' (inl same) = subst (λ x. Begun number (InLane lane ∷ []) ls held x) (sym same) (begun-none number (InLane lane ∷ []) ls held)
+  begun-in number lane ls held held' (inr b) = begun-one number (InLane lane) (Some b.reply) ls b.left held held' b.took b.written
 
   -- one line more was printed
   pub printed-more : (first number i : ℕ) (ps : List Place) (p : Place) (b c : Bool) (l0 l1 l2 : List (Lane Keeper Plan)) (h0 h1 h2 : Option (List ℕ)) → i < length ps → p ≡ get_or ps i p → number ≡ first + i

@@ -1,5 +1,5 @@
 -- what a script over lanes has told, line by line
-use Rattle.std.proofs.Common.{◌≡◌, ℕ, ◌+◌, List, [], ◌∷◌, ◌++◌, length, map, true, false, cond, Bool, ◌||◌, Option, Some, Result, Ok, Err, refl, sym, ap, subst, ◌∙◌, append_assoc, arith}
+use Rattle.std.proofs.Common.{◌≡◌, ◌⊎◌, inl, inr, ℕ, ◌+◌, List, [], ◌∷◌, ◌++◌, length, map, true, false, cond, Bool, ◌||◌, Option, Some, Result, Ok, Err, refl, sym, ap, subst, ◌∙◌, append_assoc, arith}
 use Rattle.std.proofs.lemmas.List.{append-nil, length-append, length-map, map-append}
 use Rattle.std.proofs.lemmas.Bool.{or_from, or_parts, true≢false}
 use Rattle.std.specs.List.{list_any}
@@ -24,7 +24,7 @@ use Rattle.lanes.specs.declared.run.Script.{Script}
 use Rattle.lanes.specs.Course.{AllMet, Serves, Meets, Course, InTurn, LineServed, asks_of}
 use Rattle.lanes.specs.Endings.{Ended}
 use Rattle.lanes.specs.Lanes.{ArePlain, Took, Waiting, WereAsked, is_barrier, own_calls, passes_of, place_in}
-use Rattle.lanes.specs.ToldLines.{Added, Closed, Opened, TellsLine, TextTold, Told}
+use Rattle.lanes.specs.ToldLines.{Added, Closed, Opened, TellsLine, TellsLines, TellsMore, TextTold, Told, Unchanged}
 use Rattle.lanes.proofs.PhaseLemmas.{phase-barrier, phase-last}
 use Rattle.lanes.proofs.PrintLemmas.{any-append, numbered-append}
 use Rattle.lanes.proofs.TurnLemmas.{turn-append, turn-count}
@@ -103,7 +103,7 @@ barrier-places ask waits ps ps' is grows places = grows ∙ ap (λ x. ps ++ plac
 module _ {Keeper Plan : Type 0} where
   -- a barrier, and what waited before it
   pub told-barrier : {serves : Serves} {meets : Meets} {K : Settings} {ps : List Pass} (lines : List Line) (line : Line) (s s1 s' : Script Keeper Plan) (held w w' : Option (List ℕ)) → Added (asked K line) s s1 → is_barrier (place_in (asked K line)) ≡ true
-      → Closed serves meets s1 s' w w' → Told serves meets K ps lines s held w → Told serves meets K ps (lines ++ line ∷ []) s' held w'
+      → Closed serves meets true s1 s' w w' → Told serves meets K ps lines s held w → Told serves meets K ps (lines ++ line ∷ []) s' held w'
   told-barrier {serves} {meets} {K} {ps} lines line s s1 s' held w w' a barrier c h =
       let is : asked K line ≡ Ok a_barrier = barrier-asked (asked K line) barrier in
       let all = h.waits ++ Ok a_barrier ∷ [] in
@@ -127,13 +127,40 @@ module _ {Keeper Plan : Type 0} where
         refused_is = both-refused s.refused c.refused s'.refused h.replies rs (c.refused_is ∙ ap (λ x. x || c.refused) a.refused) h.refused_is p.printed.refused_is;
       }
 
+  -- what waited was served, and no phase closed
+  pub told-served : {serves : Serves} {meets : Meets} {K : Settings} {ps : List Pass} (lines : List Line) (s s' : Script Keeper Plan) (held w w' : Option (List ℕ)) → Closed serves meets false s s' w w'
+      → Told serves meets K ps lines s held w → Told serves meets K ps lines s' held w'
+  told-served {serves} {meets} {K} {ps} lines s s' held w w' c h =
+      let p = c.printed in
+      let rs = p.printed.replies in
+      let phase = phase-last serves meets false h.waits s.places.items rs s.lanes.items p.after s'.lanes.items h.plain h.waiting p.phase (subst (λ x. InTurn Took p.after x rs s'.lanes.items) h.waiting.places p.printed.took) in
+      let passes : passes_of p.phase.worked ≡ passes_of s'.lanes.items = sym p.phase.met ∙ sym p.passes in
+      record {
+        done = h.done ++ h.waits;
+        waits = [];
+        replies = h.replies ++ rs;
+        parts = h.parts ∙ sym (append-nil (h.done ++ h.waits));
+        course = turn-append (LineServed serves meets) ps (passes_of s.lanes.items) (passes_of s'.lanes.items) h.done h.waits h.replies rs h.course (subst (λ x. Course serves meets (passes_of s.lanes.items) h.waits rs x) passes phase.course);
+        waiting = record { places = c.places; asked = phase.empty.asked; answered = phase.empty.answered };
+        plain = refl;
+        written = both-written s.first h.replies rs held w w' (next-number lines s held w h) h.written p.printed.written;
+        number = omega (arith, c.first, h.number, length-append h.done h.waits, ap length h.waiting.places, length-map h.waits place_in);
+        refused_is = both-refused s.refused c.refused s'.refused h.replies rs c.refused_is h.refused_is p.printed.refused_is;
+      }
+
+  -- the same of a text, where something waited or nothing did
+  pub text-served : {serves : Serves} {meets : Meets} {K : Settings} {ps : List Pass} (text : List ℕ) (s s' : Script Keeper Plan) (held w w' : Option (List ℕ)) → (Unchanged s s' w w' ⊎ Closed serves meets false s s' w w')
+      → TextTold serves meets K ps text s held w → TextTold serves meets K ps text s' held w'
+  text-served {serves} {meets} {K} {ps} text s s' held w w' (inl u) h = subst (λ x. TextTold serves meets K ps text x held w') (sym u.same) (subst (λ x. TextTold serves meets K ps text s held x) (sym u.kept) h)
+  text-served text s s' held w w' (inr c) h = record { line = c.line ∙ h.line; told = told-served (ended (Some []) text) s s' held w w' c h.told }
+
   -- the end, and what waited before it
   pub told-ended : {serves : Serves} {meets : Meets} {K : Settings} {ps : List Pass} (text : List ℕ) (lines : List Line) (s s' : Script Keeper Plan) (held w w' : Option (List ℕ)) → lines ≡ all_lines text
-      → Closed serves meets s s' w w' → Told serves meets K ps lines s held w → Ended serves meets K ps text held w' s'.refused (passes_of s'.lanes.items)
+      → Closed serves meets true s s' w w' → Told serves meets K ps lines s held w → Ended serves meets K ps text held w' s'.refused (passes_of s'.lanes.items)
   told-ended {serves} {meets} {K} {ps} text lines s s' held w w' all c h =
       let p = c.printed in
       let rs = p.printed.replies in
-      let phase = phase-last serves meets h.waits s.places.items rs s.lanes.items p.after s'.lanes.items h.plain h.waiting p.phase (subst (λ x. InTurn Took p.after x rs s'.lanes.items) h.waiting.places p.printed.took) in
+      let phase = phase-last serves meets true h.waits s.places.items rs s.lanes.items p.after s'.lanes.items h.plain h.waiting p.phase (subst (λ x. InTurn Took p.after x rs s'.lanes.items) h.waiting.places p.printed.took) in
       record {
         replies = h.replies ++ rs;
         served = passes_of p.phase.worked;
@@ -209,12 +236,32 @@ lines-last text line is some =
 
 module _ {Keeper Plan : Type 0} where
   -- the end behind a line feed
-  pub ended-clean : {serves : Serves} {meets : Meets} {K : Settings} {ps : List Pass} (text : List ℕ) (s s' : Script Keeper Plan) (held w w' : Option (List ℕ)) → is_empty_line s.line ≡ true → Closed serves meets s s' w w'
+  pub ended-clean : {serves : Serves} {meets : Meets} {K : Settings} {ps : List Pass} (text : List ℕ) (s s' : Script Keeper Plan) (held w w' : Option (List ℕ)) → is_empty_line s.line ≡ true → Closed serves meets true s s' w w'
       → TextTold serves meets K ps text s held w → Ended serves meets K ps text held w' s'.refused (passes_of s'.lanes.items)
   ended-clean text s s' held w w' empty c h = told-ended text (ended (Some []) text) s s' held w w' (lines-clean text s.line h.line empty) c h.told
 
   -- the end behind a last line without its line feed
   pub ended-line : {serves : Serves} {meets : Meets} {K : Settings} {ps : List Pass} (text : List ℕ) (s s1 s' : Script Keeper Plan) (held w w1 w' : Option (List ℕ)) → is_empty_line s.line ≡ false
-      → TellsLine serves meets K s.line s s1 w w1 → Closed serves meets s1 s' w1 w' → TextTold serves meets K ps text s held w → Ended serves meets K ps text held w' s'.refused (passes_of s'.lanes.items)
+      → TellsLine serves meets K s.line s s1 w w1 → Closed serves meets true s1 s' w1 w' → TextTold serves meets K ps text s held w → Ended serves meets K ps text held w' s'.refused (passes_of s'.lanes.items)
   ended-line {serves} {meets} {K} {ps} text s s1 s' held w w1 w' some step c h =
       told-ended text (ended (Some []) text ++ s.line ∷ []) s1 s' held w1 w' (lines-last text s.line h.line some) c (step ps (ended (Some []) text) held h.told)
+
+module _ {Keeper Plan : Type 0} where
+  -- one part of a text, and then another
+  pub more-then : {serves : Serves} {meets : Meets} {K : Settings} (a b : List ℕ) (s m s' : Script Keeper Plan) (w w1 w' : Option (List ℕ)) → TellsMore serves meets K a s m w w1 → TellsMore serves meets K b m s' w1 w' → TellsMore serves meets K (a ++ b) s s' w w'
+  more-then {serves} {meets} {K} a b s m s' w w1 w' one two ps text held h = subst (λ t. TextTold serves meets K ps t s' held w') (append_assoc text a b) (two ps (text ++ a) held (one ps text held h))
+
+  -- nothing of a text
+  pub more-none : {serves : Serves} {meets : Meets} {K : Settings} (s : Script Keeper Plan) (w : Option (List ℕ)) → TellsMore serves meets K [] s s w w
+  more-none {serves} {meets} {K} s w ps text held h = subst (λ t. TextTold serves meets K ps t s held w) (sym (append-nil text)) h
+
+  -- the lines of a text that begins a line, and ends one
+  pub more-lines : {serves : Serves} {meets : Meets} {K : Settings} (part : List ℕ) (s s' : Script Keeper Plan) (w w' : Option (List ℕ)) → s.line ≡ Some [] → s'.line ≡ Some [] → left (Some []) part ≡ Some []
+      → TellsLines serves meets K (ended (Some []) part) s s' w w' → TellsMore serves meets K part s s' w w'
+  more-lines {serves} {meets} {K} part s s' w w' begins ends whole step ps text held h =
+      let so_far : left (Some []) text ≡ Some [] = sym h.line ∙ begins in
+      let lines : ended (Some []) (text ++ part) ≡ ended (Some []) text ++ ended (Some []) part = ended-append (Some []) text part ∙ ap (λ l. ended (Some []) text ++ ended l part) so_far in
+      record {
+        line = ends ∙ sym (left-append (Some []) text part ∙ ap (λ l. left l part) so_far ∙ whole);
+        told = subst (λ ls. Told serves meets K ps ls s' held w') (sym lines) (step ps (ended (Some []) text) held h.told);
+      }

@@ -1,5 +1,5 @@
 -- PROOF: what becomes of lanes within a phase
-use Rattle.std.specs.Prelude.{◌≡◌, ℕ, ◌<◌, ◌==◌, if◌then◌else◌, Bool, true, false, List, [], ◌∷◌, ◌++◌, length, map, set, get_or, slice_get, Option, None, Some, Result, Ok, Err}
+use Rattle.std.specs.Prelude.{◌≡◌, ℕ, ◌+◌, ◌<◌, drop, ◌==◌, if◌then◌else◌, Bool, true, false, List, [], ◌∷◌, ◌++◌, length, map, set, get_or, slice_get, Option, None, Some, Result, Ok, Err}
 use Rattle.std.specs.List.{flat_map, list_any}
 use Rattle.wf_event_values.specs.declared.field.Field.TheVariants as field
 use Rattle.wf_event_values.specs.declared.refusal.Refusal.{Refusal}
@@ -9,7 +9,9 @@ use Rattle.service_model_types.specs.Replies.{Reply}
 use Rattle.service.specs.ServiceViews.{Pass}
 use Rattle.wire_requests.specs.declared.calls.Asked.{Asked}
 use Rattle.wire_requests.specs.declared.calls.Asked.TheVariants.{Barrier as a_barrier, Call as in_a_lane}
+use Rattle.lanes.specs.declared.answer.Answer.{Answer}
 use Rattle.lanes.specs.declared.lane.Lane.{Lane}
+use Rattle.lanes.specs.declared.lane.Question.{Question}
 use Rattle.lanes.specs.declared.print.Place.{Place}
 use Rattle.lanes.specs.declared.print.Place.TheVariants.{Barrier, Refused, InLane}
 use Rattle.lanes.specs.Course.{Serves, Meets, AllMet, InTurn}
@@ -33,6 +35,23 @@ module _ {Keeper Plan : Type 0} where
   abbrev pub passes_of : List (Lane Keeper Plan) → List Pass
   passes_of lanes = map (λ (l : Lane Keeper Plan). l.pass) lanes
 
+  -- the calls that a lane is to make
+  abbrev pub calls_of : Lane Keeper Plan → List Call
+  calls_of l = map (λ (q : Question). q.call) l.asked.items
+
+  -- the replies of a lane that were not taken
+  abbrev pub untaken : Lane Keeper Plan → List Reply
+  untaken l = map (λ (a : Answer). a.reply) (drop l.taken l.answered.items)
+
+-- the replies of answers
+abbrev pub replies_of : List Answer → List Reply
+replies_of answers = map (λ (a : Answer). a.reply) answers
+
+-- the first pass met every other twice, or none met
+abbrev pub MetIf : Meets → Bool → List Pass → List Pass → Type 0
+MetIf meets true ps ps' = AllMet meets ps ps'
+MetIf meets false ps ps' = ps' ≡ ps
+
 -- ---- calls that wait
 
 -- a call for one lane, as any lane has it
@@ -54,8 +73,8 @@ module _ {Keeper Plan : Type 0} where
   pub record HasMore (calls : List Call) (ls : List (Lane Keeper Plan)) (k : ℕ) (l' : Lane Keeper Plan) : Type 0 where
     pub before : Lane Keeper Plan
     pub there : slice_get ls k ≡ Some before
-    pub asked : l'.asked.items ≡ before.asked.items ++ calls
-    pub answered : l'.answered.items ≡ before.answered.items
+    pub asked : calls_of l' ≡ calls_of before ++ calls
+    pub answered : untaken l' ≡ untaken before
 
   -- each lane was asked these calls more
   pub record WereAsked (calls : ℕ → List Call) (ls ls' : List (Lane Keeper Plan)) : Type 0 where
@@ -64,30 +83,31 @@ module _ {Keeper Plan : Type 0} where
 
   -- no lane has a call to make, or a reply that was not taken
   abbrev pub AreIdle : List (Lane Keeper Plan) → Type 0
-  AreIdle lanes = (k : ℕ) (l : Lane Keeper Plan) → slice_get lanes k ≡ Some l → (l.asked.items ≡ []) × (l.answered.items ≡ [])
+  AreIdle lanes = (k : ℕ) (l : Lane Keeper Plan) → slice_get lanes k ≡ Some l → (calls_of l ≡ []) × (untaken l ≡ [])
 
   -- these lines wait: each has its place, and each lane the calls that are its own
   pub record Waiting (lines : List (Result Asked Refusal)) (ps : List Place) (lanes : List (Lane Keeper Plan)) : Type 0 where
     pub places : ps ≡ map place_in lines
-    pub asked : (k : ℕ) (l : Lane Keeper Plan) → slice_get lanes k ≡ Some l → l.asked.items ≡ calls_in k lines
-    pub answered : (k : ℕ) (l : Lane Keeper Plan) → slice_get lanes k ≡ Some l → l.answered.items ≡ []
+    pub asked : (k : ℕ) (l : Lane Keeper Plan) → slice_get lanes k ≡ Some l → calls_of l ≡ calls_in k lines
+    pub answered : (k : ℕ) (l : Lane Keeper Plan) → slice_get lanes k ≡ Some l → untaken l ≡ []
 
 -- ---- calls that are made
 
 module _ {Keeper Plan : Type 0} where
-  -- one call more was answered, and its reply waits behind the others
+  -- one call more was answered, and its reply stands behind the others
   pub record AnsweredOne (serves : Serves) (call : Call) (l l' : Lane Keeper Plan) : Type 0 where
-    pub reply : Reply
-    pub served : serves l.pass l'.pass call reply
-    pub kept : l'.answered.items ≡ l.answered.items ++ reply ∷ []
+    pub answer : Answer
+    pub served : serves l.pass l'.pass call answer.reply
+    pub kept : l'.answered.items ≡ l.answered.items ++ answer ∷ []
 
   -- a lane made some of its calls, one after another, and has these yet to make
   pub record Working (serves : Serves) (l : Lane Keeper Plan) (rest : List Call) (l' : Lane Keeper Plan) : Type 0 where
     pub done : List Call
-    pub replies : List Reply
-    pub parts : l.asked.items ≡ done ++ rest
-    pub turns : InTurn (λ p c r p'. serves p p' c r) l.pass done replies l'.pass
-    pub kept : l'.answered.items ≡ l.answered.items ++ replies
+    pub answers : List Answer
+    pub parts : calls_of l ≡ done ++ rest
+    pub turns : InTurn (λ p c r p'. serves p p' c r) l.pass done (replies_of answers) l'.pass
+    pub kept : l'.answered.items ≡ answers
+    pub taken : l'.taken ≡ 0
     pub asked : l'.asked.items ≡ []
 
 -- Calls of a pass were answered one after another, up to the first that memory ran out at. These are the replies, and where there are
@@ -101,10 +121,8 @@ Answered serves p (c ∷ calls) (r ∷ rs) p' = (q : Pass) × serves p q c r × 
 module _ {Keeper Plan : Type 0} where
   -- a lane made its calls
   pub record Worked (serves : Serves) (l l' : Lane Keeper Plan) : Type 0 where
-    pub replies : List Reply
-    pub answered : Answered serves l.pass l.asked.items replies l'.pass
-    pub kept : l'.answered.items ≡ l.answered.items ++ replies
-    pub asked : l'.asked.items ≡ []
+    pub answered : Answered serves l.pass (calls_of l) (untaken l') l'.pass
+    pub asked : calls_of l' ≡ []
 
   -- each lane made its calls
   abbrev pub EachWorked : Serves → List (Lane Keeper Plan) → List (Lane Keeper Plan) → Type 0
@@ -112,28 +130,34 @@ module _ {Keeper Plan : Type 0} where
 
   -- nothing of lanes changed but their passes
   pub record KeepsReplies (ls ls' : List (Lane Keeper Plan)) : Type 0 where
-    pub asked : map (λ (l : Lane Keeper Plan). l.asked) ls' ≡ map (λ (l : Lane Keeper Plan). l.asked) ls
-    pub answered : map (λ (l : Lane Keeper Plan). l.answered) ls' ≡ map (λ (l : Lane Keeper Plan). l.answered) ls
+    pub asked : map calls_of ls' ≡ map calls_of ls
+    pub answered : map untaken ls' ≡ map untaken ls
 
-  -- all lanes made their calls, and then the first pass met every other
-  pub record Phase (serves : Serves) (meets : Meets) (ls after : List (Lane Keeper Plan)) : Type 0 where
+  -- all lanes made their calls, and then the first pass met every other, where that closes a phase
+  pub record Phase (serves : Serves) (meets : Meets) (closes : Bool) (ls after : List (Lane Keeper Plan)) : Type 0 where
     pub worked : List (Lane Keeper Plan)
     pub count : length worked ≡ length ls
     pub each : EachWorked serves ls worked
-    pub met : AllMet meets (passes_of worked) (passes_of after)
+    pub met : MetIf meets closes (passes_of worked) (passes_of after)
     pub kept : KeepsReplies worked after
 
 -- ---- replies that are taken
 
 module _ {Keeper Plan : Type 0} where
+  -- the reply at this place was the first that was not taken, and was taken
+  pub record IsBehind (at : ℕ) (l l' : Lane Keeper Plan) : Type 0 where
+    pub within : at < length l.answered.items
+    pub was : l.taken ≡ at
+    pub is : l'.taken ≡ at + 1
+
   -- the first reply of a lane was taken
   pub record TookFirst (lane : ℕ) (l : Lane Keeper Plan) (ls : List (Lane Keeper Plan)) (r : Option Reply)
       (ls' : List (Lane Keeper Plan)) : Type 0 where
     pub reply : Reply
     pub left : Lane Keeper Plan
     pub is : r ≡ Some reply
-    pub first : l.answered.items ≡ reply ∷ left.answered.items
-    pub asked : left.asked ≡ l.asked
+    pub first : untaken l ≡ reply ∷ untaken left
+    pub asked : calls_of left ≡ calls_of l
     pub lanes : ls' ≡ set ls lane left
 
   -- the reply of a call is the first that its lane has; a lane that is not there is an invalid argument

@@ -1,5 +1,6 @@
 pub mod Course
 pub mod Endings
+pub mod Found
 pub mod Lanes
 pub mod Meetings
 pub mod Printed

@@ -1,5 +1,5 @@
 -- PROOF: what is printed of a phase: the replies in the order of the lines, each under its line's number
-use Rattle.std.specs.Prelude.{◌≡◌, ℕ, List, take, Bool, Option}
+use Rattle.std.specs.Prelude.{◌≡◌, ◌⊎◌, ℕ, List, take, slice_get, Bool, Option, Some}
 use Rattle.std.specs.List.{list_any}
 use Rattle.std.specs.Io.KnownBytes.{Appends}
 use Rattle.wire_counted.specs.Written.{AppendsBeginning}
@@ -9,7 +9,7 @@ use Rattle.script.specs.Output.{numbered_from}
 use Rattle.lanes.specs.declared.lane.Lane.{Lane}
 use Rattle.lanes.specs.declared.print.Place.{Place}
 use Rattle.lanes.specs.Course.{Serves, Meets, InTurn}
-use Rattle.lanes.specs.Lanes.{Phase, Took, passes_of}
+use Rattle.lanes.specs.Lanes.{Phase, Took, TookIn, passes_of}
 
 module _ {Keeper Plan : Type 0} where
   -- the reply of one line was taken and printed
@@ -19,6 +19,25 @@ module _ {Keeper Plan : Type 0} where
     pub took : Took ls p reply ls'
     pub written : Appends held held' (text_of number reply)
     pub refused_is : refused ≡ is_refusal reply
+
+  -- the reply of a call in a lane was taken, and a beginning of it was printed
+  pub record BegunReply (number lane : ℕ) (ls : List (Lane Keeper Plan)) (held held' : Option (List ℕ)) : Type 0 where
+    pub reply : Reply
+    pub left : List (Lane Keeper Plan)
+    pub took : TookIn lane (slice_get ls lane) ls (Some reply) left
+    pub written : AppendsBeginning held held' (text_of number (Some reply))
+
+  -- the reply of a call in a lane was taken and printed
+  pub record PrintedIn (number lane : ℕ) (there : Option (Lane Keeper Plan)) (ls ls' : List (Lane Keeper Plan)) (refused : Bool)
+      (held held' : Option (List ℕ)) : Type 0 where
+    pub reply : Reply
+    pub took : TookIn lane there ls (Some reply) ls'
+    pub written : Appends held held' (text_of number (Some reply))
+    pub refused_is : refused ≡ is_refusal (Some reply)
+
+  -- it was not taken, and nothing printed; or it was, and a beginning of it was printed
+  abbrev pub BegunIn : ℕ → ℕ → List (Lane Keeper Plan) → Option (List ℕ) → Option (List ℕ) → Type 0
+  BegunIn number lane ls held held' = (held' ≡ held) ⊎ BegunReply number lane ls held held'
 
   -- the replies of lines, numbered from this one on, were taken one after another, and printed
   pub record Printed (first : ℕ) (ps : List Place) (ls ls' : List (Lane Keeper Plan)) (refused : Bool)
@@ -37,16 +56,16 @@ module _ {Keeper Plan : Type 0} where
     pub written : AppendsBeginning held held' (numbered_from first replies)
 
   -- a phase was served and printed
-  pub record PhasePrinted (serves : Serves) (meets : Meets) (first : ℕ) (ps : List Place) (ls ls' : List (Lane Keeper Plan))
+  pub record PhasePrinted (serves : Serves) (meets : Meets) (closes : Bool) (first : ℕ) (ps : List Place) (ls ls' : List (Lane Keeper Plan))
       (refused : Bool) (held held' : Option (List ℕ)) : Type 0 where
     pub after : List (Lane Keeper Plan)
-    pub phase : Phase serves meets ls after
+    pub phase : Phase serves meets closes ls after
     pub printed : Printed first ps after ls' refused held held'
     pub passes : passes_of ls' ≡ passes_of after
 
   -- a phase was served, and a beginning of it was printed
-  pub record PhaseBegun (serves : Serves) (meets : Meets) (first : ℕ) (ps : List Place) (ls : List (Lane Keeper Plan))
+  pub record PhaseBegun (serves : Serves) (meets : Meets) (closes : Bool) (first : ℕ) (ps : List Place) (ls : List (Lane Keeper Plan))
       (held held' : Option (List ℕ)) : Type 0 where
     pub after : List (Lane Keeper Plan)
-    pub phase : Phase serves meets ls after
+    pub phase : Phase serves meets closes ls after
     pub begun : Begun first ps after held held'

@@ -2,11 +2,13 @@
 use Rattle.std.specs.Prelude.{◌≡◌, ◌⊎◌, ℕ, ◌+◌, List, [], ◌∷◌, ◌++◌, length, Bool, false, ◌||◌, Option, Some, Result}
 use Rattle.std.specs.List.{list_any}
 use Rattle.std.specs.Io.KnownBytes.{Appends, Consumes}
+use Rattle.wf_event_values.specs.Gives.{Gives}
 use Rattle.wf_event_values.specs.declared.refusal.Refusal.{Refusal}
 use Rattle.service_model_types.specs.declared.settings.Settings.{Settings}
 use Rattle.service_model_types.specs.Replies.{Reply}
 use Rattle.service.specs.ServiceViews.{Pass}
 use Rattle.wire_requests.specs.declared.calls.Asked.{Asked}
+use Rattle.script.specs.Asked.{asked}
 use Rattle.script.specs.Lines.{Line, all_lines}
 use Rattle.script.specs.Pending.{ended, left}
 use Rattle.script.specs.Serving.{is_refusal}
@@ -18,7 +20,7 @@ use Rattle.lanes.specs.Lanes.{ArePlain, Waiting, WereAsked, own_calls, passes_of
 use Rattle.lanes.specs.Printed.{PhaseBegun, PhasePrinted}
 
 module _ {Keeper Plan : Type 0} where
-  -- the lines before the last barrier were served and printed, the lines behind it wait
+  -- the first of these lines were served and printed, and those behind them wait
   pub record Told (serves : Serves) (meets : Meets) (K : Settings) (ps : List Pass) (lines : List Line) (s : Script Keeper Plan)
       (held held' : Option (List ℕ)) : Type 0 where
     pub done : List (Result Asked Refusal)
@@ -59,20 +61,25 @@ module _ {Keeper Plan : Type 0} where
     pub lanes : WereAsked (λ k. own_calls k ask) s.lanes.items s'.lanes.items
     pub first : s'.first ≡ s.first
     pub refused : s'.refused ≡ s.refused
-    pub line : s'.line ≡ Some []
+    pub line : s'.line ≡ s.line
 
-  -- a phase was served and printed: nothing waits
-  pub record Closed (serves : Serves) (meets : Meets) (s s' : Script Keeper Plan) (held held' : Option (List ℕ)) : Type 0 where
+  -- what waited was served and printed: nothing waits
+  pub record Closed (serves : Serves) (meets : Meets) (closes : Bool) (s s' : Script Keeper Plan) (held held' : Option (List ℕ)) : Type 0 where
     pub refused : Bool
-    pub printed : PhasePrinted serves meets s.first s.places.items s.lanes.items s'.lanes.items refused held held'
+    pub printed : PhasePrinted serves meets closes s.first s.places.items s.lanes.items s'.lanes.items refused held held'
     pub first : s'.first ≡ s.first + length s.places.items
     pub places : s'.places.items ≡ []
     pub refused_is : s'.refused ≡ (s.refused || refused)
     pub line : s'.line ≡ s.line
 
-  -- a phase was not served; or it was, and a beginning of it was printed
-  abbrev pub Stopped : Serves → Meets → (Script Keeper Plan) → (held held' : Option (List ℕ)) → Type 0
-  Stopped serves meets s held held' = (held' ≡ held) ⊎ PhaseBegun serves meets s.first s.places.items s.lanes.items held held'
+  -- nothing waited, and nothing was done
+  pub record Unchanged (s s' : Script Keeper Plan) (held held' : Option (List ℕ)) : Type 0 where
+    pub same : s' ≡ s
+    pub kept : held' ≡ held
+
+  -- what waited was not served; or it was, and a beginning of it was printed
+  abbrev pub Stopped : Serves → Meets → Bool → (Script Keeper Plan) → (held held' : Option (List ℕ)) → Type 0
+  Stopped serves meets closes s held held' = (held' ≡ held) ⊎ PhaseBegun serves meets closes s.first s.places.items s.lanes.items held held'
 
 -- ---- a step of the script, whatever was told before it
 
@@ -83,10 +90,31 @@ module _ {Keeper Plan : Type 0} where
   TellsLine serves meets K line s s' w w' = (ps : List Pass) (lines : List Line) (held : Option (List ℕ))
       → Told serves meets K ps lines s held w → Told serves meets K ps (lines ++ line ∷ []) s' held w'
 
+  -- likewise of a line of which this was found: what it asks, or want of memory
+  abbrev pub TellsFound : Serves → Meets → Result Asked Refusal → (Script Keeper Plan) → (Script Keeper Plan)
+      → Option (List ℕ) → Option (List ℕ) → Type 0
+  TellsFound serves meets found s s' w w' = (K : Settings) (line : Line) → Gives found (asked K line) → TellsLine serves meets K line s s' w w'
+
+  -- all was told of the lines before, and then of these too
+  abbrev pub TellsLines : Serves → Meets → Settings → List Line → (Script Keeper Plan) → (Script Keeper Plan) → Option (List ℕ)
+      → Option (List ℕ) → Type 0
+  TellsLines serves meets K more s s' w w' = (ps : List Pass) (lines : List Line) (held : Option (List ℕ))
+      → Told serves meets K ps lines s held w → Told serves meets K ps (lines ++ more) s' held w'
+
   -- all was told of the lines before, and then a beginning
   abbrev pub BeginsLine : Serves → Meets → Settings → Line → (Script Keeper Plan) → Option (List ℕ) → Option (List ℕ) → Type 0
   BeginsLine serves meets K line s w w' = (ps : List Pass) (lines : List Line) (held : Option (List ℕ))
       → Told serves meets K ps lines s held w → Beginning serves meets K ps (lines ++ line ∷ []) held w'
+
+  -- likewise with a line of which this was found
+  abbrev pub BeginsFound : Serves → Meets → Result Asked Refusal → (Script Keeper Plan) → Option (List ℕ)
+      → Option (List ℕ) → Type 0
+  BeginsFound serves meets found s w w' = (K : Settings) (line : Line) → Gives found (asked K line) → BeginsLine serves meets K line s w w'
+
+  -- all was told of the lines before, and then a beginning with these
+  abbrev pub BeginsLines : Serves → Meets → Settings → List Line → (Script Keeper Plan) → Option (List ℕ) → Option (List ℕ) → Type 0
+  BeginsLines serves meets K more s w w' = (ps : List Pass) (lines : List Line) (held : Option (List ℕ))
+      → Told serves meets K ps lines s held w → Beginning serves meets K ps (lines ++ more) held w'
 
   -- all was told of a text, and then of these bytes more
   abbrev pub TellsMore : Serves → Meets → Settings → List ℕ → (Script Keeper Plan) → (Script Keeper Plan) → Option (List ℕ)

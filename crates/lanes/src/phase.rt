@@ -1,9 +1,9 @@
-//! The lines between two barriers.
+//! The lines of a batch between two barriers.
 
 ghost use Rattle.std.specs.Prelude.{◌≡◌, ◌+◌, ◌<◌, ◌≤◌, ◌^◌, All, length, IfOk, IfErr, OnErr};
 ghost use Rattle.script.specs.Endings.{IsWriteFault};
 ghost use Rattle.lanes.specs.Course.{AllMet, FirstMet};
-ghost use Rattle.lanes.specs.Lanes.{EachWorked, KeepsReplies, Worked, passes_of};
+ghost use Rattle.lanes.specs.Lanes.{EachWorked, KeepsReplies, MetIf, Worked, passes_of};
 ghost use Rattle.lanes.specs.Printed.{PhaseBegun, PhasePrinted};
 
 use crate::door::Door;
@@ -72,8 +72,23 @@ fn meet_all<S: KeepsShard, D: Door<S>>(door: &D, lanes: &mut [Lane<S>])
     meet_others(door, lanes);
 }
 
-/// Lets all lanes make their calls, lets the first one meet every other, and writes the replies to the
-/// lines, which are numbered from this one on. It says whether one of them is a refusal.
+/// Lets the lanes meet where lines close a phase.
+fn meet_if<S: KeepsShard, D: Door<S>>(door: &D, lanes: &mut [Lane<S>], closes: bool)
+    requires { All (λ l. D.admits door.now l.pass) lanes.old }
+    ensures own { All (λ l. D.admits door.now l.pass) lanes.new }
+    ensures count { length lanes.new ≡ length lanes.old }
+    ensures met { MetIf (D.meets door.now) closes (passes_of lanes.old) (passes_of lanes.new) }
+    ensures kept { KeepsReplies lanes.old lanes.new }
+{
+    if !closes {
+        return;
+    }
+    meet_all(door, lanes);
+}
+
+/// Lets all lanes make their calls, lets the first one meet every other where the lines close a phase,
+/// and writes the replies to the lines, which are numbered from this one on. It says whether one of
+/// them is a refusal.
 pub(crate) fn serve_phase<
     R: Threads + Wait + Sync,
     S: KeepsShard + Send + Sync,
@@ -86,23 +101,24 @@ pub(crate) fn serve_phase<
     lanes: &mut [Lane<S>],
     first: u64,
     places: &[Place],
+    closes: bool,
     writer: &mut Counted<W>,
 ) -> Result<bool, ScriptFault>
     requires own { All (λ l. D.admits door.now l.pass) lanes.old }
     requires numbers { first + length places.now < 2 ^ 64 }
     ensures own { All (λ l. D.admits door.now l.pass) lanes.new }
     ensures count { length lanes.new ≡ length lanes.old }
-    ensures printed { IfOk result (λ refused. PhasePrinted (D.serves door.now) (D.meets door.now)
+    ensures printed { IfOk result (λ refused. PhasePrinted (D.serves door.now) (D.meets door.now) closes
         first places.now lanes.old lanes.new refused
         (W.contents writer.old.inner) (W.contents writer.new.inner)) }
-    ensures begun { OnErr result (PhaseBegun (D.serves door.now) (D.meets door.now)
+    ensures begun { OnErr result (PhaseBegun (D.serves door.now) (D.meets door.now) closes
         first places.now lanes.old
         (W.contents writer.old.inner) (W.contents writer.new.inner)) }
     ensures grows { writer.old.failures ≤ writer.new.failures }
     ensures fault { IfErr result (λ e. IsWriteFault e writer.old.failures writer.new.failures) }
 {
     serve_lanes(rt, alloc, door, lanes);
-    meet_all(door, lanes);
+    meet_if(door, lanes, closes);
     let refused = print(alloc, lanes, first, places, writer)?;
     if let Err(error) = writer.flush() {
         return Err(ScriptFault::Write(error));

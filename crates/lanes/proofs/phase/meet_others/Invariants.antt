@@ -1,6 +1,6 @@
 use Rattle.std.proofs.Common.{◌≡◌, ℕ, ◌≤◌, All, length, get_or, take}
 use Rattle.lanes.specs.declared.lane.Lane.{Lane}
-use Rattle.lanes.specs.Lanes.{KeepsReplies, passes_of}
+use Rattle.lanes.specs.Lanes.{KeepsReplies, calls_of, passes_of, untaken}
 use Rattle.lanes.proofs.MeetLemmas.{HasMet}
 use Rattle.lanes.proofs.phase.meet_others.Given as goal
 
@@ -10,8 +10,8 @@ invariant-loop-other g l = record {
   others : All (λ x. g.D.Door.admits l.door x.pass) l.other-items;
   count : length l.other-items ≡ length l.initial.other-items;
   met : HasMet (g.D.Door.meets l.door) l.initial.first.pass (take l.other-index (passes_of l.initial.other-items)) (take l.other-index (passes_of l.other-items)) l.first.pass;
-  asked : l.first.asked ≡ l.initial.first.asked;
-  answered : l.first.answered ≡ l.initial.first.answered;
+  asked : calls_of l.first ≡ calls_of l.initial.first;
+  answered : untaken l.first ≡ untaken l.initial.first;
   rest : (k : ℕ) (d : Lane g.row.S.Denot g.row.S-Plan.Denot) → l.other-index ≤ k → get_or l.other-items k d ≡ get_or l.initial.other-items k d;
   kept : KeepsReplies l.initial.other-items l.other-items;
 }

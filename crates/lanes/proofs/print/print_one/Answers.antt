@@ -1,19 +1,45 @@
-use Rattle.std.proofs.Common.{◌≡◌, Some, subst, ◌∙◌}
-use Rattle.wire_counted.specs.Written.{AppendsBeginning}
-use Rattle.script.specs.Serving.{text_of}
+use Rattle.std.proofs.Common.{◌≡◌, ◌∷◌, [], Some, Err, refl, sym, subst, slice_get}
 use Rattle.script.proofs.Steps.{on_any_err}
+use Rattle.lanes.specs.declared.print.Place.TheVariants.{InLane, Refused}
 use Rattle.lanes.specs.Lanes.{Took}
-use Rattle.lanes.proofs.PrintLemmas.{begun-none, begun-one}
+use Rattle.lanes.specs.Printed.{Begun, BegunIn, PrintedIn}
+use Rattle.lanes.proofs.PrintLemmas.{begun-in, begun-one}
 use Rattle.lanes.proofs.print.print_one.Goals as goal
 
-pub returns-in_err-reply-clause-begun : goal.returns-in_err-reply-clause-begun
-returns-in_err-reply-clause-begun g c = on_any_err c.from_residual.result _ (begun-none _ _ _ _)
+pub returns-in_err-print_refusal-in-Refused-clause-begun : goal.returns-in_err-print_refusal-in-Refused-clause-begun
+returns-in_err-print_refusal-in-Refused-clause-begun g c =
+    let refusal = c.in-Refused.refusal in
+    on_any_err c.from_residual.result _
+    (subst (λ p. Begun c.args.number (p ∷ []) c.args.lanes.now (g.W.Write.contents c.args.writer.now.inner) (g.W.Write.contents c.print_refusal.new.writer.inner)) (sym c.in-Refused.is)
+    (begun-one c.args.number (Refused refusal) (Some (Err refusal)) c.args.lanes.now c.args.lanes.now _ _ (refl, refl) c.in_err-print_refusal-in-Refused.ensures.begun))
 
-pub returns-in_err-text-clause-begun : goal.returns-in_err-text-clause-begun
-returns-in_err-text-clause-begun g c = on_any_err c.from_residual-in_err-text.result _ (begun-none _ _ _ _)
+pub returns-in_err-refused-in-InLane-clause-begun : goal.returns-in_err-refused-in-InLane-clause-begun
+returns-in_err-refused-in-InLane-clause-begun g c =
+    let lane = c.in-InLane.lane in
+    let begun : BegunIn c.args.number lane c.args.lanes.now (g.W.Write.contents c.args.writer.now.inner) (g.W.Write.contents c.print_in.new.writer.inner) =
+    subst (λ n. BegunIn c.args.number n c.args.lanes.now (g.W.Write.contents c.args.writer.now.inner) (g.W.Write.contents c.print_in.new.writer.inner)) c.from.ensures c.in_err-refused-in-InLane.ensures.begun in
+    on_any_err c.from_residual-in_err-refused-in-InLane.result _
+    (subst (λ p. Begun c.args.number (p ∷ []) c.args.lanes.now (g.W.Write.contents c.args.writer.now.inner) (g.W.Write.contents c.print_in.new.writer.inner)) (sym c.in-InLane.is)
+    (begun-in c.args.number lane c.args.lanes.now _ _ begun))
 
-pub returns-in-Err-clause-begun : goal.returns-in-Err-clause-begun
-returns-in-Err-clause-begun g c =
-    let text : c.as_bytes.result.now ≡ text_of c.args.number (Some c.in-Some.reply) = c.as_bytes.ensures.value ∙ c.in_ok-text.ensures in
-    begun-one _ _ (Some c.in-Some.reply) _ _ _ _ (subst (λ o. Took c.args.lanes.now c.args.place o c.reply_at.new.lanes) c.in-Some.is c.in_ok-reply.ensures.took)
-    (subst (λ bytes. AppendsBeginning (g.W.Write.contents c.args.writer.now.inner) (g.W.Write.contents c.write_whole.new.writer.inner) bytes) text c.in-Err.ensures.err)
+pub returns-in_ok-print_refusal-in-Refused-clause-printed : goal.returns-in_ok-print_refusal-in-Refused-clause-printed
+returns-in_ok-print_refusal-in-Refused-clause-printed g c =
+    let refusal = c.in-Refused.refusal in
+    record {
+      reply = Some (Err refusal);
+      took = subst (λ p. Took c.args.lanes.now p (Some (Err refusal)) c.args.lanes.now) (sym c.in-Refused.is) (refl, refl);
+      written = c.in_ok-print_refusal-in-Refused.ensures.printed;
+      refused_is = refl;
+    }
+
+pub returns-in_ok-refused-in-InLane-clause-printed : goal.returns-in_ok-refused-in-InLane-clause-printed
+returns-in_ok-refused-in-InLane-clause-printed g c =
+    let ls = c.args.lanes.now in
+    let p = c.in_ok-refused-in-InLane.ensures.printed in
+    record {
+      reply = Some p.reply;
+      took = subst (λ pl. Took ls pl (Some p.reply) c.print_in.new.lanes) (sym c.in-InLane.is)
+          (subst (λ n. Took ls (InLane n) (Some p.reply) c.print_in.new.lanes) c.from.ensures p.took);
+      written = p.written;
+      refused_is = p.refused_is;
+    }

@@ -1,6 +1,6 @@
 use Rattle.std.proofs.Common.{◌∷◌, ◌++◌, [], ◌≡◌, refl, set, subst, arith}
 use Rattle.std.proofs.lemmas.Option.{slice_get_read}
-use Rattle.lanes.specs.Lanes.{WereAsked, only_in}
+use Rattle.lanes.specs.Lanes.{WereAsked, calls_of, only_in}
 use Rattle.lanes.proofs.WorkLemmas.{asked-in, asked-past, then_ok}
 use Rattle.std.proofs.Math.Seq.{map-set_same}
 use Rattle.std.proofs.Common.{ap, ◌∙◌, Some, slice_get}
@@ -17,6 +17,6 @@ returns-clause-asked g c =
     let x = c.index_mut.result.now in
     let at : slice_get c.args.lanes.now.items c.from-lane.result ≡ Some x = slice_get_read c.args.lanes.now.items _ c.from-lane.result x refl (omega (arith, c.args.lanes.now.ok.0)) c.index_mut.ensures.value in
     then_ok c.ask.result _ _ c.ask.ensures.asked
-    (λ (more : c.ask.new.self.asked.items ≡ x.asked.items ++ c.args.call ∷ []).
+    (λ (more : calls_of c.ask.new.self ≡ calls_of x ++ c.args.call ∷ []).
     subst (λ lane. WereAsked (only_in lane c.args.call) c.args.lanes.now.items (set c.args.lanes.now.items c.from-lane.result c.ask.new.self)) c.from-lane.ensures
-    (asked-in c.from-lane.result c.args.call c.args.lanes.now.items x c.ask.new.self at c.ask.ensures.pass (ap (λ v. v.items) c.ask.ensures.answered) more))
+    (asked-in c.from-lane.result c.args.call c.args.lanes.now.items x c.ask.new.self at c.ask.ensures.pass c.ask.ensures.answered more))

@@ -78,3 +78,6 @@ returns-in_err-finish-clause-halted g c =
       at_end = c.in_ok-turn.ensures.end c.if-branch.true;
       begun = c.in_err-finish.ensures.begun _ p.text _ p.told;
     }))
+
+pub returns-in_err-readers-clause-halted : goal.returns-in_err-readers-clause-halted
+returns-in_err-readers-clause-halted g c = on_any_err c.from_residual-in_err-readers.result _ (nothing-read _ _)

@@ -1,13 +1,14 @@
-use Rattle.std.proofs.Common.{◌≡◌, length}
+use Rattle.std.proofs.Common.{◌≡◌, length, map}
 use Rattle.std.specs.Vec.Iter.{into_iter_items, into_iter_len}
+use Rattle.lanes.specs.declared.lane.Question.{Question}
 use Rattle.lanes.specs.Lanes.{Working}
 use Rattle.lanes.proofs.lane.Lane.serve.Given as goal
 
-abbrev pub invariant-loop-call : goal.invariant-loop-call
-invariant-loop-call g l = record {
-  next : (goal.iterator-loop-call g).can_next l.call-iterator;
-  ends : (goal.iterator-loop-call g).is_finite l.call-iterator;
+abbrev pub invariant-loop-question : goal.invariant-loop-question
+invariant-loop-question g l = record {
+  next : (goal.iterator-loop-question g).can_next l.question-iterator;
+  ends : (goal.iterator-loop-question g).is_finite l.question-iterator;
   own : g.D.Door.admits l.door l.self.pass;
-  count : length (into_iter_items l.call-iterator) ≡ into_iter_len l.call-iterator;
-  working : Working (g.D.Door.serves l.door) l.fn.self (into_iter_items l.call-iterator) l.self;
+  count : length (into_iter_items l.question-iterator) ≡ into_iter_len l.question-iterator;
+  working : Working (g.D.Door.serves l.door) l.fn.self (map (λ (q : Question). q.call) (into_iter_items l.question-iterator)) l.self;
 }

@@ -1,28 +1,13 @@
-use Rattle.std.proofs.Common.{rules, sym, ◌∙◌}
+use Rattle.std.proofs.Common.{refl}
 use Rattle.script.proofs.Steps.{on_any_err}
-use Rattle.lanes.proofs.BegunLemmas.{begins-barrier, begins-line}
-use Rattle.lanes.proofs.LaneLemmas.{own-same}
-use Rattle.lanes.proofs.ToldLemmas.{told-barrier, told-line}
+use Rattle.lanes.proofs.ToldLemmas.{told-longer}
 use Rattle.lanes.proofs.run.Script.end_line.Goals as goal
 
-pub returns-in_default-clause-own : goal.returns-in_default-clause-own
-returns-in_default-clause-own g c = own-same (g.D.Door.admits c.args.door.now) c.args.self.now.lanes.items c.add_line.new.self.lanes.items c.add_line.ensures.passes c.requires
-
-pub returns-then-not-closes-clause-own : goal.returns-then-not-closes-clause-own
-returns-then-not-closes-clause-own g c = own-same (g.D.Door.admits c.args.door.now) c.args.self.now.lanes.items c.add_line.new.self.lanes.items c.add_line.ensures.passes c.requires
-
-pub returns-then-not-closes-clause-told : goal.returns-then-not-closes-clause-told
-returns-then-not-closes-clause-told g c = λ ps lines held h. told-line lines _ c.args.self.now _ held _ c.in-Ok.ensures.added (sym c.in-Ok.ensures.barrier ∙ c.if-not-closes.true) h
-
-pub close-requires-after_bounds : goal.close-requires-after_bounds
-close-requires-after_bounds g c = let own = own-same (g.D.Door.admits c.args.door.now) c.args.self.now.lanes.items c.add_line.new.self.lanes.items c.add_line.ensures.passes c.requires in search (rules, own)
-
 pub returns-clause-told : goal.returns-clause-told
-returns-clause-told g c = λ ps lines held h. told-barrier lines _ c.args.self.now c.add_line.new.self _ held _ _ c.in-Ok.ensures.added (sym c.in-Ok.ensures.barrier ∙ c.if-not-closes.false) c.in_ok-close.ensures.closed h
+returns-clause-told g c ps lines held h =
+    c.in_ok-end_found.ensures.told c.args.settings.now c.args.self.now.line c.asked-found.ensures ps lines held (told-longer lines c.args.self.now _ held _ refl refl refl refl h)
 
-pub returns-in_default-clause-begun : goal.returns-in_default-clause-begun
-returns-in_default-clause-begun g c = λ ps lines held h. begins-line lines _ _ held _ h
-
-pub returns-in_err-close-clause-begun : goal.returns-in_err-close-clause-begun
-returns-in_err-close-clause-begun g c =
-    on_any_err c.from_residual.result _ (λ ps lines held h. begins-barrier lines _ c.args.self.now c.add_line.new.self held _ _ c.in-Ok.ensures.added (sym c.in-Ok.ensures.barrier ∙ c.if-not-closes.false) c.in_err-close.ensures.stopped h)
+pub returns-in_err-end_found-clause-begun : goal.returns-in_err-end_found-clause-begun
+returns-in_err-end_found-clause-begun g c =
+    on_any_err c.from_residual.result _
+    (λ ps lines held h. c.in_err-end_found.ensures.begun c.args.settings.now c.args.self.now.line c.asked-found.ensures ps lines held (told-longer lines c.args.self.now _ held _ refl refl refl refl h))

@@ -1,0 +1,163 @@
+//! Lines that are read in several threads.
+
+ghost use Rattle.std.specs.Prelude.{◌≡◌, ℕ, ◌<◌, ◌++◌, [], ◌∷◌, length, get_or, OnOk, IfOk, IfSome, IfNone};
+ghost use Rattle.lanes.specs.Found.{AllEndLines, AreFound, EndsLines, HasRead, lines_in, text_of_all};
+ghost use Rattle.lanes.specs.declared.reading.Reader.{Reader};
+
+use script::{Line, asked, cut};
+use service_model_types::settings::Settings;
+use std::alloc::{AllocError, Global};
+use std::collections::VecDeque;
+use std::thread;
+use std::thread::Threads;
+use wf_event_values::Refusal;
+use wire_requests::{Asked, LineReader};
+
+/// The most readers that there are.
+const MOST: usize = 8;
+
+/// So many bytes or fewer are no work for a thread of its own.
+const LEAST: usize = 16_384;
+
+/// Some lines of a text, and what each was found to be. Its memory is used again for the next ones.
+#[derive(Drop)]
+pub(crate) struct Reader {
+    reader: LineReader,
+    line: Line,
+    text: Vec<u8>,
+    found: VecDeque<Result<Asked, Refusal>>,
+    /// Whether memory ran out.
+    pub(crate) failed: bool,
+}
+
+impl Reader {
+    fn new(alloc: Global) -> Reader {
+        Reader {
+            reader: LineReader::new(alloc),
+            line: Line::new(alloc),
+            text: Vec::new(alloc),
+            found: VecDeque::new(alloc),
+            failed: false,
+        }
+    }
+
+    /// It is to read this text, and no other.
+    fn give(&mut self, text: &[u8]) -> Result<(), AllocError>
+        ensures { OnOk result (self.new.text.items ≡ text.now) }
+    {
+        self.text.clear();
+        self.text.extend_from_slice(text)?;
+        Ok(())
+    }
+
+    /// What the first line of those that are left was found to be.
+    pub(crate) fn next(&mut self) -> Option<Result<Asked, Refusal>>
+        ensures text { self.new.text ≡ self.old.text }
+        ensures some { IfSome result (λ f. self.old.found.items ≡ f ∷ self.new.found.items) }
+        ensures none { IfNone result (self.old.found.items ≡ []) }
+    {
+        self.found.pop_front()
+    }
+
+    /// Reads the lines of its text.
+    fn read(&mut self, alloc: Global, settings: &Settings)
+        ensures { HasRead settings.now self.old self.new }
+    {
+        self.found.clear();
+        let text = self.text.as_slice();
+        let read = read_lines(
+            &mut self.reader,
+            &mut self.line,
+            &mut self.found,
+            alloc,
+            settings,
+            text,
+        );
+        self.failed = read.is_err();
+    }
+}
+
+/// What each line was found to be that ends in the text.
+fn read_lines(
+    reader: &mut LineReader,
+    line: &mut Line,
+    found: &mut VecDeque<Result<Asked, Refusal>>,
+    alloc: Global,
+    settings: &Settings,
+    text: &[u8],
+) -> Result<(), AllocError>
+    requires { found.old.items ≡ [] }
+    ensures { OnOk result (AreFound settings.now found.new.items (lines_in text.now)) }
+{
+    let mut rest = text;
+    while let Some((part, behind)) = cut(rest) {
+        line.clear(alloc);
+        line.extend(part)?;
+        found.push_back(asked(reader, alloc, settings, line))?;
+        rest = behind;
+    }
+    Ok(())
+}
+
+/// Readers for so many lanes.
+pub(crate) fn readers_for(alloc: Global, lanes: usize) -> Result<Vec<Reader>, AllocError> {
+    let mut readers = Vec::new(alloc);
+    for _ in 0..lanes.min(MOST) {
+        readers.push(Reader::new(alloc))?;
+    }
+    Ok(readers)
+}
+
+/// The text up to the first line feed at this place or behind it, and what stands behind that.
+fn part_at(text: &[u8], least: usize) -> (&[u8], &[u8])
+    ensures parts { text.now ≡ result.0.now ++ result.1.now }
+    ensures ends { EndsLines result.0.now }
+{
+    let front = least.min(text.len());
+    match cut(&text[front..]) {
+        Some((part, _)) => text.split_at(front + part.len() + 1),
+        None => text.split_at(0),
+    }
+}
+
+/// Shares a text out among readers, whole lines to each. It gives what is left.
+pub(crate) fn give_all<'a>(readers: &mut [Reader], text: &'a [u8]) -> Result<&'a [u8], AllocError>
+    ensures parts { IfOk result (λ rest. text.now ≡ text_of_all readers.new ++ rest.now) }
+    ensures ends { OnOk result (AllEndLines readers.new) }
+{
+    let count = readers.len();
+    let shares = count.min(text.len() / LEAST + 1);
+    let mut rest = text;
+    for k in 0..count {
+        let left = if k < shares { shares - k } else { 1 };
+        let share = (rest.len() / left).saturating_sub(1);
+        let (part, behind) = part_at(rest, share);
+        readers[k].give(part)?;
+        rest = behind;
+    }
+    Ok(rest)
+}
+
+/// Lets all readers read their texts at the same time, each in a thread of its own.
+pub(crate) fn read_all<R: Threads + Sync>(
+    rt: &R,
+    alloc: Global,
+    settings: &Settings,
+    readers: &mut [Reader],
+)
+    ensures count { length readers.new ≡ length readers.old }
+    ensures read { (k : ℕ) (d : Reader) → k < length readers.old
+        → HasRead settings.now (get_or readers.old k d) (get_or readers.new k d) }
+{
+    let threads = readers.len();
+    if threads > 0 {
+        thread::for_each_mut(
+            rt,
+            readers,
+            threads,
+            &|_, reader: &mut Reader|
+                ensures { HasRead settings.entry.now reader.entry.now reader.exit.now }
+            { reader.read(alloc, settings) },
+        );
+    }
+}
