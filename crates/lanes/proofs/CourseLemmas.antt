@@ -11,26 +11,23 @@ use Rattle.service.specs.ServiceViews.{Pass}
 use Rattle.wire_requests.specs.declared.calls.Asked.{Asked}
 use Rattle.wire_requests.specs.declared.calls.Asked.TheVariants.{Barrier as a_barrier, Call as in_a_lane}
 use Rattle.wire_requests.specs.declared.calls.LaneCall.{LaneCall}
-use Rattle.lanes.specs.declared.lane.Lane.{Lane}
 use Rattle.lanes.specs.Course.{Serves, Meets, LaneServed, LineServed}
-use Rattle.lanes.specs.Lanes.{Answered, TookFirst, TookIn, Took, calls_in, calls_of, is_barrier, place_in, untaken}
+use Rattle.lanes.specs.Lanes.{Answered, TookFirst, TookIn, Took, calls_in, is_barrier, place_in}
 use Rattle.lanes.proofs.PlaceLemmas.{get-set, get-other, there-too, gone-too}
 
 -- ---- lines that wait for their replies
 
-module _ {Keeper Plan : Type 0} where
-  -- lanes have what they answered to the calls among these lines; their passes were these, and in the end are those
-  pub record Ready (serves : Serves) (ps : List Pass) (lines : List (Result Asked Refusal)) (ls : List (Lane Keeper Plan)) (es : List Pass) : Type 0 where
-    pub lanes : length ls ≡ length ps
-    pub ends : length es ≡ length ps
-    pub runs : (k : ℕ) (p : Pass) (l : Lane Keeper Plan) (e : Pass) → slice_get ps k ≡ Some p → slice_get ls k ≡ Some l → slice_get es k ≡ Some e → Answered serves p (calls_in k lines) (untaken l) e
-    pub idle : (k : ℕ) (l : Lane Keeper Plan) → slice_get ls k ≡ Some l → calls_of l ≡ []
+-- Lanes have these replies left, which they gave to the calls among these lines; their passes were these, and in the end are those
+pub record Ready (serves : Serves) (ps : List Pass) (lines : List (Result Asked Refusal)) (rss : List (List Reply)) (es : List Pass) : Type 0 where
+  pub lanes : length rss ≡ length ps
+  pub ends : length es ≡ length ps
+  pub runs : (k : ℕ) (p : Pass) (rs : List Reply) (e : Pass) → slice_get ps k ≡ Some p → slice_get rss k ≡ Some rs → slice_get es k ≡ Some e → Answered serves p (calls_in k lines) rs e
 
-  -- one line was served, and the others wait
-  pub record Step (serves : Serves) (meets : Meets) (ps : List Pass) (line : Result Asked Refusal) (lines : List (Result Asked Refusal)) (r : Option Reply) (ls : List (Lane Keeper Plan)) (es : List Pass) : Type 0 where
-    pub passes : List Pass
-    pub served : LineServed serves meets ps line r passes
-    pub ready : Ready serves passes lines ls es
+-- one line was served, and the others wait
+pub record Step (serves : Serves) (meets : Meets) (ps : List Pass) (line : Result Asked Refusal) (lines : List (Result Asked Refusal)) (r : Option Reply) (rss : List (List Reply)) (es : List Pass) : Type 0 where
+  pub passes : List Pass
+  pub served : LineServed serves meets ps line r passes
+  pub ready : Ready serves passes lines rss es
 
 -- ---- the calls of a lane
 
@@ -42,79 +39,67 @@ calls-other k c lines other = ap (λ b. cond b (c.call ∷ []) [] ++ calls_in k 
 
 -- ---- a line, and then those behind it
 
-module _ {Keeper Plan : Type 0} where
-  -- a call in a lane that is not there
-  serve-nowhere : (serves : Serves) (meets : Meets) (ps : List Pass) (c : LaneCall) (lines : List (Result Asked Refusal)) (r : Option Reply) (ls : List (Lane Keeper Plan)) (es : List Pass) → slice_get ls c.lane ≡ None → r ≡ Some (Err (InvalidArgument field.Lane))
-      → Ready serves ps (Ok (in_a_lane c) ∷ lines) ls es → Step serves meets ps (Ok (in_a_lane c)) lines r ls es
-  serve-nowhere serves meets ps c lines r ls es gone is h =
-      let none : slice_get ps c.lane ≡ None = gone-too ls ps c.lane (sym h.lanes) gone in
-      record {
-        passes = ps;
-        served = subst (λ o. LaneServed serves c.lane c.call o ps r ps) (sym none) (is, refl);
-        ready = record {
-          lanes = h.lanes;
-          ends = h.ends;
-          runs = λ k p l e at_p at_l at_e.
-              let other : ¬ (c.lane ≡ k) = λ own. none-some p (sym none ∙ ap (slice_get ps) own ∙ at_p) in
-              subst (λ calls. Answered serves p calls (untaken l) e) (calls-other k c lines other) (h.runs k p l e at_p at_l at_e);
-          idle = h.idle;
-        };
-      }
+-- a call in a lane that is not there
+serve-nowhere : (serves : Serves) (meets : Meets) (ps : List Pass) (c : LaneCall) (lines : List (Result Asked Refusal)) (r : Option Reply) (rss : List (List Reply)) (es : List Pass) → slice_get rss c.lane ≡ None → r ≡ Some (Err (InvalidArgument field.Lane))
+    → Ready serves ps (Ok (in_a_lane c) ∷ lines) rss es → Step serves meets ps (Ok (in_a_lane c)) lines r rss es
+serve-nowhere serves meets ps c lines r rss es gone is h =
+    let none : slice_get ps c.lane ≡ None = gone-too rss ps c.lane (sym h.lanes) gone in
+    record {
+      passes = ps;
+      served = subst (λ o. LaneServed serves c.lane c.call o ps r ps) (sym none) (is, refl);
+      ready = record {
+        lanes = h.lanes;
+        ends = h.ends;
+        runs = λ k p rs e at_p at_rs at_e.
+            let other : ¬ (c.lane ≡ k) = λ own. none-some p (sym none ∙ ap (slice_get ps) own ∙ at_p) in
+            subst (λ calls. Answered serves p calls rs e) (calls-other k c lines other) (h.runs k p rs e at_p at_rs at_e);
+      };
+    }
 
-  -- the lanes behind a call in one of them
-  ready-behind : (serves : Serves) (ps : List Pass) (c : LaneCall) (lines : List (Result Asked Refusal)) (ls : List (Lane Keeper Plan)) (es : List Pass) (p q : Pass) (l left : Lane Keeper Plan) (e : Pass) → slice_get ps c.lane ≡ Some p → slice_get ls c.lane ≡ Some l → slice_get es c.lane ≡ Some e
-      → calls_of left ≡ calls_of l → Answered serves q (calls_in c.lane lines) (untaken left) e → Ready serves ps (Ok (in_a_lane c) ∷ lines) ls es → Ready serves (set ps c.lane q) lines (set ls c.lane left) es
-  ready-behind serves ps c lines ls es p q l left e at_p at_l at_e asked rest h = record {
-    lanes = length-set ls c.lane left ∙ h.lanes ∙ sym (length-set ps c.lane q);
-    ends = h.ends ∙ sym (length-set ps c.lane q);
-    runs = λ k p' l' e' at_p' at_l' at_e'. by-place k p' l' e' at_p' at_l' at_e' (dec k);
-    idle = λ k l' at_l'. idle-by k l' at_l' (dec k);
-  }
-    where
-      dec : (k : ℕ) → (c.lane ≡ k) ⊎ (¬ (c.lane ≡ k))
-      dec k = cases_eq c.lane k
+-- the lanes behind a call in one of them
+ready-behind : (serves : Serves) (ps : List Pass) (c : LaneCall) (lines : List (Result Asked Refusal)) (rss : List (List Reply)) (es : List Pass) (p q : Pass) (rs left : List Reply) (e : Pass) → slice_get ps c.lane ≡ Some p → slice_get rss c.lane ≡ Some rs → slice_get es c.lane ≡ Some e
+    → Answered serves q (calls_in c.lane lines) left e → Ready serves ps (Ok (in_a_lane c) ∷ lines) rss es → Ready serves (set ps c.lane q) lines (set rss c.lane left) es
+ready-behind serves ps c lines rss es p q rs left e at_p at_rs at_e rest h = record {
+  lanes = length-set rss c.lane left ∙ h.lanes ∙ sym (length-set ps c.lane q);
+  ends = h.ends ∙ sym (length-set ps c.lane q);
+  runs = λ k p' rs' e' at_p' at_rs' at_e'. by-place k p' rs' e' at_p' at_rs' at_e' (cases_eq c.lane k);
+}
+  where
+    by-place : (k : ℕ) (p' : Pass) (rs' : List Reply) (e' : Pass) → slice_get (set ps c.lane q) k ≡ Some p' → slice_get (set rss c.lane left) k ≡ Some rs' → slice_get es k ≡ Some e' → (c.lane ≡ k) ⊎ (¬ (c.lane ≡ k)) → Answered serves p' (calls_in k lines) rs' e'
+    by-place k p' rs' e' at_p' at_rs' at_e' (inl own) =
+        let is_p : q ≡ p' = same_Some q p' (sym (get-set ps c.lane p q at_p) ∙ ap (slice_get (set ps c.lane q)) own ∙ at_p') in
+        let is_rs : left ≡ rs' = same_Some left rs' (sym (get-set rss c.lane rs left at_rs) ∙ ap (slice_get (set rss c.lane left)) own ∙ at_rs') in
+        let is_e : e ≡ e' = same_Some e e' (sym at_e ∙ ap (slice_get es) own ∙ at_e') in
+        rw (← is_p, ← is_rs, ← is_e, ← own) rest
+    by-place k p' rs' e' at_p' at_rs' at_e' (inr other) =
+        subst (λ calls. Answered serves p' calls rs' e') (calls-other k c lines other)
+        (h.runs k p' rs' e' (sym (get-other ps c.lane k q other) ∙ at_p') (sym (get-other rss c.lane k left other) ∙ at_rs') at_e')
 
-      by-place : (k : ℕ) (p' : Pass) (l' : Lane Keeper Plan) (e' : Pass) → slice_get (set ps c.lane q) k ≡ Some p' → slice_get (set ls c.lane left) k ≡ Some l' → slice_get es k ≡ Some e' → (c.lane ≡ k) ⊎ (¬ (c.lane ≡ k)) → Answered serves p' (calls_in k lines) (untaken l') e'
-      by-place k p' l' e' at_p' at_l' at_e' (inl own) =
-          let is_p : q ≡ p' = same_Some q p' (sym (get-set ps c.lane p q at_p) ∙ ap (slice_get (set ps c.lane q)) own ∙ at_p') in
-          let is_l : left ≡ l' = same_Some left l' (sym (get-set ls c.lane l left at_l) ∙ ap (slice_get (set ls c.lane left)) own ∙ at_l') in
-          let is_e : e ≡ e' = same_Some e e' (sym at_e ∙ ap (slice_get es) own ∙ at_e') in
-          rw (← is_p, ← is_l, ← is_e, ← own) rest
-      by-place k p' l' e' at_p' at_l' at_e' (inr other) =
-          subst (λ calls. Answered serves p' calls (untaken l') e') (calls-other k c lines other)
-          (h.runs k p' l' e' (sym (get-other ps c.lane k q other) ∙ at_p') (sym (get-other ls c.lane k left other) ∙ at_l') at_e')
+-- a call in a lane that is there
+serve-there : (serves : Serves) (meets : Meets) (ps : List Pass) (c : LaneCall) (lines : List (Result Asked Refusal)) (r : Option Reply) (rss m : List (List Reply)) (es : List Pass) (rs : List Reply) → slice_get rss c.lane ≡ Some rs → TookFirst c.lane rs rss r m
+    → Ready serves ps (Ok (in_a_lane c) ∷ lines) rss es → Step serves meets ps (Ok (in_a_lane c)) lines r m es
+serve-there serves meets ps c lines r rss m es rs at_rs t h =
+    let p = there-too rss ps c.lane rs (sym h.lanes) at_rs in
+    let e = there-too rss es c.lane rs (h.ends ∙ sym h.lanes) at_rs in
+    let run = h.runs c.lane p.0 rs e.0 p.1 at_rs e.1 in
+    let here : Answered serves p.0 (c.call ∷ calls_in c.lane lines) (t.reply ∷ t.rest) e.0 = subst (λ calls. Answered serves p.0 calls (t.reply ∷ t.rest) e.0) (calls-own c.lane c lines refl) (subst (λ rs. Answered serves p.0 (calls_in c.lane (Ok (in_a_lane c) ∷ lines)) rs e.0) t.first run) in
+    record {
+      passes = set ps c.lane here.0;
+      served = subst (λ o. LaneServed serves c.lane c.call o ps r (set ps c.lane here.0)) (sym p.1) (record { pass = here.0; reply = t.reply; served = here.1; is = t.is; passes = refl });
+      ready = subst (λ x. Ready serves (set ps c.lane here.0) lines x es) (sym t.lanes) (ready-behind serves ps c lines rss es p.0 here.0 rs t.rest e.0 p.1 at_rs e.1 here.2 h);
+    }
 
-      idle-by : (k : ℕ) (l' : Lane Keeper Plan) → slice_get (set ls c.lane left) k ≡ Some l' → (c.lane ≡ k) ⊎ (¬ (c.lane ≡ k)) → calls_of l' ≡ []
-      idle-by k l' at_l' (inl own) =
-          let is_l : left ≡ l' = same_Some left l' (sym (get-set ls c.lane l left at_l) ∙ ap (slice_get (set ls c.lane left)) own ∙ at_l') in
-          ap calls_of (sym is_l) ∙ asked ∙ h.idle c.lane l at_l
-      idle-by k l' at_l' (inr other) = h.idle k l' (sym (get-other ls c.lane k left other) ∙ at_l')
+serve-in : (serves : Serves) (meets : Meets) (ps : List Pass) (c : LaneCall) (lines : List (Result Asked Refusal)) (r : Option Reply) (rss m : List (List Reply)) (es : List Pass) (o : Option (List Reply)) → slice_get rss c.lane ≡ o → TookIn c.lane o rss r m
+    → Ready serves ps (Ok (in_a_lane c) ∷ lines) rss es → Step serves meets ps (Ok (in_a_lane c)) lines r m es
+serve-in serves meets ps c lines r rss m es None is t h = subst (λ x. Step serves meets ps (Ok (in_a_lane c)) lines r x es) (sym t.1) (serve-nowhere serves meets ps c lines r rss es is t.0 h)
+serve-in serves meets ps c lines r rss m es (Some rs) is t h = serve-there serves meets ps c lines r rss m es rs is t h
 
-  -- a call in a lane that is there
-  serve-there : (serves : Serves) (meets : Meets) (ps : List Pass) (c : LaneCall) (lines : List (Result Asked Refusal)) (r : Option Reply) (ls : List (Lane Keeper Plan)) (m : List (Lane Keeper Plan)) (es : List Pass) (l : Lane Keeper Plan) → slice_get ls c.lane ≡ Some l → TookFirst c.lane l ls r m
-      → Ready serves ps (Ok (in_a_lane c) ∷ lines) ls es → Step serves meets ps (Ok (in_a_lane c)) lines r m es
-  serve-there serves meets ps c lines r ls m es l at_l t h =
-      let p = there-too ls ps c.lane l (sym h.lanes) at_l in
-      let e = there-too ls es c.lane l (h.ends ∙ sym h.lanes) at_l in
-      let run = h.runs c.lane p.0 l e.0 p.1 at_l e.1 in
-      let here : Answered serves p.0 (c.call ∷ calls_in c.lane lines) (t.reply ∷ untaken t.left) e.0 = subst (λ calls. Answered serves p.0 calls (t.reply ∷ untaken t.left) e.0) (calls-own c.lane c lines refl) (subst (λ rs. Answered serves p.0 (calls_in c.lane (Ok (in_a_lane c) ∷ lines)) rs e.0) t.first run) in
-      record {
-        passes = set ps c.lane here.0;
-        served = subst (λ o. LaneServed serves c.lane c.call o ps r (set ps c.lane here.0)) (sym p.1) (record { pass = here.0; reply = t.reply; served = here.1; is = t.is; passes = refl });
-        ready = subst (λ x. Ready serves (set ps c.lane here.0) lines x es) (sym t.lanes) (ready-behind serves ps c lines ls es p.0 here.0 l t.left e.0 p.1 at_l e.1 t.asked here.2 h);
-      }
-
-  serve-in : (serves : Serves) (meets : Meets) (ps : List Pass) (c : LaneCall) (lines : List (Result Asked Refusal)) (r : Option Reply) (ls m : List (Lane Keeper Plan)) (es : List Pass) (o : Option (Lane Keeper Plan)) → slice_get ls c.lane ≡ o → TookIn c.lane o ls r m
-      → Ready serves ps (Ok (in_a_lane c) ∷ lines) ls es → Step serves meets ps (Ok (in_a_lane c)) lines r m es
-  serve-in serves meets ps c lines r ls m es None is t h = subst (λ x. Step serves meets ps (Ok (in_a_lane c)) lines r x es) (sym t.1) (serve-nowhere serves meets ps c lines r ls es is t.0 h)
-  serve-in serves meets ps c lines r ls m es (Some l) is t h = serve-there serves meets ps c lines r ls m es l is t h
-
-  pub serve-line : (serves : Serves) (meets : Meets) (ps : List Pass) (line : Result Asked Refusal) (lines : List (Result Asked Refusal)) (r : Option Reply) (ls m : List (Lane Keeper Plan)) (es : List Pass) → is_barrier (place_in line) ≡ false → Took ls (place_in line) r m
-      → Ready serves ps (line ∷ lines) ls es → Step serves meets ps line lines r m es
-  serve-line serves meets ps (Ok a_barrier) lines r ls m es plain t h = absurd (true≢false plain)
-  serve-line serves meets ps (Ok (in_a_lane c)) lines r ls m es plain t h = serve-in serves meets ps c lines r ls m es (slice_get ls c.lane) refl t h
-  serve-line serves meets ps (Err refusal) lines r ls m es plain t h = record {
-    passes = ps;
-    served = (t.0, refl);
-    ready = subst (λ x. Ready serves ps lines x es) (sym t.1) (record { lanes = h.lanes; ends = h.ends; runs = h.runs; idle = h.idle });
-  }
+pub serve-line : (serves : Serves) (meets : Meets) (ps : List Pass) (line : Result Asked Refusal) (lines : List (Result Asked Refusal)) (r : Option Reply) (rss m : List (List Reply)) (es : List Pass) → is_barrier (place_in line) ≡ false → Took rss (place_in line) r m
+    → Ready serves ps (line ∷ lines) rss es → Step serves meets ps line lines r m es
+serve-line serves meets ps (Ok a_barrier) lines r rss m es plain t h = absurd (true≢false plain)
+serve-line serves meets ps (Ok (in_a_lane c)) lines r rss m es plain t h = serve-in serves meets ps c lines r rss m es (slice_get rss c.lane) refl t h
+serve-line serves meets ps (Err refusal) lines r rss m es plain t h = record {
+  passes = ps;
+  served = (t.0, refl);
+  ready = subst (λ x. Ready serves ps lines x es) (sym t.1) (record { lanes = h.lanes; ends = h.ends; runs = h.runs });
+}

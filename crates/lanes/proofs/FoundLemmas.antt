@@ -1,6 +1,6 @@
 -- lines that readers found, and their texts
 use Rattle.std.proofs.Common.{◌≡◌, ◌≢◌, ◌⊎◌, inl, inr, ◌<◌, ◌≤◌, ◌+◌, ℕ, zero, suc, All, List, [], ◌∷◌, ◌++◌, take, drop, set, length, get_or, slice_get, Bool, false, Option, Some, Result, Ok, Err, refl, sym, ap, subst, ◌∙◌, append_assoc, arith}
-use Rattle.std.proofs.lemmas.List.{append-nil, length-append, take-append-drop, take-append-le, take_all, take_more, take_more_set}
+use Rattle.std.proofs.lemmas.List.{append-nil, length-append, map-append, take-append-drop, take-append-le, take_all, take_more, take_more_set}
 use Rattle.std.proofs.lemmas.List.Concat.{flat_map-append}
 use Rattle.std.proofs.lemmas.Bool.{cases_eq}
 use Rattle.std.proofs.lemmas.Option.{same_Some, slice_get-get_or}
@@ -16,13 +16,18 @@ use Rattle.script.proofs.PartLemmas.{ended-free, ended-line, left-line}
 use Rattle.script.proofs.Steps.{ended-append, left-append}
 use Rattle.lanes.specs.declared.reading.Reader.{Reader}
 use Rattle.lanes.specs.declared.run.Script.{Script}
-use Rattle.lanes.specs.Course.{Serves, Meets}
+use Rattle.lanes.specs.Course.{Serves, Meets, asks_of}
 use Rattle.lanes.specs.Endings.{Beginning}
-use Rattle.lanes.specs.Found.{AllEndLines, AreFound, EndsLines, HasRead, IsRead, lines_in, text_of_all}
-use Rattle.lanes.specs.ToldLines.{BeginsFound, BeginsLines, TellsFound, TellsLines, Told}
+use Rattle.lanes.specs.declared.sorted.Sorted.{Sorted}
+use Rattle.lanes.specs.Lanes.{ArePlain}
+use Rattle.lanes.specs.Sorted.{Fits, IsSorted, SortedMore}
+use Rattle.lanes.specs.Found.{AllEndLines, AreFound, AreRead, EndsLines, HasRead, IsRead, lines_in, text_of_all}
+use Rattle.lanes.specs.ToldLines.{AddedAll, BeginsFound, BeginsLines, TellsFound, TellsLines, Told}
 use Rattle.lanes.proofs.BegunLemmas.{begins-more}
 use Rattle.lanes.proofs.NumberLemmas.{there-at}
 use Rattle.lanes.proofs.PlaceLemmas.{get-other, get-set}
+use Rattle.lanes.proofs.SortLemmas.{fits-plain, sorted-push}
+use Rattle.lanes.proofs.ToldLemmas.{plain-push, told-all}
 
 -- what was found of a line is what it asks, unless memory ran out
 pub found-is : (found asks : Result Asked Refusal) → Gives found asks → found ≢ Err NoMemory → asks ≡ found
@@ -30,10 +35,6 @@ found-is (Ok x) asks gives known = gives
 found-is (Err e) asks gives known = gives (λ is. known (ap Err is))
 
 -- ---- the lines of a text
-
-pub found-none : (K : Settings) → AreFound K [] (lines_in [])
-unfolding ended
-found-none K = tt
 
 pub ends-none : EndsLines []
 unfolding left
@@ -45,21 +46,52 @@ found-push K [] (x ∷ ls) f l h gives = absurd h
 found-push K (x ∷ fs) [] f l h gives = absurd h
 found-push K (x ∷ fs) (y ∷ ls) f l h gives = (h.0, found-push K fs ls f l h.1 gives)
 
--- one line more was found
-pub found-line : (K : Settings) (fs : List (Result Asked Refusal)) (done part : List ℕ) (f : Result Asked Refusal) → EndsLines done → has_feed part ≡ false → AreFound K fs (lines_in done) → Gives f (asked K (grown (Some []) part)) → AreFound K (fs ++ f ∷ []) (lines_in (done ++ (part ++ 10 ∷ [])))
-found-line K fs done part f whole free h gives =
-    let lines : lines_in (done ++ (part ++ 10 ∷ [])) ≡ lines_in done ++ grown (Some []) part ∷ [] =
-    ended-append (Some []) done (part ++ 10 ∷ []) ∙ ap (λ l. lines_in done ++ ended l (part ++ 10 ∷ [])) whole ∙ ap (λ x. lines_in done ++ x) (ended-line (Some []) part free) in
-    subst (AreFound K (fs ++ f ∷ [])) (sym lines) (found-push K fs (lines_in done) f (grown (Some []) part) h gives)
+-- the lines of a text with one line more
+pub lines-more : (done part : List ℕ) → EndsLines done → has_feed part ≡ false → lines_in (done ++ (part ++ 10 ∷ [])) ≡ lines_in done ++ grown (Some []) part ∷ []
+lines-more done part whole free = ended-append (Some []) done (part ++ 10 ∷ []) ∙ ap (λ l. lines_in done ++ ended l (part ++ 10 ∷ [])) whole ∙ ap (λ x. lines_in done ++ x) (ended-line (Some []) part free)
 
 pub ends-line : (done part : List ℕ) → EndsLines (done ++ (part ++ 10 ∷ []))
 ends-line done part = left-append (Some []) done (part ++ 10 ∷ []) ∙ left-line (left (Some []) done) part
 
 -- and no more
-pub found-all : (K : Settings) (fs : List (Result Asked Refusal)) (text done rest : List ℕ) → text ≡ done ++ rest → has_feed rest ≡ false → AreFound K fs (lines_in done) → AreFound K fs (lines_in text)
-found-all K fs text done rest is free h =
-    let lines : lines_in text ≡ lines_in done = ap lines_in is ∙ ended-append (Some []) done rest ∙ ap (λ x. lines_in done ++ x) (ended-free (left (Some []) done) rest free) ∙ append-nil (lines_in done) in
-    subst (AreFound K fs) (sym lines) h
+pub lines-whole : (text done rest : List ℕ) → text ≡ done ++ rest → has_feed rest ≡ false → lines_in text ≡ lines_in done
+lines-whole text done rest is free = ap lines_in is ∙ ended-append (Some []) done rest ∙ ap (λ x. lines_in done ++ x) (ended-free (left (Some []) done) rest free) ∙ append-nil (lines_in done)
+
+-- ---- lines that a reader keeps
+
+pub read-none : (K : Settings) (s : Sorted) (fs : List (Result Asked Refusal)) → IsSorted [] s → fs ≡ [] → AreRead K s fs (lines_in [])
+unfolding ended
+read-none K s fs h none = record { front = []; back = []; parts = refl; sorted = h; plain = refl; waits = subst (λ x. AreFound K x []) (sym none) tt }
+
+-- one more is sorted
+pub read-sorted : (K : Settings) (count : ℕ) (s s' : Sorted) (fs : List (Result Asked Refusal)) (lines : List Line) (one : Result Asked Refusal) (line : Line) → fs ≡ [] → Fits count one → one ≢ Err NoMemory → SortedMore one s s' → Gives one (asked K line)
+    → AreRead K s fs lines → AreRead K s' fs (lines ++ line ∷ [])
+read-sorted K count s s' fs lines one line none fits known more gives r = go r.back r.parts (subst (λ x. AreFound K x r.back) none r.waits)
+  where
+    go : (back : List Line) → lines ≡ r.front ++ back → AreFound K [] back → AreRead K s' fs (lines ++ line ∷ [])
+    go (x ∷ back) parts h = absurd h
+    go [] parts h =
+        let is : asked K line ≡ one = found-is one (asked K line) gives known in
+        let asks : asks_of K (r.front ++ line ∷ []) ≡ asks_of K r.front ++ one ∷ [] = map-append (asked K) r.front (line ∷ []) ∙ ap (λ x. asks_of K r.front ++ x ∷ []) is in
+        record {
+          front = r.front ++ line ∷ [];
+          back = [];
+          parts = ap (λ x. x ++ line ∷ []) (parts ∙ append-nil r.front) ∙ sym (append-nil (r.front ++ line ∷ []));
+          sorted = subst (λ x. IsSorted x s') (sym asks) (sorted-push (asks_of K r.front) one s s' more r.sorted);
+          plain = subst ArePlain (sym asks) (plain-push (asks_of K r.front) one r.plain (fits-plain count one fits));
+          waits = subst (λ x. AreFound K x []) (sym none) tt;
+        }
+
+-- one more waits
+pub read-found : (K : Settings) (s : Sorted) (fs fs' : List (Result Asked Refusal)) (lines : List Line) (one : Result Asked Refusal) (line : Line) → fs' ≡ fs ++ one ∷ [] → Gives one (asked K line) → AreRead K s fs lines → AreRead K s fs' (lines ++ line ∷ [])
+read-found K s fs fs' lines one line grows gives r = record {
+  front = r.front;
+  back = r.back ++ line ∷ [];
+  parts = ap (λ x. x ++ line ∷ []) r.parts ∙ append_assoc r.front r.back (line ∷ []);
+  sorted = r.sorted;
+  plain = r.plain;
+  waits = subst (λ x. AreFound K x (r.back ++ line ∷ [])) (sym grows) (found-push K fs r.back one line r.waits gives);
+}
 
 -- ---- lines that are taken from a reader
 
@@ -113,6 +145,21 @@ module _ {Keeper Plan : Type 0} where
           let all : ((before ++ t.done) ++ line ∷ []) ++ rest ≡ before ++ lines = append_assoc (before ++ t.done) (line ∷ []) rest ∙ append_assoc before t.done (line ∷ rest) ∙ ap (λ x. before ++ x) (sym parts) in
           subst (λ ls. Beginning serves meets K ps ls held w') all (begins-more ((before ++ t.done) ++ line ∷ []) rest held w' b)
 
+-- ---- lines that a reader sorted, and those that wait behind them
+
+module _ {Keeper Plan : Type 0} where
+  pub read-tells : {serves : Serves} {meets : Meets} (K : Settings) (sorted : Sorted) (found : List (Result Asked Refusal)) (lines : List Line) (s s1 s' : Script Keeper Plan) (w w' : Option (List ℕ)) → ((asks : List (Result Asked Refusal)) → IsSorted asks sorted → AddedAll asks s s1)
+      → ((K : Settings) (more : List Line) → AreFound K found more → TellsLines serves meets K more s1 s' w w') → AreRead K sorted found lines → TellsLines serves meets K lines s s' w w'
+  read-tells {serves} {meets} K sorted found lines s s1 s' w w' added step r ps before held told =
+      subst (λ ls. Told serves meets K ps ls s' held w') (append_assoc before r.front r.back ∙ ap (λ x. before ++ x) (sym r.parts))
+      (step K r.back r.waits ps (before ++ r.front) held (told-all before r.front s s1 held w (added (asks_of K r.front) r.sorted) r.plain told))
+
+  pub read-begins : {serves : Serves} {meets : Meets} (K : Settings) (sorted : Sorted) (found : List (Result Asked Refusal)) (lines : List Line) (s s1 : Script Keeper Plan) (w w' : Option (List ℕ)) → ((asks : List (Result Asked Refusal)) → IsSorted asks sorted → AddedAll asks s s1)
+      → ((K : Settings) (more : List Line) → AreFound K found more → BeginsLines serves meets K more s1 w w') → AreRead K sorted found lines → BeginsLines serves meets K lines s w w'
+  read-begins {serves} {meets} K sorted found lines s s1 w w' added step r ps before held told =
+      subst (λ ls. Beginning serves meets K ps ls held w') (append_assoc before r.front r.back ∙ ap (λ x. before ++ x) (sym r.parts))
+      (step K r.back r.waits ps (before ++ r.front) held (told-all before r.front s s1 held w (added (asks_of K r.front) r.sorted) r.plain told))
+
 -- ---- the texts of readers
 
 -- the text of one reader more
@@ -144,7 +191,7 @@ all-read K rs ss count ends each k d below =
     let h = each k d within in
     record {
       ends = subst EndsLines (sym h.text) (ends k (get_or rs k d) (slice_get-get_or rs k d within));
-      found = λ ok. subst (λ t. AreFound K (get_or ss k d).found.items (lines_in t)) (sym h.text) (h.found ok);
+      found = λ ok. subst (λ t. AreRead K (get_or ss k d).sorted (get_or ss k d).found.items (lines_in t)) (sym h.text) (h.found ok);
     }
 
 -- a text up to a line feed

@@ -1,4 +1,5 @@
 pub mod AlongLemmas
+pub mod AnswerLemmas
 pub mod BegunLemmas
 pub mod CourseLemmas
 pub mod FaultLemmas
@@ -10,6 +11,7 @@ pub mod PhaseLemmas
 pub mod PlaceLemmas
 pub mod PrintLemmas
 pub mod ReopenLemmas
+pub mod SortLemmas
 pub mod TraceLemmas
 pub mod ToldLemmas
 pub mod TurnLemmas

@@ -6,7 +6,7 @@ use Rattle.std.proofs.Math.Seq.{map-set_same}
 use Rattle.service.specs.ServiceViews.{Pass}
 use Rattle.lanes.specs.declared.lane.Lane.{Lane}
 use Rattle.lanes.specs.Course.{Meets, FirstMet, InTurn}
-use Rattle.lanes.specs.Lanes.{KeepsReplies, calls_of, passes_of, untaken}
+use Rattle.lanes.specs.Lanes.{KeepsReplies, calls_of, passes_of}
 use Rattle.lanes.proofs.TurnLemmas.{turn-append, turn-one}
 
 -- the first of these passes, p, met the others so far, and is q
@@ -35,17 +35,19 @@ module _ {Keeper Plan : Type 0} where
       subst (λ x. HasMet meets first.pass x (passes_of ys) first'.pass) before (subst (λ x. HasMet meets first.pass (take i (passes_of xs)) x first'.pass) now h)
 
   -- one lane got another pass
-  pub kept-set : (xs ys : List (Lane Keeper Plan)) (i : ℕ) (x y : Lane Keeper Plan) → calls_of y ≡ calls_of (get_or ys i x) → untaken y ≡ untaken (get_or ys i x) → KeepsReplies xs ys → KeepsReplies xs (set ys i y)
-  kept-set xs ys i x y asked answered h = record {
+  pub kept-set : (xs ys : List (Lane Keeper Plan)) (i : ℕ) (x y : Lane Keeper Plan) → calls_of y ≡ calls_of (get_or ys i x) → y.replies ≡ (get_or ys i x).replies → y.taken ≡ (get_or ys i x).taken → KeepsReplies xs ys → KeepsReplies xs (set ys i y)
+  kept-set xs ys i x y asked replies taken h = record {
     asked = map-set_same calls_of ys i y x asked ∙ h.asked;
-    answered = map-set_same untaken ys i y x answered ∙ h.answered;
+    replies = map-set_same (λ (l : Lane Keeper Plan). l.replies) ys i y x replies ∙ h.replies;
+    taken = map-set_same (λ (l : Lane Keeper Plan). l.taken) ys i y x taken ∙ h.taken;
   }
 
   -- the first lane too
-  pub kept-first : (x y : Lane Keeper Plan) (xs ys : List (Lane Keeper Plan)) → calls_of y ≡ calls_of x → untaken y ≡ untaken x → KeepsReplies xs ys → KeepsReplies (x ∷ xs) (y ∷ ys)
-  kept-first x y xs ys asked answered h = record {
+  pub kept-first : (x y : Lane Keeper Plan) (xs ys : List (Lane Keeper Plan)) → calls_of y ≡ calls_of x → y.replies ≡ x.replies → y.taken ≡ x.taken → KeepsReplies xs ys → KeepsReplies (x ∷ xs) (y ∷ ys)
+  kept-first x y xs ys asked replies taken h = record {
     asked = λ i. asked i ∷ h.asked i;
-    answered = λ i. answered i ∷ h.answered i;
+    replies = λ i. replies i ∷ h.replies i;
+    taken = λ i. taken i ∷ h.taken i;
   }
 
   -- it holds of all passes still, where it holds of the new one

@@ -24,18 +24,18 @@ use Rattle.lanes.specs.declared.run.Script.{Script}
 use Rattle.lanes.specs.Course.{AllMet, Serves, Meets, Course, InTurn, LineServed, asks_of}
 use Rattle.lanes.specs.Endings.{Ended}
 use Rattle.lanes.specs.Lanes.{ArePlain, Took, Waiting, WereAsked, is_barrier, own_calls, passes_of, place_in}
-use Rattle.lanes.specs.ToldLines.{Added, Closed, Opened, TellsLine, TellsLines, TellsMore, TextTold, Told, Unchanged}
+use Rattle.lanes.specs.ToldLines.{Added, AddedAll, Closed, Opened, TellsLine, TellsLines, TellsMore, TextTold, Told, Unchanged}
 use Rattle.lanes.proofs.PhaseLemmas.{phase-barrier, phase-last}
 use Rattle.lanes.proofs.PrintLemmas.{any-append, numbered-append}
 use Rattle.lanes.proofs.TurnLemmas.{turn-append, turn-count}
-use Rattle.lanes.proofs.WorkLemmas.{waiting-more, waiting-same}
+use Rattle.lanes.proofs.WorkLemmas.{waiting-all, waiting-more, waiting-same}
 
 -- ---- lines
 
 pub asks-push : (K : Settings) (lines : List Line) (line : Line) (done waits : List (Result Asked Refusal)) → asks_of K lines ≡ done ++ waits → asks_of K (lines ++ line ∷ []) ≡ done ++ (waits ++ asked K line ∷ [])
 asks-push K lines line done waits parts = map-append (asked K) lines (line ∷ []) ∙ ap (λ x. x ++ asked K line ∷ []) parts ∙ append_assoc done waits (asked K line ∷ [])
 
-plain-push : (lines : List (Result Asked Refusal)) (ask : Result Asked Refusal) → ArePlain lines → is_barrier (place_in ask) ≡ false → ArePlain (lines ++ ask ∷ [])
+pub plain-push : (lines : List (Result Asked Refusal)) (ask : Result Asked Refusal) → ArePlain lines → is_barrier (place_in ask) ≡ false → ArePlain (lines ++ ask ∷ [])
 plain-push [] ask h no_barrier = or_from (is_barrier (place_in ask)) false no_barrier refl
 plain-push (line ∷ lines) ask h no_barrier =
     let parts = or_parts (is_barrier (place_in line)) (list_any is_barrier (map place_in lines)) h in
@@ -96,6 +96,29 @@ module _ {Keeper Plan : Type 0} where
     refused_is = a.refused ∙ h.refused_is;
   }
 
+plain-append : (lines asks : List (Result Asked Refusal)) → ArePlain lines → ArePlain asks → ArePlain (lines ++ asks)
+plain-append [] asks h k = k
+plain-append (line ∷ lines) asks h k =
+    let parts = or_parts (is_barrier (place_in line)) (list_any is_barrier (map place_in lines)) h in
+    or_from (is_barrier (place_in line)) (list_any is_barrier (map place_in (lines ++ asks))) parts.0 (plain-append lines asks parts.1 k)
+
+module _ {Keeper Plan : Type 0} where
+  -- more lines wait
+  pub told-all : {serves : Serves} {meets : Meets} {K : Settings} {ps : List Pass} (lines more : List Line) (s s' : Script Keeper Plan) (held w : Option (List ℕ)) → AddedAll (asks_of K more) s s' → ArePlain (asks_of K more)
+      → Told serves meets K ps lines s held w → Told serves meets K ps (lines ++ more) s' held w
+  told-all {serves} {meets} {K} {ps} lines more s s' held w a plain h = record {
+    done = h.done;
+    waits = h.waits ++ asks_of K more;
+    replies = h.replies;
+    parts = map-append (asked K) lines more ∙ ap (λ x. x ++ asks_of K more) h.parts ∙ append_assoc h.done h.waits (asks_of K more);
+    course = subst (λ x. Course serves meets ps h.done h.replies x) (sym a.lanes.passes) h.course;
+    waiting = waiting-all h.waits (asks_of K more) s.places.items s'.places.items s.lanes.items s'.lanes.items a.places a.lanes h.waiting;
+    plain = plain-append h.waits (asks_of K more) h.plain plain;
+    written = h.written;
+    number = a.first ∙ h.number;
+    refused_is = a.refused ∙ h.refused_is;
+  }
+
 -- the places of lines and of the barrier behind them
 pub barrier-places : (ask : Result Asked Refusal) (waits : List (Result Asked Refusal)) (ps ps' : List Place) → ask ≡ Ok a_barrier → ps' ≡ ps ++ place_in ask ∷ [] → ps ≡ map place_in waits → ps' ≡ map place_in (waits ++ Ok a_barrier ∷ [])
 barrier-places ask waits ps ps' is grows places = grows ∙ ap (λ x. ps ++ place_in x ∷ []) is ∙ ap (λ x. x ++ place_in (Ok a_barrier) ∷ []) places ∙ sym (map-append place_in waits (Ok a_barrier ∷ []))
@@ -111,8 +134,8 @@ module _ {Keeper Plan : Type 0} where
       let rs = p.printed.replies in
       let places : s1.places.items ≡ map place_in all = barrier-places (asked K line) h.waits s.places.items s1.places.items is a.places h.waiting.places in
       let waiting = waiting-same h.waits s.places.items s.lanes.items s1.lanes.items (subst (λ x. WereAsked (λ k. own_calls k x) s.lanes.items s1.lanes.items) is a.lanes) h.waiting in
-      let phase = phase-barrier serves meets h.waits s.places.items rs s1.lanes.items p.after s'.lanes.items h.plain waiting p.phase (subst (λ x. InTurn Took p.after x rs s'.lanes.items) places p.printed.took) in
-      let course = subst (λ x. Course serves meets x all rs (passes_of s'.lanes.items)) a.lanes.passes (subst (λ x. Course serves meets (passes_of s1.lanes.items) all rs x) (sym p.passes) phase.course) in
+      let phase = phase-barrier serves meets h.waits s.places.items rs s1.lanes.items p.after p.printed.left h.plain waiting p.phase (subst (λ x. InTurn Took p.phase.replies x rs p.printed.left) places p.printed.took) in
+      let course = subst (λ x. Course serves meets x all rs (passes_of s'.lanes.items)) a.lanes.passes (subst (λ x. Course serves meets (passes_of s1.lanes.items) all rs x) (sym p.passes) phase) in
       let count : 1 + length h.replies ≡ s1.first = next-number lines s held w h ∙ sym a.first in
       record {
         done = h.done ++ all;
@@ -120,7 +143,7 @@ module _ {Keeper Plan : Type 0} where
         replies = h.replies ++ rs;
         parts = asks-push K lines line h.done h.waits h.parts ∙ ap (λ x. h.done ++ (h.waits ++ x ∷ [])) is ∙ sym (append-nil (h.done ++ all));
         course = turn-append (LineServed serves meets) ps (passes_of s.lanes.items) (passes_of s'.lanes.items) h.done all h.replies rs h.course course;
-        waiting = record { places = c.places; asked = phase.empty.asked; answered = phase.empty.answered };
+        waiting = record { places = c.places; asked = p.idle };
         plain = refl;
         written = both-written s1.first h.replies rs held w w' count h.written p.printed.written;
         number = omega (arith, c.first, a.first, h.number, length-append h.done all, ap length places, length-map all place_in);
@@ -133,15 +156,15 @@ module _ {Keeper Plan : Type 0} where
   told-served {serves} {meets} {K} {ps} lines s s' held w w' c h =
       let p = c.printed in
       let rs = p.printed.replies in
-      let phase = phase-last serves meets false h.waits s.places.items rs s.lanes.items p.after s'.lanes.items h.plain h.waiting p.phase (subst (λ x. InTurn Took p.after x rs s'.lanes.items) h.waiting.places p.printed.took) in
+      let phase = phase-last serves meets false h.waits s.places.items rs s.lanes.items p.after p.printed.left h.plain h.waiting p.phase (subst (λ x. InTurn Took p.phase.replies x rs p.printed.left) h.waiting.places p.printed.took) in
       let passes : passes_of p.phase.worked ≡ passes_of s'.lanes.items = sym p.phase.met ∙ sym p.passes in
       record {
         done = h.done ++ h.waits;
         waits = [];
         replies = h.replies ++ rs;
         parts = h.parts ∙ sym (append-nil (h.done ++ h.waits));
-        course = turn-append (LineServed serves meets) ps (passes_of s.lanes.items) (passes_of s'.lanes.items) h.done h.waits h.replies rs h.course (subst (λ x. Course serves meets (passes_of s.lanes.items) h.waits rs x) passes phase.course);
-        waiting = record { places = c.places; asked = phase.empty.asked; answered = phase.empty.answered };
+        course = turn-append (LineServed serves meets) ps (passes_of s.lanes.items) (passes_of s'.lanes.items) h.done h.waits h.replies rs h.course (subst (λ x. Course serves meets (passes_of s.lanes.items) h.waits rs x) passes phase);
+        waiting = record { places = c.places; asked = p.idle };
         plain = refl;
         written = both-written s.first h.replies rs held w w' (next-number lines s held w h) h.written p.printed.written;
         number = omega (arith, c.first, h.number, length-append h.done h.waits, ap length h.waiting.places, length-map h.waits place_in);
@@ -160,12 +183,12 @@ module _ {Keeper Plan : Type 0} where
   told-ended {serves} {meets} {K} {ps} text lines s s' held w w' all c h =
       let p = c.printed in
       let rs = p.printed.replies in
-      let phase = phase-last serves meets true h.waits s.places.items rs s.lanes.items p.after s'.lanes.items h.plain h.waiting p.phase (subst (λ x. InTurn Took p.after x rs s'.lanes.items) h.waiting.places p.printed.took) in
+      let phase = phase-last serves meets true h.waits s.places.items rs s.lanes.items p.after p.printed.left h.plain h.waiting p.phase (subst (λ x. InTurn Took p.phase.replies x rs p.printed.left) h.waiting.places p.printed.took) in
       record {
         replies = h.replies ++ rs;
         served = passes_of p.phase.worked;
         course = subst (λ x. Course serves meets ps x (h.replies ++ rs) (passes_of p.phase.worked)) (sym h.parts ∙ ap (asks_of K) all)
-            (turn-append (LineServed serves meets) ps (passes_of s.lanes.items) (passes_of p.phase.worked) h.done h.waits h.replies rs h.course phase.course);
+            (turn-append (LineServed serves meets) ps (passes_of s.lanes.items) (passes_of p.phase.worked) h.done h.waits h.replies rs h.course phase);
         met = subst (AllMet meets (passes_of p.phase.worked)) (sym p.passes) p.phase.met;
         written = both-written s.first h.replies rs held w w' (next-number lines s held w h) h.written p.printed.written;
         refused_is = both-refused s.refused c.refused s'.refused h.replies rs c.refused_is h.refused_is p.printed.refused_is;

@@ -1,7 +1,7 @@
 -- a lane's calls: asked, made, and their replies taken
 use Rattle.std.proofs.Common.{◌≡◌, ℕ, zero, suc, ◌+◌, drop, map, ◌<◌, ◌≤◌, ◌⊎◌, List, [], ◌∷◌, ◌++◌, length, set, slice_get, cond, eqb, Some, true, false, Result, Ok, Err, OnOk, OnErr, is_err, inl, inr, refl, sym, ap, subst, ◌∙◌, append_assoc, arith}
 use Rattle.std.proofs.lemmas.Bool.{cases_eq, eq-eqb, eqb-true, false_from_ne_true}
-use Rattle.std.proofs.lemmas.List.{append-nil, map-append}
+use Rattle.std.proofs.lemmas.List.{append-nil, length-map, map-append}
 use Rattle.std.proofs.lemmas.List.Concat.{flat_map-append}
 use Rattle.std.proofs.lemmas.Option.{get_or_from_slice_get, none-some, same_Some, slice_get_past, slice_get_within}
 use Rattle.std.proofs.Math.Seq.{map-set_same}
@@ -15,43 +15,37 @@ use Rattle.wire_requests.specs.declared.calls.Asked.{Asked}
 use Rattle.wire_requests.specs.declared.calls.Asked.TheVariants.{Barrier as a_barrier}
 use Rattle.lanes.specs.declared.answer.Answer.{Answer}
 use Rattle.lanes.specs.declared.lane.Lane.{Lane}
-use Rattle.lanes.specs.declared.lane.Question.{Question}
 use Rattle.lanes.specs.declared.print.Place.{Place}
+use Rattle.lanes.specs.declared.replies.Replies.{Replies}
+use Rattle.lanes.specs.Answers.{AreLines, IsLine}
 use Rattle.lanes.specs.Course.{Serves, InTurn}
-use Rattle.lanes.specs.Lanes.{Answered, AnsweredOne, AreIdle, HasMore, IsBehind, TookIn, Waiting, WereAsked, Worked, Working, calls_in, calls_of, only_in, own_calls, passes_of, place_in, replies_of, untaken}
-use Rattle.lanes.proofs.PlaceLemmas.{get-set, get-other}
+use Rattle.lanes.specs.Lanes.{AllLeft, Answered, AnsweredOne, AreIdle, EachWorked, Failed, HasMore, IsBehind, KeepsReplies, Left, Made, TookIn, Waiting, WereAsked, Worked, Working, calls_in, calls_of, only_in, own_calls, passes_of, place_in}
+use Rattle.lanes.proofs.AnswerLemmas.{lines-none}
+use Rattle.lanes.proofs.PlaceLemmas.{get-other, get-set, map-at, there-too}
 use Rattle.lanes.proofs.TurnLemmas.{turn-append, turn-one}
 
 -- ---- calls that are made
 
 module _ {Keeper Plan : Type 0} where
-  -- a lane with the same calls and replies
-  pub same-calls : (l l' : Lane Keeper Plan) → l'.asked.items ≡ l.asked.items → calls_of l' ≡ calls_of l
-  same-calls l l' same = ap (λ qs. map (λ (q : Question). q.call) qs) same
-
-  pub same-untaken : (l l' : Lane Keeper Plan) → l'.answered.items ≡ l.answered.items → l'.taken ≡ l.taken → untaken l' ≡ untaken l
-  same-untaken l l' answered taken = ap (λ n. replies_of (drop n l'.answered.items)) taken ∙ ap (λ xs. replies_of (drop l.taken xs)) answered
-
-  -- nothing of a lane's replies was taken
-  untaken-all : (l : Lane Keeper Plan) (answers : List Answer) → l.taken ≡ 0 → l.answered.items ≡ answers → untaken l ≡ replies_of answers
-  untaken-all l answers taken is = ap (λ n. replies_of (drop n l.answered.items)) taken ∙ ap replies_of is
-
   -- no call was made yet
-  pub working-none : (serves : Serves) (l l' : Lane Keeper Plan) → l'.pass ≡ l.pass → l'.asked.items ≡ [] → l'.answered.items ≡ [] → l'.taken ≡ 0 → Working serves l (calls_of l) l'
-  working-none serves l l' pass asked none taken = record { done = []; answers = []; parts = refl; turns = pass; kept = none; taken = taken; asked = asked }
+  pub working-none : (serves : Serves) (l : Lane Keeper Plan) → l.taken ≡ 0 → l.replies.answers.items ≡ [] → Working serves l l
+  working-none serves l taken none = record { done = []; replies = []; parts = refl; turns = refl; kept = lines-none l.replies.text.items l.replies.answers.items none; taken = taken }
 
   -- one more was made
-  pub working-one : (serves : Serves) (l m l' : Lane Keeper Plan) (c : Call) (rest : List Call) → Working serves l (c ∷ rest) m → AnsweredOne serves c m l' → l'.asked ≡ m.asked → l'.taken ≡ m.taken → Working serves l rest l'
-  working-one serves l m l' c rest h k asked taken = record {
-    done = h.done ++ c ∷ [];
-    answers = h.answers ++ k.answer ∷ [];
-    parts = h.parts ∙ sym (append_assoc h.done (c ∷ []) rest);
-    turns = subst (λ rs. InTurn (λ p c r p'. serves p p' c r) l.pass (h.done ++ c ∷ []) rs l'.pass) (sym (map-append (λ (a : Answer). a.reply) h.answers (k.answer ∷ [])))
-        (turn-append (λ p c r p'. serves p p' c r) l.pass m.pass l'.pass h.done (c ∷ []) (replies_of h.answers) (k.answer.reply ∷ []) h.turns (turn-one (λ p c r p'. serves p p' c r) m.pass l'.pass c k.answer.reply k.served));
-    kept = k.kept ∙ ap (λ xs. xs ++ k.answer ∷ []) h.kept;
-    taken = taken ∙ h.taken;
-    asked = ap (λ v. v.items) asked ∙ h.asked;
+  working-one : (serves : Serves) (l m l' : Lane Keeper Plan) → Working serves l m → AnsweredOne serves m l' → Working serves l l'
+  working-one serves l m l' h k = record {
+    done = h.done ++ k.call ∷ [];
+    replies = h.replies ++ k.reply ∷ [];
+    parts = h.parts ∙ ap (λ x. h.done ++ x) k.calls ∙ sym (append_assoc h.done (k.call ∷ []) (calls_of l'));
+    turns = turn-append (λ p c r p'. serves p p' c r) l.pass m.pass l'.pass h.done (k.call ∷ []) h.replies (k.reply ∷ []) h.turns (turn-one (λ p c r p'. serves p p' c r) m.pass l'.pass k.call k.reply k.served);
+    kept = k.wrote h.replies h.kept;
+    taken = k.taken ∙ h.taken;
   }
+
+  -- one more, or none
+  pub working-on : (serves : Serves) (l m l' : Lane Keeper Plan) → Working serves l m → (l' ≡ m) ⊎ AnsweredOne serves m l' → Working serves l l'
+  working-on serves l m l' h (inl same) = subst (Working serves l) (sym same) h
+  working-on serves l m l' h (inr k) = working-one serves l m l' h k
 
 -- the calls that were answered, and those that were not
 answered-of : (serves : Serves) (p m p' : Pass) (done rest : List Call) (rs : List Reply) → InTurn (λ q c r q'. serves q q' c r) p done rs m → (rest ≡ [] → p' ≡ m) → Answered serves p (done ++ rest) rs p'
@@ -62,20 +56,22 @@ answered-of serves p m p' (c ∷ done) rest [] h last = absurd h
 answered-of serves p m p' (c ∷ done) rest (r ∷ rs) h last = (h.0, h.1, answered-of serves h.0 m p' done rest rs h.2 last)
 
 module _ {Keeper Plan : Type 0} where
-  -- all were made
-  pub worked-all : (serves : Serves) (l l' : Lane Keeper Plan) (rest : List Call) → rest ≡ [] → Working serves l rest l' → Worked serves l l'
-  worked-all serves l l' rest none h = record {
-    answered = subst (λ rs. Answered serves l.pass (calls_of l) rs l'.pass) (sym (untaken-all l' h.answers h.taken h.kept))
-        (subst (λ calls. Answered serves l.pass calls (replies_of h.answers) l'.pass) (sym h.parts) (answered-of serves l.pass l'.pass l'.pass h.done rest (replies_of h.answers) h.turns (λ e. refl)));
-    asked = ap (λ qs. map (λ (q : Question). q.call) qs) h.asked;
+  -- no more are made
+  pub made-all : (serves : Serves) (l l' : Lane Keeper Plan) → Working serves l l' → Made serves l l'
+  made-all serves l l' h = record {
+    replies = h.replies;
+    answered = subst (λ calls. Answered serves l.pass calls h.replies l'.pass) (sym h.parts) (answered-of serves l.pass l'.pass l'.pass h.done (calls_of l') h.replies h.turns (λ e. refl));
+    kept = h.kept;
+    taken = h.taken;
   }
 
   -- memory ran out at one of them
-  pub worked-some : (serves : Serves) (l m l' : Lane Keeper Plan) (c : Call) (rest : List Call) → Working serves l (c ∷ rest) m → l'.asked ≡ m.asked → l'.taken ≡ m.taken → l'.answered.items ≡ m.answered.items → Worked serves l l'
-  worked-some serves l m l' c rest h asked taken kept = record {
-    answered = subst (λ rs. Answered serves l.pass (calls_of l) rs l'.pass) (sym (untaken-all l' h.answers (taken ∙ h.taken) (kept ∙ h.kept)))
-        (subst (λ calls. Answered serves l.pass calls (replies_of h.answers) l'.pass) (sym h.parts) (answered-of serves l.pass m.pass l'.pass h.done (c ∷ rest) (replies_of h.answers) h.turns (λ e. absurd (cc))));
-    asked = ap (λ qs. map (λ (q : Question). q.call) qs) (ap (λ v. v.items) asked ∙ h.asked);
+  pub made-some : (serves : Serves) (l m l' : Lane Keeper Plan) → Working serves l m → Failed m l' → Made serves l l'
+  made-some serves l m l' h f = record {
+    replies = h.replies;
+    answered = subst (λ calls. Answered serves l.pass calls h.replies l'.pass) (sym h.parts) (answered-of serves l.pass m.pass l'.pass h.done (calls_of m) h.replies h.turns f.pass);
+    kept = f.kept h.replies h.kept;
+    taken = f.taken ∙ h.taken;
   }
 
 -- ---- calls that wait
@@ -89,7 +85,6 @@ module _ {Keeper Plan : Type 0} where
       before = l;
       there = at;
       asked = sym (append-nil (calls_of l)) ∙ ap (λ more. calls_of l ++ more) (sym (none k (slice_get_within ls k l at)));
-      answered = refl;
     };
   }
 
@@ -98,8 +93,8 @@ module _ {Keeper Plan : Type 0} where
   asked-past lane c ls past = asked-none (only_in lane c) ls (λ k below. ap (λ b. cond b (c ∷ []) []) (false_from_ne_true (eqb lane k) (λ e. let same : lane ≡ k = eqb-true lane k e in absurd (omega arith))))
 
   -- one lane was asked one call
-  pub asked-in : (lane : ℕ) (c : Call) (ls : List (Lane Keeper Plan)) (l l' : Lane Keeper Plan) → slice_get ls lane ≡ Some l → l'.pass ≡ l.pass → untaken l' ≡ untaken l → calls_of l' ≡ calls_of l ++ c ∷ [] → WereAsked (only_in lane c) ls (set ls lane l')
-  asked-in lane c ls l l' at pass answered asked = record {
+  pub asked-in : (lane : ℕ) (c : Call) (ls : List (Lane Keeper Plan)) (l l' : Lane Keeper Plan) → slice_get ls lane ≡ Some l → l'.pass ≡ l.pass → calls_of l' ≡ calls_of l ++ c ∷ [] → WereAsked (only_in lane c) ls (set ls lane l')
+  asked-in lane c ls l l' at pass asked = record {
     passes = map-set_same (λ (x : Lane Keeper Plan). x.pass) ls lane l' l (pass ∙ ap (λ (x : Lane Keeper Plan). x.pass) (sym (get_or_from_slice_get ls lane l l at)));
     each = λ k m at_m. by-place k m at_m (cases_eq lane k);
   }
@@ -111,18 +106,25 @@ module _ {Keeper Plan : Type 0} where
             before = l;
             there = ap (slice_get ls) (sym own) ∙ at;
             asked = ap calls_of (sym is) ∙ asked ∙ ap (λ b. calls_of l ++ cond b (c ∷ []) []) (sym (eq-eqb lane k own));
-            answered = ap untaken (sym is) ∙ answered;
           }
       by-place k m at_m (inr other) = record {
         before = m;
         there = sym (get-other ls lane k l' other) ∙ at_m;
         asked = sym (append-nil (calls_of m)) ∙ ap (λ b. calls_of m ++ cond b (c ∷ []) []) (sym (false_from_ne_true (eqb lane k) (λ e. other (eqb-true lane k e))));
-        answered = refl;
       }
+
+  -- the same calls, told otherwise
+  pub asked-as : (calls more : ℕ → List Call) (ls ls' : List (Lane Keeper Plan)) → ((k : ℕ) → calls k ≡ more k) → WereAsked calls ls ls' → WereAsked more ls ls'
+  asked-as calls more ls ls' same were = record {
+    passes = were.passes;
+    each = λ k l at.
+        let m = were.each k l at in
+        record { before = m.before; there = m.there; asked = m.asked ∙ ap (λ x. calls_of m.before ++ x) (same k) };
+  }
 
   -- no line waits
   pub waiting-none : (ls : List (Lane Keeper Plan)) → AreIdle ls → Waiting [] [] ls
-  waiting-none ls idle = record { places = refl; asked = λ k l at. (idle k l at).0; answered = λ k l at. (idle k l at).1 }
+  waiting-none ls idle = record { places = refl; asked = idle }
 
   -- one line more waits
   pub waiting-more : (lines : List (Result Asked Refusal)) (ask : Result Asked Refusal) (ps ps' : List Place) (ls ls' : List (Lane Keeper Plan)) → ps' ≡ ps ++ place_in ask ∷ [] → WereAsked (λ k. own_calls k ask) ls ls' → Waiting lines ps ls → Waiting (lines ++ ask ∷ []) ps' ls'
@@ -131,9 +133,15 @@ module _ {Keeper Plan : Type 0} where
     asked = λ k l at.
         let m = were.each k l at in
         m.asked ∙ ap (λ x. x ++ own_calls k ask) (w.asked k m.before m.there) ∙ ap (λ x. calls_in k lines ++ x) (sym (append-nil (own_calls k ask))) ∙ sym (flat_map-append (own_calls k) lines (ask ∷ []));
-    answered = λ k l at.
+  }
+
+  -- more lines wait
+  pub waiting-all : (lines asks : List (Result Asked Refusal)) (ps ps' : List Place) (ls ls' : List (Lane Keeper Plan)) → ps' ≡ ps ++ map place_in asks → WereAsked (λ k. calls_in k asks) ls ls' → Waiting lines ps ls → Waiting (lines ++ asks) ps' ls'
+  waiting-all lines asks ps ps' ls ls' places were w = record {
+    places = places ∙ ap (λ x. x ++ map place_in asks) w.places ∙ sym (map-append place_in lines asks);
+    asked = λ k l at.
         let m = were.each k l at in
-        m.answered ∙ w.answered k m.before m.there;
+        m.asked ∙ ap (λ x. x ++ calls_in k asks) (w.asked k m.before m.there) ∙ sym (flat_map-append (own_calls k) lines asks);
   }
 
   -- a barrier asks nothing of any lane
@@ -143,21 +151,17 @@ module _ {Keeper Plan : Type 0} where
     asked = λ k l at.
         let m = were.each k l at in
         m.asked ∙ append-nil (calls_of m.before) ∙ w.asked k m.before m.there;
-    answered = λ k l at.
-        let m = were.each k l at in
-        m.answered ∙ w.answered k m.before m.there;
   }
 
 -- ---- replies that are taken
 
-module _ {Keeper Plan : Type 0} where
-  -- from a lane that is not there
-  pub took-past : (lane : ℕ) (ls : List (Lane Keeper Plan)) → length ls ≤ lane → TookIn lane (slice_get ls lane) ls (Some (Err (InvalidArgument field.Lane))) ls
-  took-past lane ls past = subst (λ o. TookIn lane o ls (Some (Err (InvalidArgument field.Lane))) ls) (sym (slice_get_past ls lane past)) (refl, refl)
+-- from a lane that is not there
+pub took-past : (lane : ℕ) (rss : List (List Reply)) → length rss ≤ lane → TookIn lane (slice_get rss lane) rss (Some (Err (InvalidArgument field.Lane))) rss
+took-past lane rss past = subst (λ o. TookIn lane o rss (Some (Err (InvalidArgument field.Lane))) rss) (sym (slice_get_past rss lane past)) (refl, refl)
 
-  -- from a lane that is there
-  pub took-first : (lane : ℕ) (ls : List (Lane Keeper Plan)) (l left : Lane Keeper Plan) (reply : Reply) → slice_get ls lane ≡ Some l → untaken l ≡ reply ∷ untaken left → calls_of left ≡ calls_of l → TookIn lane (slice_get ls lane) ls (Some reply) (set ls lane left)
-  took-first lane ls l left reply at first asked = subst (λ o. TookIn lane o ls (Some reply) (set ls lane left)) (sym at) (record { reply = reply; left = left; is = refl; first = first; asked = asked; lanes = refl })
+-- from a lane that is there
+pub took-first : (lane : ℕ) (rss : List (List Reply)) (rs rest : List Reply) (reply : Reply) → slice_get rss lane ≡ Some rs → rs ≡ reply ∷ rest → TookIn lane (slice_get rss lane) rss (Some reply) (set rss lane rest)
+took-first lane rss rs rest reply at first = subst (λ o. TookIn lane o rss (Some reply) (set rss lane rest)) (sym at) (record { reply = reply; rest = rest; is = refl; first = first; lanes = refl })
 
 -- a list from a place on
 drop-at : {A : Type 0} (xs : List A) (n : ℕ) (x : A) → slice_get xs n ≡ Some x → drop n xs ≡ x ∷ drop (n + 1) xs
@@ -166,12 +170,101 @@ drop-at (y ∷ xs) zero x at = ap (λ z. z ∷ xs) (same_Some y x at)
 drop-at (y ∷ xs) (suc n) x at = drop-at xs n x at ∙ ap (λ k. x ∷ drop k (y ∷ xs)) (let e : suc (n + 1) ≡ suc n + 1 = omega arith in e)
 
 module _ {Keeper Plan : Type 0} where
-  -- a reply that was taken stood before the others
-  pub taken-first : (l l' : Lane Keeper Plan) (at : ℕ) (a : Answer) → IsBehind at l l' → l'.answered ≡ l.answered → slice_get l'.answered.items at ≡ Some a → untaken l ≡ a.reply ∷ untaken l'
-  taken-first l l' at a b same there =
-      let here : slice_get l.answered.items at ≡ Some a = ap (λ v. slice_get v.items at) (sym same) ∙ there in
-      ap (λ n. replies_of (drop n l.answered.items)) b.was ∙ ap replies_of (drop-at l.answered.items at a here)
-      ∙ ap (λ v. a.reply ∷ replies_of (drop (at + 1) v.items)) (sym same) ∙ ap (λ n. a.reply ∷ replies_of (drop n l'.answered.items)) (sym b.is)
+  pub left-count : (ls : List (Lane Keeper Plan)) (rss : List (List Reply)) → AllLeft ls rss → length rss ≡ length ls
+  left-count [] [] h = refl
+  left-count [] (rs ∷ rss) h = absurd h
+  left-count (l ∷ ls) [] h = absurd h
+  left-count (l ∷ ls) (rs ∷ rss) h = ap suc (left-count ls rss h.1)
+
+  -- what a lane has left
+  pub left-at : (ls : List (Lane Keeper Plan)) (rss : List (List Reply)) (k : ℕ) (l : Lane Keeper Plan) → AllLeft ls rss → slice_get ls k ≡ Some l → (rs : List Reply) × (slice_get rss k ≡ Some rs) × Left l rs
+  left-at [] rss k l h at = absurd (none-some l at)
+  left-at (x ∷ ls) [] k l h at = absurd h
+  left-at (x ∷ ls) (rs ∷ rss) zero l h at = (rs, refl, subst (λ (y : Lane Keeper Plan). Left y rs) (same_Some x l at) h.0)
+  left-at (x ∷ ls) (rs ∷ rss) (suc k) l h at = left-at ls rss k l h.1 at
+
+  pub left-set : (ls : List (Lane Keeper Plan)) (rss : List (List Reply)) (k : ℕ) (l : Lane Keeper Plan) (rs : List Reply) → AllLeft ls rss → Left l rs → AllLeft (set ls k l) (set rss k rs)
+  left-set [] [] k l rs h one = tt
+  left-set [] (s ∷ rss) k l rs h one = absurd h
+  left-set (x ∷ ls) [] k l rs h one = absurd h
+  left-set (x ∷ ls) (s ∷ rss) zero l rs h one = (one, h.1)
+  left-set (x ∷ ls) (s ∷ rss) (suc k) l rs h one = (h.0, left-set ls rss k l rs h.1 one)
+
+  -- the first reply that a lane has left
+  pub record First (a : Answer) (l l' : Lane Keeper Plan) (rs : List Reply) : Type 0 where
+    pub reply : Reply
+    pub rest : List Reply
+    pub first : rs ≡ reply ∷ rest
+    pub line : IsLine l'.replies.text.items a reply
+    pub left : Left l' rest
+
+  pub left-first : (l l' : Lane Keeper Plan) (at : ℕ) (a : Answer) (rs : List Reply) → IsBehind at l l' → l'.replies ≡ l.replies → slice_get l'.replies.answers.items at ≡ Some a → Left l rs → First a l l' rs
+  left-first l l' at a rs b same there h = go rs now
+    where
+      text : List ℕ
+      text = l'.replies.text.items
+
+      here : drop at l'.replies.answers.items ≡ a ∷ drop l'.taken l'.replies.answers.items
+      here = drop-at l'.replies.answers.items at a there ∙ ap (λ n. a ∷ drop n l'.replies.answers.items) (sym b.is)
+
+      now : AreLines text (a ∷ drop l'.taken l'.replies.answers.items) rs
+      now = subst (λ xs. AreLines text xs rs) here (subst (λ n. AreLines text (drop n l'.replies.answers.items) rs) b.was (subst (λ (x : Replies). AreLines x.text.items (drop l.taken x.answers.items) rs) (sym same) h))
+
+      go : (rs : List Reply) → AreLines text (a ∷ drop l'.taken l'.replies.answers.items) rs → First a l l' rs
+      go [] k = absurd k
+      go (r ∷ rest) k = record { reply = r; rest = rest; first = refl; line = k.0; left = k.1 }
+
+  -- what each lane answered
+  pub record Collected (serves : Serves) (ls ls' : List (Lane Keeper Plan)) : Type 0 where
+    pub replies : List (List Reply)
+    pub counts : length replies ≡ length ls
+    pub each : (k : ℕ) (l : Lane Keeper Plan) (rs : List Reply) (l' : Lane Keeper Plan) → slice_get ls k ≡ Some l → slice_get replies k ≡ Some rs → slice_get ls' k ≡ Some l' → Answered serves l.pass (calls_of l) rs l'.pass
+    pub left : AllLeft ls' replies
+    pub idle : AreIdle ls'
+
+  pub collect : (serves : Serves) (ls ls' : List (Lane Keeper Plan)) → length ls' ≡ length ls → EachWorked serves ls ls' → Collected serves ls ls'
+  collect serves [] [] count h = record { replies = []; counts = refl; each = λ k l rs l' at at_rs at'. absurd (none-some l at); left = tt; idle = λ k l at. absurd (none-some l at) }
+  collect serves [] (l' ∷ ls') count h = absurd (omega (arith, count))
+  collect serves (l ∷ ls) [] count h = absurd (omega (arith, count))
+  collect serves (l ∷ ls) (l' ∷ ls') count h =
+      let one : Worked serves l l' = h 0 l (omega arith) in
+      let more = collect serves ls ls' (omega (arith, count)) (λ k d below. h (suc k) d (omega (arith, below))) in
+      record {
+        replies = one.made.replies ∷ more.replies;
+        counts = ap suc more.counts;
+        each = λ k x rs x' at at_rs at'. by_place one more k x rs x' at at_rs at';
+        left = (subst (λ n. AreLines l'.replies.text.items (drop n l'.replies.answers.items) one.made.replies) (sym one.made.taken) one.made.kept, more.left);
+        idle = λ k x at. idle-by one more k x at;
+      }
+    where
+      by_place : (one : Worked serves l l') (more : Collected serves ls ls') (k : ℕ) (x : Lane Keeper Plan) (rs : List Reply) (x' : Lane Keeper Plan) → slice_get (l ∷ ls) k ≡ Some x → slice_get (one.made.replies ∷ more.replies) k ≡ Some rs → slice_get (l' ∷ ls') k ≡ Some x'
+          → Answered serves x.pass (calls_of x) rs x'.pass
+      by_place one more zero x rs x' at at_rs at' =
+          rw (← same_Some l x at, ← same_Some one.made.replies rs at_rs, ← same_Some l' x' at') one.made.answered
+      by_place one more (suc k) x rs x' at at_rs at' = more.each k x rs x' at at_rs at'
+
+      idle-by : (one : Worked serves l l') (more : Collected serves ls ls') (k : ℕ) (x : Lane Keeper Plan) → slice_get (l' ∷ ls') k ≡ Some x → calls_of x ≡ []
+      idle-by one more zero x at = ap calls_of (sym (same_Some l' x at)) ∙ one.asked
+      idle-by one more (suc k) x at = more.idle k x at
+
+  -- lanes whose passes alone changed
+  pub left-kept : (ls ls' : List (Lane Keeper Plan)) (rss : List (List Reply)) → KeepsReplies ls ls' → AllLeft ls rss → AllLeft ls' rss
+  left-kept [] [] rss k h = h
+  left-kept [] (l' ∷ ls') rss k h = absurd (cc k.taken)
+  left-kept (l ∷ ls) [] rss k h = absurd (cc k.taken)
+  left-kept (l ∷ ls) (l' ∷ ls') [] k h = absurd h
+  left-kept (l ∷ ls) (l' ∷ ls') (rs ∷ rss) k h =
+      let replies : l'.replies ≡ l.replies = cc k.replies in
+      let taken : l'.taken ≡ l.taken = cc k.taken in
+      let rest : KeepsReplies ls ls' = record { asked = cc k.asked; replies = cc k.replies; taken = cc k.taken } in
+      (subst (λ (x : Replies). AreLines x.text.items (drop l'.taken x.answers.items) rs) (sym replies) (subst (λ n. AreLines l.replies.text.items (drop n l.replies.answers.items) rs) (sym taken) h.0), left-kept ls ls' rss rest h.1)
+
+  -- lanes that have the same calls as lanes that have none
+  pub idle-same : (ls ls' : List (Lane Keeper Plan)) → map calls_of ls' ≡ map calls_of ls → AreIdle ls → AreIdle ls'
+  idle-same ls ls' same idle k l at =
+      let count : length ls' ≡ length ls = sym (length-map ls' calls_of) ∙ ap length same ∙ length-map ls calls_of in
+      let x = there-too ls' ls k l (sym count) at in
+      same_Some (calls_of l) (calls_of x.0) (sym (map-at calls_of ls' k l at) ∙ ap (λ zs. slice_get zs k) same ∙ map-at calls_of ls k x.0 x.1) ∙ idle k x.0 x.1
 
 -- ---- a call that may have failed
 
@@ -193,14 +286,14 @@ module _ {Keeper Plan : Type 0} where
   pub idle-none : (ls : List (Lane Keeper Plan)) → ls ≡ [] → AreIdle ls
   idle-none ls none = λ k l at. absurd (none-some l (sym (ap (λ xs. slice_get xs k) none) ∙ at))
 
-  idle-behind : (xs : List (Lane Keeper Plan)) (l : Lane Keeper Plan) → calls_of l ≡ [] → untaken l ≡ [] → AreIdle xs → (k : ℕ) (x : Lane Keeper Plan) → slice_get (xs ++ l ∷ []) k ≡ Some x → (calls_of x ≡ []) × (untaken x ≡ [])
-  idle-behind [] l asked answered h zero x at = let is : l ≡ x = same_Some l x at in (ap calls_of (sym is) ∙ asked, ap untaken (sym is) ∙ answered)
-  idle-behind [] l asked answered h (suc k) x at = absurd (none-some x at)
-  idle-behind (y ∷ xs) l asked answered h zero x at = h zero x at
-  idle-behind (y ∷ xs) l asked answered h (suc k) x at = idle-behind xs l asked answered (λ n o at_n. h (suc n) o at_n) k x at
+  idle-behind : (xs : List (Lane Keeper Plan)) (l : Lane Keeper Plan) → calls_of l ≡ [] → AreIdle xs → (k : ℕ) (x : Lane Keeper Plan) → slice_get (xs ++ l ∷ []) k ≡ Some x → calls_of x ≡ []
+  idle-behind [] l asked h zero x at = let is : l ≡ x = same_Some l x at in ap calls_of (sym is) ∙ asked
+  idle-behind [] l asked h (suc k) x at = absurd (none-some x at)
+  idle-behind (y ∷ xs) l asked h zero x at = h zero x at
+  idle-behind (y ∷ xs) l asked h (suc k) x at = idle-behind xs l asked (λ n o at_n. h (suc n) o at_n) k x at
 
-  pub idle-push : (ls ls' : List (Lane Keeper Plan)) (l : Lane Keeper Plan) → ls' ≡ ls ++ l ∷ [] → calls_of l ≡ [] → untaken l ≡ [] → AreIdle ls → AreIdle ls'
-  idle-push ls ls' l grows asked answered idle = subst AreIdle (sym grows) (idle-behind ls l asked answered idle)
+  pub idle-push : (ls ls' : List (Lane Keeper Plan)) (l : Lane Keeper Plan) → ls' ≡ ls ++ l ∷ [] → calls_of l ≡ [] → AreIdle ls → AreIdle ls'
+  idle-push ls ls' l grows asked idle = subst AreIdle (sym grows) (idle-behind ls l asked idle)
 
   -- a pass got its lane
   pub passes-push : (ls ls' : List (Lane Keeper Plan)) (l : Lane Keeper Plan) (p : Pass) (it rest all : List Pass) → ls' ≡ ls ++ l ∷ [] → l.pass ≡ p → it ≡ p ∷ rest → passes_of ls ++ it ≡ all → passes_of ls' ++ rest ≡ all

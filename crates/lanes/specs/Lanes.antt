@@ -9,11 +9,10 @@ use Rattle.service_model_types.specs.Replies.{Reply}
 use Rattle.service.specs.ServiceViews.{Pass}
 use Rattle.wire_requests.specs.declared.calls.Asked.{Asked}
 use Rattle.wire_requests.specs.declared.calls.Asked.TheVariants.{Barrier as a_barrier, Call as in_a_lane}
-use Rattle.lanes.specs.declared.answer.Answer.{Answer}
 use Rattle.lanes.specs.declared.lane.Lane.{Lane}
-use Rattle.lanes.specs.declared.lane.Question.{Question}
 use Rattle.lanes.specs.declared.print.Place.{Place}
 use Rattle.lanes.specs.declared.print.Place.TheVariants.{Barrier, Refused, InLane}
+use Rattle.lanes.specs.Answers.{AreKept, AreLines, KeepsLines, Wrote}
 use Rattle.lanes.specs.Course.{Serves, Meets, AllMet, InTurn}
 
 -- what a line was found to be
@@ -37,15 +36,18 @@ module _ {Keeper Plan : Type 0} where
 
   -- the calls that a lane is to make
   abbrev pub calls_of : Lane Keeper Plan → List Call
-  calls_of l = map (λ (q : Question). q.call) l.asked.items
+  calls_of l = l.asked.items
 
-  -- the replies of a lane that were not taken
-  abbrev pub untaken : Lane Keeper Plan → List Reply
-  untaken l = map (λ (a : Answer). a.reply) (drop l.taken l.answered.items)
+  -- these are the replies of a lane that were not taken
+  abbrev pub Left : Lane Keeper Plan → List Reply → Type 0
+  Left l rs = AreLines l.replies.text.items (drop l.taken l.replies.answers.items) rs
 
--- the replies of answers
-abbrev pub replies_of : List Answer → List Reply
-replies_of answers = map (λ (a : Answer). a.reply) answers
+  -- the same of each lane
+  abbrev pub AllLeft : List (Lane Keeper Plan) → List (List Reply) → Type 0
+  AllLeft [] [] = Unit {0}
+  AllLeft [] (rs ∷ rss) = ⊥
+  AllLeft (l ∷ ls) [] = ⊥
+  AllLeft (l ∷ ls) (rs ∷ rss) = Left l rs × AllLeft ls rss
 
 -- the first pass met every other twice, or none met
 abbrev pub MetIf : Meets → Bool → List Pass → List Pass → Type 0
@@ -74,41 +76,47 @@ module _ {Keeper Plan : Type 0} where
     pub before : Lane Keeper Plan
     pub there : slice_get ls k ≡ Some before
     pub asked : calls_of l' ≡ calls_of before ++ calls
-    pub answered : untaken l' ≡ untaken before
 
   -- each lane was asked these calls more
   pub record WereAsked (calls : ℕ → List Call) (ls ls' : List (Lane Keeper Plan)) : Type 0 where
     pub passes : passes_of ls' ≡ passes_of ls
     pub each : (k : ℕ) (l' : Lane Keeper Plan) → slice_get ls' k ≡ Some l' → HasMore (calls k) ls k l'
 
-  -- no lane has a call to make, or a reply that was not taken
+  -- no lane has a call to make
   abbrev pub AreIdle : List (Lane Keeper Plan) → Type 0
-  AreIdle lanes = (k : ℕ) (l : Lane Keeper Plan) → slice_get lanes k ≡ Some l → (calls_of l ≡ []) × (untaken l ≡ [])
+  AreIdle lanes = (k : ℕ) (l : Lane Keeper Plan) → slice_get lanes k ≡ Some l → calls_of l ≡ []
 
   -- these lines wait: each has its place, and each lane the calls that are its own
   pub record Waiting (lines : List (Result Asked Refusal)) (ps : List Place) (lanes : List (Lane Keeper Plan)) : Type 0 where
     pub places : ps ≡ map place_in lines
     pub asked : (k : ℕ) (l : Lane Keeper Plan) → slice_get lanes k ≡ Some l → calls_of l ≡ calls_in k lines
-    pub answered : (k : ℕ) (l : Lane Keeper Plan) → slice_get lanes k ≡ Some l → untaken l ≡ []
 
 -- ---- calls that are made
 
 module _ {Keeper Plan : Type 0} where
-  -- one call more was answered, and its reply stands behind the others
-  pub record AnsweredOne (serves : Serves) (call : Call) (l l' : Lane Keeper Plan) : Type 0 where
-    pub answer : Answer
-    pub served : serves l.pass l'.pass call answer.reply
-    pub kept : l'.answered.items ≡ l.answered.items ++ answer ∷ []
+  -- the next call was answered, and its reply's line stands behind the others
+  pub record AnsweredOne (serves : Serves) (l l' : Lane Keeper Plan) : Type 0 where
+    pub call : Call
+    pub reply : Reply
+    pub calls : calls_of l ≡ call ∷ calls_of l'
+    pub served : serves l.pass l'.pass call reply
+    pub wrote : Wrote reply l.replies l'.replies
+    pub taken : l'.taken ≡ l.taken
 
-  -- a lane made some of its calls, one after another, and has these yet to make
-  pub record Working (serves : Serves) (l : Lane Keeper Plan) (rest : List Call) (l' : Lane Keeper Plan) : Type 0 where
+  -- memory ran out at the next call, or there was none
+  pub record Failed (l l' : Lane Keeper Plan) : Type 0 where
+    pub kept : KeepsLines l.replies l'.replies
+    pub taken : l'.taken ≡ l.taken
+    pub pass : calls_of l ≡ [] → l'.pass ≡ l.pass
+
+  -- a lane made some of its calls, one after another, and has the others yet to make
+  pub record Working (serves : Serves) (l l' : Lane Keeper Plan) : Type 0 where
     pub done : List Call
-    pub answers : List Answer
-    pub parts : calls_of l ≡ done ++ rest
-    pub turns : InTurn (λ p c r p'. serves p p' c r) l.pass done (replies_of answers) l'.pass
-    pub kept : l'.answered.items ≡ answers
+    pub replies : List Reply
+    pub parts : calls_of l ≡ done ++ calls_of l'
+    pub turns : InTurn (λ p c r p'. serves p p' c r) l.pass done replies l'.pass
+    pub kept : AreKept l'.replies replies
     pub taken : l'.taken ≡ 0
-    pub asked : l'.asked.items ≡ []
 
 -- Calls of a pass were answered one after another, up to the first that memory ran out at. These are the replies, and where there are
 -- as many as calls, the pass is this one then.
@@ -119,9 +127,16 @@ Answered serves p (c ∷ calls) [] p' = Unit {0}
 Answered serves p (c ∷ calls) (r ∷ rs) p' = (q : Pass) × serves p q c r × Answered serves q calls rs p'
 
 module _ {Keeper Plan : Type 0} where
-  -- a lane made its calls
+  -- a lane made its calls, up to the first that memory ran out at, and none of the replies was taken
+  pub record Made (serves : Serves) (l l' : Lane Keeper Plan) : Type 0 where
+    pub replies : List Reply
+    pub answered : Answered serves l.pass (calls_of l) replies l'.pass
+    pub kept : AreKept l'.replies replies
+    pub taken : l'.taken ≡ 0
+
+  -- and it has no calls then
   pub record Worked (serves : Serves) (l l' : Lane Keeper Plan) : Type 0 where
-    pub answered : Answered serves l.pass (calls_of l) (untaken l') l'.pass
+    pub made : Made serves l l'
     pub asked : calls_of l' ≡ []
 
   -- each lane made its calls
@@ -131,42 +146,43 @@ module _ {Keeper Plan : Type 0} where
   -- nothing of lanes changed but their passes
   pub record KeepsReplies (ls ls' : List (Lane Keeper Plan)) : Type 0 where
     pub asked : map calls_of ls' ≡ map calls_of ls
-    pub answered : map untaken ls' ≡ map untaken ls
+    pub replies : map (λ (l : Lane Keeper Plan). l.replies) ls' ≡ map (λ (l : Lane Keeper Plan). l.replies) ls
+    pub taken : map (λ (l : Lane Keeper Plan). l.taken) ls' ≡ map (λ (l : Lane Keeper Plan). l.taken) ls
 
-  -- all lanes made their calls, and then the first pass met every other, where that closes a phase
+  -- all lanes made their calls, and these are the replies; then the first pass met every other, where that closes a phase
   pub record Phase (serves : Serves) (meets : Meets) (closes : Bool) (ls after : List (Lane Keeper Plan)) : Type 0 where
     pub worked : List (Lane Keeper Plan)
+    pub replies : List (List Reply)
     pub count : length worked ≡ length ls
-    pub each : EachWorked serves ls worked
+    pub counts : length replies ≡ length ls
+    pub each : (k : ℕ) (l : Lane Keeper Plan) (rs : List Reply) (l' : Lane Keeper Plan) → slice_get ls k ≡ Some l
+        → slice_get replies k ≡ Some rs → slice_get worked k ≡ Some l' → Answered serves l.pass (calls_of l) rs l'.pass
     pub met : MetIf meets closes (passes_of worked) (passes_of after)
-    pub kept : KeepsReplies worked after
 
 -- ---- replies that are taken
 
 module _ {Keeper Plan : Type 0} where
   -- the reply at this place was the first that was not taken, and was taken
   pub record IsBehind (at : ℕ) (l l' : Lane Keeper Plan) : Type 0 where
-    pub within : at < length l.answered.items
+    pub within : at < length l.replies.answers.items
     pub was : l.taken ≡ at
     pub is : l'.taken ≡ at + 1
 
-  -- the first reply of a lane was taken
-  pub record TookFirst (lane : ℕ) (l : Lane Keeper Plan) (ls : List (Lane Keeper Plan)) (r : Option Reply)
-      (ls' : List (Lane Keeper Plan)) : Type 0 where
-    pub reply : Reply
-    pub left : Lane Keeper Plan
-    pub is : r ≡ Some reply
-    pub first : untaken l ≡ reply ∷ untaken left
-    pub asked : calls_of left ≡ calls_of l
-    pub lanes : ls' ≡ set ls lane left
+-- the first of the replies that a lane has left was taken
+pub record TookFirst (lane : ℕ) (rs : List Reply) (rss : List (List Reply)) (r : Option Reply) (rss' : List (List Reply)) : Type 0 where
+  pub reply : Reply
+  pub rest : List Reply
+  pub is : r ≡ Some reply
+  pub first : rs ≡ reply ∷ rest
+  pub lanes : rss' ≡ set rss lane rest
 
-  -- the reply of a call is the first that its lane has; a lane that is not there is an invalid argument
-  abbrev pub TookIn : ℕ → Option (Lane Keeper Plan) → List (Lane Keeper Plan) → Option Reply → List (Lane Keeper Plan) → Type 0
-  TookIn lane None ls r ls' = (r ≡ Some (Err (InvalidArgument field.Lane))) × (ls' ≡ ls)
-  TookIn lane (Some l) ls r ls' = TookFirst lane l ls r ls'
+-- the reply of a call is the first that its lane has; a lane that is not there is an invalid argument
+abbrev pub TookIn : ℕ → Option (List Reply) → List (List Reply) → Option Reply → List (List Reply) → Type 0
+TookIn lane None rss r rss' = (r ≡ Some (Err (InvalidArgument field.Lane))) × (rss' ≡ rss)
+TookIn lane (Some rs) rss r rss' = TookFirst lane rs rss r rss'
 
-  -- the reply of a line, by its place, was taken from the lanes
-  abbrev pub Took : List (Lane Keeper Plan) → Place → Option Reply → List (Lane Keeper Plan) → Type 0
-  Took ls Barrier r ls' = (r ≡ None) × (ls' ≡ ls)
-  Took ls (Refused refusal) r ls' = (r ≡ Some (Err refusal)) × (ls' ≡ ls)
-  Took ls (InLane lane) r ls' = TookIn lane (slice_get ls lane) ls r ls'
+-- the reply of a line, by its place, was taken from those that the lanes have left
+abbrev pub Took : List (List Reply) → Place → Option Reply → List (List Reply) → Type 0
+Took rss Barrier r rss' = (r ≡ None) × (rss' ≡ rss)
+Took rss (Refused refusal) r rss' = (r ≡ Some (Err refusal)) × (rss' ≡ rss)
+Took rss (InLane lane) r rss' = TookIn lane (slice_get rss lane) rss r rss'

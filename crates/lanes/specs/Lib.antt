@@ -1,3 +1,4 @@
+pub mod Answers
 pub mod Course
 pub mod Endings
 pub mod Found
@@ -5,4 +6,5 @@ pub mod Lanes
 pub mod Meetings
 pub mod Printed
 pub mod Reopened
+pub mod Sorted
 pub mod ToldLines

@@ -1,5 +1,5 @@
 -- PROOF: what a script over lanes has told of its lines
-use Rattle.std.specs.Prelude.{◌≡◌, ◌⊎◌, ℕ, ◌+◌, List, [], ◌∷◌, ◌++◌, length, Bool, false, ◌||◌, Option, Some, Result}
+use Rattle.std.specs.Prelude.{◌≡◌, ◌⊎◌, ℕ, ◌+◌, List, [], ◌∷◌, ◌++◌, length, map, Bool, false, ◌||◌, Option, Some, Result}
 use Rattle.std.specs.List.{list_any}
 use Rattle.std.specs.Io.KnownBytes.{Appends, Consumes}
 use Rattle.wf_event_values.specs.Gives.{Gives}
@@ -16,7 +16,7 @@ use Rattle.script.specs.Output.{numbered_from}
 use Rattle.lanes.specs.declared.run.Script.{Script}
 use Rattle.lanes.specs.Course.{Serves, Meets, Course, asks_of}
 use Rattle.lanes.specs.Endings.{Beginning, Broke, Ended}
-use Rattle.lanes.specs.Lanes.{ArePlain, Waiting, WereAsked, own_calls, passes_of, place_in}
+use Rattle.lanes.specs.Lanes.{ArePlain, Waiting, WereAsked, calls_in, own_calls, passes_of, place_in}
 use Rattle.lanes.specs.Printed.{PhaseBegun, PhasePrinted}
 
 module _ {Keeper Plan : Type 0} where
@@ -59,6 +59,14 @@ module _ {Keeper Plan : Type 0} where
   pub record Added (ask : Result Asked Refusal) (s s' : Script Keeper Plan) : Type 0 where
     pub places : s'.places.items ≡ s.places.items ++ place_in ask ∷ []
     pub lanes : WereAsked (λ k. own_calls k ask) s.lanes.items s'.lanes.items
+    pub first : s'.first ≡ s.first
+    pub refused : s'.refused ≡ s.refused
+    pub line : s'.line ≡ s.line
+
+  -- lines more wait, which ask this
+  pub record AddedAll (asks : List (Result Asked Refusal)) (s s' : Script Keeper Plan) : Type 0 where
+    pub places : s'.places.items ≡ s.places.items ++ map place_in asks
+    pub lanes : WereAsked (λ k. calls_in k asks) s.lanes.items s'.lanes.items
     pub first : s'.first ≡ s.first
     pub refused : s'.refused ≡ s.refused
     pub line : s'.line ≡ s.line

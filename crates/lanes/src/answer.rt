@@ -1,24 +1,10 @@
-//! A reply with its text.
+//! Where a reply's line stands.
 
-ghost use Rattle.std.specs.Prelude.{◌≡◌, string_bytes};
-ghost use Rattle.wire_replies.specs.Replies.{reply_line};
-
-use service_model_types::answer::Reply;
-
-/// A reply, and its line under a number.
+/// Where the line of a reply stands among others, under which number, and whether it is a refusal's.
+#[derive(Clone, Copy)]
 pub(crate) struct Answer {
     pub(crate) number: u64,
-    pub(crate) text: String,
-    pub(crate) reply: Reply,
-    pub(crate) ghost written: { string_bytes text ≡ reply_line number reply },
-}
-
-impl Drop for Answer {
-    fn drop(self) {
-        let Answer {
-            number: _,
-            text: _,
-            reply: _,
-        } = self;
-    }
+    pub(crate) start: usize,
+    pub(crate) end: usize,
+    pub(crate) refused: bool,
 }

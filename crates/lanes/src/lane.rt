@@ -1,46 +1,27 @@
 //! One lane.
 
-ghost use Rattle.std.specs.Prelude.{◌≡◌, ◌<◌, [], ◌∷◌, ◌++◌, slice_get, Some, OnOk, OnErr, IfSome, vec_len};
-ghost use Rattle.lanes.specs.Lanes.{AnsweredOne, IsBehind, Worked, calls_of, untaken};
+ghost use Rattle.std.specs.Prelude.{◌≡◌, ◌⊎◌, ◌<◌, [], ◌∷◌, ◌++◌, slice_get, slice_range, Some, OnOk, OnErr, IfSome, vec_len};
+ghost use Rattle.lanes.specs.declared.answer.Answer.{Answer};
+ghost use Rattle.lanes.specs.Lanes.{AnsweredOne, Failed, IsBehind, Made, Worked, calls_of};
 
 use crate::answer::Answer;
 use crate::door::Door;
+use crate::print::Place;
+use crate::replies::Replies;
 use service::{KeepsShard, Pass};
 use service_model_types::call::Call;
 use std::alloc::{AllocError, Global};
-use std::mem;
+use std::collections::VecDeque;
 use std::sync::Wait;
-use wire_replies::reply_text;
-
-/// A call, and the number of the line that asks it.
-pub(crate) struct Question {
-    number: u64,
-    call: Call,
-}
-
-impl Drop for Question {
-    fn drop(self) {
-        let Question { number: _, call: _ } = self;
-    }
-}
-
-impl Question {
-    fn into_call(self) -> Call
-        ensures { result ≡ self.call }
-    {
-        let Question { number: _, call } = self;
-        call
-    }
-}
 
 /// A lane: its pass, the calls that it is to make, and the replies to those that it made.
 ///
-/// The replies' lines are made in the lane's thread, and so are they dropped there.
+/// The replies' lines are made in the lane's thread, and the replies dropped there.
 #[derive(Drop)]
 pub(crate) struct Lane<S: KeepsShard> {
     pub(crate) pass: Pass<S>,
-    asked: Vec<Question>,
-    answered: Vec<Answer>,
+    asked: VecDeque<Call>,
+    replies: Replies,
     /// How many of the replies were taken.
     taken: usize,
 }
@@ -49,12 +30,11 @@ impl<S: KeepsShard> Lane<S> {
     pub(crate) fn new(alloc: Global, pass: Pass<S>) -> Lane<S>
         ensures pass { result.pass ≡ pass }
         ensures asked { calls_of result ≡ [] }
-        ensures answered { untaken result ≡ [] }
     {
         Lane {
             pass,
-            asked: Vec::new(alloc),
-            answered: Vec::new(alloc),
+            asked: VecDeque::new(alloc),
+            replies: Replies::new(alloc),
             taken: 0,
         }
     }
@@ -66,19 +46,27 @@ impl<S: KeepsShard> Lane<S> {
         let Lane {
             pass,
             asked: _,
-            answered: _,
+            replies: _,
             taken: _,
         } = self;
         pass
     }
 
-    /// One call more, of the line with this number.
-    pub(crate) fn ask(&mut self, number: u64, call: Call) -> Result<(), AllocError>
+    /// One call more.
+    pub(crate) fn ask(&mut self, call: Call) -> Result<(), AllocError>
         ensures pass { self.new.pass ≡ self.old.pass }
         ensures asked { OnOk result (calls_of self.new ≡ calls_of self.old ++ call ∷ []) }
-        ensures answered { untaken self.new ≡ untaken self.old }
     {
-        self.asked.push(Question { number, call })?;
+        self.asked.push_back(call)?;
+        Ok(())
+    }
+
+    /// More calls, which leave their list.
+    pub(crate) fn ask_all(&mut self, calls: &mut VecDeque<Call>) -> Result<(), AllocError>
+        ensures pass { self.new.pass ≡ self.old.pass }
+        ensures asked { OnOk result (calls_of self.new ≡ calls_of self.old ++ calls.old.items) }
+    {
+        self.asked.append(calls)?;
         Ok(())
     }
 
@@ -86,65 +74,103 @@ impl<S: KeepsShard> Lane<S> {
     pub(crate) fn take(&mut self) -> Option<usize>
         ensures pass { self.new.pass ≡ self.old.pass }
         ensures asked { self.new.asked ≡ self.old.asked }
-        ensures answered { self.new.answered ≡ self.old.answered }
+        ensures answered { self.new.replies ≡ self.old.replies }
         ensures first { IfSome result (λ at. IsBehind at self.old self.new) }
     {
         let at = self.taken;
-        if at >= self.answered.len() {
+        if at >= self.replies.answers.len() {
             return None;
         }
         self.taken = at + 1;
         Some(at)
     }
 
-    /// The reply at a place.
-    pub(crate) fn answer(&self, at: usize) -> &Answer
-        requires { at < vec_len self.now.answered }
-        ensures { slice_get self.now.answered.items at ≡ Some result.now }
+    /// What is kept of the reply at a place.
+    pub(crate) fn answer(&self, at: usize) -> Answer
+        requires { at < vec_len self.now.replies.answers }
+        ensures { slice_get self.now.replies.answers.items at ≡ Some result }
     {
-        &self.answered[at]
+        self.replies.at(at)
+    }
+
+    /// The line of the reply at a place.
+    pub(crate) fn line(&self, at: usize) -> &[u8]
+        requires { at < vec_len self.now.replies.answers }
+        ensures { (a : Answer) → slice_get self.now.replies.answers.items at ≡ Some a
+            → result.now ≡ slice_range self.now.replies.text.items a.start a.end }
+    {
+        self.replies.line(at)
     }
 
     /// Makes the calls in their order, up to the first that memory runs out at. All replies that there
-    /// were are gone.
-    pub(crate) fn serve<R: Wait, D: Door<S>>(&mut self, rt: &R, alloc: Global, door: &D)
-        requires { D.admits door.now self.old.pass }
-        ensures own { D.admits door.now self.new.pass }
-        ensures worked { Worked (D.serves door.now) self.old self.new }
-    {
-        self.answered.clear();
-        self.taken = 0;
-        let asked = mem::replace(&mut self.asked, Vec::new(alloc));
-        for question in asked {
-            if self.serve_one(rt, alloc, door, question).is_err() {
-                return;
-            }
-        }
-    }
-
-    /// Makes one call, and the line of its reply.
-    fn serve_one<R: Wait, D: Door<S>>(
+    /// were are gone. The lines whose calls these are have their numbers from this one on.
+    pub(crate) fn serve<R: Wait, D: Door<S>>(
         &mut self,
         rt: &R,
         alloc: Global,
         door: &D,
-        question: Question,
+        lane: usize,
+        first: u64,
+        places: &[Place],
+    )
+        requires { D.admits door.now self.old.pass }
+        ensures own { D.admits door.now self.new.pass }
+        ensures worked { Worked (D.serves door.now) self.old self.new }
+    {
+        self.replies.clear(alloc);
+        self.taken = 0;
+        let _ = self.serve_all(rt, alloc, door, lane, first, places);
+        self.asked.clear();
+    }
+
+    /// Makes the calls, each under the number of its line.
+    fn serve_all<R: Wait, D: Door<S>>(
+        &mut self,
+        rt: &R,
+        alloc: Global,
+        door: &D,
+        lane: usize,
+        first: u64,
+        places: &[Place],
+    ) -> Result<(), AllocError>
+        requires own { D.admits door.now self.old.pass }
+        requires taken { self.old.taken ≡ 0 }
+        requires answered { self.old.replies.answers.items ≡ [] }
+        ensures own { D.admits door.now self.new.pass }
+        ensures made { Made (D.serves door.now) self.old self.new }
+    {
+        let mut number = first;
+        for place in places {
+            self.serve_line(rt, alloc, door, lane, number, place)?;
+            number = number.wrapping_add(1);
+        }
+        Ok(())
+    }
+
+    /// Makes the next call, and the line of its reply, where the line at this place has its call here.
+    fn serve_line<R: Wait, D: Door<S>>(
+        &mut self,
+        rt: &R,
+        alloc: Global,
+        door: &D,
+        lane: usize,
+        number: u64,
+        place: &Place,
     ) -> Result<(), AllocError>
         requires { D.admits door.now self.old.pass }
         ensures own { D.admits door.now self.new.pass }
-        ensures asked { self.new.asked ≡ self.old.asked }
-        ensures taken { self.new.taken ≡ self.old.taken }
-        ensures answered { OnOk result (AnsweredOne (D.serves door.now) question.call self.old self.new) }
-        ensures kept { OnErr result (self.new.answered.items ≡ self.old.answered.items) }
+        ensures answered { OnOk result ((self.new ≡ self.old)
+            ⊎ AnsweredOne (D.serves door.now) self.old self.new) }
+        ensures failed { OnErr result (Failed self.old self.new) }
     {
-        let number = question.number;
-        let reply = door.call(rt, &mut self.pass, question.into_call())?;
-        let text = reply_text(alloc, number, &reply)?;
-        self.answered.push(Answer {
-            number,
-            text,
-            reply,
-        })?;
+        if !place.is_in(lane) {
+            return Ok(());
+        }
+        let Some(call) = self.asked.pop_front() else {
+            return Err(AllocError);
+        };
+        let reply = door.call(rt, &mut self.pass, call)?;
+        self.replies.add(alloc, number, &reply)?;
         Ok(())
     }
 }

@@ -14,7 +14,9 @@ mod phase;
 mod print;
 mod reading;
 mod reopened;
+mod replies;
 mod run;
+mod sorted;
 
 pub use door::Door;
 pub use reopened::run_lanes_from;

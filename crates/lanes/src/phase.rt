@@ -18,12 +18,15 @@ use std::thread;
 use std::thread::Threads;
 use wire_counted::Counted;
 
-/// Lets all lanes make their calls at the same time, each in a thread of its own.
+/// Lets all lanes make their calls at the same time, each in a thread of its own. The calls are those of
+/// lines at these places, which are numbered from this one on.
 fn serve_lanes<R: Threads + Wait + Sync, S: KeepsShard + Send + Sync, D: Door<S> + Sync>(
     rt: &R,
     alloc: Global,
     door: &D,
     lanes: &mut [Lane<S>],
+    first: u64,
+    places: &[Place],
 )
     requires { All (λ l. D.admits door.now l.pass) lanes.old }
     ensures own { All (λ l. D.admits door.now l.pass) lanes.new }
@@ -36,11 +39,11 @@ fn serve_lanes<R: Threads + Wait + Sync, S: KeepsShard + Send + Sync, D: Door<S>
             rt,
             lanes,
             threads,
-            &|_, lane: &mut Lane<S>|
+            &|at, lane: &mut Lane<S>|
                 requires { D.admits door.now lane.now.pass }
                 ensures own { D.admits door.entry.now lane.exit.now.pass }
                 ensures worked { Worked (D.serves door.entry.now) lane.entry.now lane.exit.now }
-            { lane.serve(rt, alloc, door) },
+            { lane.serve(rt, alloc, door, at, first, places) },
         );
     }
 }
@@ -108,7 +111,8 @@ pub(crate) fn serve_phase<
     requires numbers { first + length places.now < 2 ^ 64 }
     ensures own { All (λ l. D.admits door.now l.pass) lanes.new }
     ensures count { length lanes.new ≡ length lanes.old }
-    ensures printed { IfOk result (λ refused. PhasePrinted (D.serves door.now) (D.meets door.now) closes
+    ensures printed { IfOk result (λ refused.
+        PhasePrinted (D.serves door.now) (D.meets door.now) closes
         first places.now lanes.old lanes.new refused
         (W.contents writer.old.inner) (W.contents writer.new.inner)) }
     ensures begun { OnErr result (PhaseBegun (D.serves door.now) (D.meets door.now) closes
@@ -117,7 +121,7 @@ pub(crate) fn serve_phase<
     ensures grows { writer.old.failures ≤ writer.new.failures }
     ensures fault { IfErr result (λ e. IsWriteFault e writer.old.failures writer.new.failures) }
 {
-    serve_lanes(rt, alloc, door, lanes);
+    serve_lanes(rt, alloc, door, lanes, first, places);
     meet_if(door, lanes, closes);
     let refused = print(alloc, lanes, first, places, writer)?;
     if let Err(error) = writer.flush() {

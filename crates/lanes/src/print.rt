@@ -1,14 +1,14 @@
 //! The replies of lines that were served, in their order.
 
-ghost use Rattle.std.specs.Prelude.{◌≡◌, ◌+◌, ◌<◌, ◌≤◌, ◌^◌, [], ◌∷◌, Some, Err, length, slice_get, IfOk, IfErr, OnOk, OnErr};
+ghost use Rattle.std.specs.Prelude.{◌≡◌, ◌+◌, ◌<◌, ◌≤◌, ◌^◌, List, [], ◌∷◌, Some, Err, length, map, slice_get, IfOk, IfErr, OnOk, OnErr};
 ghost use Rattle.std.specs.Io.KnownBytes.{Appends};
 ghost use Rattle.wire_counted.specs.Written.{AppendsBeginning};
 ghost use Rattle.script.specs.Endings.{IsWriteFault};
-ghost use Rattle.script.specs.Serving.{is_refusal, text_of};
-ghost use Rattle.lanes.specs.Lanes.{passes_of};
+ghost use Rattle.service_model_types.specs.Replies.{Reply};
+ghost use Rattle.script.specs.Serving.{text_of};
+ghost use Rattle.lanes.specs.Lanes.{AllLeft, calls_of, passes_of};
 ghost use Rattle.lanes.specs.Printed.{Begun, BegunIn, Printed, PrintedIn, PrintedOne};
 
-use crate::answer::Answer;
 use crate::lane::Lane;
 use script::ScriptFault;
 use service::KeepsShard;
@@ -30,6 +30,16 @@ pub(crate) enum Place {
     InLane(u8),
 }
 
+impl Place {
+    /// Whether it is a call in this lane.
+    pub(crate) fn is_in(&self, lane: usize) -> bool {
+        match self {
+            Place::InLane(own) => usize::from(*own) == lane,
+            _ => false,
+        }
+    }
+}
+
 /// Writes the line of a reply.
 fn print_reply<W: Write>(
     alloc: Global,
@@ -45,30 +55,20 @@ fn print_reply<W: Write>(
     ensures fault { IfErr result (λ e. IsWriteFault e writer.old.failures writer.new.failures) }
 {
     let text = reply_text(alloc, number, reply)?;
-    if let Err(error) = write_whole(writer, text.as_bytes()) {
-        return Err(ScriptFault::Write(error));
-    }
+    print_line(text.as_bytes(), writer)?;
     Ok(())
 }
 
-/// Writes the line of a reply that has it under this number already, or else under another.
-fn print_answer<W: Write>(
-    alloc: Global,
-    number: u64,
-    answer: &Answer,
-    writer: &mut Counted<W>,
-) -> Result<(), ScriptFault>
+/// Writes a line.
+fn print_line<W: Write>(line: &[u8], writer: &mut Counted<W>) -> Result<(), ScriptFault>
     ensures printed { OnOk result (Appends (W.contents writer.old.inner)
-        (W.contents writer.new.inner) (text_of number (Some answer.now.reply))) }
+        (W.contents writer.new.inner) line.now) }
     ensures begun { OnErr result (AppendsBeginning (W.contents writer.old.inner)
-        (W.contents writer.new.inner) (text_of number (Some answer.now.reply))) }
+        (W.contents writer.new.inner) line.now) }
     ensures grows { writer.old.failures ≤ writer.new.failures }
     ensures fault { IfErr result (λ e. IsWriteFault e writer.old.failures writer.new.failures) }
 {
-    if answer.number != number {
-        return print_reply(alloc, number, &answer.reply, writer);
-    }
-    if let Err(error) = write_whole(writer, answer.text.as_bytes()) {
+    if let Err(error) = write_whole(writer, line) {
         return Err(ScriptFault::Write(error));
     }
     Ok(())
@@ -97,7 +97,8 @@ fn print_refusal<W: Write>(
 /// invalid argument.
 ///
 /// # Errors
-/// There is no reply where memory ran out in the lane.
+/// There is no reply where memory ran out in the lane. A reply's line was made under its own line's
+/// number, and under no other is it written.
 fn print_in<S: KeepsShard, W: Write>(
     alloc: Global,
     lanes: &mut [Lane<S>],
@@ -106,10 +107,12 @@ fn print_in<S: KeepsShard, W: Write>(
     writer: &mut Counted<W>,
 ) -> Result<bool, ScriptFault>
     ensures passes { passes_of lanes.new ≡ passes_of lanes.old }
-    ensures printed { IfOk result (λ refused. PrintedIn number lane (slice_get lanes.old lane)
-        lanes.old lanes.new refused (W.contents writer.old.inner) (W.contents writer.new.inner)) }
-    ensures begun { OnErr result (BegunIn number lane lanes.old
+    ensures calls { map calls_of lanes.new ≡ map calls_of lanes.old }
+    ensures printed { IfOk result (λ refused. (rss : List (List Reply)) → AllLeft lanes.old rss
+        → PrintedIn number lane (slice_get rss lane) rss lanes.new refused
         (W.contents writer.old.inner) (W.contents writer.new.inner)) }
+    ensures begun { OnErr result ((rss : List (List Reply)) → AllLeft lanes.old rss
+        → BegunIn number lane rss (W.contents writer.old.inner) (W.contents writer.new.inner)) }
     ensures grows { writer.old.failures ≤ writer.new.failures }
     ensures fault { IfErr result (λ e. IsWriteFault e writer.old.failures writer.new.failures) }
 {
@@ -121,9 +124,11 @@ fn print_in<S: KeepsShard, W: Write>(
         return Err(ScriptFault::Memory);
     };
     let answer = lanes[lane].answer(at);
-    let refused = answer.reply.is_err();
-    print_answer(alloc, number, answer, writer)?;
-    Ok(refused)
+    if answer.number != number {
+        return Err(ScriptFault::Memory);
+    }
+    print_line(lanes[lane].line(at), writer)?;
+    Ok(answer.refused)
 }
 
 /// Writes the reply line of a line, and says whether it is a refusal.
@@ -135,9 +140,12 @@ fn print_one<S: KeepsShard, W: Write>(
     writer: &mut Counted<W>,
 ) -> Result<bool, ScriptFault>
     ensures passes { passes_of lanes.new ≡ passes_of lanes.old }
-    ensures printed { IfOk result (λ refused. PrintedOne number place lanes.old lanes.new refused
+    ensures calls { map calls_of lanes.new ≡ map calls_of lanes.old }
+    ensures printed { IfOk result (λ refused. (rss : List (List Reply)) → AllLeft lanes.old rss
+        → PrintedOne number place rss lanes.new refused
         (W.contents writer.old.inner) (W.contents writer.new.inner)) }
-    ensures begun { OnErr result (Begun number (place ∷ []) lanes.old
+    ensures begun { OnErr result ((rss : List (List Reply)) → AllLeft lanes.old rss
+        → Begun number (place ∷ []) rss
         (W.contents writer.old.inner) (W.contents writer.new.inner)) }
     ensures grows { writer.old.failures ≤ writer.new.failures }
     ensures fault { IfErr result (λ e. IsWriteFault e writer.old.failures writer.new.failures) }
@@ -166,9 +174,12 @@ pub(crate) fn print<S: KeepsShard, W: Write>(
 ) -> Result<bool, ScriptFault>
     requires { first + length places.now < 2 ^ 64 }
     ensures passes { passes_of lanes.new ≡ passes_of lanes.old }
-    ensures printed { IfOk result (λ refused. Printed first places.now lanes.old lanes.new refused
+    ensures calls { map calls_of lanes.new ≡ map calls_of lanes.old }
+    ensures printed { IfOk result (λ refused. (rss : List (List Reply)) → AllLeft lanes.old rss
+        → Printed first places.now rss lanes.new refused
         (W.contents writer.old.inner) (W.contents writer.new.inner)) }
-    ensures begun { OnErr result (Begun first places.now lanes.old
+    ensures begun { OnErr result ((rss : List (List Reply)) → AllLeft lanes.old rss
+        → Begun first places.now rss
         (W.contents writer.old.inner) (W.contents writer.new.inner)) }
     ensures grows { writer.old.failures ≤ writer.new.failures }
     ensures fault { IfErr result (λ e. IsWriteFault e writer.old.failures writer.new.failures) }

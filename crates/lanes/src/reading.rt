@@ -1,9 +1,15 @@
 //! Lines that are read in several threads.
 
-ghost use Rattle.std.specs.Prelude.{◌≡◌, ℕ, ◌<◌, ◌++◌, [], ◌∷◌, length, get_or, OnOk, IfOk, IfSome, IfNone};
-ghost use Rattle.lanes.specs.Found.{AllEndLines, AreFound, EndsLines, HasRead, lines_in, text_of_all};
+ghost use Rattle.std.specs.Prelude.{◌≡◌, ℕ, ◌<◌, List, ◌++◌, [], ◌∷◌, length, get_or, OnOk, IfOk, IfSome, IfNone};
+ghost use Rattle.wf_event_values.specs.Gives.{Gives};
+ghost use Rattle.service_model_types.specs.declared.settings.Settings.{Settings};
+ghost use Rattle.script.specs.Asked.{asked};
+ghost use Rattle.script.specs.Lines.{Line};
+ghost use Rattle.lanes.specs.Found.{AllEndLines, AreRead, EndsLines, HasRead, lines_in, text_of_all};
+ghost use Rattle.lanes.specs.Sorted.{IsSorted};
 ghost use Rattle.lanes.specs.declared.reading.Reader.{Reader};
 
+use crate::sorted::Sorted;
 use script::{Line, asked, cut};
 use service_model_types::settings::Settings;
 use std::alloc::{AllocError, Global};
@@ -14,31 +20,37 @@ use wf_event_values::Refusal;
 use wire_requests::{Asked, LineReader};
 
 /// The most readers that there are.
-const MOST: usize = 8;
+const MOST: usize = 4;
 
-/// So many bytes or fewer are no work for a thread of its own.
-const LEAST: usize = 16_384;
+/// Fewer bytes are no work for a thread of its own.
+pub(crate) const SHORT: usize = 16_384;
 
 /// Some lines of a text, and what each was found to be. Its memory is used again for the next ones.
+///
+/// Lines are sorted by their lanes up to the first barrier, or the first of a lane that isn't there;
+/// those from there on wait in their order.
 #[derive(Drop)]
 pub(crate) struct Reader {
     reader: LineReader,
     line: Line,
     text: Vec<u8>,
+    pub(crate) sorted: Sorted,
     found: VecDeque<Result<Asked, Refusal>>,
     /// Whether memory ran out.
     pub(crate) failed: bool,
 }
 
 impl Reader {
-    fn new(alloc: Global) -> Reader {
-        Reader {
+    fn new(alloc: Global, lanes: usize) -> Result<Reader, AllocError> {
+        let sorted = Sorted::new(alloc, lanes)?;
+        Ok(Reader {
             reader: LineReader::new(alloc),
             line: Line::new(alloc),
             text: Vec::new(alloc),
+            sorted,
             found: VecDeque::new(alloc),
             failed: false,
-        }
+        })
     }
 
     /// It is to read this text, and no other.
@@ -50,7 +62,7 @@ impl Reader {
         Ok(())
     }
 
-    /// What the first line of those that are left was found to be.
+    /// What the first line of those that wait was found to be.
     pub(crate) fn next(&mut self) -> Option<Result<Asked, Refusal>>
         ensures text { self.new.text ≡ self.old.text }
         ensures some { IfSome result (λ f. self.old.found.items ≡ f ∷ self.new.found.items) }
@@ -63,11 +75,13 @@ impl Reader {
     fn read(&mut self, alloc: Global, settings: &Settings)
         ensures { HasRead settings.now self.old self.new }
     {
+        self.sorted.clear();
         self.found.clear();
         let text = self.text.as_slice();
         let read = read_lines(
             &mut self.reader,
             &mut self.line,
+            &mut self.sorted,
             &mut self.found,
             alloc,
             settings,
@@ -77,23 +91,43 @@ impl Reader {
     }
 }
 
+/// A line more, of which this was found.
+fn keep(
+    sorted: &mut Sorted,
+    found: &mut VecDeque<Result<Asked, Refusal>>,
+    one: Result<Asked, Refusal>,
+) -> Result<(), AllocError>
+    ensures { OnOk result ((K : Settings) (lines : List Line) (line : Line)
+        → Gives one (asked K line) → AreRead K sorted.old found.old.items lines
+        → AreRead K sorted.new found.new.items (lines ++ line ∷ [])) }
+{
+    if found.len() == 0 && sorted.takes(&one) {
+        sorted.add(one)?;
+        return Ok(());
+    }
+    found.push_back(one)?;
+    Ok(())
+}
+
 /// What each line was found to be that ends in the text.
 fn read_lines(
     reader: &mut LineReader,
     line: &mut Line,
+    sorted: &mut Sorted,
     found: &mut VecDeque<Result<Asked, Refusal>>,
     alloc: Global,
     settings: &Settings,
     text: &[u8],
 ) -> Result<(), AllocError>
-    requires { found.old.items ≡ [] }
-    ensures { OnOk result (AreFound settings.now found.new.items (lines_in text.now)) }
+    requires sorted { IsSorted [] sorted.old }
+    requires found { found.old.items ≡ [] }
+    ensures { OnOk result (AreRead settings.now sorted.new found.new.items (lines_in text.now)) }
 {
     let mut rest = text;
     while let Some((part, behind)) = cut(rest) {
         line.clear(alloc);
         line.extend(part)?;
-        found.push_back(asked(reader, alloc, settings, line))?;
+        keep(sorted, found, asked(reader, alloc, settings, line))?;
         rest = behind;
     }
     Ok(())
@@ -103,7 +137,7 @@ fn read_lines(
 pub(crate) fn readers_for(alloc: Global, lanes: usize) -> Result<Vec<Reader>, AllocError> {
     let mut readers = Vec::new(alloc);
     for _ in 0..lanes.min(MOST) {
-        readers.push(Reader::new(alloc))?;
+        readers.push(Reader::new(alloc, lanes)?)?;
     }
     Ok(readers)
 }
@@ -126,7 +160,7 @@ pub(crate) fn give_all<'a>(readers: &mut [Reader], text: &'a [u8]) -> Result<&'a
     ensures ends { OnOk result (AllEndLines readers.new) }
 {
     let count = readers.len();
-    let shares = count.min(text.len() / LEAST + 1);
+    let shares = count.min(text.len() / SHORT + 1);
     let mut rest = text;
     for k in 0..count {
         let left = if k < shares { shares - k } else { 1 };

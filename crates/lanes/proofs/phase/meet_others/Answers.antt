@@ -20,9 +20,10 @@ loop-other-init g c =
       count = refl;
       met = refl;
       asked = refl;
-      answered = refl;
+      replies = refl;
+      taken = refl;
       rest = λ k d from. refl;
-      kept = record { asked = refl; answered = refl };
+      kept = record { asked = refl; replies = refl; taken = refl };
     }
 
 pub loop-other-preserved : goal.loop-other-preserved
@@ -37,9 +38,10 @@ loop-other-preserved g c =
       count = length-set ys i _ ∙ h.count;
       met = met-one (g.D.Door.meets c.args.door.now) _ _ _ c.in-Some.rest.now ys i x _ (omega arith) h.count (h.rest i x (omega arith)) c.other-item.is (subst (λ (o : Lane g.row.S.Denot g.row.S-Plan.Denot). g.D.Door.meets c.args.door.now c.loop-other.first.pass o.pass c.meet.new.one c.meet.new.other) (sym c.other-item.is) c.meet.ensures.met) h.met;
       asked = h.asked;
-      answered = h.answered;
+      replies = h.replies;
+      taken = h.taken;
       rest = λ k d from. get_or-set_other ys i k _ d (λ e. absurd (omega (arith, from, e))) ∙ h.rest k d (omega (arith, from));
-      kept = kept-set _ ys i x _ refl refl h.kept;
+      kept = kept-set _ ys i x _ refl refl refl h.kept;
     }
 
 pub returns-after-loop-other-clause-met : goal.returns-after-loop-other-clause-met
@@ -50,4 +52,4 @@ returns-after-loop-other-clause-met g c =
 pub returns-after-loop-other-clause-kept : goal.returns-after-loop-other-clause-kept
 returns-after-loop-other-clause-kept g c =
     let h = c.loop-other.invariant in
-    subst (λ xs. KeepsReplies xs (c.loop-other.first ∷ c.loop-other.other-items)) (sym c.in-Some.ensures.cases.0) (kept-first c.in-Some.first.now c.loop-other.first c.in-Some.rest.now c.loop-other.other-items h.asked h.answered h.kept)
+    subst (λ xs. KeepsReplies xs (c.loop-other.first ∷ c.loop-other.other-items)) (sym c.in-Some.ensures.cases.0) (kept-first c.in-Some.first.now c.loop-other.first c.in-Some.rest.now c.loop-other.other-items h.asked h.replies h.taken h.kept)

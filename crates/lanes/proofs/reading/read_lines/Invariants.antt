@@ -1,5 +1,5 @@
 use Rattle.std.proofs.Common.{◌≡◌, List, ℕ, ◌++◌, length}
-use Rattle.lanes.specs.Found.{AreFound, EndsLines, lines_in}
+use Rattle.lanes.specs.Found.{AreRead, EndsLines, lines_in}
 use Rattle.lanes.proofs.reading.read_lines.Given as goal
 
 abbrev pub invariant-loop-part : goal.invariant-loop-part
@@ -7,7 +7,7 @@ invariant-loop-part l = record {
   done : List ℕ;
   parts : l.text ≡ done ++ l.rest;
   ends : EndsLines done;
-  found : AreFound l.settings l.found.items (lines_in done);
+  read : AreRead l.settings l.sorted l.found.items (lines_in done);
 }
 
 abbrev pub decreases-loop-part : goal.decreases-loop-part

@@ -19,4 +19,4 @@ returns-clause-asked g c =
     then_ok c.ask.result _ _ c.ask.ensures.asked
     (λ (more : calls_of c.ask.new.self ≡ calls_of x ++ c.args.call ∷ []).
     subst (λ lane. WereAsked (only_in lane c.args.call) c.args.lanes.now.items (set c.args.lanes.now.items c.from-lane.result c.ask.new.self)) c.from-lane.ensures
-    (asked-in c.from-lane.result c.args.call c.args.lanes.now.items x c.ask.new.self at c.ask.ensures.pass c.ask.ensures.answered more))
+    (asked-in c.from-lane.result c.args.call c.args.lanes.now.items x c.ask.new.self at c.ask.ensures.pass more))

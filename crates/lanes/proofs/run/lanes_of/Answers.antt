@@ -13,5 +13,5 @@ pub loop-pass-preserved : goal.loop-pass-preserved
 loop-pass-preserved g c = record {
   passes = passes-push c.loop-pass.lanes.items _ c.new.result c.in-Some.pass _ _ _ c.in_ok-push.ensures.items c.new.ensures.pass c.in-Some.ensures.steps.0 c.loop-pass.invariant.passes;
   count = search rules;
-  idle = idle-push c.loop-pass.lanes.items _ c.new.result c.in_ok-push.ensures.items c.new.ensures.asked c.new.ensures.answered c.loop-pass.invariant.idle;
+  idle = idle-push c.loop-pass.lanes.items _ c.new.result c.in_ok-push.ensures.items c.new.ensures.asked c.loop-pass.invariant.idle;
 }
