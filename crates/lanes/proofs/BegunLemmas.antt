@@ -97,6 +97,10 @@ module _ {Keeper Plan : Type 0} where
       let part = phase-part serves meets closes h.waits s.places.items b.count b.replies s.lanes.items p.after b.left h.plain h.waiting p.phase (subst (λ x. InTurn Took p.phase.replies (take b.count x) b.replies b.left) h.waiting.places b.took) in
       begins-front lines s held w w' h.waits b.count b.replies part.0 lines h h.parts part.1 b.written
 
+  -- nothing was made of some lines
+  pub begins-unread : {serves : Serves} {meets : Meets} (K : Settings) (more : List Line) (s : Script Keeper Plan) (w : Option (List ℕ)) → BeginsLines serves meets K more s w w
+  begins-unread K more s w ps lines held h = begins-more lines more held w (begins-told lines s held w h)
+
   -- a line more was read, and nothing printed
   pub begins-line : {serves : Serves} {meets : Meets} {K : Settings} {ps : List Pass} (lines : List Line) (line : Line) (s : Script Keeper Plan) (held w : Option (List ℕ)) → Told serves meets K ps lines s held w → Beginning serves meets K ps (lines ++ line ∷ []) held w
   begins-line lines line s held w h = begins-more lines (line ∷ []) held w (begins-told lines s held w h)

@@ -1,9 +1,10 @@
 -- lines that readers found, and their texts
-use Rattle.std.proofs.Common.{◌≡◌, ◌≢◌, ◌⊎◌, inl, inr, ◌<◌, ◌≤◌, ◌+◌, ℕ, zero, suc, All, List, [], ◌∷◌, ◌++◌, take, drop, set, length, get_or, slice_get, Bool, false, Option, Some, Result, Ok, Err, refl, sym, ap, subst, ◌∙◌, append_assoc, arith}
-use Rattle.std.proofs.lemmas.List.{append-nil, length-append, map-append, take-append-drop, take-append-le, take_all, take_more, take_more_set}
+use Rattle.std.proofs.Common.{◌≡◌, ◌≢◌, ◌⊎◌, inl, inr, ◌<◌, ◌≤◌, ◌+◌, ◌-◌, ℕ, zero, suc, List, [], ◌∷◌, ◌++◌, take, drop, map, set, length, get_or, false, Option, Some, Result, Ok, Err, refl, sym, ap, subst, ◌∙◌, append_assoc, arith}
+use Rattle.std.proofs.Math.Seq.{drop-append_seam, take-append_seam}
+use Rattle.std.specs.Prelude.{slice_range}
+use Rattle.std.proofs.lemmas.List.{append-nil, get_or-set_other, get_or-set_same, length-append, map-append, take-append-drop, take-append-le, take_all, take_more, take_more_set}
 use Rattle.std.proofs.lemmas.List.Concat.{flat_map-append}
 use Rattle.std.proofs.lemmas.Bool.{cases_eq}
-use Rattle.std.proofs.lemmas.Option.{same_Some, slice_get-get_or}
 use Rattle.wf_event_values.specs.Gives.{Gives}
 use Rattle.wf_event_values.specs.declared.refusal.Refusal.{Refusal}
 use Rattle.wf_event_values.specs.declared.refusal.Refusal.TheVariants.{NoMemory}
@@ -21,11 +22,9 @@ use Rattle.lanes.specs.Endings.{Beginning}
 use Rattle.lanes.specs.declared.sorted.Sorted.{Sorted}
 use Rattle.lanes.specs.Lanes.{ArePlain}
 use Rattle.lanes.specs.Sorted.{Fits, IsSorted, SortedMore}
-use Rattle.lanes.specs.Found.{AllEndLines, AreFound, AreRead, EndsLines, HasRead, IsRead, lines_in, text_of_all}
+use Rattle.lanes.specs.Found.{AllGiven, AllRead, AreFound, AreRead, EndsLines, HasRead, IsGiven, IsRead, lines_in, lines_of, part_of, parts_of}
 use Rattle.lanes.specs.ToldLines.{AddedAll, BeginsFound, BeginsLines, TellsFound, TellsLines, Told}
 use Rattle.lanes.proofs.BegunLemmas.{begins-more}
-use Rattle.lanes.proofs.NumberLemmas.{there-at}
-use Rattle.lanes.proofs.PlaceLemmas.{get-other, get-set}
 use Rattle.lanes.proofs.SortLemmas.{fits-plain, sorted-push}
 use Rattle.lanes.proofs.ToldLemmas.{plain-push, told-all}
 
@@ -160,39 +159,116 @@ module _ {Keeper Plan : Type 0} where
       subst (λ ls. Beginning serves meets K ps ls held w') (append_assoc before r.front r.back ∙ ap (λ x. before ++ x) (sym r.parts))
       (step K r.back r.waits ps (before ++ r.front) held (told-all before r.front s s1 held w (added (asks_of K r.front) r.sorted) r.plain told))
 
--- ---- the texts of readers
+-- ---- the parts of readers
 
--- the text of one reader more
-pub texts-more : (rs : List Reader) (k : ℕ) (d : Reader) → k < length rs → text_of_all (take (k + 1) rs) ≡ text_of_all (take k rs) ++ (get_or rs k d).text.items
-texts-more rs k d below =
-    ap text_of_all (take_more rs k d below) ∙ flat_map-append (λ (r : Reader). r.text.items) (take k rs) (get_or rs k d ∷ []) ∙ ap (λ x. text_of_all (take k rs) ++ x) (append-nil (get_or rs k d).text.items)
+-- a part that stands in a text behind another
+part-behind : (text front part behind : List ℕ) (from to : ℕ) → text ≡ front ++ (part ++ behind) → from ≡ length front → to ≡ length front + length part → slice_range text from to ≡ part
+part-behind text front part behind from to is begins ends =
+    ap (λ n. take (to - n) (drop n text)) begins ∙ ap (λ t. take (to - length front) (drop (length front) t)) is ∙ ap (take (to - length front)) (drop-append_seam front (part ++ behind))
+    ∙ ap (λ n. take n (part ++ behind)) (let e : to - length front ≡ length part = omega (arith, ends) in e) ∙ take-append_seam part behind
 
--- one reader was given its text
-pub texts-set : (rs : List Reader) (k : ℕ) (r : Reader) → k < length rs → text_of_all (take (k + 1) (set rs k r)) ≡ text_of_all (take k rs) ++ r.text.items
-texts-set rs k r below =
-    ap text_of_all (take_more_set rs k r below) ∙ flat_map-append (λ (x : Reader). x.text.items) (take k rs) (r ∷ []) ∙ ap (λ x. text_of_all (take k rs) ++ x) (append-nil r.text.items)
+module _ (text : List ℕ) where
+  -- the parts of the first readers, the rest of the text, and the parts so far
+  pub record Giving (readers : List Reader) (k : ℕ) (rest : List ℕ) : Type 0 where
+    pub parts : text ≡ parts_of text (take k readers) ++ rest
+    pub given : (j : ℕ) (d : Reader) → j < k → IsGiven text (get_or readers j d)
 
--- the texts of the first readers, and of those behind them
-pub texts-split : (rs : List Reader) (k : ℕ) → text_of_all rs ≡ text_of_all (take k rs) ++ text_of_all (drop k rs)
-texts-split rs k = ap text_of_all (sym (take-append-drop k rs)) ∙ flat_map-append (λ (r : Reader). r.text.items) (take k rs) (drop k rs)
+  pub giving-none : (readers : List Reader) → Giving readers 0 text
+  giving-none readers = record { parts = refl; given = λ j d below. absurd (omega (arith, below)) }
 
--- readers that keep their texts
-pub same-texts : (rs ss : List Reader) → length ss ≡ length rs → ((k : ℕ) (d : Reader) → k < length rs → (get_or ss k d).text.items ≡ (get_or rs k d).text.items) → text_of_all ss ≡ text_of_all rs
-same-texts [] [] count each = refl
-same-texts [] (s ∷ ss) count each = absurd (omega (arith, count))
-same-texts (r ∷ rs) [] count each = absurd (omega (arith, count))
-same-texts (r ∷ rs) (s ∷ ss) count each =
-    ap (λ x. x ++ text_of_all ss) (each 0 r (omega arith)) ∙ ap (λ x. r.text.items ++ x) (same-texts rs ss (omega (arith, count)) (λ k d below. each (suc k) d (omega (arith, below))))
+  -- a reader more has its part
+  pub giving-one : (readers : List Reader) (k : ℕ) (rest part behind : List ℕ) (r : Reader) → k < length readers → rest ≡ part ++ behind → EndsLines part → r.from ≡ length text - length rest → r.to ≡ length text - length behind
+      → Giving readers k rest → Giving (set readers k r) (k + 1) behind
+  giving-one readers k rest part behind r below is whole from to h = record {
+    parts = h.parts ∙ ap (λ x. front ++ x) is ∙ sym (append_assoc front part behind) ∙ ap (λ x. x ++ behind) (sym now);
+    given = λ j d within. by_place j d within (cases_eq j k);
+  }
+    where
+      front : List ℕ
+      front = parts_of text (take k readers)
 
--- readers whose texts end lines have read them
-pub all-read : (K : Settings) (rs ss : List Reader) → length ss ≡ length rs → AllEndLines rs → ((k : ℕ) (d : Reader) → k < length rs → HasRead K (get_or rs k d) (get_or ss k d)) → All (IsRead K) ss
-all-read K rs ss count ends each k d below =
-    let within : k < length rs = omega (arith, count, below) in
-    let h = each k d within in
-    record {
-      ends = subst EndsLines (sym h.text) (ends k (get_or rs k d) (slice_get-get_or rs k d within));
-      found = λ ok. subst (λ t. AreRead K (get_or ss k d).sorted (get_or ss k d).found.items (lines_in t)) (sym h.text) (h.found ok);
-    }
+      all : text ≡ front ++ (part ++ behind)
+      all = h.parts ∙ ap (λ x. front ++ x) is
+
+      count : length text ≡ length front + (length part + length behind)
+      count = ap length all ∙ length-append front (part ++ behind) ∙ ap (λ n. length front + n) (length-append part behind)
+
+      counts : length rest ≡ length part + length behind
+      counts = ap length is ∙ length-append part behind
+
+      here : part_of text r ≡ part
+      here = part-behind text front part behind r.from r.to all (omega (arith, from, count, counts)) (omega (arith, to, count))
+
+      now : parts_of text (take (k + 1) (set readers k r)) ≡ front ++ part
+      now = ap (parts_of text) (take_more_set readers k r below) ∙ flat_map-append (part_of text) (take k readers) (r ∷ []) ∙ ap (λ x. front ++ x) (append-nil (part_of text r) ∙ here)
+
+      own : IsGiven text r
+      own = record { begins = omega (arith, from, to, count, counts); ends = omega (arith, to); whole = subst EndsLines (sym here) whole }
+
+      by_place : (j : ℕ) (d : Reader) → j < k + 1 → (j ≡ k) ⊎ (¬ (j ≡ k)) → IsGiven text (get_or (set readers k r) j d)
+      by_place j d within (inl same) = subst (IsGiven text) (sym (ap (λ n. get_or (set readers k r) n d) same ∙ get_or-set_same readers k r d below)) own
+      by_place j d within (inr other) = subst (IsGiven text) (sym (get_or-set_other readers k j r d other)) (h.given j d (omega (arith, within, other)))
+
+  pub giving-all : (readers : List Reader) (k : ℕ) (rest : List ℕ) → length readers ≤ k → Giving readers k rest → (text ≡ parts_of text readers ++ rest) × AllGiven text readers
+  giving-all readers k rest past h = (h.parts ∙ ap (λ x. parts_of text x ++ rest) (take_all k readers past), λ j d below. h.given j d (omega (arith, past, below)))
+
+  -- the lines of parts that end lines are those of the parts together
+  pub lines-parts : (readers : List Reader) → AllGiven text readers → (lines_of (map (λ (r : Reader). lines_in (part_of text r)) readers) ≡ lines_in (parts_of text readers)) × EndsLines (parts_of text readers)
+  unfolding ended left
+  lines-parts [] h = (refl, refl)
+  lines-parts (r ∷ readers) h =
+      let one : IsGiven text r = h 0 r (omega arith) in
+      let more = lines-parts readers (λ k d below. h (suc k) d (omega (arith, below))) in
+      let part = part_of text r in
+      let rest = parts_of text readers in (
+        ap (λ x. lines_in part ++ x) more.0 ∙ ap (λ l. lines_in part ++ ended l rest) (sym one.whole) ∙ sym (ended-append (Some []) part rest),
+        left-append (Some []) part rest ∙ ap (λ l. left l rest) one.whole ∙ more.1,
+      )
+
+  -- readers that have read their parts have read the lines of these
+  pub all-read : (K : Settings) (rs ss : List Reader) → length ss ≡ length rs → ((k : ℕ) (d : Reader) → k < length rs → HasRead K text (get_or rs k d) (get_or ss k d)) → AllRead K ss (map (λ (r : Reader). lines_in (part_of text r)) rs)
+  all-read K [] [] count each = tt
+  all-read K [] (s ∷ ss) count each = absurd (omega (arith, count))
+  all-read K (r ∷ rs) [] count each = absurd (omega (arith, count))
+  all-read K (r ∷ rs) (s ∷ ss) count each = (each 0 r (omega arith), all-read K rs ss (omega (arith, count)) (λ k d below. each (suc k) d (omega (arith, below))))
+
+-- ---- readers whose lines are taken
+
+pub read-count : (K : Settings) (rs : List Reader) (parts : List (List Line)) → AllRead K rs parts → length parts ≡ length rs
+read-count K [] [] h = refl
+read-count K [] (lines ∷ parts) h = absurd h
+read-count K (r ∷ rs) [] h = absurd h
+read-count K (r ∷ rs) (lines ∷ parts) h = ap suc (read-count K rs parts h.1)
+
+pub read-at : (K : Settings) (rs : List Reader) (parts : List (List Line)) (k : ℕ) (d : Reader) → AllRead K rs parts → k < length rs → IsRead K (get_or rs k d) (get_or parts k [])
+read-at K [] parts k d h below = absurd (omega (arith, below))
+read-at K (r ∷ rs) [] k d h below = absurd h
+read-at K (r ∷ rs) (lines ∷ parts) zero d h below = h.0
+read-at K (r ∷ rs) (lines ∷ parts) (suc k) d h below = read-at K rs parts k d h.1 (omega (arith, below))
+
+-- the lines of one reader more
+pub lines-one : (parts : List (List Line)) (k : ℕ) → k < length parts → lines_of (take (k + 1) parts) ≡ lines_of (take k parts) ++ get_or parts k []
+lines-one parts k below = ap lines_of (take_more parts k [] below) ∙ flat_map-append (λ (lines : List Line). lines) (take k parts) (get_or parts k [] ∷ []) ∙ ap (λ x. lines_of (take k parts) ++ x) (append-nil (get_or parts k []))
+
+-- the lines of the first readers, of the next one, and of those behind it
+pub lines-split : (parts : List (List Line)) (k : ℕ) → k < length parts → lines_of parts ≡ (lines_of (take k parts) ++ get_or parts k []) ++ lines_of (drop (k + 1) parts)
+lines-split parts k below =
+    ap lines_of (sym (take-append-drop (k + 1) parts)) ∙ flat_map-append (λ (lines : List Line). lines) (take (k + 1) parts) (drop (k + 1) parts) ∙ ap (λ x. x ++ lines_of (drop (k + 1) parts)) (lines-one parts k below)
+
+module _ {Keeper Plan : Type 0} where
+  -- no lines
+  pub tells-none : {serves : Serves} {meets : Meets} (K : Settings) (s : Script Keeper Plan) (w : Option (List ℕ)) → TellsLines serves meets K [] s s w w
+  tells-none {serves} {meets} K s w ps before held told = subst (λ ls. Told serves meets K ps ls s held w) (sym (append-nil before)) told
+
+  -- some lines, and then others
+  pub tells-then : {serves : Serves} {meets : Meets} (K : Settings) (a b : List Line) (s m s' : Script Keeper Plan) (w w1 w' : Option (List ℕ)) → TellsLines serves meets K a s m w w1 → TellsLines serves meets K b m s' w1 w' → TellsLines serves meets K (a ++ b) s s' w w'
+  tells-then {serves} {meets} K a b s m s' w w1 w' one two ps before held told = subst (λ ls. Told serves meets K ps ls s' held w') (append_assoc before a b) (two ps (before ++ a) held (one ps before held told))
+
+  -- some lines, a beginning of others, and nothing of those behind them
+  pub begins-within : {serves : Serves} {meets : Meets} (K : Settings) (a b c : List Line) (s m : Script Keeper Plan) (w w1 w' : Option (List ℕ)) → TellsLines serves meets K a s m w w1 → BeginsLines serves meets K b m w1 w' → BeginsLines serves meets K ((a ++ b) ++ c) s w w'
+  begins-within {serves} {meets} K a b c s m w w1 w' one two ps before held told =
+      let both = subst (λ ls. Beginning serves meets K ps ls held w') (append_assoc before a b) (two ps (before ++ a) held (one ps before held told)) in
+      subst (λ ls. Beginning serves meets K ps ls held w') (append_assoc before (a ++ b) c) (begins-more (before ++ (a ++ b)) c held w' both)
 
 -- a text up to a line feed
 pub cut-ends : (text a part b : List ℕ) (n : ℕ) → text ≡ a ++ (part ++ 10 ∷ b) → n ≡ length (a ++ (part ++ 10 ∷ [])) → EndsLines (take n text)
@@ -200,15 +276,3 @@ cut-ends text a part b n is count =
     let whole : text ≡ (a ++ (part ++ 10 ∷ [])) ++ b = is ∙ ap (λ x. a ++ x) (sym (append_assoc part (10 ∷ []) b)) ∙ sym (append_assoc a (part ++ 10 ∷ []) b) in
     let front : take n text ≡ a ++ (part ++ 10 ∷ []) = ap (take n) whole ∙ take-append-le n (a ++ (part ++ 10 ∷ [])) b (omega (arith, count)) ∙ take_all n (a ++ (part ++ 10 ∷ [])) (omega (arith, count)) in
     subst EndsLines (sym front) (ends-line a part)
-
--- a reader more has a text that ends a line
-pub ends-set : (rs : List Reader) (k : ℕ) (s : Reader) → k < length rs → EndsLines s.text.items → ((j : ℕ) (r : Reader) → j < k → slice_get rs j ≡ Some r → EndsLines r.text.items)
-    → (j : ℕ) (r : Reader) → j < k + 1 → slice_get (set rs k s) j ≡ Some r → EndsLines r.text.items
-ends-set rs k s below own each j r within at = go (cases_eq k j)
-  where
-    go : (k ≡ j) ⊎ (¬ (k ≡ j)) → EndsLines r.text.items
-    go (inl same) =
-        let x = there-at rs k below in
-        let is : s ≡ r = same_Some s r (sym (get-set rs k x.0 s x.1) ∙ ap (slice_get (set rs k s)) same ∙ at) in
-        subst (λ (y : Reader). EndsLines y.text.items) is own
-    go (inr other) = each j r (omega (arith, within, other)) (sym (get-other rs k j s other) ∙ at)

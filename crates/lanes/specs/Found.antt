@@ -1,5 +1,5 @@
 -- PROOF: what readers found lines to be
-use Rattle.std.specs.Prelude.{◌≡◌, ℕ, All, List, [], ◌∷◌, ◌++◌, Result, Some, Bool, false, slice_get}
+use Rattle.std.specs.Prelude.{◌≡◌, ℕ, ◌≤◌, All, List, [], ◌∷◌, ◌++◌, length, Result, Some, false, slice_range}
 use Rattle.std.specs.List.{flat_map}
 use Rattle.wf_event_values.specs.Gives.{Gives}
 use Rattle.wf_event_values.specs.declared.refusal.Refusal.{Refusal}
@@ -37,23 +37,38 @@ lines_in text = ended (Some []) text
 abbrev pub EndsLines : List ℕ → Type 0
 EndsLines text = left (Some []) text ≡ Some []
 
--- a reader has kept its text, and found what its lines are, unless memory ran out
-pub record HasRead (K : Settings) (r r' : Reader) : Type 0 where
-  pub text : r'.text.items ≡ r.text.items
-  pub found : r'.failed ≡ false → AreRead K r'.sorted r'.found.items (lines_in r.text.items)
+-- the part of a text that a reader reads
+abbrev pub part_of : List ℕ → Reader → List ℕ
+part_of text r = slice_range text r.from r.to
 
--- the texts of readers, one behind the other
-abbrev pub text_of_all : List Reader → List ℕ
-text_of_all readers = flat_map (λ (r : Reader). r.text.items) readers
+-- it lies within the text, and ends a line
+pub record IsGiven (text : List ℕ) (r : Reader) : Type 0 where
+  pub begins : r.from ≤ r.to
+  pub ends : r.to ≤ length text
+  pub whole : EndsLines (part_of text r)
 
--- the text of each reader ends a line
-abbrev pub AllEndLines : List Reader → Type 0
-AllEndLines readers = (k : ℕ) (r : Reader) → slice_get readers k ≡ Some r → EndsLines r.text.items
+abbrev pub AllGiven : List ℕ → List Reader → Type 0
+AllGiven text readers = All (IsGiven text) readers
 
--- each reader has read its text, which ends a line
-pub record IsRead (K : Settings) (r : Reader) : Type 0 where
-  pub ends : EndsLines r.text.items
-  pub found : r.failed ≡ false → AreRead K r.sorted r.found.items (lines_in r.text.items)
+-- the parts of readers, one behind the other
+abbrev pub parts_of : List ℕ → List Reader → List ℕ
+parts_of text readers = flat_map (part_of text) readers
 
-abbrev pub AllRead : Settings → List Reader → Type 0
-AllRead K readers = All (IsRead K) readers
+-- a reader has read these lines, unless memory ran out
+abbrev pub IsRead : Settings → Reader → List Line → Type 0
+IsRead K r lines = r.failed ≡ false → AreRead K r.sorted r.found.items lines
+
+-- a reader has read its part
+abbrev pub HasRead : Settings → List ℕ → Reader → Reader → Type 0
+HasRead K text r r' = IsRead K r' (lines_in (part_of text r))
+
+-- each reader has read its own of these lines
+abbrev pub AllRead : Settings → List Reader → List (List Line) → Type 0
+AllRead K [] [] = Unit {0}
+AllRead K [] (lines ∷ more) = ⊥
+AllRead K (r ∷ readers) [] = ⊥
+AllRead K (r ∷ readers) (lines ∷ more) = IsRead K r lines × AllRead K readers more
+
+-- lines of several readers, one behind the other
+abbrev pub lines_of : List (List Line) → List Line
+lines_of parts = flat_map (λ (lines : List Line). lines) parts

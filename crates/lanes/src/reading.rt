@@ -5,7 +5,7 @@ ghost use Rattle.wf_event_values.specs.Gives.{Gives};
 ghost use Rattle.service_model_types.specs.declared.settings.Settings.{Settings};
 ghost use Rattle.script.specs.Asked.{asked};
 ghost use Rattle.script.specs.Lines.{Line};
-ghost use Rattle.lanes.specs.Found.{AllEndLines, AreRead, EndsLines, HasRead, lines_in, text_of_all};
+ghost use Rattle.lanes.specs.Found.{AllGiven, AreRead, EndsLines, HasRead, IsGiven, lines_in, parts_of};
 ghost use Rattle.lanes.specs.Sorted.{IsSorted};
 ghost use Rattle.lanes.specs.declared.reading.Reader.{Reader};
 
@@ -33,7 +33,9 @@ pub(crate) const SHORT: usize = 16_384;
 pub(crate) struct Reader {
     reader: LineReader,
     line: Line,
-    text: Vec<u8>,
+    /// Where its lines stand in the text that all readers share.
+    from: usize,
+    to: usize,
     pub(crate) sorted: Sorted,
     found: VecDeque<Result<Asked, Refusal>>,
     /// Whether memory ran out.
@@ -46,38 +48,38 @@ impl Reader {
         Ok(Reader {
             reader: LineReader::new(alloc),
             line: Line::new(alloc),
-            text: Vec::new(alloc),
+            from: 0,
+            to: 0,
             sorted,
             found: VecDeque::new(alloc),
             failed: false,
         })
     }
 
-    /// It is to read this text, and no other.
-    fn give(&mut self, text: &[u8]) -> Result<(), AllocError>
-        ensures { OnOk result (self.new.text.items ≡ text.now) }
+    /// It is to read what stands from here to there.
+    fn give(&mut self, from: usize, to: usize)
+        ensures from { self.new.from ≡ from }
+        ensures to { self.new.to ≡ to }
     {
-        self.text.clear();
-        self.text.extend_from_slice(text)?;
-        Ok(())
+        self.from = from;
+        self.to = to;
     }
 
     /// What the first line of those that wait was found to be.
     pub(crate) fn next(&mut self) -> Option<Result<Asked, Refusal>>
-        ensures text { self.new.text ≡ self.old.text }
         ensures some { IfSome result (λ f. self.old.found.items ≡ f ∷ self.new.found.items) }
         ensures none { IfNone result (self.old.found.items ≡ []) }
     {
         self.found.pop_front()
     }
 
-    /// Reads the lines of its text.
-    fn read(&mut self, alloc: Global, settings: &Settings)
-        ensures { HasRead settings.now self.old self.new }
+    /// Reads the lines of its part of the text.
+    fn read(&mut self, alloc: Global, settings: &Settings, text: &[u8])
+        requires { IsGiven text.now self.old }
+        ensures { HasRead settings.now text.now self.old self.new }
     {
         self.sorted.clear();
         self.found.clear();
-        let text = self.text.as_slice();
         let read = read_lines(
             &mut self.reader,
             &mut self.line,
@@ -85,7 +87,7 @@ impl Reader {
             &mut self.found,
             alloc,
             settings,
-            text,
+            &text[self.from..self.to],
         );
         self.failed = read.is_err();
     }
@@ -155,9 +157,9 @@ fn part_at(text: &[u8], least: usize) -> (&[u8], &[u8])
 }
 
 /// Shares a text out among readers, whole lines to each. It gives what is left.
-pub(crate) fn give_all<'a>(readers: &mut [Reader], text: &'a [u8]) -> Result<&'a [u8], AllocError>
-    ensures parts { IfOk result (λ rest. text.now ≡ text_of_all readers.new ++ rest.now) }
-    ensures ends { OnOk result (AllEndLines readers.new) }
+pub(crate) fn give_all<'a>(readers: &mut [Reader], text: &'a [u8]) -> &'a [u8]
+    ensures parts { text.now ≡ parts_of text.now readers.new ++ result.now }
+    ensures given { AllGiven text.now readers.new }
 {
     let count = readers.len();
     let shares = count.min(text.len() / SHORT + 1);
@@ -165,23 +167,25 @@ pub(crate) fn give_all<'a>(readers: &mut [Reader], text: &'a [u8]) -> Result<&'a
     for k in 0..count {
         let left = if k < shares { shares - k } else { 1 };
         let share = (rest.len() / left).saturating_sub(1);
-        let (part, behind) = part_at(rest, share);
-        readers[k].give(part)?;
+        let (_, behind) = part_at(rest, share);
+        readers[k].give(text.len() - rest.len(), text.len() - behind.len());
         rest = behind;
     }
-    Ok(rest)
+    rest
 }
 
-/// Lets all readers read their texts at the same time, each in a thread of its own.
+/// Lets all readers read their parts of a text at the same time, each in a thread of its own.
 pub(crate) fn read_all<R: Threads + Sync>(
     rt: &R,
     alloc: Global,
     settings: &Settings,
     readers: &mut [Reader],
+    text: &[u8],
 )
+    requires { AllGiven text.now readers.old }
     ensures count { length readers.new ≡ length readers.old }
     ensures read { (k : ℕ) (d : Reader) → k < length readers.old
-        → HasRead settings.now (get_or readers.old k d) (get_or readers.new k d) }
+        → HasRead settings.now text.now (get_or readers.old k d) (get_or readers.new k d) }
 {
     let threads = readers.len();
     if threads > 0 {
@@ -190,8 +194,10 @@ pub(crate) fn read_all<R: Threads + Sync>(
             readers,
             threads,
             &|_, reader: &mut Reader|
-                ensures { HasRead settings.entry.now reader.entry.now reader.exit.now }
-            { reader.read(alloc, settings) },
+                requires { IsGiven text.now reader.now }
+                ensures { HasRead settings.entry.now text.entry.now
+                    reader.entry.now reader.exit.now }
+            { reader.read(alloc, settings, text) },
         );
     }
 }

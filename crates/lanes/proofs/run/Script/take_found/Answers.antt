@@ -7,7 +7,6 @@ pub loop-found-init : goal.loop-found-init
 loop-found-init g c = record {
   own = c.requires;
   line = refl;
-  text = refl;
   taking = λ K lines h. taking-none K lines _ _ _ h;
   grows = omega arith;
 }
@@ -18,7 +17,6 @@ loop-found-preserved g c =
     record {
       own = c.end_found.ensures.own;
       line = c.in_ok-end_found.ensures.line ∙ h.line;
-      text = c.next.ensures.text ∙ h.text;
       taking = λ K lines found. taking-one K lines c.in-Some.found _ _ c.loop-found.self _ _ _ _ c.in_ok-end_found.ensures.told
           (subst (λ fs. Taking (g.D.Door.serves c.args.door.now) (g.D.Door.meets c.args.door.now) K lines fs c.args.self.now c.loop-found.self (g.W.Write.contents c.args.writer.now.inner) (g.W.Write.contents c.loop-found.writer.inner)) c.in-Some.ensures.some (h.taking K lines found));
       grows = omega (arith, h.grows, c.end_found.ensures.grows);

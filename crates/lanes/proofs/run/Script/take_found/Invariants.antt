@@ -9,7 +9,6 @@ abbrev pub invariant-loop-found : goal.invariant-loop-found
 invariant-loop-found g l = record {
   own : All (λ x. g.D.Door.admits l.door x.pass) l.self.lanes.items;
   line : l.self.line ≡ l.fn.self.line;
-  text : l.reader.text ≡ l.fn.reader.text;
   taking : (K : Settings) (lines : List Line) → AreFound K l.fn.reader.found.items lines
       → Taking (g.D.Door.serves l.door) (g.D.Door.meets l.door) K lines l.reader.found.items l.fn.self l.self (g.W.Write.contents l.fn.writer.inner) (g.W.Write.contents l.writer.inner);
   grows : l.fn.writer.failures ≤ l.writer.failures;
