@@ -26,7 +26,7 @@ use Rattle.service.specs.Contents.{ends_refusal, shard_refusal}
 use Rattle.service.specs.Reopening.{record_at}
 use Rattle.service.specs.Services.{Answered, IsServedAtLast, IsServedOn, known_by, settings_of}
 use Rattle.service.specs.TransferTurns.{AfterDelivery, AfterReading, AfterTransfer, Delivers, Transfers, goes_on}
-use Rattle.service.specs.Turns.{AfterDispatch, AfterNext, AfterPush, Polls, Pushing, Turns}
+use Rattle.service.specs.Turns.{AfterDispatch, AfterNext, AfterPush, Polls, Turns}
 use Rattle.service.specs.ServiceViews.{Service}
 use Rattle.service.specs.ServiceViews.{Pass}
 use Rattle.wire_requests.specs.declared.calls.Asked.{Asked}

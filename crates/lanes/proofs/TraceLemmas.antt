@@ -1,5 +1,5 @@
 -- the one history of a service over lanes, and the text of its steps
-use Rattle.std.proofs.Common.{◌≡◌, ℕ, ◌<◌, List, [], Some, Vec, Global, length, map, slice_get, ap, sym, subst, ◌∙◌}
+use Rattle.std.proofs.Common.{◌≡◌, ℕ, List, [], Some, Vec, Global, length, map, slice_get, ap, sym, subst, ◌∙◌}
 use Rattle.gate.specs.Passes as gate
 use Rattle.gate.specs.Records.{Begins}
 use Rattle.history.specs.Merged.{AreTicketed, IsMerged, numbered}

@@ -1,4 +1,4 @@
-use Rattle.std.proofs.Common.{◌≡◌, Bool, true, false, refl, sym, subst}
+use Rattle.std.proofs.Common.{refl, sym, subst}
 use Rattle.lanes.specs.Lanes.{MetIf, passes_of}
 use Rattle.lanes.proofs.phase.meet_if.Goals as goal
 

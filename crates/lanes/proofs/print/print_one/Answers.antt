@@ -1,4 +1,4 @@
-use Rattle.std.proofs.Common.{◌≡◌, ◌∷◌, [], Some, Err, refl, sym, subst}
+use Rattle.std.proofs.Common.{◌∷◌, [], Some, Err, refl, sym, subst}
 use Rattle.script.proofs.Steps.{on_any_err}
 use Rattle.lanes.specs.declared.print.Place.TheVariants.{InLane, Refused}
 use Rattle.lanes.specs.Lanes.{Took}

@@ -1,6 +1,6 @@
 use Rattle.std.proofs.Common.{◌<◌, length, ◌∙◌, arith}
 use Rattle.std.proofs.lemmas.List.{length-set}
-use Rattle.lanes.proofs.FoundLemmas.{giving-all, giving-none, giving-one}
+use Rattle.lanes.proofs.FoundLemmas.{giving-one}
 use Rattle.lanes.proofs.reading.give_all.Goals as goal
 
 pub loop-k-preserved : goal.loop-k-preserved

@@ -3,7 +3,7 @@ use Rattle.script.proofs.PartLemmas.{next_done}
 use Rattle.wf_event_values.specs.Gives.{Gives}
 use Rattle.script.specs.Asked.{asked}
 use Rattle.script.specs.Pending.{grown}
-use Rattle.lanes.specs.Found.{AreRead, lines_in}
+use Rattle.lanes.specs.Found.{AreRead}
 use Rattle.lanes.proofs.FoundLemmas.{ends-line, ends-none, lines-more, lines-whole, read-none}
 use Rattle.lanes.proofs.reading.read_lines.Goals as goal
 

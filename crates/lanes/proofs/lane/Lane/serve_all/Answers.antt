@@ -1,4 +1,3 @@
-use Rattle.script.proofs.Steps.{on_any_err}
 use Rattle.lanes.proofs.WorkLemmas.{made-all, made-some, working-none, working-on}
 use Rattle.lanes.proofs.lane.Lane.serve_all.Goals as goal
 

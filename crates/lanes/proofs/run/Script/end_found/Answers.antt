@@ -1,7 +1,4 @@
-use Rattle.std.proofs.Common.{rules, ◌≡◌, ◌≢◌, Bool, Result, Err, true, false, sym, ap, subst, ◌∙◌}
-use Rattle.wf_event_values.specs.declared.refusal.Refusal.{Refusal}
-use Rattle.wf_event_values.specs.declared.refusal.Refusal.TheVariants.{NoMemory}
-use Rattle.wire_requests.specs.declared.calls.Asked.{Asked}
+use Rattle.std.proofs.Common.{rules, sym, ap, subst, ◌∙◌}
 use Rattle.script.proofs.Steps.{on_any_err}
 use Rattle.script.specs.Asked.{asked}
 use Rattle.lanes.specs.Lanes.{is_barrier, place_in}

@@ -1,6 +1,6 @@
-use Rattle.std.proofs.Common.{◌≡◌, ◌++◌, sym, subst, ◌∙◌}
+use Rattle.std.proofs.Common.{sym, subst, ◌∙◌}
 use Rattle.script.proofs.Steps.{on_any_err}
-use Rattle.lanes.specs.Found.{lines_in, parts_of}
+use Rattle.lanes.specs.Found.{parts_of}
 use Rattle.lanes.specs.ToldLines.{BeginsLines, BeginsMore, TellsLines, TellsMore}
 use Rattle.lanes.proofs.BegunLemmas.{begins-early, begins-lines, begins-then}
 use Rattle.lanes.proofs.FoundLemmas.{all-read, lines-parts}

@@ -1,4 +1,4 @@
-use Rattle.std.proofs.Common.{rules, ◌∙◌}
+use Rattle.std.proofs.Common.{rules}
 use Rattle.script.proofs.Steps.{on_any_err}
 use Rattle.lanes.proofs.BegunLemmas.{begins-unread}
 use Rattle.lanes.proofs.FoundLemmas.{read-begins, read-tells}
