@@ -1,30 +1,63 @@
 #!/usr/bin/env python3
-"""What starting a workflow, taking its first task and completing it cost, by the service's calls, at
+"""What starting a workflow, taking its first task and completing it cost the built program, a line, at
 several sizes, so that growth shows.
 
 Usage: bench/workflow_tasks.py [WORKFLOWS..]   (default: 25000 50000)
 
-The program, crates/task_bench/out/task_bench, is built by `rt run` in that crate.
+Times are differences of processor times, each the shortest of three runs: of the starts alone, of these
+and the tasks taken, and of all. The program is built by `rt run` in crates/wfserve, or by ./serve.
 """
+import base64
 import os
-import subprocess
 import sys
+import tempfile
 
-HERE = os.path.dirname(os.path.abspath(__file__))
-PROGRAM = os.path.join(HERE, "..", "crates", "task_bench", "out", "task_bench")
-RUNS = 2
+from first_path import PROGRAM, best_time, start, write_lines
+
+
+def token(run, event=2, attempt=1):
+    """The token of a workflow task of the first shard, by its run, the event that scheduled it and its
+    attempt."""
+    parts = bytes([1, 1]) + bytes(2) + run.to_bytes(8, "big") + event.to_bytes(8, "big") + attempt.to_bytes(4, "big")
+    return base64.b64encode(parts).decode()
+
+
+def starts(count):
+    return [start(f"order-{number}") for number in range(count)]
+
+
+def taken(count):
+    """Each task is handed to its queue, and taken by a poll."""
+    pair = [{"op": "dispatch_turn", "shard": 0}, {"op": "poll_workflow_task", "task_queue": "main"}]
+    return pair * count
+
+
+def completed(count, commands=()):
+    """Each workflow's first task is completed by these commands."""
+    return [{"op": "complete_workflow_task", "token": token(run), "commands": list(commands)} for run in range(1, count + 1)]
+
+
+def seconds(lines):
+    """The processor time that the program takes for the lines."""
+    with tempfile.TemporaryDirectory() as folder:
+        path = os.path.join(folder, "lines")
+        write_lines(lines, path)
+        return best_time([PROGRAM], path)[0]
 
 
 def main():
-    sizes = sys.argv[1:] or ["25000", "50000"]
     if not os.access(PROGRAM, os.X_OK):
-        sys.exit(f"workflow_tasks: {PROGRAM} is not built; `rt run` in crates/task_bench builds it")
-    for number in range(1, RUNS + 1):
-        load = os.getloadavg()[0]
-        print(f"run {number} of {RUNS}, load {load:.2f} on {os.cpu_count()} processors", flush=True)
-        for size in sizes:
-            if subprocess.run([PROGRAM, size]).returncode != 0:
-                sys.exit("workflow_tasks: the program failed")
+        sys.exit(f"workflow_tasks: {PROGRAM} is not built; `rt run` in crates/wfserve builds it")
+    print(f"load {os.getloadavg()[0]:.2f} on {os.cpu_count()} processors", flush=True)
+    print("workflows: ns of a start, of the two lines by which a task is taken, of a completion")
+    for size in [int(word) for word in sys.argv[1:]] or [25_000, 50_000]:
+        lines, before, times = [], 0.0, []
+        for more in (starts(size), taken(size), completed(size)):
+            lines += more
+            now = seconds(lines)
+            times.append((now - before) / size * 1e9)
+            before = now
+        print(f"{size}: " + ", ".join(f"{it:.0f}" for it in times), flush=True)
 
 
 if __name__ == "__main__":

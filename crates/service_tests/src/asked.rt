@@ -2,23 +2,15 @@
 
 ghost use Rattle.std.specs.Prelude.{◌≡◌};
 
+use service_model_types::call::Call;
 use service_model_types::limits::DEFAULT_CAPACITY;
-use service_model_types::request::{Hint, Signal, Start, TakenTask};
 use service_model_types::settings::{Settings, main_queue};
-use std::alloc::AllocGlobal;
+use std::alloc::{AllocError, AllocGlobal, Global};
 use std::process::Abort;
-use wf_event::Boxed;
-use wf_event_values::{
-    ConflictPolicy, Field, Id, Moment, ReusePolicy, RunId, Span, TaskKind, Text,
-};
+use wire_requests::{Asked, read_line};
 
 /// So many shards and passes, and the queue `main`.
-pub(crate) fn settings<R: Abort + AllocGlobal>(
-    rt: &R,
-    shards: u64,
-    passes: u64,
-    service: u64,
-) -> Settings
+pub(crate) fn settings<R: Abort + AllocGlobal>(rt: &R, shards: u64, passes: u64) -> Settings
     ensures shards { result.shards ≡ shards }
     ensures passes { result.passes ≡ passes }
 {
@@ -26,7 +18,7 @@ pub(crate) fn settings<R: Abort + AllocGlobal>(
         Ok(queues) => Settings {
             shards,
             passes,
-            service,
+            service: 1,
             queues,
             capacity: DEFAULT_CAPACITY,
             retention: 0,
@@ -35,96 +27,57 @@ pub(crate) fn settings<R: Abort + AllocGlobal>(
     }
 }
 
-/// Two shards, of which `a` lies on the first and `b` on the second.
-pub(crate) fn two_shards<R: Abort + AllocGlobal>(rt: &R) -> Settings
-    ensures shards { result.shards ≡ 2 }
-    ensures passes { result.passes ≡ 2 }
-{
-    settings(rt, 2, 2, 1)
-}
-
-pub(crate) fn id<R: Abort + AllocGlobal>(rt: &R, text: &str) -> Id {
-    match Id::new(rt.alloc(), Field::WorkflowId, text) {
-        Ok(id) => id,
-        Err(_) => panic!(rt; "no name"),
+/// The text with a number in place of each `#`.
+pub(crate) fn numbered(alloc: Global, text: &str, number: u64) -> Result<String, AllocError> {
+    let number = format!(in alloc; "{number}")?;
+    let mut line = String::new(alloc);
+    for (place, part) in text.split('#').enumerate() {
+        if place > 0 {
+            line.push_str(number.as_str())?;
+        }
+        line.push_str(part)?;
     }
+    Ok(line)
 }
 
-pub(crate) fn text<R: Abort + AllocGlobal>(rt: &R, text: &str) -> Text {
-    match Text::new(rt.alloc(), Field::Input, text) {
-        Ok(text) => text,
-        Err(_) => panic!(rt; "no text"),
+/// So many copies of a text between two others, with the number of each, from 1 on, in place of each
+/// `#` and commas between them.
+fn listed(
+    alloc: Global,
+    front: &str,
+    each: &str,
+    count: u64,
+    behind: &str,
+) -> Result<String, AllocError> {
+    let mut line = String::from_str(alloc, front)?;
+    for place in 0..count {
+        if place > 0 {
+            line.push(',')?;
+        }
+        line.push_str(numbered(alloc, each, place + 1)?.as_str())?;
     }
+    line.push_str(behind)?;
+    Ok(line)
 }
 
-pub(crate) fn moment<R: Abort>(rt: &R, millis: u64) -> Moment {
-    match Moment::new(Field::At, millis) {
-        Ok(moment) => moment,
-        Err(_) => panic!(rt; "no moment"),
-    }
-}
-
-/// A value in memory of its own.
-pub(crate) fn boxed<R: Abort + AllocGlobal, T: Drop>(rt: &R, value: T) -> Boxed<T> {
-    match Boxed::new(rt.alloc(), value) {
-        Ok(boxed) => boxed,
+/// The same, where there is memory for it.
+pub(crate) fn list<R: Abort + AllocGlobal>(
+    rt: &R,
+    front: &str,
+    each: &str,
+    count: u64,
+    behind: &str,
+) -> String {
+    match listed(rt.alloc(), front, each, count, behind) {
+        Ok(line) => line,
         Err(_) => panic!(rt; "no memory"),
     }
 }
 
-/// A start under the default policies.
-pub(crate) fn start<R: Abort + AllocGlobal>(
-    rt: &R,
-    workflow_id: &str,
-    request_id: Option<Id>,
-) -> Start {
-    Start {
-        workflow_id: id(rt, workflow_id),
-        workflow_type: text(rt, "w"),
-        task_queue: id(rt, "main"),
-        input: text(rt, ""),
-        request_id,
-        reuse: ReusePolicy::AllowDuplicate,
-        conflict: ConflictPolicy::Fail,
-        run_timeout: Span::none(),
-        task_timeout: Span::none(),
-        execution_timeout: Span::none(),
+/// The call that a line asks for.
+pub(crate) fn call<R: Abort + AllocGlobal>(rt: &R, settings: &Settings, line: &str) -> Call {
+    match read_line(rt.alloc(), settings, line) {
+        Ok(Asked::Call(lane)) => lane.into_call(),
+        _ => panic!(rt; "{line} asks for no call"),
     }
-}
-
-/// A signal without a request id, to the latest run.
-pub(crate) fn signal<R: Abort + AllocGlobal>(rt: &R, workflow_id: &str) -> Signal {
-    Signal {
-        workflow_id: id(rt, workflow_id),
-        run: None,
-        name: text(rt, "s"),
-        input: text(rt, ""),
-        request_id: None,
-    }
-}
-
-/// A task of the shard's first run that waits to be taken, by the event that scheduled it.
-pub(crate) fn waiting(kind: TaskKind, shard: u16, event: u64, attempt: u32) -> Hint {
-    Hint {
-        kind,
-        shard,
-        run: 1,
-        event,
-        attempt,
-    }
-}
-
-/// The same once it was taken.
-pub(crate) fn taken(shard: u16, event: u64, attempt: u32) -> TakenTask {
-    TakenTask {
-        shard,
-        run: 1,
-        event,
-        attempt,
-    }
-}
-
-/// Whether this is the first run of the shard, of service 1.
-pub(crate) fn is_first_run(run: RunId, shard: u16) -> bool {
-    run.service() == 1 && run.shard() == shard && run.ordinal() == 1
 }

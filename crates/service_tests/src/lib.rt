@@ -1,36 +1,28 @@
 //! The service over its calls: what no contract says of them, that they succeed and that threads
 //! get through. What the calls answer is shown by `cases`.
+//!
+//! What a thread asks is lines, as the program reads them, again and again: see `work`.
 #![tactic(auto)]
 
 #[cfg(test)]
 mod asked;
 #[cfg(test)]
-mod calls;
+mod held;
 #[cfg(test)]
 mod histories;
 #[cfg(test)]
 mod limits;
 #[cfg(test)]
+mod named;
+#[cfg(test)]
 mod passes;
 #[cfg(test)]
-mod queues;
-#[cfg(test)]
-mod ranges;
-#[cfg(test)]
-mod refusals;
-#[cfg(test)]
-mod reopening;
-#[cfg(test)]
-mod retention;
+mod recorded;
 #[cfg(test)]
 mod shown;
 #[cfg(test)]
-mod tests;
-#[cfg(test)]
 mod threads;
 #[cfg(test)]
-mod timers;
+mod values;
 #[cfg(test)]
-mod transfers;
-#[cfg(test)]
-mod turns;
+mod work;

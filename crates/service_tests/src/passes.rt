@@ -1,4 +1,4 @@
-//! Passes that are taken from those of a service, and given back.
+//! The passes of a service.
 
 ghost use Rattle.std.specs.Prelude.{◌≡◌, ◌+◌, ◌<◌, length};
 ghost use Rattle.gate.specs.Passes.{number};
@@ -21,20 +21,7 @@ pub(crate) fn open<S: KeepsShard, R: Abort + AllocGlobal>(
     ensures count { length result.1.items ≡ settings.now.passes }
     ensures settings { settings_of result.0 ≡ settings.now }
 {
-    open_from(rt, settings, Vec::new(rt.alloc()))
-}
-
-/// The same, where the shards were left by these records.
-pub(crate) fn open_from<S: KeepsShard, R: Abort + AllocGlobal>(
-    rt: &R,
-    settings: &Settings,
-    records: Vec<Record<Request>>,
-) -> (Service<S>, Vec<Pass<S>>)
-    ensures own { InOrder result.0 result.1.items }
-    ensures count { length result.1.items ≡ settings.now.passes }
-    ensures settings { settings_of result.0 ≡ settings.now }
-{
-    match Service::open(rt.alloc(), settings, records) {
+    match Service::open(rt.alloc(), settings, Vec::new(rt.alloc())) {
         Ok(opened) => opened,
         Err(_) => panic!(rt; "the service was not opened"),
     }
@@ -84,22 +71,4 @@ pub(crate) fn close<S: KeepsShard>(
     ensures { length result.items ≡ (settings_of service).shards }
 {
     service.close(passes).records
-}
-
-/// The records of a service that has two passes.
-pub(crate) fn close_two<S: KeepsShard, R: Abort + AllocGlobal>(
-    rt: &R,
-    service: Service<S>,
-    first: Pass<S>,
-    second: Pass<S>,
-) -> Vec<Record<Request>>
-    requires first { IsPassOf first service × (number (known_by first) ≡ 0) }
-    requires second { IsPassOf second service × (number (known_by second) ≡ 1) }
-    requires two { (settings_of service).passes ≡ 2 }
-    ensures { length result.items ≡ (settings_of service).shards }
-{
-    let mut passes = Vec::new(rt.alloc());
-    give_back(rt, &service, &mut passes, first);
-    give_back(rt, &service, &mut passes, second);
-    close(service, passes)
 }

@@ -1,4 +1,0 @@
-use Rattle.service_tests.proofs.passes.open_from.Goals as goal
-
-pub returns-clause-own : goal.returns-clause-own
-returns-clause-own g c = λ k p there. (c.in-Ok.ensures.own k p there, (c.in-Ok.ensures.fresh k p there).named)

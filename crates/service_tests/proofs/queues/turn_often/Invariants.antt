@@ -1,5 +1,0 @@
-use Rattle.service.specs.Services.{IsPassOf}
-use Rattle.service_tests.proofs.queues.turn_often.Given as goal
-
-abbrev pub invariant-loop : goal.invariant-loop
-invariant-loop g l = IsPassOf l.pass l.service

@@ -1,0 +1,142 @@
+//! A pass that stays on a shard keeps others out of it, and of no other. Of two shards `a` lies on the
+//! first and `b` on the second.
+
+ghost use Rattle.std.specs.Prelude.{◌≡◌};
+ghost use Rattle.gate.specs.Passes.{number};
+ghost use Rattle.service.specs.Services.{IsPassOf, known_by};
+ghost use Rattle.service_tests.specs.Passes.{ComesBack};
+ghost use Rattle.std.specs.Thread.{IsSync};
+
+use crate::asked::settings;
+use crate::passes::{close, give_back, open, take_pass};
+use crate::values::{boxed, start};
+use service::{KeepsShard, Pass, Refused, Service};
+use service_model_types::answer::{Answer, Reply};
+use service_model_types::home::Home;
+use service_model_types::request::Request;
+use std::alloc::AllocGlobal;
+use std::process::Abort;
+use std::thread::{self, Threads};
+use step_record::Record;
+use wf_event_values::{Moment, Refusal, RunId};
+use workflow_service::Shard;
+
+/// What was answered, where the run that it names is the first of this shard.
+fn began(reply: &Reply, shard: u16) -> &'static str {
+    match reply {
+        Ok(Answer::Started(run)) if is_first_run(*run, shard) => "started",
+        Err(Refusal::AlreadyStarted(run)) if is_first_run(*run, shard) => "already started",
+        _ => "another answer",
+    }
+}
+
+/// Whether this is the first run of the shard, of service 1.
+fn is_first_run(run: RunId, shard: u16) -> bool {
+    run.service() == 1 && run.shard() == shard && run.ordinal() == 1
+}
+
+/// Whether a request names `a`.
+fn names_a(request: &Request) -> bool {
+    matches!(request.operation.home(), Home::Workflow(id) if id.as_str() == "a")
+}
+
+/// What comes of a start by the call that never waits.
+fn tried<S: KeepsShard, R: Abort + AllocGlobal>(
+    rt: &R,
+    service: &Service<S>,
+    pass: &mut Pass<S>,
+    workflow_id: &str,
+    shard: u16,
+) -> &'static str
+    requires { IsPassOf pass.old service.now }
+    ensures { ComesBack service.now pass.old pass.new }
+{
+    let asked = boxed(rt, start(rt, workflow_id));
+    match &service.try_start(pass, asked, Moment::zero()) {
+        Ok(reply) => began(reply, shard),
+        Err((Refused::Busy, request)) if names_a(request) => "busy",
+        Err(_) => "no answer",
+    }
+}
+
+/// While another pass stays on the shard of `a`, `b` can be started and `a` can't.
+fn start_both<S: KeepsShard, R: Abort + AllocGlobal>(
+    rt: &R,
+    service: &Service<S>,
+    mut pass: Pass<S>,
+) -> Pass<S>
+    requires { IsPassOf pass service.now }
+    ensures { ComesBack service.now pass result }
+{
+    assert_eq!(rt; tried(rt, service, &mut pass, "b", 1), "started");
+    assert_eq!(rt; tried(rt, service, &mut pass, "a", 0), "busy");
+    pass
+}
+
+/// The other pass makes its calls on a thread of its own.
+fn start_beside<S: KeepsShard + Send + Sync, R: Abort + AllocGlobal + Threads + Sync>(
+    rt: &R,
+    service: &Service<S>,
+    pass: Pass<S>,
+) -> Pass<S>
+    requires { IsPassOf pass service.now }
+    ensures { ComesBack service.now pass result }
+{
+    let (pass, ()) = thread::join(
+        rt,
+        move || -> Pass<S>
+            requires { IsSync R.row × IsPassOf pass service.now }
+            ensures { ComesBack service.entry.now pass result }
+        { start_both(rt, service, pass) },
+        || (),
+    );
+    pass
+}
+
+/// One pass stays on the shard of `a` while another makes its calls, and then leaves.
+fn stay_and_leave<S: KeepsShard + Send + Sync, R: Abort + AllocGlobal + Threads + Sync>(
+    rt: &R,
+    service: &Service<S>,
+    first: Pass<S>,
+    second: Pass<S>,
+) -> (Pass<S>, Pass<S>)
+    requires { IsPassOf first service.now × IsPassOf second service.now }
+    ensures own { IsPassOf result.0 service.now × IsPassOf result.1 service.now }
+    ensures named { (number (known_by result.0) ≡ number (known_by first))
+        × (number (known_by result.1) ≡ number (known_by second)) }
+{
+    let asked = boxed(rt, start(rt, "a"));
+    let Ok(held) = service.try_enter_start(first, asked, Moment::zero()) else {
+        panic!(rt; "the shard was free")
+    };
+    let second = start_beside(rt, service, second);
+    let (first, reply) = held.leave();
+    assert_eq!(rt; began(&reply, 0), "started");
+    (first, second)
+}
+
+/// The first pass's step and then one of the second stand in the record of the shard of `a`, and one of
+/// the second in the other.
+fn assert_passes<R: Abort>(rt: &R, records: &[Record<Request>]) {
+    let [a, b] = records else {
+        panic!(rt; "there are two shards")
+    };
+    assert!(rt; a.as_slice().iter().map(|entry| entry.pass).eq([0, 1]));
+    assert!(rt; b.as_slice().iter().map(|entry| entry.pass).eq([1]));
+}
+
+#[test]
+fn a_pass_on_a_shard_keeps_others_out(rt: HostRuntime) {
+    keeps_others_out::<Shard, HostRuntime>(&rt);
+}
+
+fn keeps_others_out<S: KeepsShard + Send + Sync, R: Abort + AllocGlobal + Threads + Sync>(rt: &R) {
+    let (service, mut passes) = open::<S, R>(rt, &settings(rt, 2, 2));
+    let second = take_pass(&service, &mut passes);
+    let first = take_pass(&service, &mut passes);
+    let (first, mut second) = stay_and_leave(rt, &service, first, second);
+    assert_eq!(rt; tried(rt, &service, &mut second, "a", 0), "already started");
+    give_back(rt, &service, &mut passes, first);
+    give_back(rt, &service, &mut passes, second);
+    assert_passes(rt, &close(service, passes));
+}
