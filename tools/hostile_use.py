@@ -20,7 +20,7 @@ import tempfile
 import os
 
 ROOT = pathlib.Path(__file__).resolve().parent.parent
-CALLS = ROOT / "crates/refused_allocations/out/refused_allocations"
+CALLS = ROOT / "crates/cases/out/cases"
 PROGRAM = ROOT / "crates/wfserve/out/wfserve"
 SOAK_SECONDS, SCHEDULES, REFUSED_SECONDS = 20, 300, 300
 # Twenty times what a part takes on a quiet machine, and more than it waits for a reply.

@@ -1,15 +1,20 @@
 #!/usr/bin/env python3
-"""Refuses each allocation of a run in turn, and looks at what the service makes of it.
+"""Refuses each allocation of programs in turn, and looks at what the service makes of it.
 
     tools/refused_allocations.py [--within SECONDS --day D] CALLS PROGRAM
 
-CALLS is the built program `refused_allocations`, PROGRAM the built `wfserve` (tools/build_program.py
+CALLS is the built program `cases`, PROGRAM the built `wfserve` (tools/build_program.py
 builds each). Of each case in ROWS every allocation is refused, once a run: for CALLS, which makes the
-service's calls and checks what each leaves, and for PROGRAM, which is given the same lines. Where that
-would take longer than SECONDS, by the time that a few runs take, every Kth is refused, from the one on
+service's calls and tells what each answers and leaves, and for PROGRAM, which is given the same lines. Where
+that would take longer than SECONDS, by the time that a few runs take, every Kth is refused, from the one on
 that the number D of a day gives: so K days on end refuse all of them.
 
-CALLS ends with status 0, or with 2 where memory was refused outside of the service, as its own texts.
+CALLS ends with status 2 where memory was refused outside of the service, as of its own texts. Else a call
+that was refused leaves each run's history and description as they were, or as the parts of a turn that were
+done leave them; made again it is answered as if nothing had been refused, and so is each call behind it. Two
+passes make the calls in turn. At the end all is read as if nothing had been refused, and so it is of a service
+that is opened from the records of the same lines.
+
 PROGRAM ends with status 2, and has written a beginning of its undisturbed output and saved nothing: an
 older file of records stays. Or it asked for the growth again, and all is as if nothing had been
 refused. Any other end fails the run.
@@ -55,14 +60,6 @@ RUN_SECONDS = 300
 TIMED_RUNS = 80
 
 
-def compact(line):
-    """The line without blanks between its parts, so that CALLS finds the workflow IDs in it."""
-    try:
-        return "> " + json.dumps(json.loads(line[2:]), separators=(",", ":"))
-    except ValueError:
-        return line
-
-
 def text_of(file, name):
     """Returns the lines of a case, without how it is cut."""
     text = (DATA / file).read_text(encoding="utf-8")
@@ -70,8 +67,20 @@ def text_of(file, name):
     found = [part for part in parts if part.split("\n")[0] == name]
     if len(found) != 1:
         sys.exit(f"refused_allocations: {file} has {len(found)} cases with the name {name}")
-    lines = [line for line in found[0].split("\n")[1:] if not line.startswith("@ cuts")]
-    return [f"## {name}", *(compact(line) if line[:2] == "> " else line for line in lines)]
+    return [line for line in found[0].split("\n")[1:] if not line.startswith("@ cuts")]
+
+
+def behind(marker, lines):
+    """What the lines of a case say that begin with this marker."""
+    return [line[2:] for line in lines if line[:2] == f"{marker} "]
+
+
+def ids_in(said):
+    """The workflow IDs that a line names, whatever its parts."""
+    if isinstance(said, dict):
+        own = [said["workflow_id"]] if "workflow_id" in said else []
+        return own + [found for part in said.values() for found in ids_in(part)]
+    return [found for part in said for found in ids_in(part)] if isinstance(said, list) else []
 
 
 class Subject:
@@ -106,20 +115,90 @@ class Calls(Subject):
 
     def __init__(self, program, allocator, title, lines):
         super().__init__(f"calls of {title}", allocator)
-        self.program, self.lines = program, lines
+        self.program = program
+        self.words = [f"$ {words}" for words in behind("$", lines)]
+        self.steps = [line for line in lines if line[:2] in ("> ", "@ ")]
+        self.replies = behind("<", lines)
+        ids = dict.fromkeys(ids_in([json.loads(line) for line in behind(">", lines)]))
+        reads = [{"op": op, "workflow_id": name} for name in ids for op in ("history", "describe")]
+        self.reads = [f"> {json.dumps(read)}" for read in reads]
+        self.known = {}
 
-    def attempt(self, refused):
+    def told(self, refused, steps):
+        """Has the calls made, and returns the status, what was told and how many allocations were asked for."""
         with tempfile.TemporaryDirectory() as folder:
             path = pathlib.Path(folder, "row.cases")
-            path.write_text("\n".join(self.lines) + "\n", encoding="utf-8")
-            call = [str(self.program), path.name]
+            text = "\n".join(["## calls", *self.words, *steps, "## reads", *self.reads, ""])
+            path.write_text(text, encoding="utf-8")
+            call = [str(self.program), f"--tell={path.name}"]
             status, output, errors, count = self.run(refused, folder, call, b"")
-        place = re.search(rb"ok, refused (.*)", output)
-        if status == 0 and place:
-            return count, place.group(1).decode(), None
+        return status, [line[2:] for line in output.decode().splitlines() if line[:2] == "< "], errors, count
+
+    def read_behind(self, steps):
+        """What is read behind these steps where nothing is refused."""
+        key = "\n".join(steps)
+        if key not in self.known:
+            told = self.told(None, steps)[1]
+            self.known[key] = told[told.index("at the end") + 1 :][: len(self.reads)]
+        return self.known[key]
+
+    def may_leave(self, place):
+        """What may be read behind the call at a place that was refused."""
+        yield self.read_behind(self.steps[:place])
+        if self.op(place) == "transfer_turn":
+            turn = {**json.loads(self.steps[place][2:]), "stop": 2}
+            yield self.read_behind([*self.steps[:place], f"> {json.dumps(turn)}"])
+
+    def op(self, place):
+        """What is asked at a place: the word of the line, or that of a step that no line asks for."""
+        marker, _, said = self.steps[place].partition(" ")
+        return json.loads(said).get("op") if marker == ">" else said.split(" ")[0]
+
+    def waiting(self):
+        """The places of the steps that are answered, each with its reply."""
+        places = [place for place in range(len(self.steps)) if self.op(place) not in (None, "skip")]
+        return collections.deque(zip(places, self.replies))
+
+    def attempt(self, refused):
+        status, told, errors, count = self.told(refused, self.steps)
         if status == 2 and refused and b"memory" in errors:
             return count, "outside of the service", None
-        return count, None, f"status {status}, {output!r}, {errors!r}"
+        if status or errors:
+            return count, None, f"status {status}, {told!r}, {errors!r}"
+        return count, *self.judged(told)
+
+    def judged(self, told):
+        """Returns where memory was refused, or what is wrong."""
+        place = "nowhere"
+        noted = [line for line in told if line.startswith("refused as ")]
+        lines = collections.deque(line for line in told if line not in noted)
+        if noted:
+            place = noted[0].removeprefix("refused ")
+            is_late = "at the end" in told[: told.index(noted[0])]
+            place += " again" if is_late and place == "as a service was opened" else ""
+        wanted, refused = self.waiting(), None
+        while lines and lines[0] != "at the end":
+            line = lines.popleft()
+            if not wanted:
+                return None, f"one reply too many: {line}"
+            at, reply = wanted[0]
+            if line == "refused in a call":
+                refused = self.op(at)
+                place = f"in a call, {refused}"
+                left = [lines.popleft() for _ in self.reads]
+                if left not in self.may_leave(at):
+                    return None, f"what a refused call left, line {at + 1}: {left}"
+            elif line == reply or (refused, line) == ("transfer_turn", reply.replace("accepted", "already")):
+                # A delivery whose turn was refused behind it is answered as done before.
+                wanted.popleft()
+            elif (refused, line) != ("dispatch_turn", f'{{"line":{at + 1},"ok":"stale"}}'):
+                # Behind a dispatch turn that was refused a hint may wait twice, and the poll is made again.
+                return None, f"another reply: {line}"
+        end = self.read_behind(self.steps)
+        again = ["opened again", *end] if all(step[0] == ">" for step in self.steps) else []
+        if wanted or list(lines) != ["at the end", *end, *again]:
+            return None, f"another end: {list(lines)}, {len(wanted)} replies are missing"
+        return place, None
 
 
 class Program(Subject):
@@ -128,8 +207,8 @@ class Program(Subject):
     def __init__(self, program, allocator, title, lines):
         super().__init__(f"script of {title}", allocator)
         self.program = program
-        self.words = [word for line in lines if line[:2] == "$ " for word in line[2:].split(" ")]
-        self.given = "".join(line[2:] + "\n" for line in lines if line[:2] == "> ").encode()
+        self.words = [word for words in behind("$", lines) for word in words.split(" ")]
+        self.given = "".join(line + "\n" for line in behind(">", lines)).encode()
         self.whole = None
 
     def attempt(self, refused):
@@ -241,7 +320,7 @@ def main():
     parser = argparse.ArgumentParser(description=__doc__.split("\n")[0])
     parser.add_argument("--within", type=int, help="how many seconds it may take; without it all are refused")
     parser.add_argument("--day", type=int, default=0, help="a number that says which are refused where not all are")
-    parser.add_argument("calls", type=pathlib.Path, help="the built program refused_allocations")
+    parser.add_argument("calls", type=pathlib.Path, help="the built program cases")
     parser.add_argument("program", type=pathlib.Path, help="the built wfserve")
     told = parser.parse_args()
     for program in (told.calls, told.program):

@@ -1,7 +1,7 @@
 //! The program ended behind a line of a case, and begun again from its records.
 
-use crate::process::Process;
-use case_files::{Case, Step, transcript};
+use crate::process::{Ended, run_program};
+use case_files::{Case, Step};
 use std::alloc::{AllocError, Global};
 use std::rt::{Clock, Files};
 use std::sync::Wait;
@@ -16,14 +16,6 @@ const SAVED_AGAIN: &str = "records_again";
 
 /// A line that is not answered, and counts.
 const BARRIER: &[u8] = b"{\"barrier\":true}\n";
-
-/// What a run of the program wrote, and its exit status.
-#[derive(Drop)]
-struct Part {
-    output: Vec<u8>,
-    errors: Vec<u8>,
-    status: u8,
-}
 
 /// A folder of this name with nothing in it.
 fn empty_folder<R: Files + AllocGlobal>(rt: &R, name: &str) -> io::Result<()> {
@@ -60,22 +52,15 @@ fn run_part<R: Clock + Files + AllocGlobal + Threads + Wait + Sync>(
     rt: &R,
     case: &Case,
     more: &[&str],
-    from: usize,
-    to: usize,
-) -> io::Result<Part> {
+    lines: (usize, usize),
+    ended: &mut Ended,
+) -> Result<(), AllocError> {
     let alloc = rt.alloc();
-    let script = script_between(alloc, case, from, to)?;
+    let script = script_between(alloc, case, lines.0, lines.1)?;
     let mut words: Vec<&str> = Vec::new(alloc);
     words.extend_from_slice(case.words())?;
     words.extend_from_slice(more)?;
-    let process = Process::new(alloc, &words, &script, usize::MAX);
-    let status = wfserve_run::run(rt, &process);
-    let (output, errors) = process.written();
-    Ok(Part {
-        output,
-        errors,
-        status,
-    })
+    run_program(rt, &words, &script, usize::MAX, ended)
 }
 
 /// What the program answers where it is ended behind a line and goes on from its records.
@@ -86,25 +71,41 @@ pub(crate) fn run_cut<R: Clock + Files + AllocGlobal + Threads + Wait + Sync>(
 ) -> io::Result<String> {
     empty_folder(rt, SAVED)?;
     empty_folder(rt, SAVED_AGAIN)?;
-    let mut front = run_part(rt, case, &["--save", SAVED], 0, line)?;
+    let mut ended = Ended::new(rt.alloc());
+    run_part(rt, case, &["--save", SAVED], (0, line), &mut ended)?;
     let words = ["--load", SAVED, "--save", SAVED_AGAIN];
-    let behind = run_part(rt, case, &words, line, case.steps().len())?;
-    front.output.extend_from_slice(&behind.output)?;
-    front.errors.extend_from_slice(&behind.errors)?;
-    let status = front.status.max(behind.status);
-    Ok(transcript(rt.alloc(), &front.output, &front.errors, status)?)
+    run_part(rt, case, &words, (line, case.steps().len()), &mut ended)?;
+    Ok(ended.transcript(rt.alloc())?)
 }
 
-/// Whether both folders have the same records, byte for byte.
+fn path_of(alloc: Global, folder: &str, shard: usize) -> Result<String, AllocError> {
+    format!(in alloc; "{folder}/shard-{shard:02}.rec")
+}
+
+fn is_there<R: Files + AllocGlobal>(rt: &R, folder: &str, shard: usize) -> io::Result<bool> {
+    let path = path_of(rt.alloc(), folder, shard)?;
+    fs::exists(rt, path.as_str())
+}
+
+fn record_in<R: Files + AllocGlobal>(rt: &R, folder: &str, shard: usize) -> io::Result<Vec<u8>> {
+    let path = path_of(rt.alloc(), folder, shard)?;
+    fs::read(rt, path.as_str())
+}
+
+/// Whether both folders have the same record of a shard, byte for byte.
+fn is_alike<R: Files + AllocGlobal>(rt: &R, shard: usize) -> io::Result<bool> {
+    let saved = record_in(rt, SAVED, shard)?;
+    let again = record_in(rt, SAVED_AGAIN, shard)?;
+    Ok(saved == again)
+}
+
+/// Whether both folders have the same records.
 pub(crate) fn is_saved_alike<R: Files + AllocGlobal>(rt: &R) -> io::Result<bool> {
-    let alloc = rt.alloc();
     for shard in 0..64 {
-        let saved = format!(in alloc; "{SAVED}/shard-{shard:02}.rec")?;
-        let again = format!(in alloc; "{SAVED_AGAIN}/shard-{shard:02}.rec")?;
-        if !fs::exists(rt, saved.as_str())? {
-            return Ok(shard > 0 && !fs::exists(rt, again.as_str())?);
+        if !is_there(rt, SAVED, shard)? {
+            return Ok(shard > 0 && !is_there(rt, SAVED_AGAIN, shard)?);
         }
-        if fs::read(rt, saved.as_str())? != fs::read(rt, again.as_str())? {
+        if !is_alike(rt, shard)? {
             return Ok(false);
         }
     }
@@ -114,8 +115,7 @@ pub(crate) fn is_saved_alike<R: Files + AllocGlobal>(rt: &R) -> io::Result<bool>
 /// Whether the records of all lines have as many steps as the case says, where it says that.
 pub(crate) fn has_steps<R: Files + AllocGlobal>(rt: &R, case: &Case) -> io::Result<bool> {
     for (shard, steps) in case.recorded().iter().enumerate() {
-        let saved = format!(in rt.alloc(); "{SAVED}/shard-{shard:02}.rec")?;
-        let text = fs::read(rt, saved.as_str())?;
+        let text = record_in(rt, SAVED, shard)?;
         if text.iter().filter(|byte| **byte == b'\n').count() != *steps {
             return Ok(false);
         }

@@ -1,13 +1,14 @@
 //! The forms in which a case is run.
 
-use crate::calls::{CallForm, by_calls};
-use crate::process::Process;
+use crate::calls::by_calls;
+use crate::opened::CallForm;
+use crate::process::{Ended, run_program};
 use case_files::{Case, Step};
 use std::alloc::{AllocError, Global};
-use std::io;
 use std::rt::{Clock, Files};
 use std::sync::Wait;
 use std::thread::Threads;
+use workflow_service::Shard;
 
 /// The form in which a case is run.
 #[derive(Clone, Copy)]
@@ -44,18 +45,18 @@ impl Form {
         &self,
         rt: &R,
         case: &Case,
-    ) -> io::Result<Option<String>> {
+    ) -> Result<Option<String>, AllocError> {
         match self {
             Form::Program => by_program(rt, case, true),
             Form::Unended => by_program(rt, case, false),
-            Form::MayWait => by_calls(rt, case, CallForm::MayWait),
-            Form::NeverWaits => by_calls(rt, case, CallForm::NeverWaits),
+            Form::MayWait => by_calls_over_tables(rt, case, CallForm::MayWait, &[]),
+            Form::NeverWaits => by_calls_over_tables(rt, case, CallForm::NeverWaits, &[]),
         }
     }
 }
 
 /// The script that a case gives the program, or nothing where it has more than lines.
-fn script_of(alloc: Global, case: &Case) -> Result<Option<Vec<u8>>, AllocError> {
+pub(crate) fn script_of(alloc: Global, case: &Case) -> Result<Option<Vec<u8>>, AllocError> {
     let mut script = Vec::new(alloc);
     for step in case.steps() {
         let Step::Line(line) = step else {
@@ -67,25 +68,45 @@ fn script_of(alloc: Global, case: &Case) -> Result<Option<Vec<u8>>, AllocError> 
     Ok(Some(script))
 }
 
-/// What the program answers. Without its line feed the last line counts all the same, unless it is
-/// empty: then it is no line, so such a case can't be run without it.
+/// What the program answers to a script, which is taken without its last line feed where it is not to
+/// end. The last line counts all the same then, unless it is empty: then it is no line, so such a case
+/// can't be run without it.
+fn by_script<R: Clock + Files + AllocGlobal + Threads + Wait + Sync>(
+    rt: &R,
+    case: &Case,
+    ends: bool,
+    script: &[u8],
+) -> Result<Option<String>, AllocError> {
+    let unended = script.strip_suffix(b"\n").unwrap_or(script);
+    if !ends && unended.last().is_none_or(|byte| *byte == b'\n') {
+        return Ok(None);
+    }
+    let given = if ends { script } else { unended };
+    let room = case.room().unwrap_or(usize::MAX);
+    let mut ended = Ended::new(rt.alloc());
+    run_program(rt, case.words(), given, room, &mut ended)?;
+    Ok(Some(ended.transcript(rt.alloc())?))
+}
+
+/// What the program answers, or nothing where a case has more than lines.
 fn by_program<R: Clock + Files + AllocGlobal + Threads + Wait + Sync>(
     rt: &R,
     case: &Case,
     ends: bool,
-) -> io::Result<Option<String>> {
-    let alloc = rt.alloc();
-    let Some(mut script) = script_of(alloc, case)? else {
-        return Ok(None);
-    };
-    if !ends {
-        script.pop();
-        if script.last().is_none_or(|byte| *byte == b'\n') {
-            return Ok(None);
-        }
+) -> Result<Option<String>, AllocError> {
+    match script_of(rt.alloc(), case)? {
+        Some(script) => by_script(rt, case, ends, &script),
+        None => Ok(None),
     }
-    let room = case.room().unwrap_or(usize::MAX);
-    let process = Process::new(alloc, case.words(), &script, room);
-    let status = wfserve_run::run(rt, &process);
-    Ok(Some(process.transcript(status)?))
+}
+
+/// What the calls answer, of shards that keep their runs by tables: for what is told of reads, see
+/// [`by_calls`].
+pub(crate) fn by_calls_over_tables<R: AllocGlobal + Wait>(
+    rt: &R,
+    case: &Case,
+    form: CallForm,
+    reads: &[Step],
+) -> Result<Option<String>, AllocError> {
+    by_calls::<Shard, R>(rt, case, form, reads)
 }

@@ -1,4 +1,6 @@
 //! `cases FILE..`: runs the cases that the files have, and prints one line for each.
+//! `cases --tell=FILE`: tells what the calls of the file's first case are answered, and what the lines of
+//! its second one read behind each call that is refused memory (`tools/refused_allocations.py`).
 //!
 //! A case is text: what the program is given, and what it has to answer. Each is run as the program
 //! runs a script, and by the calls of the service, in the form that may wait and in the one that
@@ -10,10 +12,13 @@
 mod calls;
 mod cuts;
 mod form;
+mod opened;
 mod process;
+mod talk;
 
 use crate::cuts::{has_steps, is_saved_alike, run_cut};
-use crate::form::Form;
+use crate::form::{Form, by_calls_over_tables};
+use crate::opened::CallForm;
 use case_files::{Case, cases_of, first_difference};
 use std::io;
 use std::process::ExitCode;
@@ -21,22 +26,35 @@ use std::rt::{Clock, Env, Files};
 use std::sync::Wait;
 use std::thread::Threads;
 
-/// How many cases there are, and how many of them failed.
+/// How many cases there are, how many of them failed, and whether a file was told of.
 #[derive(Clone, Copy)]
 struct Tally {
     cases: u64,
     failed: u64,
+    tells: bool,
 }
 
-/// Prints what became of a case where something else came than what had to.
-fn print_difference<R: Print + AllocGlobal>(
+/// Prints what became of a case where something else came than what had to. Whether it is the same.
+fn is_wanted<R: Print>(rt: &R, title: &str, by: &str, wanted: &str, got: &str) -> io::Result<bool> {
+    let Some((wanted, got)) = first_difference(wanted, got) else {
+        return Ok(true);
+    };
+    println!(rt; "{title}: differs {by}\n  wanted {wanted}\n  got    {got}")?;
+    Ok(false)
+}
+
+/// Whether a case is answered as is wanted in this form, or nothing where it can't be run in it.
+fn passes_form<R: Clock + Files + Print + AllocGlobal + Threads + Wait + Sync>(
     rt: &R,
     title: &str,
-    by: &str,
-    lines: (&str, &str),
-) -> io::Result<()> {
-    let (wanted, got) = lines;
-    println!(rt; "{title}: differs {by}\n  wanted {wanted}\n  got    {got}")
+    case: &Case,
+    form: Form,
+    wanted: &str,
+) -> io::Result<Option<bool>> {
+    match form.run(rt, case)? {
+        Some(got) => Ok(Some(is_wanted(rt, title, form.name(), wanted, got.as_str())?)),
+        None => Ok(None),
+    }
 }
 
 /// In how many forms a case was run, or nothing where one of them answers something else.
@@ -44,17 +62,14 @@ fn run_forms<R: Clock + Files + Print + AllocGlobal + Threads + Wait + Sync>(
     rt: &R,
     title: &str,
     case: &Case,
+    wanted: &str,
 ) -> io::Result<Option<u64>> {
-    let wanted = case.wanted(rt.alloc())?;
     let mut count: u64 = 0;
     for form in Form::ALL {
-        let Some(got) = form.run(rt, case)? else {
-            continue;
-        };
-        count = count.saturating_add(1);
-        if let Some(lines) = first_difference(&wanted, &got) {
-            print_difference(rt, title, form.name(), lines)?;
-            return Ok(None);
+        match passes_form(rt, title, case, form, wanted)? {
+            Some(true) => count = count.saturating_add(1),
+            Some(false) => return Ok(None),
+            None => {}
         }
     }
     Ok(Some(count))
@@ -67,15 +82,11 @@ fn passes_cut<R: Clock + Files + Print + AllocGlobal + Threads + Wait + Sync>(
     title: &str,
     case: &Case,
     line: usize,
+    wanted: &str,
 ) -> io::Result<bool> {
-    let wanted = case.wanted(rt.alloc())?;
     let got = run_cut(rt, case, line)?;
-    if let Some(lines) = first_difference(&wanted, &got) {
-        let by = format!(in rt.alloc(); "cut behind line {line}")?;
-        print_difference(rt, title, by.as_str(), lines)?;
-        return Ok(false);
-    }
-    Ok(true)
+    let by = format!(in rt.alloc(); "cut behind line {line}")?;
+    is_wanted(rt, title, by.as_str(), wanted, got.as_str())
 }
 
 /// The same of each line; and the records of all lines are saved alike once they were loaded.
@@ -83,12 +94,13 @@ fn passes_cuts<R: Clock + Files + Print + AllocGlobal + Threads + Wait + Sync>(
     rt: &R,
     title: &str,
     case: &Case,
+    wanted: &str,
 ) -> io::Result<bool> {
     let lines = case.steps().len();
     let mut passed = true;
     for line in 1..=lines {
         if case.is_cut_behind(line) {
-            passed &= passes_cut(rt, title, case, line)?;
+            passed &= passes_cut(rt, title, case, line, wanted)?;
         }
     }
     if case.is_cut_behind(lines) && !is_saved_alike(rt)? {
@@ -103,17 +115,16 @@ fn passes_cuts<R: Clock + Files + Print + AllocGlobal + Threads + Wait + Sync>(
 }
 
 /// Runs a case in every form in which it can be run, and prints what became of it. Whether it passed.
-fn passes<R: Clock + Files + Print + AllocGlobal + Threads + Wait + Sync>(
+fn passes_all<R: Clock + Files + Print + AllocGlobal + Threads + Wait + Sync>(
     rt: &R,
-    file: &str,
+    title: &str,
     case: &Case,
+    wanted: &str,
 ) -> io::Result<bool> {
-    let name = case.name();
-    let title = format!(in rt.alloc(); "{file}: {name}")?;
-    let Some(forms) = run_forms(rt, title.as_str(), case)? else {
+    let Some(forms) = run_forms(rt, title, case, wanted)? else {
         return Ok(false);
     };
-    if !passes_cuts(rt, title.as_str(), case)? {
+    if !passes_cuts(rt, title, case, wanted)? {
         return Ok(false);
     }
     let outcome = if forms > 0 { "ok" } else { "can't be run" };
@@ -121,27 +132,74 @@ fn passes<R: Clock + Files + Print + AllocGlobal + Threads + Wait + Sync>(
     Ok(forms > 0)
 }
 
-/// Runs the cases of a file.
-fn run_file<R: Clock + Files + Print + AllocGlobal + Threads + Wait + Sync>(
+/// Whether a case passes. One with a line that says nothing doesn't.
+fn passes<R: Clock + Files + Print + AllocGlobal + Threads + Wait + Sync>(
     rt: &R,
     file: &str,
+    case: &Case,
+) -> io::Result<bool> {
+    if let Some(line) = case.unknown_line() {
+        println!(rt; "{file}: line {line} says nothing that a case can say")?;
+        return Ok(false);
+    }
+    let name = case.name();
+    let title = format!(in rt.alloc(); "{file}: {name}")?;
+    let wanted = case.wanted(rt.alloc())?;
+    passes_all(rt, title.as_str(), case, wanted.as_str())
+}
+
+fn run_cases<R: Clock + Files + Print + AllocGlobal + Threads + Wait + Sync>(
+    rt: &R,
+    file: &str,
+    cases: &[Case],
     tally: &mut Tally,
 ) -> io::Result<()> {
-    let text = std::fs::read_to_string(rt, file)?;
-    for case in cases_of(rt.alloc(), text.as_str())? {
+    for case in cases {
         tally.cases = tally.cases.saturating_add(1);
-        let passed = match case.unknown_line() {
-            Some(line) => {
-                println!(rt; "{file}: line {line} says nothing that a case can say")?;
-                false
-            }
-            None => passes(rt, file, &case)?,
-        };
-        if !passed {
+        if !passes(rt, file, case)? {
             tally.failed = tally.failed.saturating_add(1);
         }
     }
     Ok(())
+}
+
+/// Tells what the calls of the first of two cases are answered where memory may be refused, and what
+/// the second one's lines read.
+fn tell<R: Print + AllocGlobal + Wait>(
+    rt: &R,
+    cases: &[Case],
+    tally: &mut Tally,
+) -> io::Result<()> {
+    tally.tells = true;
+    tally.cases = 1;
+    let [case, reads] = cases else {
+        tally.failed = 1;
+        return Ok(());
+    };
+    // Where the command line fails for memory, the second time it does not.
+    for _ in 0..2 {
+        if let Some(told) = by_calls_over_tables(rt, case, CallForm::MayWait, reads.steps())? {
+            return println!(rt; "{told}");
+        }
+    }
+    tally.failed = 1;
+    Ok(())
+}
+
+/// Runs the cases of the file that a word names, or tells of them.
+fn run_word<R: Clock + Files + Print + AllocGlobal + Threads + Wait + Sync>(
+    rt: &R,
+    word: &str,
+    tally: &mut Tally,
+) -> io::Result<()> {
+    let file = word.strip_prefix("--tell=").unwrap_or(word);
+    let text = std::fs::read_to_string(rt, file)?;
+    let cases = cases_of(rt.alloc(), text.as_str())?;
+    if file.len() < word.len() {
+        tell(rt, cases.as_slice(), tally)
+    } else {
+        run_cases(rt, file, cases.as_slice(), tally)
+    }
 }
 
 /// Runs the cases of all files that the arguments name. Whether there were some, and all passed.
@@ -151,12 +209,19 @@ fn run<R: Clock + Env + Files + Print + AllocGlobal + Threads + Wait + Sync>(
     let mut tally = Tally {
         cases: 0,
         failed: 0,
+        tells: false,
     };
-    for file in std::env::args(rt)?.skip(1) {
-        run_file(rt, file.as_str(), &mut tally)?;
+    for word in std::env::args(rt)?.skip(1) {
+        run_word(rt, word.as_str(), &mut tally)?;
     }
-    let Tally { cases, failed } = tally;
-    println!(rt; "{cases} cases, {failed} failed")?;
+    let Tally {
+        cases,
+        failed,
+        tells,
+    } = tally;
+    if !tells {
+        println!(rt; "{cases} cases, {failed} failed")?;
+    }
     Ok(cases > 0 && failed == 0)
 }
 

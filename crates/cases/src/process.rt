@@ -6,11 +6,58 @@ use std::cell::Cell;
 use std::env::FillError;
 use std::fmt::Display;
 use std::io::{self, BufRead, Error, ErrorKind, Input, Lines};
-use std::rt::Env;
+use std::rt::{Clock, Env, Files};
+use std::sync::Wait;
+use std::thread::Threads;
+
+/// What the program wrote to standard output and to standard error, and its exit status.
+#[derive(Drop)]
+pub(crate) struct Ended {
+    output: Vec<u8>,
+    errors: Vec<u8>,
+    status: u8,
+}
+
+impl Ended {
+    pub(crate) fn new(alloc: Global) -> Ended {
+        Ended {
+            output: Vec::new(alloc),
+            errors: Vec::new(alloc),
+            status: 0,
+        }
+    }
+
+    /// Puts what a further run wrote behind the others.
+    fn add(&mut self, output: &[u8], errors: &[u8], status: u8) -> Result<(), AllocError> {
+        self.status = self.status.max(status);
+        self.output.extend_from_slice(output)?;
+        self.errors.extend_from_slice(errors)
+    }
+
+    pub(crate) fn transcript(&self, alloc: Global) -> Result<String, AllocError> {
+        transcript(alloc, &self.output, &self.errors, self.status)
+    }
+}
+
+/// Runs the program with these arguments and this input, where standard output takes so many bytes.
+/// What it wrote is put behind what others did.
+pub(crate) fn run_program<R: Clock + Files + AllocGlobal + Threads + Wait + Sync>(
+    rt: &R,
+    words: &[&str],
+    input: &[u8],
+    room: usize,
+    ended: &mut Ended,
+) -> Result<(), AllocError> {
+    let process = Process::new(rt.alloc(), words, input, room);
+    let status = wfserve_run::run(rt, &process);
+    let output = process.output.replace(Vec::new(rt.alloc()));
+    let errors = process.errors.replace(Vec::new(rt.alloc()));
+    ended.add(&output, &errors, status)
+}
 
 /// A process over memory.
 #[derive(Drop)]
-pub(crate) struct Process<'a> {
+struct Process<'a> {
     alloc: Global,
     words: &'a [&'a str],
     input: &'a [u8],
@@ -29,12 +76,7 @@ fn write_into(alloc: Global, cell: &Cell<Vec<u8>>, bytes: &[u8]) -> Result<(), A
 
 impl<'a> Process<'a> {
     /// A process with these arguments and this input, whose standard output takes so many bytes.
-    pub(crate) fn new(
-        alloc: Global,
-        words: &'a [&'a str],
-        input: &'a [u8],
-        room: usize,
-    ) -> Process<'a> {
+    fn new(alloc: Global, words: &'a [&'a str], input: &'a [u8], room: usize) -> Process<'a> {
         Process {
             alloc,
             words,
@@ -43,19 +85,6 @@ impl<'a> Process<'a> {
             output: Cell::new(Vec::new(alloc)),
             errors: Cell::new(Vec::new(alloc)),
         }
-    }
-
-    /// What was written to standard output and to standard error.
-    pub(crate) fn written(&self) -> (Vec<u8>, Vec<u8>) {
-        let output = self.output.replace(Vec::new(self.alloc));
-        let errors = self.errors.replace(Vec::new(self.alloc));
-        (output, errors)
-    }
-
-    /// What was written, and the exit status.
-    pub(crate) fn transcript(&self, status: u8) -> Result<String, AllocError> {
-        let (output, errors) = self.written();
-        transcript(self.alloc, &output, &errors, status)
     }
 }
 

@@ -1,30 +1,33 @@
-//! A reader and a writer that fail at each byte, and a writer whose flushes fail, with records and
-//! without.
+//! Scripts over a reader and a writer that fail at each byte, and over a writer whose flushes fail, with
+//! records and without.
 
 ghost use Rattle.std.specs.Prelude.{◌≡◌};
 
-use crate::runs::{defaults, served};
+use record_text::restore;
 use script::{ScriptFault, run_from};
 use script_devices::{CutShort, Full, ended_lines};
+use service::KeepsShard;
+use service_model_types::limits::DEFAULT_CAPACITY;
 use service_model_types::request::Request;
+use service_model_types::settings::{Settings, main_queue};
 use std::alloc::AllocGlobal;
+use std::io::{Read, Write};
 use std::process::Abort;
 use std::sync::Wait;
 use step_record::Record;
 use wire_counted::Counted;
-use workflow_service::Shard;
 
-/// What was served before, if anything was, a script whose last line has no line feed, and what it
-/// prints then.
+/// The record of what was served before, if anything was, a script whose last line has no line feed,
+/// and what it prints then.
 struct Row {
-    before: &'static str,
+    record: &'static str,
     script: &'static [u8],
     output: &'static [u8],
 }
 
 const ROWS: [Row; 2] = [
     Row {
-        before: "",
+        record: "",
         script: br#"{"op":"start","request_id":"r1","task_queue":"main","workflow_id":"a","workflow_type":"w"}
 x
 {"name":"s","op":"signal","workflow_id":"a"}
@@ -36,7 +39,7 @@ x
 "#,
     },
     Row {
-        before: r#"{"op":"start","request_id":"r1","task_queue":"main","workflow_id":"a","workflow_type":"w"}
+        record: r#"{"pass":0,"request":{"at":0,"conflict":"Fail","input":"","op":"start","request_id":"r1","reuse":"AllowDuplicate","run_timeout":0,"task_queue":"main","task_timeout":0,"workflow_id":"a","workflow_type":"w"}}
 "#,
         script: br#"{"op":"poll_workflow_task","task_queue":"main"}
 x
@@ -50,99 +53,149 @@ x
     },
 ];
 
-/// The records of what was served before, if anything was.
-fn records<R: Abort + AllocGlobal + Wait>(rt: &R, row: &Row) -> Vec<Record<Request>> {
-    if row.before.is_empty() {
-        return Vec::new(rt.alloc());
-    }
-    match served(rt, &defaults(rt), Vec::new(rt.alloc()), row.before) {
-        Ok(left) => left.records,
-        Err(_) => panic!(rt; "no records"),
+/// What a script came to.
+#[derive(Clone, Copy)]
+enum End {
+    Whole,
+    ReaderFailed,
+    WriterFailed,
+    Otherwise,
+}
+
+/// What the program takes where no option is given.
+fn defaults<R: Abort + AllocGlobal>(rt: &R) -> Settings
+    ensures { result.passes ≡ 1 }
+{
+    match main_queue(rt.alloc()) {
+        Ok(queues) => Settings {
+            shards: 1,
+            passes: 1,
+            service: 1,
+            queues,
+            capacity: DEFAULT_CAPACITY,
+            retention: 0,
+        },
+        Err(_) => panic!(rt; "no memory"),
     }
 }
 
-/// The replies to the lines that end in what was read, and to no other.
-fn reads_so_many<R: Abort + AllocGlobal + Wait>(rt: &R, row: &Row, left: usize) {
+/// The records of what was served before, if anything was.
+fn records<R: Abort + AllocGlobal>(rt: &R, row: &Row) -> Vec<Record<Request>> {
+    let mut records = Vec::new(rt.alloc());
+    if row.record.is_empty() {
+        return records;
+    }
+    let Ok(record) = restore(rt.alloc(), &mut Counted::new(row.record.as_bytes())) else {
+        panic!(rt; "not restored")
+    };
+    if records.push(record).is_err() {
+        panic!(rt; "no memory");
+    }
+    records
+}
+
+/// Runs a script from a row's records.
+fn run<S: KeepsShard, H: Abort + AllocGlobal + Wait, R: Read, W: Write>(
+    rt: &H,
+    row: &Row,
+    reader: &mut Counted<R>,
+    writer: &mut Counted<W>,
+) -> End {
+    let settings = defaults(rt);
+    let records = records(rt, row);
+    match run_from::<S, _, _, _>(rt, rt.alloc(), &settings, false, records, reader, writer) {
+        Ok(_) => End::Whole,
+        Err(ScriptFault::Read(_)) => End::ReaderFailed,
+        Err(ScriptFault::Write(_)) => End::WriterFailed,
+        Err(_) => End::Otherwise,
+    }
+}
+
+/// Whether, of a reader that fails behind so many bytes, the lines that end in what was read are replied
+/// to, and no others.
+fn reads_so_many<S: KeepsShard, H: Abort + AllocGlobal + Wait>(
+    rt: &H,
+    row: &Row,
+    left: usize,
+) -> bool {
     let input = row.script;
     let mut reader = Counted::new(CutShort { input, left });
     let mut writer = Counted::new(Vec::new(rt.alloc()));
-    let records = records(rt, row);
-    let result = run_from::<Shard, _, _, _>(
-        rt,
-        rt.alloc(),
-        &defaults(rt),
-        false,
-        records,
-        &mut reader,
-        &mut writer,
-    );
-    assert!(rt; matches!(result, Err(ScriptFault::Read(_))), "{left}");
-    assert_eq!(rt; reader.failures, 1);
-    assert_eq!(rt; writer.failures, 0);
-    assert!(rt; row.output.starts_with(&writer.inner), "{left}");
+    let end = run::<S, _, _, _>(rt, row, &mut reader, &mut writer);
     let whole = input.split_at(left.min(input.len())).0;
-    assert_eq!(rt; ended_lines(&writer.inner), ended_lines(whole), "{left}");
+    matches!(end, End::ReaderFailed)
+        && reader.failures == 1
+        && writer.failures == 0
+        && row.output.starts_with(&writer.inner)
+        && ended_lines(&writer.inner) == ended_lines(whole)
 }
 
-/// What a writer with so much room for bytes and so many flushes was told, and whether it failed.
-fn writes_so_much<R: Abort + AllocGlobal + Wait>(
-    rt: &R,
-    row: &Row,
+/// A writer with so much room for bytes, which does so many flushes: whether it fails, and whether these
+/// bytes are all that it was told.
+#[derive(Clone, Copy)]
+struct Written<'a> {
     room: usize,
     flushes: u64,
-) -> (Vec<u8>, bool) {
-    let mut reader = Counted::new(row.script);
-    let held = Vec::new(rt.alloc());
-    let mut writer = Counted::new(Full {
-        held,
-        room,
-        flushes,
-    });
-    let records = records(rt, row);
-    let result = run_from::<Shard, _, _, _>(
-        rt,
-        rt.alloc(),
-        &defaults(rt),
-        false,
-        records,
-        &mut reader,
-        &mut writer,
-    );
-    let is_lost = matches!(result, Err(ScriptFault::Write(_)));
-    assert_eq!(rt; reader.failures, 0);
-    assert_eq!(rt; writer.failures, u64::from(is_lost), "{room}");
-    (writer.inner.held, is_lost)
+    fails: bool,
+    told: &'a [u8],
+    is_told: bool,
 }
 
-#[test]
-fn a_reader_that_fails_at_each_byte(rt: HostRuntime) {
+/// Whether a script is written so.
+fn is_written<S: KeepsShard, H: Abort + AllocGlobal + Wait>(
+    rt: &H,
+    row: &Row,
+    written: Written,
+) -> bool {
+    let mut reader = Counted::new(row.script);
+    let mut writer = Counted::new(Full {
+        held: Vec::new(rt.alloc()),
+        room: written.room,
+        flushes: written.flushes,
+    });
+    let end = run::<S, _, _, _>(rt, row, &mut reader, &mut writer);
+    matches!(end, End::WriterFailed) == written.fails
+        && reader.failures == 0
+        && writer.failures == u64::from(written.fails)
+        && (writer.inner.held.as_slice() == written.told) == written.is_told
+}
+
+pub(crate) fn readers_fail_at_each_byte<S: KeepsShard, H: Abort + AllocGlobal + Wait>(rt: &H) {
     for row in &ROWS {
         for left in 0..=row.script.len() {
-            reads_so_many(&rt, row, left);
+            assert!(rt; reads_so_many::<S, H>(rt, row, left), "{left}");
         }
     }
 }
 
-#[test]
-fn a_writer_that_fails_at_each_byte(rt: HostRuntime) {
+pub(crate) fn writers_fail_at_each_byte<S: KeepsShard, H: Abort + AllocGlobal + Wait>(rt: &H) {
     for row in &ROWS {
         for room in 0..row.output.len() {
-            let (held, is_lost) = writes_so_much(&rt, row, room, u64::MAX);
-            assert!(rt; is_lost, "{room}");
-            assert_eq!(rt; held.as_slice(), row.output.split_at(room).0, "{room}");
+            let written = Written {
+                room,
+                flushes: u64::MAX,
+                fails: true,
+                told: row.output.split_at(room).0,
+                is_told: true,
+            };
+            assert!(rt; is_written::<S, H>(rt, row, written), "{room}");
         }
     }
 }
 
 /// The replies are flushed behind what was read, at the end of the input, and behind the reply to
 /// the last line, which has no line feed. None of these flushes is lost where it fails.
-#[test]
-fn a_writer_whose_flush_fails(rt: HostRuntime) {
+pub(crate) fn writers_whose_flush_fails<S: KeepsShard, H: Abort + AllocGlobal + Wait>(rt: &H) {
     for row in &ROWS {
         for flushes in 0..=3 {
-            let (held, is_lost) = writes_so_much(&rt, row, usize::MAX, flushes);
-            assert_eq!(rt; is_lost, flushes < 3, "{flushes}");
-            assert_eq!(rt; held.as_slice() == row.output, flushes >= 2, "{flushes}");
+            let written = Written {
+                room: usize::MAX,
+                flushes,
+                fails: flushes < 3,
+                told: row.output,
+                is_told: flushes >= 2,
+            };
+            assert!(rt; is_written::<S, H>(rt, row, written), "{flushes}");
         }
     }
 }

@@ -1,5 +1,6 @@
-//! Scripts over readers and writers that fail, scripts that go on from records, a user who waits,
-//! scripts of many thousand lines, and the texts of faults. What scripts print is shown by `cases`.
+//! Scripts and records over readers and writers that fail in the middle, records as texts, and the texts
+//! of faults: what no contract says of them. What scripts print is shown by `cases`, and what the program
+//! does with its own files and streams by `tools/program_tests.py`.
 #![tactic(auto)]
 
 #[cfg(test)]
@@ -7,10 +8,10 @@ mod devices;
 #[cfg(test)]
 mod faults;
 #[cfg(test)]
-mod limits;
+mod record_devices;
 #[cfg(test)]
-mod reopen;
+mod restoring;
 #[cfg(test)]
-mod runs;
+mod rows;
 #[cfg(test)]
-mod typist;
+mod tests;

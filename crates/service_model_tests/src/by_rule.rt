@@ -1,25 +1,12 @@
 //! A thousand requests to one shard that a short rule makes, so that anyone can make the same ones.
 
-ghost use Rattle.std.specs.Prelude.{◌≡◌, ◌<◌, ◌≤◌, ◌^◌, OnOk};
-ghost use Rattle.service_model_types.specs.declared.content.Content.{Content};
-ghost use Rattle.shard.specs.Standing.{StandsFor};
-
-use crate::compared::{Asked, Half, Place, compare, new_shard};
-use crate::tally::{Tally, assert_missing};
-use service_model_types::request::{Operation, Read, RequestCancel, Signal, Start, Terminate};
-use std::alloc::{AllocGlobal, Global};
+use crate::side::{Place, Side};
+use crate::tally::Tally;
+use mutable_state_keeper::KeepsRun;
+use std::alloc::{AllocError, AllocGlobal, Global};
 use std::process::Abort;
-use std::test::Fail;
-use wf_event::Boxed;
-use wf_event_values::{ConflictPolicy, Field, Id, Moment, Refusal, ReusePolicy, Span, Text};
 
 const COUNT: u64 = 1_000;
-
-const ALONE: Place = Place {
-    shard: 0,
-    shards: 1,
-    retention: 0,
-};
 
 /// All kinds of reply that these requests get.
 const REPLIES: [&str; 8] = [
@@ -38,72 +25,54 @@ fn next(value: u64) -> u64 {
     value.wrapping_mul(1_103_515_245).wrapping_add(12_345) % 2_147_483_648
 }
 
-/// The start of a workflow under the default policies.
-fn start(alloc: Global, workflow_id: Id) -> Result<Start, Refusal> {
-    Ok(Start {
-        workflow_id,
-        workflow_type: Text::new(alloc, Field::WorkflowType, "w")?,
-        task_queue: Id::new(alloc, Field::TaskQueue, "main")?,
-        input: Text::empty(alloc),
-        request_id: None,
-        reuse: ReusePolicy::AllowDuplicate,
-        conflict: ConflictPolicy::Fail,
-        run_timeout: Span::none(),
-        task_timeout: Span::none(),
-        execution_timeout: Span::none(),
-    })
-}
-
-/// What a value asks, of one of eight workflows.
-fn operation(alloc: Global, value: u64) -> Result<Operation, Refusal> {
-    let name = format!(in alloc; "k{}", value / 65_536 % 8)?;
-    let workflow_id = Id::new(alloc, Field::WorkflowId, name.as_str())?;
+/// What a value asks, before the number of the workflow and behind it.
+fn asked(value: u64) -> (&'static str, &'static str) {
     match value / 1_048_576 % 5 {
-        0 => Ok(Operation::Start(Boxed::new(alloc, start(alloc, workflow_id)?)?)),
-        1 => Ok(Operation::Signal(Signal {
-            workflow_id,
-            run: None,
-            name: Text::new(alloc, Field::Name, "s")?,
-            input: Text::empty(alloc),
-            request_id: None,
-        })),
-        2 => Ok(Operation::RequestCancel(RequestCancel {
-            workflow_id,
-            run: None,
-            request_id: None,
-        })),
-        3 => Ok(Operation::Terminate(Terminate {
-            workflow_id,
-            run: None,
-            reason: Text::empty(alloc),
-        })),
-        _ => Ok(Operation::History(Read {
-            workflow_id,
-            run: None,
-        })),
+        0 => (
+            r#","conflict":"Fail","input":"","op":"start","reuse":"AllowDuplicate","run_timeout":0,"task_queue":"main","task_timeout":0,"workflow_id":"k"#,
+            r#"","workflow_type":"w"}}"#,
+        ),
+        1 => (
+            r#","input":"","name":"s","op":"signal","workflow_id":"k"#,
+            r#""}}"#,
+        ),
+        2 => (r#","op":"request_cancel","workflow_id":"k"#, r#""}}"#),
+        3 => (
+            r#","op":"terminate","reason":"","workflow_id":"k"#,
+            r#""}}"#,
+        ),
+        _ => (r#","op":"history","workflow_id":"k"#, r#""}}"#),
     }
 }
 
+/// A record's line of what a value asks, of one of eight workflows.
+fn line_of(alloc: Global, at: u64, value: u64) -> Result<String, AllocError> {
+    let (front, behind) = asked(value);
+    let workflow = value / 65_536 % 8;
+    format!(in alloc; "{{\"pass\":0,\"request\":{{\"at\":{at}{front}{workflow}{behind}")
+}
+
 /// Compares a shard through all the requests, of which the nth has the moment n.
-fn go_through<R: Abort + AllocGlobal>(rt: &R, seen: &mut Tally) -> Result<(), Refusal> {
-    let alloc = rt.alloc();
-    let mut object = new_shard(alloc, ALONE)?;
-    let mut half = Half::new(alloc, 0);
+fn ask_all<T: KeepsRun, R: Abort + AllocGlobal>(
+    rt: &R,
+    side: &mut Side<T>,
+    seen: &mut Tally,
+) -> Result<(), AllocError> {
     let mut value: u64 = 1;
     for number in 0..COUNT {
         value = next(value);
-        let at = Moment::new(Field::At, number.saturating_add(1))?;
-        let asked = Asked::new(at, operation(alloc, value)?, operation(alloc, value)?);
-        compare(rt, ALONE, &mut object, &mut half, asked, seen)?;
+        let line = line_of(rt.alloc(), number.saturating_add(1), value)?;
+        side.compare(rt, line.as_str(), seen)?;
     }
     Ok(())
 }
 
-#[test]
-fn a_thousand_requests(rt: HostRuntime) -> Result<(), Fail> {
-    let alloc = rt.alloc();
-    let mut seen = Tally::new(alloc);
-    go_through(&rt, &mut seen).map_err(|refusal| refusal.name())?;
-    assert_missing(&rt, seen.missing_replies(alloc, &REPLIES)?, &[]);
+pub(crate) fn a_thousand_requests<T: KeepsRun, R: Abort + AllocGlobal>(
+    rt: &R,
+) -> Result<(), AllocError> {
+    let mut seen = Tally::new(rt.alloc());
+    let mut side = Side::<T>::new(rt.alloc(), Place::Alone, 0)?;
+    ask_all(rt, &mut side, &mut seen)?;
+    seen.assert_replies(rt, &REPLIES, &[]);
     Ok(())
 }

@@ -2,8 +2,7 @@
 
 ghost use Rattle.std.specs.Prelude.{◌<◌};
 
-/// A linear congruential generator of 64 bits, with Knuth's constants for MMIX. A copy draws the same
-/// numbers again.
+/// A linear congruential generator of 64 bits, with Knuth's constants for MMIX.
 #[derive(Clone, Copy)]
 pub(crate) struct Draws {
     state: u64,
@@ -20,11 +19,6 @@ impl Draws {
             timers: seed > 20,
             home: None,
         }
-    }
-
-    /// Draws that will be the same as these from now on.
-    pub(crate) fn copied(&self) -> Draws {
-        *self
     }
 
     /// Draws for two shards, whose runs start children and turn to other workflows. Seeds that follow each

@@ -23,6 +23,20 @@ pub(crate) enum Next {
     Cancel,
 }
 
+/// Tasks that a request may name, drawn once for each request.
+#[derive(Clone, Copy)]
+pub(crate) struct Tasks {
+    /// A workflow task that was taken.
+    pub(crate) task: TakenTask,
+    /// The event of the activity of its run that may be asked to cancel, or 0.
+    pub(crate) asked: u64,
+    /// An attempt of an activity that was taken.
+    pub(crate) attempt: TakenTask,
+    pub(crate) waiting: WaitingTask,
+    /// The number of a dispatch.
+    pub(crate) dispatch: u64,
+}
+
 /// The hints and tokens that replies of a shard gave, old ones too, and the number of the last
 /// dispatch.
 #[derive(Drop)]
@@ -141,8 +155,20 @@ impl Known {
         found
     }
 
+    /// The tasks that the next request may name.
+    pub(crate) fn tasks(&self, draws: &mut Draws) -> Tasks {
+        let task = one_of(self.tokens.as_slice(), draws);
+        Tasks {
+            task,
+            asked: self.scheduled(draws, task.run),
+            attempt: one_of(self.attempts.as_slice(), draws),
+            waiting: self.waiting(draws),
+            dispatch: self.dispatch(draws),
+        }
+    }
+
     /// The number of the last dispatch, now and then the one before it or the one behind it.
-    pub(crate) fn dispatch(&self, draws: &mut Draws) -> u64 {
+    fn dispatch(&self, draws: &mut Draws) -> u64 {
         match draws.below(6) {
             0 => self.dispatch.saturating_sub(1),
             1 => self.dispatch.saturating_add(1),
@@ -151,7 +177,7 @@ impl Known {
     }
 
     /// The task of one of the last hints, now and then another one, or none that is there.
-    pub(crate) fn waiting(&self, draws: &mut Draws) -> WaitingTask {
+    fn waiting(&self, draws: &mut Draws) -> WaitingTask {
         let hint = self.hint(draws);
         let mut task = hint.task();
         if hint.shard != self.shard {
@@ -183,13 +209,13 @@ impl Known {
 
     /// The first attempt of an activity that one of the first events of a run may have scheduled.
     fn guess(&self, draws: &mut Draws) -> Hint {
-        let task = self.token(draws);
+        let task = one_of(self.tokens.as_slice(), draws);
         activity_hint(task.shard, task.run, 5 + draws.below(10), 1)
     }
 
     /// The event of the activity of this run whose attempt was taken last, or 0; now and then that of
     /// another task.
-    pub(crate) fn scheduled(&self, draws: &mut Draws, run: u64) -> u64 {
+    fn scheduled(&self, draws: &mut Draws, run: u64) -> u64 {
         if draws.one_in(8) {
             return self.hint(draws).event;
         }
@@ -201,18 +227,9 @@ impl Known {
         }
         found
     }
-
-    /// One of the last tokens, most of which were used, now and then one that names another task.
-    pub(crate) fn token(&self, draws: &mut Draws) -> TakenTask {
-        one_of(self.tokens.as_slice(), draws)
-    }
-
-    /// One of the last attempts of activities that were taken, now and then another one.
-    pub(crate) fn attempt(&self, draws: &mut Draws) -> TakenTask {
-        one_of(self.attempts.as_slice(), draws)
-    }
 }
 
+/// One of the last tasks that were taken, most of which were ended, now and then another one.
 fn one_of(taken: &[TakenTask], draws: &mut Draws) -> TakenTask {
     let mut drawn = match recent(taken.len(), draws) {
         Some(place) if place < taken.len() => taken[place],

@@ -1,5 +1,6 @@
 //! The shard and the plain program side by side: both answer the same drawn requests, each of them
-//! behind all earlier ones. So what tables say of a run is compared with what its journal says.
+//! behind all earlier ones. So what tables say of a run is compared with what its journal says. Requests
+//! are drawn as lines of a record.
 #![tactic(auto)]
 
 #[cfg(test)]
@@ -7,26 +8,22 @@ mod alone;
 #[cfg(test)]
 mod by_rule;
 #[cfg(test)]
-mod carried;
-#[cfg(test)]
-mod commands;
-#[cfg(test)]
-mod compared;
-#[cfg(test)]
-mod course;
+mod drawn;
 #[cfg(test)]
 mod draws;
 #[cfg(test)]
 mod known;
 #[cfg(test)]
-mod names;
-#[cfg(test)]
 mod numbered;
 #[cfg(test)]
-mod requests;
+mod parts;
+#[cfg(test)]
+mod side;
 #[cfg(test)]
 mod tally;
 #[cfg(test)]
-mod tasks;
+mod templates;
+#[cfg(test)]
+mod tests;
 #[cfg(test)]
 mod together;

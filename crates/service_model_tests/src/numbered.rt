@@ -1,46 +1,40 @@
 //! Transfers that a shard is given by hand, out of their order and twice: they change nothing but its
 //! last moment.
 
-ghost use Rattle.std.specs.Prelude.{◌≡◌, ◌<◌, ◌≤◌, ◌^◌, OnOk};
-ghost use Rattle.service_model_types.specs.declared.content.Content.{Content};
-ghost use Rattle.shard.specs.Standing.{StandsFor};
-
-use crate::compared::{Asked, Half, Shard, compare, new_shard};
-use crate::course::SECOND;
+use crate::side::{Place, Side};
 use crate::tally::Tally;
-use service_model_types::request::{Operation, Read, Signal, Start};
-use service_model_types::transfer::{SignalExternalTransfer, Transfer, TransferContent};
-use std::alloc::{AllocGlobal, Global};
+use mutable_state_keeper::KeepsRun;
+use std::alloc::{AllocError, AllocGlobal, Global};
 use std::process::Abort;
-use std::test::Fail;
-use wf_event::Boxed;
-use wf_event_values::{ConflictPolicy, Field, Id, Moment, Refusal, ReusePolicy, RunId, Span, Text};
-use wire_replies::reply_text;
 
 /// What the second of two shards is asked, of its workflow `b`.
 #[derive(Clone, Copy)]
 enum Asking {
-    Start,
-    Signal,
+    /// This, behind the moment.
+    Said(&'static str),
     /// A signal from a workflow of the first shard, under this number.
     Deliver(u64),
-    History,
-    Describe,
-    Transfer,
-    Dispatch,
 }
+
+const START: Asking = Asking::Said(
+    r#","conflict":"Fail","input":"","op":"start","reuse":"AllowDuplicate","run_timeout":0,"task_queue":"main","task_timeout":0,"workflow_id":"b","workflow_type":"w""#,
+);
+
+const SIGNAL: Asking = Asking::Said(r#","input":"","name":"s","op":"signal","workflow_id":"b""#);
+
+const HISTORY: Asking = Asking::Said(r#","op":"history","workflow_id":"b""#);
 
 /// All that can be read of the shard.
 const READS: [Asking; 4] = [
-    Asking::History,
-    Asking::Describe,
-    Asking::Transfer,
-    Asking::Dispatch,
+    HISTORY,
+    Asking::Said(r#","op":"describe","workflow_id":"b""#),
+    Asking::Said(r#","op":"next_transfer","to":0"#),
+    Asking::Said(r#","op":"next_dispatch""#),
 ];
 
 /// The moment of each request, what is asked, words of its reply, and whether reads show a change.
 const STEPS: [(u64, Asking, &str, bool); 8] = [
-    (1, Asking::Start, r#""ok":"started""#, true),
+    (1, START, r#""ok":"started""#, true),
     (2, Asking::Deliver(1), r#""number":1,"ok":"accepted""#, true),
     (
         7,
@@ -60,141 +54,88 @@ const STEPS: [(u64, Asking, &str, bool); 8] = [
     (7, Asking::Deliver(2), r#""number":2,"ok":"already""#, false),
 ];
 
-fn workflow_b(alloc: Global) -> Result<Id, Refusal> {
-    Id::new(alloc, Field::WorkflowId, "b")
-}
-
-fn start(alloc: Global) -> Result<Operation, Refusal> {
-    let start = Start {
-        workflow_id: workflow_b(alloc)?,
-        workflow_type: Text::new(alloc, Field::WorkflowType, "w")?,
-        task_queue: Id::new(alloc, Field::TaskQueue, "main")?,
-        input: Text::empty(alloc),
-        request_id: None,
-        reuse: ReusePolicy::AllowDuplicate,
-        conflict: ConflictPolicy::Fail,
-        run_timeout: Span::none(),
-        task_timeout: Span::none(),
-        execution_timeout: Span::none(),
-    };
-    Ok(Operation::Start(Boxed::new(alloc, start)?))
-}
-
-fn signal(alloc: Global) -> Result<Operation, Refusal> {
-    Ok(Operation::Signal(Signal {
-        workflow_id: workflow_b(alloc)?,
-        run: None,
-        name: Text::new(alloc, Field::Name, "s")?,
-        input: Text::empty(alloc),
-        request_id: None,
-    }))
-}
-
-fn delivery(alloc: Global, number: u64) -> Result<Operation, Refusal> {
-    let signal = SignalExternalTransfer {
-        from_run: RunId::new(1, 0, 1),
-        initiated: number.saturating_add(4),
-        workflow_id: workflow_b(alloc)?,
-        run: None,
-        name: Text::new(alloc, Field::Name, "s")?,
-        input: Text::empty(alloc),
-    };
-    let content = TransferContent::SignalExternal(signal);
-    let transfer = Transfer::restored(0, number, content);
-    Ok(Operation::Deliver(Boxed::new(alloc, transfer)?))
-}
-
-fn operation(alloc: Global, asking: Asking) -> Result<Operation, Refusal> {
+fn line_of(alloc: Global, at: u64, asking: Asking) -> Result<String, AllocError> {
     match asking {
-        Asking::Start => start(alloc),
-        Asking::Signal => signal(alloc),
-        Asking::Deliver(number) => delivery(alloc, number),
-        Asking::History => Ok(Operation::History(Read {
-            workflow_id: workflow_b(alloc)?,
-            run: None,
-        })),
-        Asking::Describe => Ok(Operation::Describe(Read {
-            workflow_id: workflow_b(alloc)?,
-            run: None,
-        })),
-        Asking::Transfer => Ok(Operation::NextTransfer(0)),
-        Asking::Dispatch => Ok(Operation::NextDispatch),
+        Asking::Said(said) => {
+            format!(in alloc; "{{\"pass\":0,\"request\":{{\"at\":{at}{said}}}}}")
+        }
+        Asking::Deliver(number) => {
+            let initiated = number.saturating_add(4);
+            format!(in alloc;
+                "{{\"pass\":0,\"request\":{{\"at\":{at},\"op\":\"deliver\",\"transfer\":{{\"content\":{{\"from_run\":\"00000000-0001-8000-8000-000000000001\",\"initiated\":{initiated},\"input\":\"\",\"name\":\"s\",\"workflow_id\":\"b\"}},\"from\":0,\"kind\":\"signal_external\",\"number\":{number}}}}}}}"
+            )
+        }
     }
 }
 
-/// The line that the shard answers.
-fn answered<R: Abort + AllocGlobal>(
+/// Asks a shard, whose reply is its last one then.
+fn ask<T: KeepsRun, R: Abort + AllocGlobal>(
     rt: &R,
-    object: &mut Shard,
-    half: &mut Half,
+    side: &mut Side<T>,
+    seen: &mut Tally,
     at: u64,
     asking: Asking,
-) -> Result<String, Refusal>
-    requires { (S : Content) × StandsFor object.old S }
-    ensures { OnOk result ((S : Content) × StandsFor object.new S) }
-{
-    let alloc = rt.alloc();
-    let at = Moment::new(Field::At, at)?;
-    let asked = Asked::new(at, operation(alloc, asking)?, operation(alloc, asking)?);
-    let mut seen = Tally::new(alloc);
-    let came = compare(rt, SECOND, object, half, asked, &mut seen)?;
-    Ok(reply_text(alloc, 1, &came.tables)?)
+) -> Result<(), AllocError> {
+    let line = line_of(rt.alloc(), at, asking)?;
+    side.compare(rt, line.as_str(), seen)?;
+    Ok(())
 }
 
-/// All reads, at a moment that is never the last one.
-fn reads<R: Abort + AllocGlobal>(
+/// Reads all, at a moment that is never the last one. Whether that is not what the text says, which says
+/// it then.
+fn read_again<T: KeepsRun, R: Abort + AllocGlobal>(
     rt: &R,
-    object: &mut Shard,
-    half: &mut Half,
-) -> Result<String, Refusal>
-    requires { (S : Content) × StandsFor object.old S }
-    ensures { OnOk result ((S : Content) × StandsFor object.new S) }
-{
+    side: &mut Side<T>,
+    seen: &mut Tally,
+    read: &mut String,
+) -> Result<bool, AllocError> {
     let mut text = String::new(rt.alloc());
     for asking in READS {
-        text.push_str(&answered(rt, object, half, 0, asking)?)?;
+        ask(rt, side, seen, 0, asking)?;
+        text.push_str(side.reply.as_str())?;
     }
-    Ok(text)
+    let has_changed = text.as_str() != read.as_str();
+    *read = text;
+    Ok(has_changed)
 }
 
 /// Takes the steps. What is refused changes nothing that can be read.
-fn take_steps<R: Abort + AllocGlobal>(
+fn take_steps<T: KeepsRun, R: Abort + AllocGlobal>(
     rt: &R,
-    object: &mut Shard,
-    half: &mut Half,
-) -> Result<(), Refusal>
-    requires { (S : Content) × StandsFor object.old S }
-    ensures { OnOk result ((S : Content) × StandsFor object.new S) }
-{
-    let mut before = reads(rt, object, half)?;
+    side: &mut Side<T>,
+    seen: &mut Tally,
+    read: &mut String,
+) -> Result<(), AllocError> {
+    read_again(rt, side, seen, read)?;
     for (at, asking, words, changes) in STEPS {
-        let came = answered(rt, object, half, at, asking)?;
-        assert!(rt; came.contains(words), "{came}");
-        let behind = reads(rt, object, half)?;
-        assert_eq!(rt; before.as_str() != behind.as_str(), changes, "{came}");
-        before = behind;
+        ask(rt, side, seen, at, asking)?;
+        assert!(rt; side.reply.contains(words), "{words}");
+        let has_changed = read_again(rt, side, seen, read)?;
+        assert_eq!(rt; has_changed, changes, "{words}");
     }
     Ok(())
 }
 
 /// A signal of an earlier moment stands at the moment of the last refused transfer.
-fn signal_at_last<R: Abort + AllocGlobal>(rt: &R) -> Result<(), Refusal> {
-    let alloc = rt.alloc();
-    let mut object = new_shard(alloc, SECOND)?;
-    let mut half = Half::new(alloc, 1);
-    take_steps(rt, &mut object, &mut half)?;
-    answered(rt, &mut object, &mut half, 9, Asking::Deliver(9))?;
-    answered(rt, &mut object, &mut half, 8, Asking::Signal)?;
-    let history = answered(rt, &mut object, &mut half, 0, Asking::History)?;
-    assert!(rt;
-        history.contains(r#"{"at":9,"attrs":{"input":"","name":"s"},"id":6,"#),
-        "{history}"
-    );
+fn signal_late<T: KeepsRun, R: Abort + AllocGlobal>(
+    rt: &R,
+    side: &mut Side<T>,
+    seen: &mut Tally,
+) -> Result<(), AllocError> {
+    ask(rt, side, seen, 9, Asking::Deliver(9))?;
+    ask(rt, side, seen, 8, SIGNAL)?;
+    ask(rt, side, seen, 0, HISTORY)?;
+    let signal = r#"{"at":9,"attrs":{"input":"","name":"s"},"id":6,"#;
+    assert!(rt; side.reply.contains(signal));
     Ok(())
 }
 
-#[test]
-fn transfers_out_of_order_change_nothing(rt: HostRuntime) -> Result<(), Fail> {
-    signal_at_last(&rt).map_err(|refusal| refusal.name())?;
-    Ok(())
+pub(crate) fn transfers_out_of_order_change_nothing<T: KeepsRun, R: Abort + AllocGlobal>(
+    rt: &R,
+) -> Result<(), AllocError> {
+    let mut seen = Tally::new(rt.alloc());
+    let mut read = String::new(rt.alloc());
+    let mut side = Side::<T>::new(rt.alloc(), Place::Second, 0)?;
+    take_steps(rt, &mut side, &mut seen, &mut read)?;
+    signal_late(rt, &mut side, &mut seen)
 }

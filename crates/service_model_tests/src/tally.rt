@@ -123,11 +123,20 @@ struct Shown {
 }
 
 /// How often each kind of reply and of event came.
-#[derive(Drop)]
 pub(crate) struct Tally {
     replies: Vec<Count>,
     events: Vec<Count>,
     shown: Vec<Shown>,
+}
+
+impl Drop for Tally {
+    fn drop(self) {
+        let Tally {
+            replies: _,
+            events: _,
+            shown: _,
+        } = self;
+    }
 }
 
 impl Tally {
@@ -171,37 +180,38 @@ impl Tally {
         Ok(())
     }
 
-    /// Which of these kinds of reply never came.
-    pub(crate) fn missing_replies(
+    /// Asserts that of these kinds of reply just those that are expected never came.
+    pub(crate) fn assert_replies<R: Abort>(
         &self,
-        alloc: Global,
+        rt: &R,
         kinds: &[&'static str],
-    ) -> Result<Vec<&'static str>, AllocError> {
-        missing(alloc, self.replies.as_slice(), kinds)
+        expected: &[&'static str],
+    ) {
+        assert_missing(rt, self.replies.as_slice(), kinds, expected);
     }
 
-    /// Which of these kinds of event never came.
-    pub(crate) fn missing_events(
+    /// Asserts that of these kinds of event just those that are expected never came.
+    pub(crate) fn assert_events<R: Abort>(
         &self,
-        alloc: Global,
+        rt: &R,
         kinds: &[&'static str],
-    ) -> Result<Vec<&'static str>, AllocError> {
-        missing(alloc, self.events.as_slice(), kinds)
+        expected: &[&'static str],
+    ) {
+        assert_missing(rt, self.events.as_slice(), kinds, expected);
     }
 }
 
-/// Asserts that just these kinds never came.
-pub(crate) fn assert_missing<R: Abort>(
+/// Asserts that of some kinds just those that are expected never came.
+fn assert_missing<R: Abort>(
     rt: &R,
-    missing: Vec<&'static str>,
+    counts: &[Count],
+    kinds: &[&'static str],
     expected: &[&'static str],
 ) {
-    for kind in missing.iter() {
-        if !expected.iter().any(|name| name == kind) {
-            panic!(rt; "{kind} never came");
-        }
+    for kind in kinds {
+        let is_expected = expected.iter().any(|name| name == kind);
+        assert_eq!(rt; times(counts, kind) == 0, is_expected, "{kind}");
     }
-    assert_eq!(rt; missing.len(), expected.len());
 }
 
 fn count_one(counts: &mut Vec<Count>, name: &'static str) -> Result<(), AllocError> {
@@ -213,20 +223,6 @@ fn count_one(counts: &mut Vec<Count>, name: &'static str) -> Result<(), AllocErr
     }
     counts.push(Count { name, times: 1 })?;
     Ok(())
-}
-
-fn missing(
-    alloc: Global,
-    counts: &[Count],
-    kinds: &[&'static str],
-) -> Result<Vec<&'static str>, AllocError> {
-    let mut never = Vec::new(alloc);
-    for kind in kinds {
-        if times(counts, kind) == 0 {
-            never.push(*kind)?;
-        }
-    }
-    Ok(never)
 }
 
 fn times(counts: &[Count], name: &str) -> u64 {

@@ -1,165 +1,292 @@
 //! Two shards of one service, whose runs start children on both, and signal and cancel each other.
 
-ghost use Rattle.std.specs.Prelude.{◌≡◌, ◌<◌, ◌≤◌, ◌^◌, OnOk};
-ghost use Rattle.service_model_types.specs.declared.content.Content.{Content};
-ghost use Rattle.shard.specs.Standing.{StandsFor};
-
-use crate::carried::carry;
-use crate::compared::{Asked, Shard, new_shard};
-use crate::course::{Course, FIRST, SECOND, ask};
+use crate::drawn::{drawn_line, line_of};
 use crate::draws::Draws;
-use crate::names::{CHILDREN, ORDERS, any_child_id, input, numbered_id};
-use crate::requests::start;
-use crate::tally::{DELIVERIES, OUTWARD, Tally, assert_missing};
-use crate::tasks::work;
-use service_model_types::request::{Operation, Read, Terminate};
-use std::alloc::{AllocGlobal, Global};
+use crate::known::Tasks;
+use crate::parts::{CHILDREN, ORDERS, numbered, push_part};
+use crate::side::{Came, Place, Side, retention};
+use crate::tally::{DELIVERIES, OUTWARD, Tally};
+use crate::templates::{
+    COMPLETE, DISPATCHED, NEXT_DISPATCH, START, START_TASK, TERMINATE_CHILD, TIMER_TURN,
+};
+use mutable_state_keeper::KeepsRun;
+use std::alloc::{AllocError, AllocGlobal, Global};
 use std::process::Abort;
-use std::test::Fail;
-use wf_event::Boxed;
-use wf_event_values::{Field, Moment, Refusal};
 
 /// How many times each seed draws a request, serves a task or carries a transfer.
 const COUNT: u64 = 240;
 
-/// Starts a workflow or terminates a child on one of the two, or has a deadline fire there.
-fn begin<R: Abort + AllocGlobal>(
-    rt: &R,
-    one: &mut Shard,
-    other: &mut Shard,
-    course: &mut Course,
-    at: Moment,
-    seen: &mut Tally,
-) -> Result<(), Refusal>
-    requires one { (S : Content) × StandsFor one.old S }
-    requires other { (S : Content) × StandsFor other.old S }
-    ensures one { OnOk result ((S : Content) × StandsFor one.new S) }
-    ensures other { OnOk result ((S : Content) × StandsFor other.new S) }
-{
-    let alloc = rt.alloc();
-    let shard = course.draws.below(2) as u16;
-    course.draws.turn_to(shard);
-    let journals = beginning(alloc, &mut course.draws.copied())?;
-    let tables = beginning(alloc, &mut course.draws)?;
-    ask(
-        rt,
-        one,
-        other,
-        course,
-        shard,
-        Asked::new(at, tables, journals),
-        seen,
-    )?;
-    Ok(())
+/// The two shards of a service, and what is drawn next.
+struct Two<T: KeepsRun> {
+    first: Side<T>,
+    second: Side<T>,
+    draws: Draws,
 }
 
-fn beginning(alloc: Global, draws: &mut Draws) -> Result<Operation, Refusal> {
-    match draws.below(6) {
-        0..=1 => Ok(Operation::TimerTurn),
-        2..=3 => Ok(Operation::Terminate(Terminate {
-            workflow_id: any_child_id(alloc, draws)?,
-            run: None,
-            reason: input(alloc, draws)?,
-        })),
-        _ => Ok(Operation::Start(Boxed::new(alloc, start(alloc, draws)?)?)),
+impl<T: KeepsRun> Drop for Two<T> {
+    fn drop(self) {
+        let Two {
+            first: _,
+            second: _,
+            draws: _,
+        } = self;
     }
 }
 
-/// Asks one of the two what is drawn next.
-fn ask_next<R: Abort + AllocGlobal>(
-    rt: &R,
-    one: &mut Shard,
-    other: &mut Shard,
-    course: &mut Course,
-    number: u64,
-    seen: &mut Tally,
-) -> Result<(), Refusal>
-    requires one { (S : Content) × StandsFor one.old S }
-    requires other { (S : Content) × StandsFor other.old S }
-    ensures one { OnOk result ((S : Content) × StandsFor one.new S) }
-    ensures other { OnOk result ((S : Content) × StandsFor other.new S) }
-{
-    let shard = course.draws.below(2) as u16;
-    let asked = course.next(rt.alloc(), shard, number.saturating_mul(4))?;
-    ask(rt, one, other, course, shard, asked, seen)?;
-    Ok(())
-}
-
-/// Carries a transfer, serves a task, begins something, or asks what is drawn next.
-fn advance<R: Abort + AllocGlobal>(
-    rt: &R,
-    one: &mut Shard,
-    other: &mut Shard,
-    course: &mut Course,
-    number: u64,
-    seen: &mut Tally,
-) -> Result<(), Refusal>
-    requires one { (S : Content) × StandsFor one.old S }
-    requires other { (S : Content) × StandsFor other.old S }
-    ensures one { OnOk result ((S : Content) × StandsFor one.new S) }
-    ensures other { OnOk result ((S : Content) × StandsFor other.new S) }
-{
-    let at = Moment::new(Field::At, number.saturating_mul(20))?;
-    match course.draws.below(8) {
-        0..=2 => carry(rt, one, other, course, at, seen),
-        3..=5 => work(rt, one, other, course, at, seen),
-        6 => begin(rt, one, other, course, at, seen),
-        _ => ask_next(rt, one, other, course, number, seen),
+impl<T: KeepsRun> Two<T> {
+    fn new(alloc: Global, seed: u64) -> Result<Two<T>, AllocError> {
+        Ok(Two {
+            first: Side::new(alloc, Place::First, retention(seed))?,
+            second: Side::new(alloc, Place::Second, retention(seed))?,
+            draws: Draws::for_two(seed),
+        })
     }
-}
 
-/// Reads the latest history of each workflow ID on both shards.
-fn read_all<R: Abort + AllocGlobal>(
-    rt: &R,
-    one: &mut Shard,
-    other: &mut Shard,
-    course: &mut Course,
-    seen: &mut Tally,
-) -> Result<(), Refusal>
-    requires one { (S : Content) × StandsFor one.old S }
-    requires other { (S : Content) × StandsFor other.old S }
-{
-    let alloc = rt.alloc();
-    let at = Moment::new(Field::At, COUNT.saturating_mul(20))?;
-    for number in 0..ORDERS + CHILDREN {
-        for shard in 0..2_u16 {
-            let asked = Asked::new(at, history(alloc, number)?, history(alloc, number)?);
-            ask(rt, one, other, course, shard, asked, seen)?;
+    fn tasks(&mut self, shard: u16) -> Tasks {
+        if shard == 0 {
+            self.first.known.tasks(&mut self.draws)
+        } else {
+            self.second.known.tasks(&mut self.draws)
         }
     }
-    Ok(())
+
+    /// Asks one of the two a line.
+    fn ask<R: Abort + AllocGlobal>(
+        &mut self,
+        rt: &R,
+        shard: u16,
+        line: &str,
+        seen: &mut Tally,
+    ) -> Result<Came, AllocError> {
+        if shard == 0 {
+            self.first.compare(rt, line, seen)
+        } else {
+            self.second.compare(rt, line, seen)
+        }
+    }
+
+    /// Asks one of the two what a template stands for.
+    fn ask_by<R: Abort + AllocGlobal>(
+        &mut self,
+        rt: &R,
+        shard: u16,
+        at: u64,
+        template: &str,
+        tasks: &Tasks,
+        seen: &mut Tally,
+    ) -> Result<Came, AllocError> {
+        let line = line_of(rt.alloc(), at, template, &mut self.draws, tasks)?;
+        self.ask(rt, shard, line.as_str(), seen)
+    }
+
+    /// Carries the next transfer: it is read, delivered and counted. Now and then a turn stops before its
+    /// end, so that the next one says the same again, and now and then a number is not the next one.
+    fn carry<R: Abort + AllocGlobal>(
+        &mut self,
+        rt: &R,
+        at: u64,
+        seen: &mut Tally,
+    ) -> Result<(), AllocError> {
+        let from = self.draws.below(2) as u16;
+        let to = self.draws.below(2) as u16;
+        let line = next_transfer(rt.alloc(), at, to)?;
+        let Came::Transfer(number) = self.ask(rt, from, line.as_str(), seen)? else {
+            return Ok(());
+        };
+        if self.draws.one_in(8) {
+            return Ok(());
+        }
+        let line = self.delivery(rt.alloc(), from, at, number)?;
+        let delivered = matches!(self.ask(rt, to, line.as_str(), seen)?, Came::Delivered);
+        if !delivered || self.draws.one_in(8) {
+            return Ok(());
+        }
+        let line = acknowledge(rt.alloc(), at, to, near(&mut self.draws, number))?;
+        self.ask(rt, from, line.as_str(), seen)?;
+        Ok(())
+    }
+
+    /// The delivery of the transfer that a shard was asked for last, under a number near its own.
+    fn delivery(
+        &mut self,
+        alloc: Global,
+        from: u16,
+        at: u64,
+        number: u64,
+    ) -> Result<String, AllocError> {
+        let number = near(&mut self.draws, number);
+        let read = if from == 0 {
+            self.first.delivery.as_str()
+        } else {
+            self.second.delivery.as_str()
+        };
+        delivery_under(alloc, read, at, number)
+    }
+
+    /// Takes the next task of one of the two shards, and completes it where it is a workflow task.
+    fn work<R: Abort + AllocGlobal>(
+        &mut self,
+        rt: &R,
+        at: u64,
+        seen: &mut Tally,
+    ) -> Result<(), AllocError> {
+        let shard = self.draws.below(2) as u16;
+        let mut tasks = self.tasks(shard);
+        let next = self.ask_by(rt, shard, at, NEXT_DISPATCH, &tasks, seen)?;
+        let Came::Dispatch(number, hint) = next else {
+            return Ok(());
+        };
+        tasks.dispatch = number;
+        tasks.waiting = hint.task();
+        self.ask_by(rt, shard, at, DISPATCHED, &tasks, seen)?;
+        let Came::Task(task) = self.ask_by(rt, shard, at, START_TASK, &tasks, seen)? else {
+            return Ok(());
+        };
+        tasks.task = task;
+        tasks.asked = 0;
+        self.ask_by(rt, shard, at, COMPLETE, &tasks, seen)?;
+        Ok(())
+    }
+
+    /// Starts a workflow or terminates a child on one of the two, or has a deadline fire there.
+    fn begin<R: Abort + AllocGlobal>(
+        &mut self,
+        rt: &R,
+        at: u64,
+        seen: &mut Tally,
+    ) -> Result<(), AllocError> {
+        let shard = self.draws.below(2) as u16;
+        self.draws.turn_to(shard);
+        let tasks = self.tasks(shard);
+        let template = match self.draws.below(6) {
+            0..=1 => TIMER_TURN,
+            2..=3 => TERMINATE_CHILD,
+            _ => START,
+        };
+        self.ask_by(rt, shard, at, template, &tasks, seen)?;
+        Ok(())
+    }
+
+    /// Asks one of the two what is drawn next.
+    fn ask_next<R: Abort + AllocGlobal>(
+        &mut self,
+        rt: &R,
+        number: u64,
+        seen: &mut Tally,
+    ) -> Result<(), AllocError> {
+        let shard = self.draws.below(2) as u16;
+        self.draws.turn_to(shard);
+        let number = number.saturating_mul(4);
+        let line = if shard == 0 {
+            drawn_line(rt.alloc(), &mut self.draws, &self.first.known, number)?
+        } else {
+            drawn_line(rt.alloc(), &mut self.draws, &self.second.known, number)?
+        };
+        self.ask(rt, shard, line.as_str(), seen)?;
+        Ok(())
+    }
+
+    /// Carries a transfer, serves a task, begins something, or asks what is drawn next.
+    fn advance<R: Abort + AllocGlobal>(
+        &mut self,
+        rt: &R,
+        number: u64,
+        seen: &mut Tally,
+    ) -> Result<(), AllocError> {
+        let at = number.saturating_mul(20);
+        match self.draws.below(8) {
+            0..=2 => self.carry(rt, at, seen),
+            3..=5 => self.work(rt, at, seen),
+            6 => self.begin(rt, at, seen),
+            _ => self.ask_next(rt, number, seen),
+        }
+    }
+
+    fn advance_often<R: Abort + AllocGlobal>(
+        &mut self,
+        rt: &R,
+        seen: &mut Tally,
+    ) -> Result<(), AllocError> {
+        for number in 0..COUNT {
+            self.advance(rt, number, seen)?;
+        }
+        Ok(())
+    }
+
+    /// Reads the latest history of each workflow ID on both shards.
+    fn read_all<R: Abort + AllocGlobal>(
+        &mut self,
+        rt: &R,
+        seen: &mut Tally,
+    ) -> Result<(), AllocError> {
+        let at = COUNT.saturating_mul(20);
+        for number in 0..ORDERS + CHILDREN {
+            let line = history(rt.alloc(), at, number)?;
+            self.first.compare(rt, line.as_str(), seen)?;
+            self.second.compare(rt, line.as_str(), seen)?;
+        }
+        Ok(())
+    }
+}
+
+fn next_transfer(alloc: Global, at: u64, to: u16) -> Result<String, AllocError> {
+    format!(in alloc;
+        "{{\"pass\":0,\"request\":{{\"at\":{at},\"op\":\"next_transfer\",\"to\":{to}}}}}"
+    )
+}
+
+fn acknowledge(alloc: Global, at: u64, to: u16, number: u64) -> Result<String, AllocError> {
+    format!(in alloc;
+        "{{\"pass\":0,\"request\":{{\"at\":{at},\"number\":{number},\"op\":\"acknowledge\",\"to\":{to}}}}}"
+    )
+}
+
+/// The line of a delivery of moment 0, at this moment and under this number.
+fn delivery_under(alloc: Global, line: &str, at: u64, number: u64) -> Result<String, AllocError> {
+    let (_, behind) = line.split_once("\"at\":0").unwrap_or(("", ""));
+    let (middle, _) = behind.rsplit_once("\"number\":").unwrap_or(("", ""));
+    format!(in alloc; "{{\"pass\":0,\"request\":{{\"at\":{at}{middle}\"number\":{number}}}}}}}")
 }
 
 /// A read of the workflow ID of this number.
-fn history(alloc: Global, number: u64) -> Result<Operation, Refusal> {
-    Ok(Operation::History(Read {
-        workflow_id: numbered_id(alloc, number)?,
-        run: None,
-    }))
+fn history(alloc: Global, at: u64, number: u64) -> Result<String, AllocError> {
+    let mut line = format!(in alloc;
+        "{{\"pass\":0,\"request\":{{\"at\":{at},\"op\":\"history\",\"workflow_id\":\""
+    )?;
+    push_part(alloc, &mut line, numbered(number))?;
+    line.push_str("\"}}")?;
+    Ok(line)
+}
+
+/// Most of the time this number, now and then the one before it or the one two behind it. The one
+/// behind it could be the next one, and would stand for a transfer that was never carried.
+fn near(draws: &mut Draws, number: u64) -> u64 {
+    match draws.below(16) {
+        0 => number.saturating_sub(1),
+        1 => number.saturating_add(2),
+        _ => number,
+    }
 }
 
 /// Compares two shards through all that a seed draws.
-fn go_through<R: Abort + AllocGlobal>(rt: &R, seed: u64, seen: &mut Tally) -> Result<(), Refusal> {
-    let alloc = rt.alloc();
-    let mut one = new_shard(alloc, FIRST.drawn_by(seed))?;
-    let mut other = new_shard(alloc, SECOND.drawn_by(seed))?;
-    let mut course = Course::new(alloc, seed);
+fn go_through<T: KeepsRun, R: Abort + AllocGlobal>(
+    rt: &R,
+    seed: u64,
+    seen: &mut Tally,
+) -> Result<(), AllocError> {
+    let mut two = Two::<T>::new(rt.alloc(), seed)?;
     seen.turn_to_another_service();
-    for number in 0..COUNT {
-        advance(rt, &mut one, &mut other, &mut course, number, seen)?;
-    }
-    read_all(rt, &mut one, &mut other, &mut course, seen)
+    two.advance_often(rt, seen)?;
+    two.read_all(rt, seen)
 }
 
 /// All that a transfer's turn can be answered, and all events of children and of other workflows.
-#[test]
-fn two_shards(rt: HostRuntime) -> Result<(), Fail> {
-    let alloc = rt.alloc();
-    let mut seen = Tally::new(alloc);
+pub(crate) fn two_shards<T: KeepsRun, R: Abort + AllocGlobal>(rt: &R) -> Result<(), AllocError> {
+    let mut seen = Tally::new(rt.alloc());
     for seed in 1..33_u64 {
-        go_through(&rt, seed, &mut seen).map_err(|refusal| refusal.name())?;
+        go_through::<T, R>(rt, seed, &mut seen)?;
     }
-    assert_missing(&rt, seen.missing_replies(alloc, &DELIVERIES)?, &[]);
-    assert_missing(&rt, seen.missing_events(alloc, &OUTWARD)?, &[]);
+    seen.assert_replies(rt, &DELIVERIES, &[]);
+    seen.assert_events(rt, &OUTWARD, &[]);
     Ok(())
 }

@@ -7,32 +7,37 @@ use service::{KeepsShard, Pass, Service};
 use service_model_types::answer::{Answer, Reply};
 use service_model_types::call::{Call, Poll, StartTask, StepCall};
 use service_model_types::client::{ClientRequest, is_clients};
-use service_model_types::request::{Hint, Request};
+use service_model_types::request::{Operation, Request};
 use service_model_types::settings::Settings;
-use std::alloc::{AllocError, Global};
+use std::alloc::Global;
 use std::sync::Wait;
 use step_record::Record;
-use wf_event_values::{Moment, Refusal, TaskKind};
+use wf_event_values::{Refusal, TaskKind};
 
-/// What a call that was refused memory leaves its caller with.
-#[derive(Drop)]
-pub(crate) enum Refused {
-    /// The request of the step that was not made.
-    Step(Request),
-    /// The hint that a poll had popped before its step was refused.
-    Poll(StartTask),
-    /// Nothing: a turn keeps the parts that were done, and is asked again.
-    Turn,
+/// Which form of a call of one step is made. What is more than one step has no form that never waits.
+#[derive(Clone, Copy)]
+pub(crate) enum CallForm {
+    MayWait,
+    NeverWaits,
 }
 
 /// A service with two passes of it.
-#[derive(Drop)]
 pub(crate) struct Opened<S: KeepsShard> {
     service: Service<S>,
     first: Pass<S>,
     second: Pass<S>,
     ghost first_own: { IsPassOf first service },
     ghost second_own: { IsPassOf second service },
+}
+
+impl<S: KeepsShard> Drop for Opened<S> {
+    fn drop(self) {
+        let Opened {
+            service: _,
+            first: _,
+            second: _,
+        } = self;
+    }
 }
 
 impl<S: KeepsShard> Opened<S> {
@@ -54,17 +59,20 @@ impl<S: KeepsShard> Opened<S> {
         })
     }
 
-    /// Serves a call by the pass whose turn it is.
+    /// Serves a call by the pass whose turn it is. A call that is refused memory gives back what is
+    /// asked in its place when it is made again, or nothing where it is to be asked as before. No pass
+    /// is ever on a shard when the other one calls, so nothing but memory can be wanting.
     pub(crate) fn serve<R: Wait>(
         &mut self,
         rt: &R,
+        form: CallForm,
         turn: usize,
         call: Call,
-    ) -> Result<Reply, Refused> {
+    ) -> Result<Reply, Option<Call>> {
         if turn % 2 == 0 {
-            served(rt, &self.service, &mut self.first, call)
+            served(rt, &self.service, &mut self.first, form, call)
         } else {
-            served(rt, &self.service, &mut self.second, call)
+            served(rt, &self.service, &mut self.second, form, call)
         }
     }
 
@@ -92,36 +100,71 @@ fn take_pass<S: KeepsShard>(service: &Service<S>, passes: &mut Vec<Pass<S>>) -> 
     pass
 }
 
-/// Serves a call, and keeps what comes back where memory was refused.
+/// Serves a call, whichever it is.
 fn served<S: KeepsShard, R: Wait>(
     rt: &R,
     service: &Service<S>,
     pass: &mut Pass<S>,
+    form: CallForm,
     call: Call,
-) -> Result<Reply, Refused>
+) -> Result<Reply, Option<Call>>
     requires { IsPassOf pass.old service.now }
     ensures { IsPassOf pass.new service.now }
 {
     match call {
-        Call::Step(step) => match service.serve_step(rt, pass, step) {
-            Ok(reply) => Ok(reply),
-            Err((_, request)) => Err(Refused::Step(request)),
-        },
+        Call::Step(step) => step_served(rt, service, pass, form, step),
         Call::Poll(poll) => polled(rt, service, pass, &poll),
         turn => match service.serve_call(rt, pass, turn) {
             Ok(reply) => Ok(reply),
-            Err(_) => Err(Refused::Turn),
+            // A turn keeps the parts that were done, and is asked again.
+            Err(_) => Err(None),
         },
     }
 }
 
-/// Serves a poll, and keeps the hint that it popped where memory was refused.
+/// Serves a call of one step. Where memory was refused it is made again with the same request.
+fn step_served<S: KeepsShard, R: Wait>(
+    rt: &R,
+    service: &Service<S>,
+    pass: &mut Pass<S>,
+    form: CallForm,
+    step: StepCall,
+) -> Result<Reply, Option<Call>>
+    requires { IsPassOf pass.old service.now }
+    ensures { IsPassOf pass.new service.now }
+{
+    match form {
+        CallForm::MayWait => match service.serve_step(rt, pass, step) {
+            Ok(reply) => Ok(reply),
+            Err((_, request)) => Err(same_request(request)),
+        },
+        CallForm::NeverWaits => match service.try_serve_step(pass, step) {
+            Ok(reply) => Ok(reply),
+            Err((_, request)) => Err(same_request(request)),
+        },
+    }
+}
+
+/// The call that makes a step of the request that came back, where a client may ask for it by itself.
+fn same_request(request: Request) -> Option<Call> {
+    let names_its_shard = !matches!(
+        request.operation,
+        Operation::StartTask(_) | Operation::TimerTurn
+    );
+    if names_its_shard && is_clients(&request.operation) {
+        let request = ClientRequest::new(request);
+        return Some(Call::Step(StepCall::Request(request)));
+    }
+    None
+}
+
+/// Serves a poll. Where memory was refused, the task of the hint that it popped is asked for.
 fn polled<S: KeepsShard, R: Wait>(
     rt: &R,
     service: &Service<S>,
     pass: &mut Pass<S>,
     poll: &Poll,
-) -> Result<Reply, Refused>
+) -> Result<Reply, Option<Call>>
     requires { IsPassOf pass.old service.now }
     ensures { IsPassOf pass.new service.now }
 {
@@ -132,6 +175,9 @@ fn polled<S: KeepsShard, R: Wait>(
     match polled {
         Ok(Some(reply)) => Ok(reply),
         Ok(None) => Ok(Ok(Answer::Empty)),
-        Err((_, hint)) => Err(Refused::Poll(StartTask { hint, at: poll.at })),
+        Err((_, hint)) => {
+            let start = StartTask { hint, at: poll.at };
+            Err(Some(Call::Step(StepCall::StartTask(start))))
+        }
     }
 }

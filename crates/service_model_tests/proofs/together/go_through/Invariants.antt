@@ -1,6 +1,0 @@
-use Rattle.service_model_types.specs.declared.content.Content.{Content}
-use Rattle.shard.specs.Standing.{StandsFor}
-use Rattle.service_model_tests.proofs.together.go_through.Given as goal
-
-abbrev pub invariant-loop-number : goal.invariant-loop-number
-invariant-loop-number g l = ((S : Content) × StandsFor l.one S) × ((S : Content) × StandsFor l.other S)
