@@ -13,3 +13,4 @@ pub mod Cursor
 pub mod Progress
 pub mod Endings
 pub mod ScriptCursor
+pub mod Status

@@ -1,5 +1,6 @@
--- MEANING: what new passes know of the hints that the queues hold at opening
-use Rattle.std.specs.Prelude.{◌≡◌, ℕ, List, slice_get, Some, Ok}
+-- MEANING: what new passes know of the hints that the queues hold at opening, and what else holds of a service that was opened
+use Rattle.std.specs.Prelude.{◌≡◌, ℕ, List, length, slice_get, Some, Ok}
+use Rattle.gate.specs.Passes.{IsFresh}
 use Rattle.service_model_types.specs.declared.content.Dispatch.{Dispatch}
 use Rattle.service_model_types.specs.declared.request.Hint.{Hint}
 use Rattle.service_model_types.specs.declared.settings.Settings.{Settings}
@@ -8,7 +9,11 @@ use Rattle.matching.specs.declared.queues.QueuesPass.{QueuesPass}
 use Rattle.matching.specs.Holding.{held_by}
 use Rattle.matching.specs.Named as matching
 use Rattle.service.specs.ServiceViews.{Pass}
-use Rattle.service.specs.Reopening.{opens}
+use Rattle.service.specs.ServiceViews.{Service}
+use Rattle.service.specs.AtClose.{base_of}
+use Rattle.service.specs.Ranges.{range_fault}
+use Rattle.service.specs.Reopening.{opens, record_at}
+use Rattle.service.specs.Services.{IsPassOf, known_by, settings_of}
 
 -- What passes of queues know once these dispatches were pushed: each knows all that the queues hold then, as pushed by the first pass
 pub record HoldAtOpening (K : Settings) (waiting : List Dispatch) (passes : List QueuesPass) : Type 0 where
@@ -22,3 +27,15 @@ pub record HoldsAtOpening (K : Settings) (records : List (List Entry)) (passes :
   pub held : List (List Hint)
   pub opened : opens K records ≡ Ok held
   pub fresh : (k : ℕ) (p : Pass) → slice_get passes k ≡ Some p → matching.IsFresh K.passes K.shards K.capacity held k p.hints
+
+-- What opening by these settings and records gives: a service by these settings, each shard with its record, and as many
+-- passes of it as the settings say, numbered from 0, that have seen those records and know the hints
+pub record Opens (K : Settings) (records : List (List Entry)) (x : Service) (passes : List Pass) : Type 0 where
+  pub own : (k : ℕ) (p : Pass) → slice_get passes k ≡ Some p → IsPassOf p x
+  pub fresh : (k : ℕ) (p : Pass) → slice_get passes k ≡ Some p → IsFresh k (known_by p)
+  pub records : (s : ℕ) → base_of x s ≡ record_at records s
+  pub width : length x.gate.origin.bases ≡ K.shards
+  pub held : HoldsAtOpening K records passes
+  pub settings : settings_of x ≡ K
+  pub count : length passes ≡ K.passes
+  pub range : range_fault K ≡ Ok tt

@@ -7,7 +7,7 @@ ghost use Rattle.service.specs.Calls.{CallKept, CallServed, reply_of_poll};
 
 use crate::service::{Pass, Service};
 use service_model_types::answer::{Answer, Reply};
-use service_model_types::call::{Call, DispatchTurn, Poll, StepCall};
+use service_model_types::call::{Call, Poll, StepCall};
 use shard_gate::KeepsShard;
 use std::alloc::AllocError;
 use std::sync::Wait;
@@ -39,7 +39,9 @@ impl<S: KeepsShard> Service<S> {
         match call {
             Call::Step(step) => self.step_replied(rt, pass, step),
             Call::Poll(poll) => self.poll_replied(rt, pass, poll),
-            Call::DispatchTurn(turn) => self.turn_replied(rt, pass, turn),
+            Call::DispatchTurn(turn) => {
+                self.dispatch_turn(rt, pass, turn.shard, turn.stop, turn.at)
+            }
             Call::TransferTurn(turn) => {
                 self.transfer_turn(rt, pass, turn.from, turn.to, turn.stop, turn.at)
             }
@@ -80,23 +82,6 @@ impl<S: KeepsShard> Service<S> {
             Ok(polled) => Ok(reply_of_poll(polled)),
             Err((error, _hint)) => Err(error),
         }
-    }
-
-    fn turn_replied<R: Wait>(
-        &self,
-        rt: &R,
-        pass: &mut Pass<S>,
-        turn: DispatchTurn,
-    ) -> Result<Reply, AllocError>
-        requires { IsPassOf pass.old self.now }
-        ensures own { IsPassOf pass.new self.now }
-        ensures named { number (known_by pass.new) ≡ number (known_by pass.old) }
-        ensures ok { IfOk result (λ r.
-            CallServed self.now pass.old pass.new (a_call.DispatchTurn turn) r) }
-        ensures err { OnErr result
-            (CallKept self.now pass.old pass.new (a_call.DispatchTurn turn)) }
-    {
-        self.dispatch_turn(rt, pass, turn.shard, turn.stop, turn.at)
     }
 }
 

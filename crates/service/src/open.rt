@@ -5,16 +5,14 @@
 //! The gate gives as many passes as the settings say, so do the task queues, and one of each becomes a
 //! pass of the service. The room that `close` needs is made here.
 
-ghost use Rattle.std.specs.Prelude.{◌≡◌, ◌≢◌, ℕ, ◌<◌, All, Some, Ok, Err, length, map, slice_get, IfOk, IfErr};
-ghost use Rattle.gate.specs.Passes.{IsFresh};
+ghost use Rattle.std.specs.Prelude.{◌≡◌, ◌≢◌, ℕ, ◌<◌, All, Some, Err, length, map, slice_get, IfOk, IfErr};
 ghost use Rattle.matching.specs.Holding.{held_by};
 ghost use Rattle.matching.specs.Named.{IsPassOf as IsPassOfQueues, capacity_of, given_of, names_of, shards_of};
-ghost use Rattle.service.specs.AtClose.{base_of};
-ghost use Rattle.service.specs.HeldHints.{HoldsAtOpening, HoldAtOpening};
-ghost use Rattle.service.specs.Reopening.{opens, record_at, records_fault};
+ghost use Rattle.service.specs.HeldHints.{HoldAtOpening, Opens};
+ghost use Rattle.service.specs.Reopening.{opens, records_fault};
 ghost use Rattle.service.specs.Ranges.{are_different, are_queues, range_fault, stands_in};
 ghost use Rattle.service.specs.ServiceViews.{Pass as PassView};
-ghost use Rattle.service.specs.Services.{IsPassOf, IsInRange, known_by, settings_of};
+ghost use Rattle.service.specs.Services.{IsInRange};
 
 use crate::close::PassRoom;
 use crate::reopen::setups_and_records;
@@ -49,20 +47,7 @@ impl<S: KeepsShard> Service<S> {
         settings: &Settings,
         records: Vec<Record<Request>>,
     ) -> Result<(Service<S>, Vec<Pass<S>>), Refusal>
-        ensures own { IfOk result (λ r.
-            (k : ℕ) (p : PassView) → slice_get r.1.items k ≡ Some p
-            → IsPassOf p r.0) }
-        ensures fresh { IfOk result (λ r.
-            (k : ℕ) (p : PassView) → slice_get r.1.items k ≡ Some p
-            → IsFresh k (known_by p)) }
-        ensures records { IfOk result (λ r.
-            (s : ℕ) → base_of r.0 s ≡ record_at records.items s) }
-        ensures width { IfOk result (λ r.
-            length r.0.gate.origin.bases ≡ settings.now.shards) }
-        ensures held { IfOk result (λ r. HoldsAtOpening settings.now records.items r.1.items) }
-        ensures settings { IfOk result (λ r. settings_of r.0 ≡ settings.now) }
-        ensures count { IfOk result (λ r. length r.1.items ≡ settings.now.passes) }
-        ensures range { IfOk result (λ r. range_fault settings.now ≡ Ok tt) }
+        ensures ok { IfOk result (λ r. Opens settings.now records.items r.0 r.1.items) }
         ensures err { IfErr result (λ e.
             e ≢ Refusal.NoMemory → opens settings.now records.items ≡ Err e) }
     {

@@ -2,13 +2,13 @@
 
 ghost use Rattle.std.specs.Prelude.{◌≡◌, ◌≤◌, List, length, map, IfOk};
 ghost use Rattle.std.specs.List.{AllByRecursion};
-ghost use Rattle.gate.specs.Passes.{IsFresh, view as seen_by};
+ghost use Rattle.gate.specs.Passes.{view as seen_by};
 ghost use Rattle.gate.specs.Records.{Each, KeepsAll, replay};
 ghost use Rattle.service_model_types.specs.declared.content.Setup.{Setup as TheSetup};
 ghost use Rattle.service_model.specs.Service.{Entry as TheEntry, opening, replay as replayed_by};
 ghost use Rattle.service_model.specs.Waiting.{waiting};
-ghost use Rattle.shard_gate.specs.Opening.{IsSetup, opened_with, records_in, waiting_in};
-ghost use Rattle.shard_gate.specs.GateViews.{IsPassOf, PassView, given as given_by, slots, starts_of};
+ghost use Rattle.shard_gate.specs.Opening.{IsSetup, Opens, opened_with, records_in, waiting_in};
+ghost use Rattle.shard_gate.specs.GateViews.{PassView};
 
 use crate::close::{Closed, GatePasses};
 use crate::keeps_shard::KeepsShard;
@@ -133,14 +133,8 @@ impl<S: KeepsShard> ShardGate<S> {
         requires passes { (1 ≤ passes) × (passes ≤ 256) }
         requires setups { AllByRecursion
             (λ (g : TheSetup × List TheEntry). IsSetup g.0) given.items }
-        ensures slots { IfOk result (λ r. slots r.gate ≡ length given.items) }
-        ensures starts { IfOk result (λ r. starts_of r.gate ≡ opened_with given.items) }
-        ensures records { IfOk result (λ r. r.gate.origin.bases ≡ records_in given.items) }
-        ensures given { IfOk result (λ r. (given_by r.gate ≡ passes)
-            × (length r.passes.items ≡ passes)) }
-        ensures own { IfOk result (λ r. Each r.passes.items (λ k p. IsPassOf p r.gate)) }
-        ensures fresh { IfOk result (λ r. Each r.passes.items (λ k p. IsFresh k p.known)) }
-        ensures waiting { IfOk result (λ r. r.waiting.items ≡ waiting_in given.items) }
+        ensures { IfOk result (λ r.
+            Opens given.items passes r.gate r.passes.items r.waiting.items) }
     {
         let Laid { objects, waiting } = lay(alloc, given)?;
         let count = objects.len();

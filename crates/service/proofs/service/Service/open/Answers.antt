@@ -1,7 +1,7 @@
-use Rattle.std.proofs.Common.{◌≡◌, List, length, ap, sym, ◌∙◌, subst, arith}
+use Rattle.std.proofs.Common.{◌≡◌, ℕ, List, length, ap, sym, ◌∙◌, subst, arith}
 use Rattle.std.proofs.lemmas.List.{length-map}
 use Rattle.std.proofs.lemmas.Result.{err_from_is_err_and}
-use Rattle.std.specs.Prelude.{◌<◌, All, slice_get, Ok}
+use Rattle.std.specs.Prelude.{◌<◌, All, slice_get, Some, Ok}
 use Rattle.gate.specs.SlotRule.{at}
 use Rattle.service_model_types.specs.declared.content.Dispatch.{Dispatch}
 use Rattle.service_model_types.specs.declared.content.Setup.{Setup}
@@ -36,42 +36,6 @@ open-requires-clause-setups g c =
 pub open_queues-requires-clause-range : goal.open_queues-requires-clause-range
 open_queues-requires-clause-range g c = in-range c.args.settings.now (sym c.in_ok-check_ranges.ensures)
 
-pub returns-clause-own : goal.returns-clause-own
-returns-clause-own g c = λ k p there.
-    let same = sym c.in_ok-copy.ensures in
-    let inner = ap (λ t. slice_get t k) (sym c.in_ok-passes.ensures.inner) ∙ map-get (λ (q : Pass). q.inner) c.in_ok-passes.passes.items k p there in
-    let hints = ap (λ t. slice_get t k) (sym c.in_ok-passes.ensures.hints) ∙ map-get (λ (q : Pass). q.hints) c.in_ok-passes.passes.items k p there in
-    let found = c.in_ok-gate in
-    let count = given-count c.args.settings.now c.in_ok-given.given.items c.in_ok-given.ensures.setups in
-    record {
-      opened = record {
-        range = subst (λ K. IsInRange K) same (in-range c.args.settings.now (sym c.in_ok-check_ranges.ensures));
-        slots = found.ensures.slots ∙ count ∙ ap (λ (K : Settings). K.shards) same;
-        starts = found.ensures.starts ∙ opens-with c.args.settings.now c.in_ok-given.given.items c.in_ok-given.ensures.setups ∙ ap opening_contents same;
-        passes = found.ensures.given.0 ∙ ap (λ (K : Settings). K.passes) same;
-        names = c.in_ok-queues.ensures.names ∙ ap (λ (K : Settings). K.queues) same;
-        capacity = c.in_ok-queues.ensures.capacity ∙ ap (λ (K : Settings). K.capacity) same;
-        named_shards = c.in_ok-queues.ensures.shards ∙ ap (λ (K : Settings). K.shards) same;
-        hint_passes = c.in_ok-queues.ensures.given ∙ ap (λ (K : Settings). K.passes) same;
-      };
-      own = found.ensures.own k p.inner inner;
-      hints = c.in_ok-queues.ensures.own k p.hints hints;
-    }
-
-pub returns-clause-fresh : goal.returns-clause-fresh
-returns-clause-fresh g c = λ k p there. c.in_ok-gate.ensures.fresh k p.inner (ap (λ t. slice_get t k) (sym c.in_ok-passes.ensures.inner) ∙ map-get (λ (q : Pass). q.inner) c.in_ok-passes.passes.items k p there)
-
-pub returns-clause-records : goal.returns-clause-records
-returns-clause-records g c = λ s.
-    let K = c.args.settings.now in
-    let right = records-right K c.args.records.items (sym (c.in_ok-check_records.ensures ∙ ap (records_fault K) c.deref.ensures.value)) in
-    ap (λ t. at t s) (c.in_ok-gate.ensures.records ∙ c.in_ok-given.ensures.records) ∙ base-is K c.args.records.items s right
-
-pub returns-clause-width : goal.returns-clause-width
-returns-clause-width g c =
-    let count = given-count c.args.settings.now c.in_ok-given.given.items c.in_ok-given.ensures.setups in
-    ap length c.in_ok-gate.ensures.records ∙ length-map c.in_ok-given.given.items (λ (y : Setup × List Entry). y.1) ∙ count
-
 pub open_queues-requires-clause-shards : goal.open_queues-requires-clause-shards
 open_queues-requires-clause-shards g c =
     let K = c.args.settings.now in
@@ -79,17 +43,48 @@ open_queues-requires-clause-shards g c =
     let waits = c.in_ok-gate.ensures.waiting ∙ waiting-is K R c.in_ok-given.given.items c.in_ok-given.ensures.setups c.in_ok-given.ensures.records in
     subst (All (λ (d : Dispatch). d.hint.shard < K.shards)) (sym waits) (waiting-there K R)
 
-pub returns-clause-held : goal.returns-clause-held
-returns-clause-held g c =
+pub returns-clause-ok : goal.returns-clause-ok
+returns-clause-ok g c =
     let K = c.args.settings.now in
     let R = c.args.records.items in
+    let same = sym c.in_ok-copy.ensures in
+    let gate = c.in_ok-gate.ensures in
+    let queues = c.in_ok-queues.ensures in
+    let made = c.in_ok-passes in
+    let given = c.in_ok-given in
     let right : records_fault K R ≡ Ok tt = sym (c.in_ok-check_records.ensures ∙ ap (records_fault K) c.deref.ensures.value) in
-    let waits = c.in_ok-gate.ensures.waiting ∙ waiting-is K R c.in_ok-given.given.items c.in_ok-given.ensures.setups c.in_ok-given.ensures.records in
-    let all = c.in_ok-queues.ensures.held in
+    let waits = gate.waiting ∙ waiting-is K R given.given.items given.ensures.setups given.ensures.records in
+    let count = given-count K given.given.items given.ensures.setups in
+    let inner : (k : ℕ) (p : Pass) → slice_get made.passes.items k ≡ Some p → slice_get c.in_ok-gate.inner.items k ≡ Some p.inner =
+    λ k p there. ap (λ t. slice_get t k) (sym made.ensures.inner) ∙ map-get (λ (q : Pass). q.inner) made.passes.items k p there in
+    let hints : (k : ℕ) (p : Pass) → slice_get made.passes.items k ≡ Some p → slice_get c.in_ok-queues.hints.items k ≡ Some p.hints =
+    λ k p there. ap (λ t. slice_get t k) (sym made.ensures.hints) ∙ map-get (λ (q : Pass). q.hints) made.passes.items k p there in
     record {
-      held = all.held;
-      opened = opens-as K R _ (Ok all.held) (sym c.in_ok-check_ranges.ensures) right waits all.pushed;
-      fresh = λ k p there. all.fresh k p.hints (ap (λ t. slice_get t k) (sym c.in_ok-passes.ensures.hints) ∙ map-get (λ (q : Pass). q.hints) c.in_ok-passes.passes.items k p there);
+      own = λ k p there. record {
+        opened = record {
+          range = subst (λ N. IsInRange N) same (in-range K (sym c.in_ok-check_ranges.ensures));
+          slots = gate.slots ∙ count ∙ ap (λ (N : Settings). N.shards) same;
+          starts = gate.starts ∙ opens-with K given.given.items given.ensures.setups ∙ ap opening_contents same;
+          passes = gate.given ∙ ap (λ (N : Settings). N.passes) same;
+          names = queues.names ∙ ap (λ (N : Settings). N.queues) same;
+          capacity = queues.capacity ∙ ap (λ (N : Settings). N.capacity) same;
+          named_shards = queues.shards ∙ ap (λ (N : Settings). N.shards) same;
+          hint_passes = queues.given ∙ ap (λ (N : Settings). N.passes) same;
+        };
+        own = gate.own k p.inner (inner k p there);
+        hints = queues.own k p.hints (hints k p there);
+      };
+      fresh = λ k p there. gate.fresh k p.inner (inner k p there);
+      records = λ s. ap (λ t. at t s) (gate.records ∙ given.ensures.records) ∙ base-is K R s (records-right K R right);
+      width = ap length gate.records ∙ length-map given.given.items (λ (y : Setup × List Entry). y.1) ∙ count;
+      held = record {
+        held = queues.held.held;
+        opened = opens-as K R _ (Ok queues.held.held) (sym c.in_ok-check_ranges.ensures) right waits queues.held.pushed;
+        fresh = λ k p there. queues.held.fresh k p.hints (hints k p there);
+      };
+      settings = c.in_ok-copy.ensures;
+      count = sym (length-map made.passes.items (λ (p : Pass). p.inner)) ∙ ap length made.ensures.inner ∙ gate.count;
+      range = sym c.in_ok-check_ranges.ensures;
     }
 
 pub returns-in_err-queues-clause-err : goal.returns-in_err-queues-clause-err
