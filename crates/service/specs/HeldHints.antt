@@ -30,12 +30,12 @@ pub record HoldsAtOpening (K : Settings) (records : List (List Entry)) (passes :
 
 -- What opening by these settings and records gives: a service by these settings, each shard with its record, and as many
 -- passes of it as the settings say, numbered from 0, that have seen those records and know the hints
-pub record Opens (K : Settings) (records : List (List Entry)) (x : Service) (passes : List Pass) : Type 0 where
+pub record Opens (K : Settings) (logs : List (List Entry)) (x : Service) (passes : List Pass) : Type 0 where
   pub own : (k : ℕ) (p : Pass) → slice_get passes k ≡ Some p → IsPassOf p x
   pub fresh : (k : ℕ) (p : Pass) → slice_get passes k ≡ Some p → IsFresh k (known_by p)
-  pub records : (s : ℕ) → base_of x s ≡ record_at records s
+  pub records : (s : ℕ) → base_of x s ≡ record_at logs s
   pub width : length x.gate.origin.bases ≡ K.shards
-  pub held : HoldsAtOpening K records passes
+  pub held : HoldsAtOpening K logs passes
   pub settings : settings_of x ≡ K
   pub count : length passes ≡ K.passes
   pub range : range_fault K ≡ Ok tt

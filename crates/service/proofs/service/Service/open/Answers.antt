@@ -55,7 +55,7 @@ returns-clause-ok g c =
     let right : records_fault K R ≡ Ok tt = sym (c.in_ok-check_records.ensures ∙ ap (records_fault K) c.deref.ensures.value) in
     let waits = gate.waiting ∙ waiting-is K R given.given.items given.ensures.setups given.ensures.records in
     let count = given-count K given.given.items given.ensures.setups in
-    let inner : (k : ℕ) (p : Pass) → slice_get made.passes.items k ≡ Some p → slice_get c.in_ok-gate.inner.items k ≡ Some p.inner =
+    let inner : (k : ℕ) (p : Pass) → slice_get made.passes.items k ≡ Some p → slice_get c.in_ok-gate.field-0.passes.items k ≡ Some p.inner =
     λ k p there. ap (λ t. slice_get t k) (sym made.ensures.inner) ∙ map-get (λ (q : Pass). q.inner) made.passes.items k p there in
     let hints : (k : ℕ) (p : Pass) → slice_get made.passes.items k ≡ Some p → slice_get c.in_ok-queues.hints.items k ≡ Some p.hints =
     λ k p there. ap (λ t. slice_get t k) (sym made.ensures.hints) ∙ map-get (λ (q : Pass). q.hints) made.passes.items k p there in
