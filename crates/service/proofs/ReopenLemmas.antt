@@ -3,7 +3,7 @@ use Rattle.std.proofs.Common.{◌≡◌, ℕ, ◌+◌, ◌<◌, ◌≤◌, Bool,
 use Rattle.std.proofs.lemmas.List.{length-map}
 use Rattle.std.proofs.lemmas.List.FromFn.{length-map-range_with_len, map-range_with_len_more}
 use Rattle.std.proofs.lemmas.Bool.Decides.{nat_tests}
-use Rattle.std.specs.Prelude.{All, ◌==◌, ◌||◌, flat_map, length, map, slice_get, if◌then◌else◌, nat_lt, Result, Ok, Err, IfOk, MatchResult}
+use Rattle.std.specs.Prelude.{All, ◌==◌, ◌||◌, flat_map, length, map, slice_get, if◌then◌else◌, nat_lt, Result, Ok, Err, IfOk, IfErr, MatchResult}
 use Rattle.std.specs.List.{range_with_len, AllByRecursion}
 use Rattle.wf_event_values.specs.declared.field.Field.TheVariants.{Records}
 use Rattle.wf_event_values.specs.declared.refusal.Refusal.{Refusal}
@@ -222,6 +222,10 @@ opens-as K R ds r range right is pushed =
 pub both-ok : {A E : Type 0} (P Q R : A → Type 0) (S : E → Type 0) (r : Result A E) → MatchResult r P S → IfOk r Q → ((x : A) → P x → Q x → R x) → IfOk r R
 both-ok P Q R S (Ok x) p q more = more x p q
 both-ok P Q R S (Err e) p q more = tt
+
+pub err-of : {A E : Type 0} (P : A → Type 0) (S : E → Type 0) (r : Result A E) → MatchResult r P S → IfErr r S
+err-of P S (Ok x) h = tt
+err-of P S (Err e) h = h
 
 -- the passes of queues into which the dispatches were pushed
 pub holds-pushed : (K : Settings) (names : List (List ℕ)) (capacity passes shards : ℕ) (ds : List Dispatch) (all : List (List Hint)) (ps : List QueuesPass)

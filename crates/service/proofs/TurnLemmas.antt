@@ -1,10 +1,13 @@
--- which shard a dispatch names that a service reads
-use Rattle.std.proofs.Common.{◌≡◌, ℕ, ◌<◌, Bool, true, false, List, [], ◌∷◌, sym, ap, ◌∙◌, subst, arith, refl, Option, Some, None}
+-- which shard a dispatch names that a service reads, and what a turn comes to
+use Rattle.std.proofs.Common.{◌≡◌, ◌≢◌, ℕ, ◌<◌, Bool, true, false, List, [], ◌∷◌, sym, ap, ◌∙◌, subst, arith, refl, Option, Some, None}
 use Rattle.std.proofs.lemmas.Bool.Decides.{nat_tests}
-use Rattle.std.specs.Prelude.{nat_lt, if◌then◌else◌, Ok}
+use Rattle.std.specs.Prelude.{nat_lt, if◌then◌else◌, Ok, Err}
 use Rattle.wf_event_values.specs.declared.field.Field.TheVariants as field
 use Rattle.wf_event_values.specs.declared.policies.TaskKind.{TaskKind}
+use Rattle.wf_event_values.specs.declared.refusal.Refusal.{Refusal}
 use Rattle.wf_event_values.specs.declared.refusal.Refusal.TheVariants.{InvalidArgument}
+use Rattle.service_model_types.specs.declared.call.Stop.{Stop}
+use Rattle.service_model_types.specs.declared.call.Stop.TheVariants.{AtEnd, AfterFirstPart, AfterSecondPart}
 use Rattle.service_model_types.specs.declared.answer.NumberedDispatch.{NumberedDispatch}
 use Rattle.service_model_types.specs.declared.content.Content.{Content}
 use Rattle.service_model_types.specs.declared.request.Hint.{Hint}
@@ -16,11 +19,11 @@ use Rattle.gate.specs.declared.view.View.{View}
 use Rattle.gate.specs.Records.{replay}
 use Rattle.service.specs.ServiceViews.{Service}
 use Rattle.matching.specs.declared.view.View.{View as HintView}
-use Rattle.matching.specs.Named.{Pops}
+use Rattle.matching.specs.Named.{Pops, Pushes, capacity_of}
 use Rattle.service.specs.CallRequests.{to_next_dispatch, to_start_task}
 use Rattle.service.specs.Contents.{setup_of}
 use Rattle.service.specs.Services.{Answered, IsServedAtLast}
-use Rattle.service.specs.Turns.{AnsweredOn, Polls}
+use Rattle.service.specs.Turns.{AfterDispatch, AfterNext, AnsweredOn, Polls, Turns, place_of}
 
 names-replayed : (shard : ℕ) (S : Content) (R : List Entry) → NamesShard shard S → NamesShard shard (replay after S R)
 names-replayed shard S [] h = h
@@ -46,3 +49,17 @@ next-below x shard at v w r done d is = by_test (nat_lt shard x.settings.shards)
 pub polled : (x : Service) (o : Option ℕ) (kind : TaskKind) (at : ℕ) (v w : View Request Content) (hs ws : List HintView) (h : Hint) (r : Reply) → Pops o kind hs ws (Ok (Some h)) → IsServedAtLast x v w h.shard (to_start_task at h) r → Polls x o kind at v w hs ws (Some r)
 polled x None kind at v w hs ws h r popped served = absurd (let clash = popped.0 in cc)
 polled x (Some place) kind at v w hs ws h r popped served = (h, popped, served)
+
+-- a dispatch was read, and its hint was not pushed
+pub not-pushed : (x : Service) (shard at : ℕ) (stop : Stop) (d : NumberedDispatch) (v w : View Request Content) (hs ws : List HintView) (next : Reply) (e : Refusal) → AnsweredOn x shard v w (to_next_dispatch at) next → dispatch_of next ≡ Some d → stop ≢ AfterFirstPart → Pushes (place_of x d.dispatch.queue) (capacity_of x.queues) hs ws d.dispatch.hint (Err e) → Turns x shard at stop v w hs ws (Err e)
+not-pushed x shard at stop d v w hs ws next e step found apart push = record {
+  next = next;
+  met = w;
+  step = step;
+  rest = subst (λ o. AfterNext x shard at stop next o w w hs ws (Err e)) (sym found) (by_stop stop apart);
+}
+  where
+    by_stop : (s : Stop) → s ≢ AfterFirstPart → AfterDispatch x shard at s d w w hs ws (Err e)
+    by_stop AtEnd apart = record { pushed = Err e; push = push; rest = (refl, refl) }
+    by_stop AfterFirstPart apart = absurd (apart refl)
+    by_stop AfterSecondPart apart = record { pushed = Err e; push = push; rest = (refl, refl) }

@@ -20,3 +20,6 @@ returns-in-Ok-clause-ok g c =
     let popped = subst (λ ws. Pops o c.args.kind (hints_by c.args.pass.now) ws (Ok (Some one.hint))) (sym c.in-Ok.ensures.hints) found in
     let served = subst (λ (q : Pass). IsServedAtLast x (known_by q) (known_by c.start_taken.new.pass) one.hint.shard (to_start_task c.args.at one.hint) c.in-Ok.reply) c.pass.view_is c.in-Ok.ensures.ok in
     polled x o c.args.kind c.args.at _ _ _ _ one.hint c.in-Ok.reply popped served
+
+pub returns-in-Ok-clause-err : goal.returns-in-Ok-clause-err
+returns-in-Ok-clause-err g c = tt
