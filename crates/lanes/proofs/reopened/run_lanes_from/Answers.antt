@@ -13,7 +13,7 @@ returns-in-Err-clause-fault g c = opening-refused c.args.settings.now c.args.rec
 
 pub returns-in_err-ended-clause-halted : goal.returns-in_err-ended-clause-halted
 returns-in_err-ended-clause-halted g c =
-    let o = c.in-Ok.ensures in
+    let o = c.in-Ok.ensures.ok in
     on_any_err c.from_residual.result _ (inr (inl (record {
       service = c.in-Ok.opened.0;
       passes = c.in-Ok.opened.1.items;
@@ -26,22 +26,22 @@ close-closed-requires-clause-own g c = c.in_ok-ended.ensures.own
 
 pub close-closed-requires-clause-count : goal.close-closed-requires-clause-count
 close-closed-requires-clause-count g c =
-    let o = c.in-Ok.ensures in
+    let o = c.in-Ok.ensures.ok in
     let same : map number_of c.in_ok-ended.ended.passes.items ≡ map number_of c.in-Ok.opened.1.items = numbers-kept c.in-Ok.opened.0 c.args.settings.now c.in-Ok.opened.1.items _ _ _ _ c.in_ok-ended.ended.refused c.in_ok-ended.ended.passes.items c.in_ok-ended.ensures.ran in
     ends-count c.args.settings.now c.in-Ok.opened.0 c.in-Ok.opened.1.items c.in_ok-ended.ended.passes.items o.settings o.count same
 
 pub close-closed-requires-clause-all : goal.close-closed-requires-clause-all
 close-closed-requires-clause-all g c =
-    let o = c.in-Ok.ensures in
+    let o = c.in-Ok.ensures.ok in
     let same : map number_of c.in_ok-ended.ended.passes.items ≡ map number_of c.in-Ok.opened.1.items = numbers-kept c.in-Ok.opened.0 c.args.settings.now c.in-Ok.opened.1.items _ _ _ _ c.in_ok-ended.ended.refused c.in_ok-ended.ended.passes.items c.in_ok-ended.ensures.ran in
     ends-all c.args.settings.now c.in-Ok.opened.0 c.in-Ok.opened.1.items c.in_ok-ended.ended.passes.items o.settings o.count same o.fresh
 
 pub print_trace-requires : goal.print_trace-requires
-print_trace-requires g c = λ t. closed-ticketed c.args.records.items c.in-Ok.opened.0 c.close-closed.result.records.items _ c.in-Ok.ensures.records c.close-closed.ensures.count c.close-closed.ensures.history (c.requires t)
+print_trace-requires g c = λ t. closed-ticketed c.args.records.items c.in-Ok.opened.0 c.close-closed.result.records.items _ c.in-Ok.ensures.ok.records c.close-closed.ensures.count c.close-closed.ensures.history (c.requires t)
 
 pub returns-clause-ran : goal.returns-clause-ran
 returns-clause-ran g c =
-    let o = c.in-Ok.ensures in
+    let o = c.in-Ok.ensures.ok in
     let e = c.close-closed.ensures in
     let x = c.in-Ok.opened.0 in
     let logs = c.close-closed.result.records.items in
@@ -59,7 +59,7 @@ returns-clause-ran g c =
 
 pub returns-in_err-print_trace-clause-halted : goal.returns-in_err-print_trace-clause-halted
 returns-in_err-print_trace-clause-halted g c =
-    let o = c.in-Ok.ensures in
+    let o = c.in-Ok.ensures.ok in
     let e = c.close-closed.ensures in
     let x = c.in-Ok.opened.0 in
     let logs = c.close-closed.result.records.items in
