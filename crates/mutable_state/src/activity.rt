@@ -42,7 +42,7 @@ pub struct NotedActivity {
 
 impl NotedActivity {
     /// The activity that this event scheduled, where this is noted of it.
-    pub fn of(event: &Event, notes: &Notes) -> NotedActivity
+    pub(crate) fn of(event: &Event, notes: &Notes) -> NotedActivity
         ensures { result ≡ noted_activity (kept_row notes.now event.now) }
     {
         NotedActivity {
