@@ -23,6 +23,7 @@ use service_model_types::request::{Operation, Request};
 use shard_deliveries::{acknowledge_transfer, deliver_transfer, read_next_transfer};
 use shard_store::{Plan, Store};
 use std::alloc::AllocError;
+use wf_event_values::Moment;
 
 /// Makes all that the request's step needs. The shard stands for the same contents, whatever the
 /// result.
@@ -34,7 +35,20 @@ pub fn prepare<T: KeepsRun>(store: &mut Store<T>, request: &Request) -> Result<P
         request.now.operation)) }
 {
     let moment = request.at.later(store.last());
-    match &request.operation {
+    prepare_at(store, moment, &request.operation)
+}
+
+/// The same at the step's moment.
+fn prepare_at<T: KeepsRun>(
+    store: &mut Store<T>,
+    moment: Moment,
+    operation: &Operation,
+) -> Result<Plan<T>, AllocError>
+    ensures same { state store.new ≡ state store.old }
+    ensures plan { IfOk result (λ plan. FitsStep store.new plan moment
+        (outcome_in (state store.old) moment operation.now)) }
+{
+    match operation {
         Operation::Start(start) => start_workflow(store, moment, start.get()),
         Operation::Signal(signal) => signal_workflow(store, moment, signal),
         Operation::SignalWithStart(both) => signal_with_start(store, moment, both.get()),
