@@ -1,5 +1,5 @@
 -- what a request does to a shard that stands for a content
-use Rattle.std.proofs.Common.{arith, ◌≡◌, ℕ, ◌≤◌, length, refl, sym, ap, ◌∙◌, subst}
+use Rattle.std.proofs.Common.{arith, ◌≡◌, ℕ, ◌≤◌, length, sym, ap, ◌∙◌, subst}
 use Rattle.std.specs.Prelude.{max}
 use Rattle.service_model_types.specs.declared.content.Content.{Content}
 use Rattle.service_model_types.specs.declared.request.Operation.{Operation}

@@ -1,12 +1,12 @@
 -- what a deadline does that fires
-use Rattle.std.proofs.Common.{◌≡◌, ℕ, ◌-◌, ◌∙◌, sym, ap, refl, subst, arith, true, false, cond, slice_index_or}
+use Rattle.std.proofs.Common.{◌≡◌, ℕ, ◌-◌, ◌∙◌, sym, ap, subst, arith, true, false, cond}
 use Rattle.std.specs.Prelude.{Ok, Some}
 use Rattle.wf_event_values.specs.Run.{Run}
 use Rattle.service_model_types.specs.declared.answer.Answer.{Answer}
 use Rattle.service_model_types.specs.declared.answer.Answer.TheVariants.{Fired}
 use Rattle.service_model.specs.Outcome.{Outcome, adds, run_at, run_id, takes_away}
-use Rattle.service_model.specs.RunState.{RunState, is_open, is_there, no_run}
-use Rattle.service_model.specs.TimerTurns.{all_dues, due_now, fire, fire_by, fired, fire_due, is_retention, least}
+use Rattle.service_model.specs.RunState.{is_open, is_there}
+use Rattle.service_model.specs.TimerTurns.{all_dues, due_now, fire, fired, fire_due, is_retention, least}
 use Rattle.service_model.specs.Aging.{IsOldestRun}
 use Rattle.timeouts.specs.Slots.{run_due}
 use Rattle.timeouts.specs.declared.due.Due.{Due}

@@ -1,4 +1,4 @@
-use Rattle.std.proofs.Common.{◌≡◌, ℕ, ◌-◌, ◌∙◌, false, Option, IfSome, subst, ap, sym, refl}
+use Rattle.std.proofs.Common.{◌≡◌, ℕ, ◌-◌, ◌∙◌, false, Option, IfSome, subst, sym, refl}
 use Rattle.service_model.specs.RunState.{is_open}
 use Rattle.service_model.specs.Signals.{start_in}
 use Rattle.shard_store.specs.ShardView.{ordinal_of, runs_at, states}

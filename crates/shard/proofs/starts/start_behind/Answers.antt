@@ -1,4 +1,4 @@
-use Rattle.std.proofs.Common.{◌≡◌, ℕ, ◌-◌, ◌∙◌, false, Option, IfSome, subst, ap, sym}
+use Rattle.std.proofs.Common.{◌≡◌, ℕ, ◌-◌, ◌∙◌, false, Option, IfSome, subst, sym}
 use Rattle.service_model.specs.RunState.{is_open}
 use Rattle.shard_store.specs.ShardView.{ordinal_of, runs_at, states}
 use Rattle.shard_store.specs.Fitting.{state_at}

@@ -2,8 +2,6 @@ use Rattle.std.proofs.Common.{◌≡◌, ℕ, Bool, ◌≤◌, ◌∙◌, ◌&&�
 use Rattle.std.proofs.lemmas.Bool.Decides.{nat_tests}
 use Rattle.std.specs.Prelude.{Some, is_some}
 use Rattle.service_model_types.specs.declared.journal.Fact.{Fact}
-use Rattle.wf_event_values.specs.Run.{Run}
-use Rattle.service_model_types.specs.declared.answer.Answer.{Answer}
 use Rattle.service_model.specs.Outcome.{Outcome, adds, run_at, run_id}
 use Rattle.service_model.specs.Deadlines.{dues}
 use Rattle.service_model.specs.RunState.{RunState, is_there}
