@@ -12,6 +12,7 @@ use Rattle.wire_requests.specs.declared.calls.Asked.TheVariants.{Barrier as a_ba
 use Rattle.lanes.specs.declared.lane.Lane.{Lane}
 use Rattle.lanes.specs.declared.print.Place.{Place}
 use Rattle.lanes.specs.declared.print.Place.TheVariants.{Barrier, Refused, InLane}
+use Rattle.lanes.specs.Calls.{waiting}
 use Rattle.lanes.specs.Answers.{AreKept, AreLines, KeepsLines, Wrote}
 use Rattle.lanes.specs.Course.{Serves, Meets, AllMet, InTurn}
 
@@ -36,7 +37,7 @@ module _ {Keeper Plan : Type 0} where
 
   -- the calls that a lane is to make
   abbrev pub calls_of : Lane Keeper Plan → List Call
-  calls_of l = l.asked.items
+  calls_of l = waiting l.asked
 
   -- these are the replies of a lane that were not taken
   abbrev pub Left : Lane Keeper Plan → List Reply → Type 0

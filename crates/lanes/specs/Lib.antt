@@ -1,4 +1,5 @@
 pub mod Answers
+pub mod Calls
 pub mod Course
 pub mod Endings
 pub mod Found

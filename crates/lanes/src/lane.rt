@@ -5,9 +5,11 @@ ghost use Rattle.lanes.specs.declared.answer.Answer.{Answer};
 ghost use Rattle.lanes.specs.Lanes.{AnsweredOne, Failed, IsBehind, Made, Worked, calls_of};
 
 use crate::answer::Answer;
+use crate::calls::Calls;
 use crate::door::Door;
 use crate::print::Place;
 use crate::replies::Replies;
+use crate::room::make_room;
 use service::{KeepsShard, Pass};
 use service_model_types::call::Call;
 use std::alloc::{AllocError, Global};
@@ -20,7 +22,7 @@ use std::sync::Wait;
 #[derive(Drop)]
 pub(crate) struct Lane<S: KeepsShard> {
     pub(crate) pass: Pass<S>,
-    asked: VecDeque<Call>,
+    asked: Calls,
     replies: Replies,
     /// How many of the replies were taken.
     taken: usize,
@@ -33,7 +35,7 @@ impl<S: KeepsShard> Lane<S> {
     {
         Lane {
             pass,
-            asked: VecDeque::new(alloc),
+            asked: Calls::new(alloc),
             replies: Replies::new(alloc),
             taken: 0,
         }
@@ -53,20 +55,24 @@ impl<S: KeepsShard> Lane<S> {
     }
 
     /// One call more.
-    pub(crate) fn ask(&mut self, call: Call) -> Result<(), AllocError>
+    pub(crate) fn ask(&mut self, alloc: Global, call: Call) -> Result<(), AllocError>
         ensures pass { self.new.pass ≡ self.old.pass }
         ensures asked { OnOk result (calls_of self.new ≡ calls_of self.old ++ call ∷ []) }
     {
-        self.asked.push_back(call)?;
+        self.asked.push(alloc, call)?;
         Ok(())
     }
 
-    /// More calls, which leave their list.
-    pub(crate) fn ask_all(&mut self, calls: &mut VecDeque<Call>) -> Result<(), AllocError>
+    /// More calls, in a list of which another one takes the place.
+    pub(crate) fn ask_all(
+        &mut self,
+        alloc: Global,
+        calls: &mut VecDeque<Call>,
+    ) -> Result<(), AllocError>
         ensures pass { self.new.pass ≡ self.old.pass }
         ensures asked { OnOk result (calls_of self.new ≡ calls_of self.old ++ calls.old.items) }
     {
-        self.asked.append(calls)?;
+        self.asked.take_list(alloc, calls)?;
         Ok(())
     }
 
@@ -117,6 +123,7 @@ impl<S: KeepsShard> Lane<S> {
         ensures own { D.admits door.now self.new.pass }
         ensures worked { Worked (D.serves door.now) self.old self.new }
     {
+        make_room(alloc);
         self.replies.clear(alloc);
         self.taken = 0;
         let _ = self.serve_all(rt, alloc, door, lane, first, places);
@@ -166,7 +173,26 @@ impl<S: KeepsShard> Lane<S> {
         if !place.is_in(lane) {
             return Ok(());
         }
-        let Some(call) = self.asked.pop_front() else {
+        self.serve_next(rt, alloc, door, number)?;
+        Ok(())
+    }
+
+    /// Makes the next call, and the line of its reply. Lines of other lanes pay nothing for what a call
+    /// needs of the stack.
+    #[inline(never)]
+    fn serve_next<R: Wait, D: Door<S>>(
+        &mut self,
+        rt: &R,
+        alloc: Global,
+        door: &D,
+        number: u64,
+    ) -> Result<(), AllocError>
+        requires { D.admits door.now self.old.pass }
+        ensures own { D.admits door.now self.new.pass }
+        ensures answered { OnOk result (AnsweredOne (D.serves door.now) self.old self.new) }
+        ensures failed { OnErr result (Failed self.old self.new) }
+    {
+        let Some(call) = self.asked.pop() else {
             return Err(AllocError);
         };
         let reply = door.call(rt, &mut self.pass, call)?;

@@ -8,6 +8,7 @@
 #![tactic(auto)]
 
 mod answer;
+mod calls;
 mod door;
 mod lane;
 mod phase;
@@ -15,6 +16,7 @@ mod print;
 mod reading;
 mod reopened;
 mod replies;
+mod room;
 mod run;
 mod sorted;
 

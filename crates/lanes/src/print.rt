@@ -74,7 +74,8 @@ fn print_line<W: Write>(line: &[u8], writer: &mut Counted<W>) -> Result<(), Scri
     Ok(())
 }
 
-/// Writes the line of a refusal.
+/// Writes the line of a refusal. Its reply takes room on the stack, for which no other line pays.
+#[inline(never)]
 fn print_refusal<W: Write>(
     alloc: Global,
     number: u64,

@@ -9,6 +9,7 @@ ghost use Rattle.lanes.specs.Found.{AllGiven, AreRead, EndsLines, HasRead, IsGiv
 ghost use Rattle.lanes.specs.Sorted.{IsSorted};
 ghost use Rattle.lanes.specs.declared.reading.Reader.{Reader};
 
+use crate::room::make_room;
 use crate::sorted::Sorted;
 use script::{Line, asked, cut};
 use service_model_types::settings::Settings;
@@ -78,6 +79,7 @@ impl Reader {
         requires { IsGiven text.now self.old }
         ensures { HasRead settings.now text.now self.old self.new }
     {
+        make_room(alloc);
         self.sorted.clear();
         self.found.clear();
         let read = read_lines(

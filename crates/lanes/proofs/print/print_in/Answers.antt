@@ -7,6 +7,7 @@ use Rattle.std.specs.Prelude.{slice_range}
 use Rattle.std.specs.Io.KnownBytes.{Appends}
 use Rattle.wire_counted.specs.Written.{AppendsBeginning}
 use Rattle.wire_replies.specs.Replies.{reply_line}
+use Rattle.lanes.specs.Calls.{waiting}
 use Rattle.lanes.specs.Lanes.{calls_of}
 use Rattle.lanes.proofs.WorkLemmas.{left-at, left-count, left-first, left-set, took-first, took-past}
 use Rattle.lanes.proofs.print.print_in.Goals as goal
@@ -30,25 +31,25 @@ pub returns-in_default-clause-passes : goal.returns-in_default-clause-passes
 returns-in_default-clause-passes g c = map-set_same (λ l. l.pass) c.args.lanes.now c.args.lane c.take.new.self c.index-lanes-lane.result c.take.ensures.pass
 
 pub returns-in_default-clause-calls : goal.returns-in_default-clause-calls
-returns-in_default-clause-calls g c = map-set_same calls_of c.args.lanes.now c.args.lane c.take.new.self c.index-lanes-lane.result (ap (λ q. q.items) c.take.ensures.asked)
+returns-in_default-clause-calls g c = map-set_same calls_of c.args.lanes.now c.args.lane c.take.new.self c.index-lanes-lane.result (ap waiting c.take.ensures.asked)
 
 pub returns-then-answer-number-clause-passes : goal.returns-then-answer-number-clause-passes
 returns-then-answer-number-clause-passes g c = map-set_same (λ l. l.pass) c.args.lanes.now c.args.lane c.take.new.self c.index-lanes-lane.result c.take.ensures.pass
 
 pub returns-then-answer-number-clause-calls : goal.returns-then-answer-number-clause-calls
-returns-then-answer-number-clause-calls g c = map-set_same calls_of c.args.lanes.now c.args.lane c.take.new.self c.index-lanes-lane.result (ap (λ q. q.items) c.take.ensures.asked)
+returns-then-answer-number-clause-calls g c = map-set_same calls_of c.args.lanes.now c.args.lane c.take.new.self c.index-lanes-lane.result (ap waiting c.take.ensures.asked)
 
 pub returns-in_err-print_line-clause-passes : goal.returns-in_err-print_line-clause-passes
 returns-in_err-print_line-clause-passes g c = map-set_same (λ l. l.pass) c.args.lanes.now c.args.lane c.take.new.self c.index-lanes-lane.result c.take.ensures.pass
 
 pub returns-in_err-print_line-clause-calls : goal.returns-in_err-print_line-clause-calls
-returns-in_err-print_line-clause-calls g c = map-set_same calls_of c.args.lanes.now c.args.lane c.take.new.self c.index-lanes-lane.result (ap (λ q. q.items) c.take.ensures.asked)
+returns-in_err-print_line-clause-calls g c = map-set_same calls_of c.args.lanes.now c.args.lane c.take.new.self c.index-lanes-lane.result (ap waiting c.take.ensures.asked)
 
 pub returns-clause-passes : goal.returns-clause-passes
 returns-clause-passes g c = map-set_same (λ l. l.pass) c.args.lanes.now c.args.lane c.take.new.self c.index-lanes-lane.result c.take.ensures.pass
 
 pub returns-clause-calls : goal.returns-clause-calls
-returns-clause-calls g c = map-set_same calls_of c.args.lanes.now c.args.lane c.take.new.self c.index-lanes-lane.result (ap (λ q. q.items) c.take.ensures.asked)
+returns-clause-calls g c = map-set_same calls_of c.args.lanes.now c.args.lane c.take.new.self c.index-lanes-lane.result (ap waiting c.take.ensures.asked)
 
 pub returns-in_err-print_line-clause-begun : goal.returns-in_err-print_line-clause-begun
 returns-in_err-print_line-clause-begun g c =
