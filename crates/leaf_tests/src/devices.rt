@@ -62,34 +62,46 @@ impl Write for Full {
     }
 }
 
+/// Whether a text and then an empty one are written whole, past two interruptions.
+fn is_written<W: Write>(writer: &mut Counted<W>) -> bool {
+    write_whole(writer, b"seven+1").is_ok()
+        && writer.failures == 2
+        && write_whole(writer, b"").is_ok()
+        && writer.failures == 2
+}
+
 #[test]
-fn writes_past_interruptions(rt: HostRuntime) -> io::Result<()> {
+fn writes_past_interruptions(rt: HostRuntime) {
     let mut writer = Counted::new(Trickle::new(Vec::new(rt.alloc())));
-    write_whole(&mut writer, b"seven+1")?;
-    assert_eq!(rt; writer.inner.inner.as_slice(), b"seven+1".as_slice());
-    assert_eq!(rt; writer.failures, 2);
-    write_whole(&mut writer, b"")?;
-    assert_eq!(rt; writer.failures, 2);
-    Ok(())
+    assert!(rt; is_written(&mut writer));
+    assert!(rt; writer.inner.inner.as_slice() == b"seven+1".as_slice());
+}
+
+/// Whether a text of which four bytes are taken is written with a failure, and so is the flush.
+fn is_refused<W: Write>(writer: &mut Counted<W>) -> bool {
+    let result = write_whole(writer, b"seven+1");
+    matches!(result, Err(e) if e.kind() == ErrorKind::WriteZero)
+        && writer.failures == 1
+        && writer.flush().is_err()
+        && writer.failures == 2
 }
 
 #[test]
 fn counts_a_write_that_takes_nothing(rt: HostRuntime) {
-    let mut writer = Counted::new(Full { room: 4 });
-    let result = write_whole(&mut writer, b"seven+1");
-    assert!(rt; matches!(result, Err(e) if e.kind() == ErrorKind::WriteZero));
-    assert_eq!(rt; writer.failures, 1);
-    assert!(rt; writer.flush().is_err());
-    assert_eq!(rt; writer.failures, 2);
+    assert!(rt; is_refused(&mut Counted::new(Full { room: 4 })));
+}
+
+/// Whether three bytes are read, then one, and then none.
+fn is_read<R: Read>(reader: &mut Counted<R>) -> bool {
+    let mut buffer = [0u8; 8];
+    matches!(read_some(reader, &mut buffer), Ok(3))
+        && matches!(read_some(reader, &mut buffer), Ok(1))
+        && matches!(read_some(reader, &mut buffer), Ok(0))
+        && reader.failures == 2
 }
 
 #[test]
-fn reads_past_interruptions(rt: HostRuntime) -> io::Result<()> {
+fn reads_past_interruptions(rt: HostRuntime) {
     let mut reader = Counted::new(Trickle::new(b"four".as_slice()));
-    let mut buffer = [0u8; 8];
-    assert_eq!(rt; read_some(&mut reader, &mut buffer)?, 3);
-    assert_eq!(rt; read_some(&mut reader, &mut buffer)?, 1);
-    assert_eq!(rt; read_some(&mut reader, &mut buffer)?, 0);
-    assert_eq!(rt; reader.failures, 2);
-    Ok(())
+    assert!(rt; is_read(&mut reader));
 }

@@ -15,6 +15,8 @@ mod lines;
 #[cfg(test)]
 mod retries;
 #[cfg(test)]
+mod rows;
+#[cfg(test)]
 mod texts;
 #[cfg(test)]
 mod transfers;

@@ -1,12 +1,13 @@
 //! Vectors of waits and verdicts.
 
+use crate::rows::{attempt, cells, moment, number, text};
 use retry::{Ended, verdict_on, wait_after};
 use service_model_types::decided::Verdict;
-use std::alloc::{AllocError, Global};
-use std::test::Fail;
+use std::alloc::{AllocGlobal, Global};
+use std::process::Abort;
 use wf_event::RetryPolicy;
 use wf_event::payloads::PolicyFields;
-use wf_event_values::{Field, Items, Moment, Text};
+use wf_event_values::{Items, Text};
 
 fn fields(alloc: Global, initial: u64, coefficient: u64, maximum: u64) -> PolicyFields {
     PolicyFields {
@@ -96,40 +97,50 @@ fn waits_that_are_rounded(rt: HostRuntime) {
 }
 
 /// So many empty texts.
-fn texts(alloc: Global, count: u32) -> Result<Items<Text>, AllocError> {
-    let mut texts = Vec::new(alloc);
+fn texts<R: Abort + AllocGlobal>(rt: &R, count: u64) -> Items<Text> {
+    let mut texts = Vec::new(rt.alloc());
     for _ in 0..count {
-        texts.push(Text::empty(alloc))?;
+        if texts.push(Text::empty(rt.alloc())).is_err() {
+            panic!(rt; "no memory");
+        }
     }
-    Ok(Items::from_vec(texts))
+    Items::from_vec(texts)
+}
+
+/// An initial interval, a coefficient, a maximum, the attempts, how many types aren't tried again, and
+/// whether a policy may be so.
+const RANGES: &str = "0|200|0|0|0|bad
+1000000000001|200|0|0|0|bad
+1000|0|0|0|0|bad
+1000|99|0|0|0|bad
+1000|100001|0|0|0|bad
+1000|200|999|0|0|bad
+1000|200|1000000000001|0|0|bad
+1000|200|0|4294967296|100|bad
+1000|200|0|0|101|bad
+1|100|1|4294967295|100|good
+1|100000|1|4294967295|100|good";
+
+fn is_range_row<R: Abort + AllocGlobal>(rt: &R, row: &str) -> bool {
+    let cells = cells(rt, row);
+    let [initial, coefficient, maximum, attempts, types, expected] = cells.as_slice() else {
+        return false;
+    };
+    let fields = PolicyFields {
+        attempts: number(rt, attempts),
+        coefficient: number(rt, coefficient),
+        initial: number(rt, initial),
+        maximum: number(rt, maximum),
+        non_retryable: texts(rt, number(rt, types)),
+    };
+    RetryPolicy::new(fields).is_ok() == (*expected == "good")
 }
 
 #[test]
-fn policies_by_their_ranges(rt: HostRuntime) -> Result<(), Fail> {
-    let vectors = [
-        (0, 200, 0, 0, 0, false),
-        (1_000_000_000_001, 200, 0, 0, 0, false),
-        (1000, 0, 0, 0, 0, false),
-        (1000, 99, 0, 0, 0, false),
-        (1000, 100_001, 0, 0, 0, false),
-        (1000, 200, 999, 0, 0, false),
-        (1000, 200, 1_000_000_000_001, 0, 0, false),
-        (1000, 200, 0, 4_294_967_296, 100, false),
-        (1000, 200, 0, 0, 101, false),
-        (1, 100, 1, 4_294_967_295, 100, true),
-        (1, 100_000, 1, 4_294_967_295, 100, true),
-    ];
-    for (initial, coefficient, maximum, attempts, types, is_good) in vectors {
-        let mut fields = fields(rt.alloc(), initial, coefficient, maximum);
-        fields.attempts = attempts;
-        fields.non_retryable = texts(rt.alloc(), types)?;
-        assert_eq!(rt;
-            RetryPolicy::new(fields).is_ok(),
-            is_good,
-            "{initial} {coefficient} {maximum} {attempts} {types}"
-        );
+fn policies_by_their_ranges(rt: HostRuntime) {
+    for row in RANGES.lines() {
+        assert!(rt; is_range_row(&rt, row), "{row}");
     }
-    Ok(())
 }
 
 fn shown(verdict: Verdict) -> (u64, &'static str) {
@@ -139,68 +150,71 @@ fn shown(verdict: Verdict) -> (u64, &'static str) {
     }
 }
 
-#[test]
-fn verdicts(rt: HostRuntime) -> Result<(), Fail> {
-    let alloc = rt.alloc();
-    let fatal = Text::new(alloc, Field::ErrorType, "fatal")
-        .ok()
-        .ok_or("a text")?;
-    let other = Text::new(alloc, Field::ErrorType, "other")
-        .ok()
-        .ok_or("a text")?;
-    let listed = fatal.clone()?;
-    let mut types = Vec::new(alloc);
-    types.push(listed)?;
-    let mut fields = fields(alloc, 1000, 200, 0);
-    fields.attempts = 4;
-    fields.non_retryable = Items::from_vec(types);
-    let policy = RetryPolicy::new(fields).ok().ok_or("a policy")?;
-
-    let failed = |error_type| Ended::Failure {
-        error_type,
-        non_retryable: false,
-    };
-    let marked = Ended::Failure {
-        error_type: None,
-        non_retryable: true,
-    };
-    let vectors = [
-        (
-            Ended::Timeout,
-            false,
-            1,
-            4000,
-            Some(5000),
-            (5000, "retried"),
-        ),
-        (Ended::Timeout, false, 1, 4001, Some(5000), (0, "Timeout")),
-        (Ended::Timeout, false, 3, 100, None, (4100, "retried")),
-        (
-            Ended::Timeout,
-            false,
-            4,
-            100,
-            None,
-            (0, "MaximumAttemptsReached"),
-        ),
-        (failed(None), false, 1, 0, None, (1000, "retried")),
-        (failed(Some(&other)), false, 1, 0, None, (1000, "retried")),
-        (
-            failed(Some(&fatal)),
-            false,
-            4,
-            0,
-            Some(0),
-            (0, "NonRetryableFailure"),
-        ),
-        (marked, false, 4, 0, Some(0), (0, "NonRetryableFailure")),
-        (marked, true, 4, 0, Some(0), (0, "CancelRequested")),
-    ];
-    for (ended, canceled, attempt, at, deadline, expected) in vectors {
-        let at = Moment::new(Field::At, at).ok().ok_or("a moment")?;
-        let (ready, state) = shown(verdict_on(&policy, ended, canceled, attempt, at, deadline));
-        assert_eq!(rt; ready, expected.0);
-        assert_eq!(rt; state, expected.1);
+/// A policy of four attempts, by which `fatal` failures aren't tried again.
+fn policy<R: Abort + AllocGlobal>(rt: &R) -> RetryPolicy {
+    let mut types = Vec::new(rt.alloc());
+    if types.push(text(rt, "fatal")).is_err() {
+        panic!(rt; "no memory");
     }
-    Ok(())
+    let fields = PolicyFields {
+        attempts: 4,
+        non_retryable: Items::from_vec(types),
+        ..fields(rt.alloc(), 1000, 200, 0)
+    };
+    match RetryPolicy::new(fields) {
+        Ok(policy) => policy,
+        Err(_) => panic!(rt; "no policy"),
+    }
+}
+
+/// How an attempt ended and the failure's type, which attempt it was, when it ended, the deadline, if
+/// any, when the next one is ready, and what is decided.
+const ENDS: &str = "timeout||1|4000|5000|5000|retried
+timeout||1|4001|5000|0|Timeout
+timeout||3|100||4100|retried
+timeout||4|100||0|MaximumAttemptsReached
+untyped||1|0||1000|retried
+typed|other|1|0||1000|retried
+typed|fatal|4|0|0|0|NonRetryableFailure
+marked||4|0|0|0|NonRetryableFailure
+canceled||4|0|0|0|CancelRequested";
+
+/// How an attempt ended that fails for this reason, where it doesn't time out.
+fn ended<'a>(word: &str, reason: &'a Text) -> Ended<'a> {
+    match word {
+        "timeout" => Ended::Timeout,
+        "typed" => Ended::Failure {
+            error_type: Some(reason),
+            non_retryable: false,
+        },
+        _ => Ended::Failure {
+            error_type: None,
+            non_retryable: word != "untyped",
+        },
+    }
+}
+
+fn is_end_row<R: Abort + AllocGlobal>(rt: &R, policy: &RetryPolicy, row: &str) -> bool {
+    let cells = cells(rt, row);
+    let [word, reason, attempts, at, deadline, ready, expected] = cells.as_slice() else {
+        return false;
+    };
+    let reason = text(rt, reason);
+    let verdict = verdict_on(
+        policy,
+        ended(word, &reason),
+        *word == "canceled",
+        attempt(rt, attempts),
+        moment(rt, number(rt, at)),
+        deadline.parse().ok(),
+    );
+    shown(verdict) == (number(rt, ready), *expected)
+}
+
+#[test]
+fn verdicts(rt: HostRuntime) {
+    let policy = policy(&rt);
+    for row in ENDS.lines() {
+        assert!(rt; is_end_row(&rt, &policy, row));
+    }
 }

@@ -1,10 +1,12 @@
 //! Transfers that are issued, delivered and acknowledged.
 
-ghost use Rattle.std.specs.Prelude.{◌<◌, length};
+ghost use Rattle.std.specs.Prelude.{◌≡◌, ◌<◌, length};
 
+use crate::rows::{cells, number};
 use service_model_types::answer::Acknowledged;
 use service_model_types::transfer::{ChildStartFailed, Delivery, Transfer, TransferContent};
-use std::test::Fail;
+use std::alloc::AllocGlobal;
+use std::process::Abort;
 use transfer::{Inbox, Outbox};
 use wf_event_values::RunId;
 
@@ -38,63 +40,117 @@ fn first_number(outbox: &Outbox) -> u64
     outbox.first_to(1).map_or(0, |first| first.0)
 }
 
-#[test]
-fn counts_on_acknowledgements_in_order(rt: HostRuntime) -> Result<(), Fail> {
-    let mut outbox = Outbox::new(rt.alloc(), 2)?;
-    for initiated in [5, 6] {
-        outbox.reserve(1, 1)?;
-        outbox.issue(1, content(initiated));
+/// An outbox and an inbox of two shards.
+fn outbox<R: Abort + AllocGlobal>(rt: &R) -> Outbox
+    ensures { length result ≡ 2 }
+{
+    match Outbox::new(rt.alloc(), 2) {
+        Ok(outbox) => outbox,
+        Err(_) => panic!(rt; "no memory"),
     }
-    let steps = [
-        (2, "out of order", 1),
-        (1, "acknowledged", 2),
-        (1, "already", 2),
-        (2, "acknowledged", 0),
-        (2, "already", 0),
-        (3, "out of order", 0),
-        (0, "already", 0),
-    ];
-    for (number, expected, first) in steps {
-        let acknowledged = outbox.acknowledge(1, number);
-        assert_eq!(rt; shown_acknowledged(acknowledged), expected);
-        assert_eq!(rt; first_number(&outbox), first);
+}
+
+fn inbox<R: Abort + AllocGlobal>(rt: &R) -> Inbox
+    ensures { length result ≡ 2 }
+{
+    match Inbox::new(rt.alloc(), 2) {
+        Ok(inbox) => inbox,
+        Err(_) => panic!(rt; "no memory"),
+    }
+}
+
+/// Issues a transfer to shard 1.
+fn issue<R: Abort>(rt: &R, outbox: &mut Outbox, initiated: u64)
+    requires { length outbox.old ≡ 2 }
+    ensures { length outbox.new ≡ 2 }
+{
+    let Ok(()) = outbox.reserve(1, 1) else {
+        panic!(rt; "no memory")
+    };
+    outbox.issue(1, content(initiated));
+}
+
+/// A number that is acknowledged one after another where two transfers wait, what is said of it, and
+/// the first number that isn't acknowledged then.
+const COUNTED: &str = "2|out of order|1
+1|acknowledged|2
+1|already|2
+2|acknowledged|0
+2|already|0
+3|out of order|0
+0|already|0";
+
+/// Whether a row is so of the next acknowledgement.
+fn is_counted<R: Abort + AllocGlobal>(rt: &R, outbox: &mut Outbox, row: &str) -> bool
+    requires { length outbox.old ≡ 2 }
+    ensures { length outbox.new ≡ 2 }
+{
+    let cells = cells(rt, row);
+    let [acknowledged, expected, first] = cells.as_slice() else {
+        return false;
+    };
+    let acknowledged = outbox.acknowledge(1, number(rt, acknowledged));
+    shown_acknowledged(acknowledged) == *expected && first_number(outbox) == number(rt, first)
+}
+
+#[test]
+fn counts_on_acknowledgements_in_order(rt: HostRuntime) {
+    let mut outbox = outbox(&rt);
+    issue(&rt, &mut outbox, 5);
+    issue(&rt, &mut outbox, 6);
+    for row in COUNTED.lines() {
+        assert!(rt; is_counted(&rt, &mut outbox, row));
     }
     assert!(rt; outbox.first_to(0).is_none());
-    Ok(())
+}
+
+/// Whether the transfer of this number is the first one once it is issued, and none is behind it.
+fn is_first<R: Abort>(rt: &R, outbox: &mut Outbox, number: u64) -> bool
+    requires { length outbox.old ≡ 2 }
+    ensures { length outbox.new ≡ 2 }
+{
+    issue(rt, outbox, number);
+    let is_first = first_number(outbox) == number;
+    is_first && shown_acknowledged(outbox.acknowledge(1, number)) == "acknowledged"
 }
 
 #[test]
-fn numbers_go_on_behind_what_was_acknowledged(rt: HostRuntime) -> Result<(), Fail> {
-    let mut outbox = Outbox::new(rt.alloc(), 2)?;
-    for number in 1..4_u64 {
-        outbox.reserve(1, 1)?;
-        outbox.issue(1, content(number));
-        assert_eq!(rt; first_number(&outbox), number);
-        let acknowledged = outbox.acknowledge(1, number);
-        assert_eq!(rt; shown_acknowledged(acknowledged), "acknowledged");
-    }
-    Ok(())
+fn numbers_go_on_behind_what_was_acknowledged(rt: HostRuntime) {
+    let mut outbox = outbox(&rt);
+    assert!(rt; is_first(&rt, &mut outbox, 1));
+    assert!(rt; is_first(&rt, &mut outbox, 2));
+    assert!(rt; is_first(&rt, &mut outbox, 3));
+}
+
+/// A number that is delivered one after another, and what is said of it.
+const DELIVERED: &str = "2|out of order
+1|accepted
+3|out of order
+1|already
+2|accepted
+3|accepted
+2|already
+0|already";
+
+/// Whether a row is so of the next delivery.
+fn is_delivered<R: Abort + AllocGlobal>(rt: &R, inbox: &mut Inbox, row: &str) -> bool
+    requires { length inbox.old ≡ 2 }
+    ensures { length inbox.new ≡ 2 }
+{
+    let cells = cells(rt, row);
+    let [delivered, expected] = cells.as_slice() else {
+        return false;
+    };
+    let number = number(rt, delivered);
+    let transfer = Transfer::restored(1, number, content(number));
+    shown_delivery(inbox.judge(&transfer)) == *expected
+        && shown_delivery(inbox.accept(&transfer)) == *expected
 }
 
 #[test]
-fn accepts_each_number_once(rt: HostRuntime) -> Result<(), Fail> {
-    let mut inbox = Inbox::new(rt.alloc(), 2)?;
-    let steps = [
-        (2, "out of order"),
-        (1, "accepted"),
-        (3, "out of order"),
-        (1, "already"),
-        (2, "accepted"),
-        (3, "accepted"),
-        (2, "already"),
-        (0, "already"),
-    ];
-    for (number, expected) in steps {
-        let transfer = Transfer::restored(1, number, content(number));
-        let judged = inbox.judge(&transfer);
-        assert_eq!(rt; shown_delivery(judged), expected);
-        let delivery = inbox.accept(&transfer);
-        assert_eq!(rt; shown_delivery(delivery), expected);
+fn accepts_each_number_once(rt: HostRuntime) {
+    let mut inbox = inbox(&rt);
+    for row in DELIVERED.lines() {
+        assert!(rt; is_delivered(&rt, &mut inbox, row));
     }
-    Ok(())
 }
