@@ -10,7 +10,6 @@ use service_model_types::request::Hint;
 use std::alloc::AllocGlobal;
 use std::process::Abort;
 use std::sync::Wait;
-use std::test::Fail;
 use std::thread;
 use std::thread::Threads;
 use wf_event_values::{Field, Id, Refusal, TaskKind};
@@ -131,11 +130,7 @@ fn open<R: Abort + AllocGlobal>(
     ensures own { (k : ℕ) (p : QueuesPass) → slice_get result.1.items k ≡ Some p
         → IsPassOf p result.0 }
 {
-    let mut names = Vec::new(rt.alloc());
-    if names.push(name_of(rt, "main")).is_err() {
-        panic!(rt; "no memory");
-    }
-    match Queues::open(rt.alloc(), names, capacity, passes, 1, waiting) {
+    match Queues::open(rt.alloc(), names(rt, 1), capacity, passes, 1, waiting) {
         Ok(opened) => opened,
         Err(_) => panic!(rt; "the queues were not opened"),
     }
@@ -151,91 +146,143 @@ fn dispatch<R: Abort + AllocGlobal>(rt: &R, queue: &str, event: u64) -> Dispatch
     }
 }
 
+/// Dispatches that wait for these queues, each of its event.
+fn waiting<R: Abort + AllocGlobal>(rt: &R, rows: &[(&str, u64)]) -> Vec<Dispatch>
+    ensures { All (λ d. d.hint.shard < 1) result.items }
+{
+    let mut waiting = Vec::new(rt.alloc());
+    for (queue, event) in rows {
+        let Ok(()) = waiting.push(dispatch(rt, queue, *event)) else {
+            panic!(rt; "no memory")
+        };
+    }
+    waiting
+}
+
 #[test]
-fn hints_come_in_order(rt: HostRuntime) -> Result<(), Fail> {
+fn hints_come_in_order(rt: HostRuntime) {
     let name = name_of(&rt, "main");
     let (queues, mut passes) = open(&rt, 4, 2, Vec::new(rt.alloc()));
     let two = take_pass(&queues, &mut passes);
     let one = take_pass(&queues, &mut passes);
     assert!(rt; exchange(&rt, &queues, one, two, &name));
-    Ok(())
+}
+
+/// Pushes a hint of an event. Whether the queue was full.
+fn finds_full<R: Wait>(
+    rt: &R,
+    queues: &Queues,
+    pass: &mut QueuesPass,
+    name: &Id,
+    event: u64,
+) -> bool
+    requires { IsPassOf pass.old queues.now × (0 < shards_of queues.now) }
+    ensures { IsPassOf pass.new queues.now }
+{
+    let pushed = queues.push_hint(rt, pass, name, hint(event));
+    matches!(pushed, Err(Refusal::QueueFull))
+}
+
+/// Pops the next hint. Its event, 0 where there was none.
+fn pop<R: Wait>(rt: &R, queues: &Queues, pass: &mut QueuesPass, name: &Id, kind: TaskKind) -> u64
+    requires { IsPassOf pass.old queues.now }
+    ensures { IsPassOf pass.new queues.now }
+{
+    match queues.pop_hint(rt, pass, name, kind) {
+        Ok(found) => found.map_or(0, |hint| hint.event),
+        Err(_) => u64::MAX,
+    }
+}
+
+/// Whether a queue is full behind two hints, and then empty behind both.
+fn fills_and_empties<R: Wait>(rt: &R, queues: &Queues, pass: &mut QueuesPass, name: &Id) -> bool
+    requires { IsPassOf pass.old queues.now × (0 < shards_of queues.now) }
+{
+    queues.push_hint(rt, pass, name, hint(1)).is_ok()
+        && queues.push_hint(rt, pass, name, hint(2)).is_ok()
+        && finds_full(rt, queues, pass, name, 3)
+        && pop(rt, queues, pass, name, TaskKind::Activity) == 0
+        && pop(rt, queues, pass, name, TaskKind::Workflow) == 1
+        && pop(rt, queues, pass, name, TaskKind::Workflow) == 2
+        && pop(rt, queues, pass, name, TaskKind::Workflow) == 0
 }
 
 #[test]
-fn a_full_queue_and_an_empty_one(rt: HostRuntime) -> Result<(), Fail> {
+fn a_full_queue_and_an_empty_one(rt: HostRuntime) {
     let name = name_of(&rt, "main");
     let (queues, mut passes) = open(&rt, 2, 1, Vec::new(rt.alloc()));
     let mut pass = take_pass(&queues, &mut passes);
-    let kind = TaskKind::Workflow;
-    assert!(rt; queues.push_hint(&rt, &mut pass, &name, hint(1)).is_ok());
-    assert!(rt; queues.push_hint(&rt, &mut pass, &name, hint(2)).is_ok());
-    let full = queues.push_hint(&rt, &mut pass, &name, hint(3));
-    assert!(rt; matches!(full, Err(Refusal::QueueFull)));
-    let other = queues.pop_hint(&rt, &mut pass, &name, TaskKind::Activity);
-    assert!(rt; matches!(other, Ok(None)));
-    let first = queues.pop_hint(&rt, &mut pass, &name, kind);
-    assert!(rt; matches!(first, Ok(Some(found)) if found.event == 1));
-    let second = queues.pop_hint(&rt, &mut pass, &name, kind);
-    assert!(rt; matches!(second, Ok(Some(found)) if found.event == 2));
-    assert!(rt; matches!(queues.pop_hint(&rt, &mut pass, &name, kind), Ok(None)));
-    Ok(())
+    assert!(rt; fills_and_empties(&rt, &queues, &mut pass, &name));
 }
 
-/// What two passes find one after another, of hints that waited from the opening on.
+/// What two passes find one after another, of hints 7 and 8 that waited from the opening on.
+fn find_both<R: Abort + Wait>(
+    rt: &R,
+    queues: &Queues,
+    one: &mut QueuesPass,
+    two: &mut QueuesPass,
+    name: &Id,
+)
+    requires { IsPassOf one.old queues.now × IsPassOf two.old queues.now
+        × (0 < shards_of queues.now) }
+{
+    let kind = TaskKind::Workflow;
+    assert!(rt; finds_full(rt, queues, one, name, 9));
+    assert!(rt; pop(rt, queues, two, name, kind) == 7);
+    assert!(rt; queues.push_hint(rt, two, name, hint(9)).is_ok());
+    assert!(rt; pop(rt, queues, one, name, kind) == 8);
+    queues.meet(one, two);
+    assert!(rt; pop(rt, queues, one, name, kind) == 9);
+}
+
 #[test]
-fn what_waits_at_the_opening_is_found(rt: HostRuntime) -> Result<(), Fail> {
+fn what_waits_at_the_opening_is_found(rt: HostRuntime) {
     let name = name_of(&rt, "main");
-    let mut waiting = Vec::new(rt.alloc());
-    waiting.push(dispatch(&rt, "main", 7))?;
-    waiting.push(dispatch(&rt, "main", 8))?;
+    let waiting = waiting(&rt, &[("main", 7), ("main", 8)]);
     let (queues, mut passes) = open(&rt, 2, 2, waiting);
     let mut two = take_pass(&queues, &mut passes);
     let mut one = take_pass(&queues, &mut passes);
-    let kind = TaskKind::Workflow;
-    let full = queues.push_hint(&rt, &mut one, &name, hint(9));
-    assert!(rt; matches!(full, Err(Refusal::QueueFull)));
-    let first = queues.pop_hint(&rt, &mut two, &name, kind);
-    assert!(rt; matches!(first, Ok(Some(found)) if found.event == 7));
-    assert!(rt; queues.push_hint(&rt, &mut two, &name, hint(9)).is_ok());
-    let second = queues.pop_hint(&rt, &mut one, &name, kind);
-    assert!(rt; matches!(second, Ok(Some(found)) if found.event == 8));
-    queues.meet(&mut one, &mut two);
-    let third = queues.pop_hint(&rt, &mut one, &name, kind);
-    assert!(rt; matches!(third, Ok(Some(found)) if found.event == 9));
-    Ok(())
+    find_both(&rt, &queues, &mut one, &mut two, &name);
+}
+
+/// So many names `main`.
+fn names<R: Abort + AllocGlobal>(rt: &R, count: usize) -> Vec<Id>
+    ensures { length result.items ≡ count }
+{
+    let mut names = Vec::new(rt.alloc());
+    for _ in 0..count {
+        let Ok(()) = names.push(name_of(rt, "main")) else {
+            panic!(rt; "no memory")
+        };
+    }
+    names
 }
 
 /// Whether queues of the name `main`, each with room for one hint, can't be opened with these.
 fn is_refused<R: Abort + AllocGlobal>(rt: &R, waiting: Vec<Dispatch>) -> Option<Refusal>
     requires { All (λ d. d.hint.shard < 1) waiting.items }
 {
-    let mut names = Vec::new(rt.alloc());
-    if names.push(name_of(rt, "main")).is_err() {
-        panic!(rt; "no memory");
-    }
-    Queues::open(rt.alloc(), names, 1, 1, 1, waiting).err()
+    Queues::open(rt.alloc(), names(rt, 1), 1, 1, 1, waiting).err()
 }
 
 #[test]
-fn what_does_not_fit_is_refused(rt: HostRuntime) -> Result<(), Fail> {
-    let mut waiting = Vec::new(rt.alloc());
-    waiting.push(dispatch(&rt, "main", 7))?;
-    waiting.push(dispatch(&rt, "main", 8))?;
-    assert!(rt; matches!(is_refused(&rt, waiting), Some(Refusal::QueueFull)));
-    let mut waiting = Vec::new(rt.alloc());
-    waiting.push(dispatch(&rt, "other", 7))?;
-    assert!(rt; matches!(is_refused(&rt, waiting), Some(Refusal::UnknownTaskQueue)));
-    Ok(())
+fn what_does_not_fit_is_refused(rt: HostRuntime) {
+    let refused = is_refused(&rt, waiting(&rt, &[("main", 7), ("main", 8)]));
+    assert!(rt; matches!(refused, Some(Refusal::QueueFull)));
+    let refused = is_refused(&rt, waiting(&rt, &[("other", 7)]));
+    assert!(rt; matches!(refused, Some(Refusal::UnknownTaskQueue)));
 }
 
 /// Ample memory suffices for as many queues as there may be, each as long as it may be.
 #[test]
-fn the_largest_queues_are_opened(rt: HostRuntime) -> Result<(), Fail> {
-    let mut names = Vec::new(rt.alloc());
-    for _ in 0..64usize {
-        names.push(name_of(&rt, "main"))?;
-    }
-    let opened = Queues::open(rt.alloc(), names, 65_536, 1, 1, Vec::new(rt.alloc()));
+fn the_largest_queues_are_opened(rt: HostRuntime) {
+    let opened = Queues::open(
+        rt.alloc(),
+        names(&rt, 64),
+        65_536,
+        1,
+        1,
+        Vec::new(rt.alloc()),
+    );
     assert!(rt; opened.is_ok());
-    Ok(())
 }
