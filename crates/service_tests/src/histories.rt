@@ -3,38 +3,20 @@
 ghost use Rattle.service.specs.Services.{IsPassOf};
 ghost use Rattle.service_tests.specs.Passes.{ComesBack};
 
-use crate::asked::{call, list, settings};
+use crate::asked::{list, settings};
 use crate::passes::{close, give_back, open, take_pass};
 use crate::recorded::own_steps;
-use crate::work::go_through;
+use crate::work::{answer, go_through};
 use event_pieces::SharedEvents;
 use service::{KeepsShard, Pass, Service};
 use service_model_types::answer::{Answer, Reply};
+use service_model_types::request::Request;
 use std::alloc::{AllocGlobal, Global};
 use std::process::Abort;
 use std::sync::Wait;
 use std::thread::Threads;
+use step_record::Record;
 use wf_event::{Attributes, Event};
-use workflow_service::Shard;
-
-const HISTORY_OF_A: &str = r#"{"op":"history","workflow_id":"a"}"#;
-
-/// What is answered to a line.
-fn answer<S: KeepsShard, R: Abort + AllocGlobal + Wait>(
-    rt: &R,
-    service: &Service<S>,
-    pass: &mut Pass<S>,
-    line: &str,
-) -> Reply
-    requires { IsPassOf pass.old service.now }
-    ensures { ComesBack service.now pass.old pass.new }
-{
-    let call = call(rt, service.settings(), line);
-    match service.serve_call(rt, pass, call) {
-        Ok(reply) => reply,
-        Err(_) => panic!(rt; "no memory"),
-    }
-}
 
 /// The events of an answered history.
 fn events<'a, R: Abort>(rt: &R, reply: &'a Reply) -> &'a SharedEvents {
@@ -56,6 +38,19 @@ fn count(events: &SharedEvents) -> u64 {
     last
 }
 
+/// How many events a pass reads in the history of `a`, if their ids count from 1, and else none.
+fn count_read<S: KeepsShard, R: Abort + AllocGlobal + Wait>(
+    rt: &R,
+    service: &Service<S>,
+    pass: &mut Pass<S>,
+) -> u64
+    requires { IsPassOf pass.old service.now }
+    ensures { ComesBack service.now pass.old pass.new }
+{
+    let line = r#"{"op":"history","workflow_id":"a"}"#;
+    count(events(rt, &answer(rt, service, pass, line)))
+}
+
 /// Four threads signal one workflow, a millisecond apart, and a fifth one reads its history.
 const WRITTEN: &str =
     r##"1|1|started||{"op":"start","task_queue":"main","workflow_id":"a","workflow_type":"w"}
@@ -68,26 +63,26 @@ const WRITTEN: &str =
 = 5000
 "##;
 
+/// Whether the first pass, which starts the workflow too, and the three behind it have made all their steps.
+fn are_written(records: &[Record<Request>]) -> bool {
+    own_steps(records, 0) == Some(1001)
+        && own_steps(records, 1) == Some(1000)
+        && own_steps(records, 2) == Some(1000)
+        && own_steps(records, 3) == Some(1000)
+}
+
 /// Four threads signal one workflow, and a fifth one reads its history meanwhile.
-fn write_and_read<S: KeepsShard + Send + Sync, R: Abort + AllocGlobal + Threads + Wait + Sync>(
-    rt: &R,
-) {
+pub(crate) fn a_history_is_read_while_four_threads_write_it<
+    S: KeepsShard + Send + Sync,
+    R: Abort + AllocGlobal + Threads + Wait + Sync,
+>(rt: &R) {
     let (service, mut passes) = open::<S, R>(rt, &settings(rt, 1, 5));
     go_through(rt, &service, &mut passes, WRITTEN);
     let mut last = take_pass(&service, &mut passes);
-    let reply = answer(rt, &service, &mut last, HISTORY_OF_A);
-    assert_eq!(rt; count(events(rt, &reply)), 4002);
+    assert!(rt; count_read(rt, &service, &mut last) == 4002);
     give_back(rt, &service, &mut passes, last);
     let records = close(service, passes);
-    for pass in 1..4 {
-        assert_eq!(rt; own_steps(&records, pass), Some(1000), "{pass}");
-    }
-    assert_eq!(rt; own_steps(&records, 0), Some(1001));
-}
-
-#[test]
-fn a_history_is_read_while_four_threads_write_it(rt: HostRuntime) {
-    write_and_read::<Shard, HostRuntime>(&rt);
+    assert!(rt; are_written(&records));
 }
 
 /// Whether an event is the signal of that number.
@@ -136,8 +131,12 @@ const DELIVERED: &str =
 = 1
 "##;
 
-/// The first shard's workflow signals that of the second fifty times, and two threads deliver.
-fn deliver<S: KeepsShard + Send + Sync, R: Abort + AllocGlobal + Threads + Wait + Sync>(rt: &R) {
+/// The first shard's workflow signals that of the second fifty times, and two threads deliver. Each signal
+/// comes once and in its order, whichever thread delivers it.
+pub(crate) fn two_threads_deliver_signals<
+    S: KeepsShard + Send + Sync,
+    R: Abort + AllocGlobal + Threads + Wait + Sync,
+>(rt: &R) {
     let (service, mut passes) = open::<S, R>(rt, &settings(rt, 2, 2));
     let signal = r##"{"type":"SignalExternalWorkflowExecution","workflow_id":"b","name":"s#"}"##;
     let completion = list(rt, COMPLETED, signal, 50, "]}\n= 1\n");
@@ -152,10 +151,4 @@ fn deliver<S: KeepsShard + Send + Sync, R: Abort + AllocGlobal + Threads + Wait 
         r#"{"op":"history","workflow_id":"b"}"#,
     );
     assert!(rt; are_signals(rt.alloc(), events(rt, &reply), 50));
-}
-
-/// Each signal comes once and in its order, whichever thread delivers it.
-#[test]
-fn two_threads_deliver_signals(rt: HostRuntime) {
-    deliver::<Shard, HostRuntime>(&rt);
 }

@@ -21,6 +21,8 @@ mod recorded;
 #[cfg(test)]
 mod shown;
 #[cfg(test)]
+mod tests;
+#[cfg(test)]
 mod threads;
 #[cfg(test)]
 mod values;

@@ -3,7 +3,11 @@
 use crate::asked::{list, settings};
 use crate::recorded::steps_in;
 use crate::work::records_of;
-use workflow_service::Shard;
+use service::KeepsShard;
+use std::alloc::AllocGlobal;
+use std::process::Abort;
+use std::sync::Wait;
+use std::thread::Threads;
 
 /// With the run's two first events its signals make 21,000.
 const THOUSANDS: &str =
@@ -15,10 +19,12 @@ const THOUSANDS: &str =
 = 1
 "##;
 
-#[test]
-fn a_history_of_thousands_of_events(rt: HostRuntime) {
-    let records = records_of::<Shard, HostRuntime>(&rt, &settings(&rt, 1, 1), &[THOUSANDS]);
-    assert_eq!(rt; steps_in(&records), 21_000);
+pub(crate) fn a_history_of_thousands_of_events<
+    S: KeepsShard + Send + Sync,
+    R: Abort + AllocGlobal + Threads + Wait + Sync,
+>(rt: &R) {
+    let records = records_of::<S, R>(rt, &settings(rt, 1, 1), &[THOUSANDS]);
+    assert!(rt; steps_in(&records) == 21_000);
 }
 
 /// A workflow whose first task is taken.
@@ -45,10 +51,12 @@ const FIRING: &str = r##"1|1|none||{"at":4,"op":"timer_turn","shard":0}
 "##;
 
 /// As many timers as one completion may start, all of one duration.
-#[test]
-fn ten_thousand_timers_fire(rt: HostRuntime) {
+pub(crate) fn ten_thousand_timers_fire<
+    S: KeepsShard + Send + Sync,
+    R: Abort + AllocGlobal + Threads + Wait + Sync,
+>(rt: &R) {
     let timer = r##"{"type":"StartTimer","timer_id":"#","duration":5}"##;
-    let completion = list(&rt, COMPLETED, timer, 10_000, "]}\n= 1\n");
+    let completion = list(rt, COMPLETED, timer, 10_000, "]}\n= 1\n");
     let plans = [BEGUN, completion.as_str(), FIRING];
-    records_of::<Shard, HostRuntime>(&rt, &settings(&rt, 1, 1), &plans);
+    records_of::<S, R>(rt, &settings(rt, 1, 1), &plans);
 }

@@ -14,14 +14,13 @@ use service_model_types::request::{
     ActivityText, CompleteWorkflowTask, FailActivity, FailWorkflowTask, Hint, Read, RequestCancel,
     Signal, SignalWithStart, TakenTask, Terminate,
 };
-use std::alloc::{AllocError, AllocGlobal};
+use std::alloc::{AllocError, AllocGlobal, Global};
 use std::process::Abort;
 use std::sync::Wait;
 use wf_command::Command;
 use wf_command::command::ScheduleActivityTask;
 use wf_event::payloads::PolicyFields;
 use wf_event_values::{Items, Moment, ReusePolicy, Span, TaskKind, Text};
-use workflow_service::Shard;
 
 /// The form in which a call is made.
 #[derive(Clone, Copy)]
@@ -32,10 +31,10 @@ enum Form {
 
 /// The command that completes a workflow task.
 #[derive(Clone, Copy)]
-enum Decision {
+enum Decision<'a> {
     Nothing,
     /// Schedules an activity of that ID.
-    Schedule(&'static str),
+    Schedule(&'a str),
     /// Asks the activity that this event scheduled to cancel.
     Cancel(u64),
 }
@@ -53,7 +52,7 @@ enum ActivityCall {
 /// A call on a shard's workflow. A task is named by the event that scheduled it, and a workflow task
 /// by its attempt too.
 #[derive(Clone, Copy)]
-enum Call {
+enum Call<'a> {
     Start,
     Signal,
     SignalWithStart,
@@ -64,7 +63,7 @@ enum Call {
     TimerTurn,
     StartTask(u64, u32),
     FailTask(u64, u32),
-    CompleteTask(u64, u32, Decision),
+    CompleteTask(u64, u32, Decision<'a>),
     Activity(u64, ActivityCall),
 }
 
@@ -360,22 +359,10 @@ fn assert_turns<S: KeepsShard, R: Abort + AllocGlobal + Wait>(
 {
     let at = Moment::zero();
     let queue = id(rt, "main");
-    assert_eq!(rt;
-        polled(service.poll_workflow_task(rt, pass, &queue, at)),
-        "empty"
-    );
-    assert_eq!(rt;
-        polled(service.poll_activity_task(rt, pass, &queue, at)),
-        "empty"
-    );
-    assert_eq!(rt;
-        came(service.dispatch_turn(rt, pass, 1, Stop::AtEnd, at)),
-        "none"
-    );
-    assert_eq!(rt;
-        came(service.transfer_turn(rt, pass, 1, 0, Stop::AtEnd, at)),
-        "none"
-    );
+    assert!(rt; polled(service.poll_workflow_task(rt, pass, &queue, at)) == "empty");
+    assert!(rt; polled(service.poll_activity_task(rt, pass, &queue, at)) == "empty");
+    assert!(rt; came(service.dispatch_turn(rt, pass, 1, Stop::AtEnd, at)) == "none");
+    assert!(rt; came(service.transfer_turn(rt, pass, 1, 0, Stop::AtEnd, at)) == "none");
 }
 
 /// What a call comes to.
@@ -396,154 +383,82 @@ fn came_of<S: KeepsShard, R: Abort + AllocGlobal + Wait>(
     }
 }
 
-/// Such calls on one shard's workflow, one after another.
-fn assert_rows<S: KeepsShard, R: Abort + AllocGlobal + Wait>(
-    rt: &R,
-    service: &Service<S>,
-    pass: &mut Pass<S>,
-    form: Form,
-    shard: u16,
-    rows: &[(Call, &str)],
-)
-    requires { IsPassOf pass.old service.now }
-    ensures { IsPassOf pass.new service.now }
-{
-    for (place, row) in rows.iter().enumerate() {
-        let (call, wanted) = *row;
-        let came = came_of(rt, service, pass, form, shard, call);
-        assert_eq!(rt; came, wanted, "call {place} on shard {shard}");
-    }
+/// The call of a name. A task is named by its event and attempt; what is more is the ID of an activity
+/// that is scheduled, or the event of one that is asked to cancel.
+fn call_of<'a>(name: &str, event: u64, attempt: u32, more: &'a str) -> Option<Call<'a>> {
+    let call = match name {
+        "start" => Call::Start,
+        "signal" => Call::Signal,
+        "signal with start" => Call::SignalWithStart,
+        "request cancel" => Call::RequestCancel,
+        "terminate" => Call::Terminate,
+        "history" => Call::History,
+        "describe" => Call::Describe,
+        "timer turn" => Call::TimerTurn,
+        "take" => Call::StartTask(event, attempt),
+        "fail" => Call::FailTask(event, attempt),
+        "complete" => Call::CompleteTask(event, attempt, Decision::Nothing),
+        "schedule" => Call::CompleteTask(event, attempt, Decision::Schedule(more)),
+        "cancel" => Call::CompleteTask(event, attempt, Decision::Cancel(more.parse().ok()?)),
+        _ => Call::Activity(event, activity_call_of(name)?),
+    };
+    Some(call)
 }
 
-/// A workflow's calls.
-const A_WORKFLOW: [(Call, &str); 9] = [
-    (Call::Start, "started"),
-    (Call::StartTask(2, 1), "task"),
-    (Call::FailTask(2, 1), "failed"),
-    (Call::StartTask(5, 2), "task"),
-    (Call::CompleteTask(5, 2, Decision::Nothing), "completed"),
-    (Call::Signal, "signaled"),
-    (Call::History, "history"),
-    (Call::Describe, "described"),
-    (Call::TimerTurn, "none"),
-];
-
-fn assert_workflow<S: KeepsShard, R: Abort + AllocGlobal + Wait>(
-    rt: &R,
-    service: &Service<S>,
-    pass: &mut Pass<S>,
-    form: Form,
-    shard: u16,
-)
-    requires { IsPassOf pass.old service.now }
-    ensures { IsPassOf pass.new service.now }
-{
-    assert_rows(rt, service, pass, form, shard, &A_WORKFLOW);
+fn activity_call_of(name: &str) -> Option<ActivityCall> {
+    let call = match name {
+        "take activity" => ActivityCall::Start,
+        "heartbeat" => ActivityCall::Heartbeat,
+        "complete activity" => ActivityCall::Complete,
+        "fail activity" => ActivityCall::Fail,
+        "cancel activity" => ActivityCall::Cancel,
+        _ => return None,
+    };
+    Some(call)
 }
 
-/// An activity that is completed.
-const A_COMPLETION: [(Call, &str); 5] = [
-    (Call::StartTask(9, 1), "task"),
-    (
-        Call::CompleteTask(9, 1, Decision::Schedule("x")),
-        "completed",
-    ),
-    (Call::Activity(12, ActivityCall::Start), "activity task"),
-    (Call::Activity(12, ActivityCall::Heartbeat), "heartbeat"),
-    (
-        Call::Activity(12, ActivityCall::Complete),
-        "activity completed",
-    ),
-];
+/// All calls on one shard's workflow, one after another: what is called, an event, an attempt, more, and
+/// what is answered. Behind a task of which nothing comes an activity is completed, one fails, and one is
+/// canceled; then the workflow ends, and its next run begins.
+const CALLS: &str = "start|0|0||started
+take|2|1||task
+fail|2|1||failed
+take|5|2||task
+complete|5|2||completed
+signal|0|0||signaled
+history|0|0||history
+describe|0|0||described
+timer turn|0|0||none
+take|9|1||task
+schedule|9|1|x|completed
+take activity|12|1||activity task
+heartbeat|12|1||heartbeat
+complete activity|12|1||activity completed
+take|15|1||task
+schedule|15|1|y|completed
+take activity|18|1||activity task
+fail activity|18|1||activity failed
+take|21|1||task
+schedule|21|1|z|completed
+take activity|24|1||activity task
+signal|0|0||signaled
+take|26|1||task
+cancel|26|1|24|completed
+cancel activity|24|1||activity canceled
+request cancel|0|0||cancel requested
+terminate|0|0||terminated
+signal with start|0|0||started";
 
-fn assert_completion<S: KeepsShard, R: Abort + AllocGlobal + Wait>(
-    rt: &R,
-    service: &Service<S>,
-    pass: &mut Pass<S>,
-    form: Form,
-    shard: u16,
-)
-    requires { IsPassOf pass.old service.now }
-    ensures { IsPassOf pass.new service.now }
-{
-    assert_rows(rt, service, pass, form, shard, &A_COMPLETION);
+/// A call, and what is answered.
+fn read_row<'a>(alloc: Global, row: &'a str) -> Option<(Call<'a>, &'a str)> {
+    let cells: Vec<&'a str> = row.split('|').collect(alloc).ok()?;
+    let [name, event, attempt, more, wanted] = cells.as_slice() else {
+        return None;
+    };
+    let call = call_of(name, event.parse().ok()?, attempt.parse().ok()?, more)?;
+    Some((call, wanted))
 }
 
-/// One that fails.
-const A_FAILURE: [(Call, &str); 4] = [
-    (Call::StartTask(15, 1), "task"),
-    (
-        Call::CompleteTask(15, 1, Decision::Schedule("y")),
-        "completed",
-    ),
-    (Call::Activity(18, ActivityCall::Start), "activity task"),
-    (Call::Activity(18, ActivityCall::Fail), "activity failed"),
-];
-
-fn assert_failure<S: KeepsShard, R: Abort + AllocGlobal + Wait>(
-    rt: &R,
-    service: &Service<S>,
-    pass: &mut Pass<S>,
-    form: Form,
-    shard: u16,
-)
-    requires { IsPassOf pass.old service.now }
-    ensures { IsPassOf pass.new service.now }
-{
-    assert_rows(rt, service, pass, form, shard, &A_FAILURE);
-}
-
-/// One that is canceled.
-const A_CANCELLATION: [(Call, &str); 7] = [
-    (Call::StartTask(21, 1), "task"),
-    (
-        Call::CompleteTask(21, 1, Decision::Schedule("z")),
-        "completed",
-    ),
-    (Call::Activity(24, ActivityCall::Start), "activity task"),
-    (Call::Signal, "signaled"),
-    (Call::StartTask(26, 1), "task"),
-    (Call::CompleteTask(26, 1, Decision::Cancel(24)), "completed"),
-    (
-        Call::Activity(24, ActivityCall::Cancel),
-        "activity canceled",
-    ),
-];
-
-fn assert_cancellation<S: KeepsShard, R: Abort + AllocGlobal + Wait>(
-    rt: &R,
-    service: &Service<S>,
-    pass: &mut Pass<S>,
-    form: Form,
-    shard: u16,
-)
-    requires { IsPassOf pass.old service.now }
-    ensures { IsPassOf pass.new service.now }
-{
-    assert_rows(rt, service, pass, form, shard, &A_CANCELLATION);
-}
-
-/// The workflow's end, and its next run.
-const AN_END: [(Call, &str); 3] = [
-    (Call::RequestCancel, "cancel requested"),
-    (Call::Terminate, "terminated"),
-    (Call::SignalWithStart, "started"),
-];
-
-fn assert_end<S: KeepsShard, R: Abort + AllocGlobal + Wait>(
-    rt: &R,
-    service: &Service<S>,
-    pass: &mut Pass<S>,
-    form: Form,
-    shard: u16,
-)
-    requires { IsPassOf pass.old service.now }
-    ensures { IsPassOf pass.new service.now }
-{
-    assert_rows(rt, service, pass, form, shard, &AN_END);
-}
-
-/// All calls on one shard's workflow.
 fn assert_calls<S: KeepsShard, R: Abort + AllocGlobal + Wait>(
     rt: &R,
     service: &Service<S>,
@@ -554,22 +469,21 @@ fn assert_calls<S: KeepsShard, R: Abort + AllocGlobal + Wait>(
     requires { IsPassOf pass.old service.now }
     ensures { IsPassOf pass.new service.now }
 {
-    assert_workflow(rt, service, pass, form, shard);
-    assert_completion(rt, service, pass, form, shard);
-    assert_failure(rt, service, pass, form, shard);
-    assert_cancellation(rt, service, pass, form, shard);
-    assert_end(rt, service, pass, form, shard);
+    for row in CALLS.lines() {
+        let Some((call, wanted)) = read_row(rt.alloc(), row) else {
+            panic!(rt; "{row} is no call")
+        };
+        let came = came_of(rt, service, pass, form, shard, call);
+        if came != wanted {
+            panic!(rt; "{row}: {came} on shard {shard}")
+        }
+    }
 }
 
-fn each_call_by_its_name<S: KeepsShard, R: Abort + AllocGlobal + Wait>(rt: &R) {
+pub(crate) fn each_call_by_its_name<S: KeepsShard, R: Abort + AllocGlobal + Wait>(rt: &R) {
     let (service, mut passes) = open::<S, R>(rt, &settings(rt, 2, 2));
     let mut pass = take_pass(&service, &mut passes);
     assert_turns(rt, &service, &mut pass);
     assert_calls(rt, &service, &mut pass, Form::MayWait, 0);
     assert_calls(rt, &service, &mut pass, Form::NeverWaits, 1);
-}
-
-#[test]
-fn each_call(rt: HostRuntime) {
-    each_call_by_its_name::<Shard, HostRuntime>(&rt);
 }

@@ -37,3 +37,16 @@ fn own_steps_in(record: &Record<Request>, pass: u8) -> Option<u64> {
     }
     Some(steps)
 }
+
+/// Whether the passes made so many steps each, the first pass first, and none was made besides.
+pub(crate) fn are_all(records: &[Record<Request>], steps: &[u64]) -> bool {
+    let (mut pass, mut all): (u8, u64) = (0, 0);
+    for count in steps {
+        if own_steps(records, pass) != Some(*count) {
+            return false;
+        }
+        pass = pass.saturating_add(1);
+        all = all.saturating_add(*count);
+    }
+    steps_in(records) as u64 == all
+}

@@ -2,9 +2,13 @@
 //! says.
 
 use crate::asked::settings;
-use crate::recorded::{own_steps, steps_in};
+use crate::recorded::are_all;
 use crate::work::records_of;
-use workflow_service::Shard;
+use service::KeepsShard;
+use std::alloc::AllocGlobal;
+use std::process::Abort;
+use std::sync::Wait;
+use std::thread::Threads;
 
 /// Five workflows lie on the four shards of four, and each thread signals all of them in turn.
 const FOUR_SHARDS: &str =
@@ -17,13 +21,12 @@ const FOUR_SHARDS: &str =
 = 12000
 "##;
 
-#[test]
-fn four_threads_signal_on_four_shards(rt: HostRuntime) {
-    let records = records_of::<Shard, HostRuntime>(&rt, &settings(&rt, 4, 4), &[FOUR_SHARDS]);
-    assert_eq!(rt; steps_in(&records), 12_005);
-    for pass in 1..4 {
-        assert_eq!(rt; own_steps(&records, pass), Some(3000), "{pass}");
-    }
+pub(crate) fn four_threads_signal_on_four_shards<
+    S: KeepsShard + Send + Sync,
+    R: Abort + AllocGlobal + Threads + Wait + Sync,
+>(rt: &R) {
+    let records = records_of::<S, R>(rt, &settings(rt, 4, 4), &[FOUR_SHARDS]);
+    assert!(rt; are_all(&records, &[3005, 3000, 3000, 3000]));
 }
 
 /// Of two starts at the same time one begins the workflow's first run, and the other finds it.
@@ -33,12 +36,12 @@ const ONE_WORKFLOW: &str =
 = 1
 "##;
 
-#[test]
-fn two_threads_start_one_workflow(rt: HostRuntime) {
-    let records = records_of::<Shard, HostRuntime>(&rt, &settings(&rt, 2, 2), &[ONE_WORKFLOW]);
-    assert_eq!(rt; records.first().map(|record| record.len()), Some(2));
-    assert_eq!(rt; steps_in(&records), 2);
-    assert_eq!(rt; own_steps(&records, 0), Some(1));
+pub(crate) fn two_threads_start_one_workflow<
+    S: KeepsShard + Send + Sync,
+    R: Abort + AllocGlobal + Threads + Wait + Sync,
+>(rt: &R) {
+    let records = records_of::<S, R>(rt, &settings(rt, 2, 2), &[ONE_WORKFLOW]);
+    assert!(rt; are_all(&records, &[1, 1]) && records.first().is_some_and(|it| it.len() == 2));
 }
 
 /// Each task comes through a queue that is often full and often empty, and none comes twice.
@@ -54,11 +57,13 @@ const HANDED_ON: &str =
 = 1
 "##;
 
-#[test]
-fn two_threads_hand_tasks_on(rt: HostRuntime) {
-    let mut settings = settings(&rt, 1, 2);
+pub(crate) fn two_threads_hand_tasks_on<
+    S: KeepsShard + Send + Sync,
+    R: Abort + AllocGlobal + Threads + Wait + Sync,
+>(rt: &R) {
+    let mut settings = settings(rt, 1, 2);
     settings.capacity = 16;
-    records_of::<Shard, HostRuntime>(&rt, &settings, &[HANDED_ON]);
+    records_of::<S, R>(rt, &settings, &[HANDED_ON]);
 }
 
 /// Runs of one workflow close at once, and are kept for five milliseconds. While they come, turns take all
@@ -75,9 +80,11 @@ const COMING_AND_GOING: &str =
 = 1
 "##;
 
-#[test]
-fn two_threads_let_runs_come_and_go(rt: HostRuntime) {
-    let mut settings = settings(&rt, 1, 2);
+pub(crate) fn two_threads_let_runs_come_and_go<
+    S: KeepsShard + Send + Sync,
+    R: Abort + AllocGlobal + Threads + Wait + Sync,
+>(rt: &R) {
+    let mut settings = settings(rt, 1, 2);
     settings.retention = 5;
-    records_of::<Shard, HostRuntime>(&rt, &settings, &[COMING_AND_GOING]);
+    records_of::<S, R>(rt, &settings, &[COMING_AND_GOING]);
 }

@@ -1,13 +1,14 @@
 //! What threads ask at the same time: lines, again and again.
 
 ghost use Rattle.std.specs.Prelude.{◌≡◌, ℕ, ◌<◌, get_or, length};
-ghost use Rattle.service.specs.Services.{IsPassOf, settings_of};
+ghost use Rattle.service.specs.Services.{IsPassOf};
 ghost use Rattle.service_tests.specs.Passes.{ComesBack, InOrder};
 
 use crate::asked::{call, numbered};
 use crate::passes::{close, open};
 use crate::shown::shown;
 use service::{KeepsShard, Pass, Service};
+use service_model_types::answer::Reply;
 use service_model_types::request::Request;
 use service_model_types::settings::Settings;
 use std::alloc::{AllocGlobal, Global};
@@ -51,20 +52,39 @@ impl<'a> Work<'a> {
 }
 
 /// What is answered to a line.
-fn ask<S: KeepsShard, R: Abort + AllocGlobal + Wait>(
+pub(crate) fn answer<S: KeepsShard, R: Abort + AllocGlobal + Wait>(
     rt: &R,
     service: &Service<S>,
     pass: &mut Pass<S>,
     line: &str,
-) -> &'static str
+) -> Reply
     requires { IsPassOf pass.old service.now }
     ensures { ComesBack service.now pass.old pass.new }
 {
     let call = call(rt, service.settings(), line);
-    match &service.serve_call(rt, pass, call) {
-        Ok(reply) => shown(reply),
+    match service.serve_call(rt, pass, call) {
+        Ok(reply) => reply,
         Err(_) => panic!(rt; "no memory: {line}"),
     }
+}
+
+/// Asks a line. Whether the answer counts.
+fn ask<S: KeepsShard, R: Abort + AllocGlobal + Wait>(
+    rt: &R,
+    service: &Service<S>,
+    pass: &mut Pass<S>,
+    work: &Work,
+    line: &str,
+) -> bool
+    requires { IsPassOf pass.old service.now }
+    ensures { ComesBack service.now pass.old pass.new }
+{
+    let answered = shown(&answer(rt, service, pass, line));
+    let is_wanted = answered == work.wanted;
+    if !is_wanted && !work.others.split(',').any(|other| other == answered) {
+        panic!(rt; "{line}: {answered}")
+    }
+    is_wanted
 }
 
 /// Asks the lines with this number. How many answers count.
@@ -83,12 +103,8 @@ fn ask_round<S: KeepsShard, R: Abort + AllocGlobal + Wait>(
         let Ok(line) = numbered(rt.alloc(), line, number) else {
             panic!(rt; "no memory")
         };
-        let answered = ask(rt, service, pass, line.as_str());
-        if answered == work.wanted {
-            counted = counted.saturating_add(1);
-        } else if !work.others.split(',').any(|other| other == answered) {
-            panic!(rt; "{line}: {answered}")
-        }
+        let is_wanted = ask(rt, service, pass, work, line.as_str());
+        counted = counted.saturating_add(u64::from(is_wanted));
     }
     counted
 }
@@ -175,7 +191,9 @@ fn go_on<'a, S: KeepsShard + Send + Sync, R: Abort + AllocGlobal + Threads + Wai
 {
     if let Some(counted) = text.strip_prefix("= ") {
         let came = all_together(rt, service, passes, works);
-        assert_eq!(rt; Some(came), counted.parse().ok(), "{text}");
+        if counted.parse().ok() != Some(came) {
+            panic!(rt; "{came} in place of {counted}")
+        }
         works.clear();
         return;
     }
