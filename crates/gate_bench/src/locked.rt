@@ -7,7 +7,7 @@ use std::alloc::{AllocError, Global};
 use std::rt::Clock;
 use std::sync::{Mutex, Wait};
 use std::thread::Threads;
-use std::time::Instant;
+use std::time::{Duration, Instant};
 use std::{io, thread};
 
 /// A counter, and the steps that it has made, where they are kept.
@@ -69,6 +69,23 @@ fn sum(counters: Vec<Mutex<Kept>>) -> u64 {
     sum
 }
 
+/// So many threads step on the counters at the same time. How long that takes.
+fn step_together<R: Wait + Threads + Sync + Clock + AllocGlobal>(
+    rt: &R,
+    counters: &Vec<Mutex<Kept>>,
+    threads: usize,
+    steps: u64,
+) -> io::Result<Duration> {
+    let began = Instant::now(rt)?;
+    thread::map_indices(
+        rt,
+        rt.alloc(),
+        threads,
+        &move |i| { step_in_turn(rt, counters, (i % 256) as u8, steps) },
+    )?;
+    began.elapsed(rt)
+}
+
 /// Steps of so many threads on counters under locks, with a record each or without.
 pub(crate) fn step_under_locks<R: Wait + Threads + Sync + Clock + AllocGlobal>(
     rt: &R,
@@ -77,17 +94,8 @@ pub(crate) fn step_under_locks<R: Wait + Threads + Sync + Clock + AllocGlobal>(
     steps: u64,
     keeps: bool,
 ) -> io::Result<Outcome> {
-    let alloc = rt.alloc();
-    let counters = counters(alloc, slots, keeps)?;
-    let shared = &counters;
-    let began = Instant::now(rt)?;
-    thread::map_indices(
-        rt,
-        alloc,
-        threads,
-        &move |i| { step_in_turn(rt, shared, (i % 256) as u8, steps) },
-    )?;
-    let took = began.elapsed(rt)?;
+    let counters = counters(rt.alloc(), slots, keeps)?;
+    let took = step_together(rt, &counters, threads, steps)?;
     let sum = sum(counters);
     Ok(Outcome { sum, took })
 }

@@ -6,8 +6,7 @@
 //! the ratio of the gate's to the locks'.
 #![tactic(auto)]
 
-ghost use Rattle.std.specs.Prelude.{◌≡◌, ◌≤◌};
-ghost use Rattle.gate_bench.specs.Lanes.{lane_count};
+ghost use Rattle.std.specs.Prelude.{◌≤◌};
 
 mod locked;
 mod stepped;
@@ -22,26 +21,6 @@ use std::time::Duration;
 
 /// The steps of each thread where no number is given.
 const FEW: u64 = 160;
-
-/// How many threads step at the same time.
-#[derive(Clone, Copy)]
-pub(crate) enum Lanes {
-    One,
-    Two,
-    Four,
-}
-
-impl Lanes {
-    pub(crate) fn count(self) -> usize
-        ensures { result ≡ lane_count self }
-    {
-        match self {
-            Lanes::One => 1,
-            Lanes::Two => 2,
-            Lanes::Four => 4,
-        }
-    }
-}
 
 /// What the counters come to together, and how long that took.
 #[derive(Clone, Copy)]
@@ -93,14 +72,14 @@ fn print_beside<R: Print>(rt: &R, gate: Outcome, name: &str, other: Outcome) -> 
 fn compare<R: Wait + Threads + Sync + Clock + Print + AllocGlobal>(
     rt: &R,
     asked: Option<u64>,
-    lanes: Lanes,
+    threads: usize,
     slots: usize,
 ) -> io::Result<()>
+    requires threads { threads ≤ 4 }
     requires slots { (1 ≤ slots) × (slots ≤ 16) }
 {
     let steps = asked.unwrap_or(FEW);
-    let threads = lanes.count();
-    let gate = step_through_gate(rt, lanes, slots, steps)?;
+    let gate = step_through_gate(rt, threads, slots, steps)?;
     let lock = step_under_locks(rt, threads, slots, steps, false)?;
     let kept = step_under_locks(rt, threads, slots, steps, true)?;
     println!(rt;
@@ -117,10 +96,10 @@ fn compare<R: Wait + Threads + Sync + Clock + Print + AllocGlobal>(
 
 fn main(rt: HostRuntime) -> io::Result<()> {
     let asked = steps_asked(&rt)?;
-    compare(&rt, asked, Lanes::One, 1)?;
-    compare(&rt, asked, Lanes::Two, 1)?;
-    compare(&rt, asked, Lanes::Four, 1)?;
-    compare(&rt, asked, Lanes::One, 16)?;
-    compare(&rt, asked, Lanes::Two, 16)?;
-    compare(&rt, asked, Lanes::Four, 16)
+    compare(&rt, asked, 1, 1)?;
+    compare(&rt, asked, 2, 1)?;
+    compare(&rt, asked, 4, 1)?;
+    compare(&rt, asked, 1, 16)?;
+    compare(&rt, asked, 2, 16)?;
+    compare(&rt, asked, 4, 16)
 }

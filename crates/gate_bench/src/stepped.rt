@@ -2,17 +2,15 @@
 
 ghost use Rattle.std.specs.Prelude.{◌≡◌, ℕ, ◌+◌, ◌<◌, ◌≤◌, [], Some, length, slice_get, IfOk};
 ghost use Rattle.gate.specs.GateViews.{slots as slots_of, IsPassOf};
-ghost use Rattle.std.specs.Thread.{IsSync};
-ghost use Rattle.gate_bench.specs.Lanes.{lane_count};
 
-use crate::{Lanes, Outcome};
+use crate::Outcome;
 use gate::{Gate, Pass};
 use gate_counter::Counter;
 use std::alloc::{AllocError, Global};
 use std::rt::Clock;
 use std::sync::Wait;
 use std::thread::Threads;
-use std::time::Instant;
+use std::time::{Duration, Instant};
 use std::{io, thread};
 use step_record::Record;
 
@@ -50,103 +48,41 @@ fn take_pass(gate: &Gate<Counter>, passes: &mut Vec<Pass<Counter>>) -> Pass<Coun
 fn step_in_turn<R: Wait>(
     rt: &R,
     gate: &Gate<Counter>,
-    mut pass: Pass<Counter>,
+    pass: &mut Pass<Counter>,
     slots: usize,
     steps: u64,
 )
-    requires own { IsPassOf pass gate.now }
+    requires own { IsPassOf pass.old gate.now }
     requires slots { (slots_of gate.now ≡ slots) × (0 < slots) }
 {
     for i in 0..steps {
-        let _ = gate.step(rt, &mut pass, (i % slots as u64) as usize, 1);
+        let _ = gate.step(rt, pass, (i % slots as u64) as usize, 1);
     }
 }
 
-/// The same of two passes at the same time.
-fn step_two<R: Wait + Threads + Sync>(
+/// The same of each pass, on a thread of its own. How long that takes.
+fn step_together<R: Wait + Threads + Sync + Clock>(
     rt: &R,
     gate: &Gate<Counter>,
-    one: Pass<Counter>,
-    two: Pass<Counter>,
+    passes: &mut [Pass<Counter>],
     slots: usize,
     steps: u64,
-)
-    requires own { IsPassOf one gate.now × IsPassOf two gate.now }
+) -> io::Result<Duration>
+    requires own { (k : ℕ) (p : _) → slice_get passes.old k ≡ Some p → IsPassOf p gate.now }
     requires slots { (slots_of gate.now ≡ slots) × (0 < slots) }
 {
-    thread::join(
+    let threads = passes.len().max(1);
+    let began = Instant::now(rt)?;
+    thread::for_each_mut(
         rt,
-        move ||
-            requires { IsSync R.row × IsPassOf one gate.now
+        passes,
+        threads,
+        &|_place, pass: &mut Pass<Counter>|
+            requires { IsPassOf pass.now gate.now
                 × (slots_of gate.now ≡ slots) × (0 < slots) }
-        { step_in_turn(rt, gate, one, slots, steps) },
-        move ||
-            requires { IsSync R.row × IsPassOf two gate.now
-                × (slots_of gate.now ≡ slots) × (0 < slots) }
-        { step_in_turn(rt, gate, two, slots, steps) },
+        { step_in_turn(rt, gate, pass, slots, steps) },
     );
-}
-
-/// The same of four.
-fn step_four<R: Wait + Threads + Sync>(
-    rt: &R,
-    gate: &Gate<Counter>,
-    first: (Pass<Counter>, Pass<Counter>),
-    second: (Pass<Counter>, Pass<Counter>),
-    slots: usize,
-    steps: u64,
-)
-    requires first { IsPassOf first.0 gate.now × IsPassOf first.1 gate.now }
-    requires second { IsPassOf second.0 gate.now × IsPassOf second.1 gate.now }
-    requires slots { (slots_of gate.now ≡ slots) × (0 < slots) }
-{
-    let (a, b) = first;
-    let (c, d) = second;
-    thread::join(
-        rt,
-        move ||
-            requires { IsSync R.row × IsPassOf a gate.now × IsPassOf b gate.now
-                × (slots_of gate.now ≡ slots) × (0 < slots) }
-        { step_two(rt, gate, a, b, slots, steps) },
-        move ||
-            requires { IsSync R.row × IsPassOf c gate.now × IsPassOf d gate.now
-                × (slots_of gate.now ≡ slots) × (0 < slots) }
-        { step_two(rt, gate, c, d, slots, steps) },
-    );
-}
-
-/// Steps of as many threads, each with a pass of its own.
-fn step_on<R: Wait + Threads + Sync>(
-    rt: &R,
-    gate: &Gate<Counter>,
-    passes: &mut Vec<Pass<Counter>>,
-    lanes: Lanes,
-    slots: usize,
-    steps: u64,
-)
-    requires count { lane_count lanes ≤ length passes.old.items }
-    requires own { (k : ℕ) (p : _) → slice_get passes.old.items k ≡ Some p
-        → IsPassOf p gate.now }
-    requires slots { (slots_of gate.now ≡ slots) × (0 < slots) }
-{
-    match lanes {
-        Lanes::One => {
-            let one = take_pass(gate, passes);
-            step_in_turn(rt, gate, one, slots, steps);
-        }
-        Lanes::Two => {
-            let one = take_pass(gate, passes);
-            let two = take_pass(gate, passes);
-            step_two(rt, gate, one, two, slots, steps);
-        }
-        Lanes::Four => {
-            let one = take_pass(gate, passes);
-            let two = take_pass(gate, passes);
-            let three = take_pass(gate, passes);
-            let four = take_pass(gate, passes);
-            step_four(rt, gate, (one, two), (three, four), slots, steps);
-        }
-    }
+    began.elapsed(rt)
 }
 
 /// What the counters come to. A step on each shows it.
@@ -166,18 +102,17 @@ fn sum<R: Wait>(rt: &R, gate: &Gate<Counter>, mut pass: Pass<Counter>, slots: us
 /// Steps of so many threads on a gate, each with a pass of its own.
 pub(crate) fn step_through_gate<R: Wait + Threads + Sync + Clock + AllocGlobal>(
     rt: &R,
-    lanes: Lanes,
+    threads: usize,
     slots: usize,
     steps: u64,
 ) -> io::Result<Outcome>
+    requires threads { threads ≤ 4 }
     requires slots { (1 ≤ slots) × (slots ≤ 16) }
 {
     let alloc = rt.alloc();
-    let (gate, mut passes) = Gate::open(alloc, counters(alloc, slots)?, lanes.count() + 1)?;
+    let (gate, mut passes) = Gate::open(alloc, counters(alloc, slots)?, threads + 1)?;
     let reader = take_pass(&gate, &mut passes);
-    let began = Instant::now(rt)?;
-    step_on(rt, &gate, &mut passes, lanes, slots, steps);
-    let took = began.elapsed(rt)?;
+    let took = step_together(rt, &gate, &mut passes, slots, steps)?;
     let sum = sum(rt, &gate, reader, slots);
     Ok(Outcome { sum, took })
 }
