@@ -5,7 +5,7 @@ use crate::draws::Draws;
 use crate::side::{Place, Side, retention};
 use crate::tally::{EVENTS, REPLIES, Tally};
 use mutable_state_keeper::KeepsRun;
-use std::alloc::{AllocError, AllocGlobal};
+use std::alloc::AllocGlobal;
 use std::process::Abort;
 
 /// How many requests each seed draws.
@@ -17,10 +17,10 @@ fn go_through<T: KeepsRun, R: Abort + AllocGlobal>(
     place: Place,
     seed: u64,
     seen: &mut Tally,
-) -> Result<(), AllocError> {
-    let mut side = Side::<T>::new(rt.alloc(), place, retention(seed))?;
+) {
+    let mut side = Side::<T>::new(rt, place, retention(seed));
     seen.turn_to_another_service();
-    ask_all(rt, &mut side, seed, seen)
+    ask_all(rt, &mut side, seed, seen);
 }
 
 fn ask_all<T: KeepsRun, R: Abort + AllocGlobal>(
@@ -28,33 +28,30 @@ fn ask_all<T: KeepsRun, R: Abort + AllocGlobal>(
     side: &mut Side<T>,
     seed: u64,
     seen: &mut Tally,
-) -> Result<(), AllocError> {
+) {
     let mut draws = Draws::new(seed);
     for number in 0..COUNT {
-        let line = drawn_line(rt.alloc(), &mut draws, &side.known, number)?;
-        side.compare(rt, line.as_str(), seen)?;
+        let line = drawn_line(rt, &mut draws, &side.known, number);
+        side.compare(rt, line.as_str(), seen);
     }
-    Ok(())
 }
 
 /// All kinds of event, and of reply but one for another shard's workflow IDs.
-pub(crate) fn one_shard<T: KeepsRun, R: Abort + AllocGlobal>(rt: &R) -> Result<(), AllocError> {
+pub(crate) fn one_shard<T: KeepsRun, R: Abort + AllocGlobal>(rt: &R) {
     let mut seen = Tally::new(rt.alloc());
     for seed in 1..23_u64 {
-        go_through::<T, R>(rt, Place::Alone, seed, &mut seen)?;
+        go_through::<T, R>(rt, Place::Alone, seed, &mut seen);
     }
-    seen.assert_replies(rt, &REPLIES, &["another shard's workflow"]);
-    seen.assert_events(rt, &EVENTS, &[]);
-    Ok(())
+    seen.assert_replies(rt, REPLIES, "another shard's workflow");
+    seen.assert_events(rt, EVENTS, "");
 }
 
 /// The second of two shards, where about half of the workflow IDs belong to the first.
-pub(crate) fn second_of_two<T: KeepsRun, R: Abort + AllocGlobal>(rt: &R) -> Result<(), AllocError> {
+pub(crate) fn second_of_two<T: KeepsRun, R: Abort + AllocGlobal>(rt: &R) {
     let mut seen = Tally::new(rt.alloc());
     for seed in 6..22_u64 {
-        go_through::<T, R>(rt, Place::Second, seed, &mut seen)?;
+        go_through::<T, R>(rt, Place::Second, seed, &mut seen);
     }
-    seen.assert_replies(rt, &REPLIES, &[]);
-    seen.assert_events(rt, &EVENTS, &["TimerCanceled"]);
-    Ok(())
+    seen.assert_replies(rt, REPLIES, "");
+    seen.assert_events(rt, EVENTS, "TimerCanceled");
 }

@@ -1,6 +1,6 @@
 //! A thousand requests to one shard that a short rule makes, so that anyone can make the same ones.
 
-use crate::side::{Place, Side};
+use crate::side::{Place, Side, made};
 use crate::tally::Tally;
 use mutable_state_keeper::KeepsRun;
 use std::alloc::{AllocError, AllocGlobal, Global};
@@ -9,16 +9,14 @@ use std::process::Abort;
 const COUNT: u64 = 1_000;
 
 /// All kinds of reply that these requests get.
-const REPLIES: [&str; 8] = [
-    "started",
-    "signaled",
-    "cancel requested",
-    "terminated",
-    "history",
-    "already started",
-    "not found",
-    "repeated",
-];
+const REPLIES: &str = "started
+signaled
+cancel requested
+terminated
+history
+already started
+not found
+repeated";
 
 /// The value behind this one: 1,103,515,245 times it and 12,345, modulo 2^31.
 fn next(value: u64) -> u64 {
@@ -53,26 +51,18 @@ fn line_of(alloc: Global, at: u64, value: u64) -> Result<String, AllocError> {
 }
 
 /// Compares a shard through all the requests, of which the nth has the moment n.
-fn ask_all<T: KeepsRun, R: Abort + AllocGlobal>(
-    rt: &R,
-    side: &mut Side<T>,
-    seen: &mut Tally,
-) -> Result<(), AllocError> {
+fn ask_all<T: KeepsRun, R: Abort + AllocGlobal>(rt: &R, side: &mut Side<T>, seen: &mut Tally) {
     let mut value: u64 = 1;
     for number in 0..COUNT {
         value = next(value);
-        let line = line_of(rt.alloc(), number.saturating_add(1), value)?;
-        side.compare(rt, line.as_str(), seen)?;
+        let line = made(rt, line_of(rt.alloc(), number.saturating_add(1), value));
+        side.compare(rt, line.as_str(), seen);
     }
-    Ok(())
 }
 
-pub(crate) fn a_thousand_requests<T: KeepsRun, R: Abort + AllocGlobal>(
-    rt: &R,
-) -> Result<(), AllocError> {
+pub(crate) fn a_thousand_requests<T: KeepsRun, R: Abort + AllocGlobal>(rt: &R) {
     let mut seen = Tally::new(rt.alloc());
-    let mut side = Side::<T>::new(rt.alloc(), Place::Alone, 0)?;
-    ask_all(rt, &mut side, &mut seen)?;
-    seen.assert_replies(rt, &REPLIES, &[]);
-    Ok(())
+    let mut side = Side::<T>::new(rt, Place::Alone, 0);
+    ask_all(rt, &mut side, &mut seen);
+    seen.assert_replies(rt, REPLIES, "");
 }

@@ -5,13 +5,15 @@
 use crate::draws::Draws;
 use crate::known::{Known, Next, Tasks};
 use crate::parts::push_mark;
+use crate::side::made;
 use crate::templates::{
     ACTIVITY, CANCEL_ACTIVITY, CANCEL_OTHER, CANCEL_TASK, CANCEL_TIMER, CHILD, COMPLETE,
     COMPLETE_ACTIVITY, CONTINUE, DESCRIBE, DISPATCHED, ENDS, FAIL_ACTIVITY, FAIL_TASK, HEARTBEAT,
     HISTORY, LATE_TIMER, MARK, NEXT_DISPATCH, REQUEST_CANCEL, SIGNAL, SIGNAL_OTHER,
     SIGNAL_WITH_START, START, START_TASK, TERMINATE, TIMER, TIMER_TURN,
 };
-use std::alloc::{AllocError, Global};
+use std::alloc::{AllocError, AllocGlobal, Global};
+use std::process::Abort;
 
 /// What a worker says of an attempt.
 fn report(draws: &mut Draws) -> &'static str {
@@ -150,34 +152,49 @@ fn push_commands(
     push_template(alloc, line, draws, tasks, template)
 }
 
-/// A record's line of what is asked at a moment.
-pub(crate) fn line_of(
+/// What is asked, behind the moment.
+fn push_asked(
     alloc: Global,
+    line: &mut String,
+    template: &str,
+    draws: &mut Draws,
+    tasks: &Tasks,
+) -> Result<(), AllocError> {
+    match template.split_once("$C") {
+        Some((front, behind)) => {
+            push_template(alloc, line, draws, tasks, front)?;
+            push_commands(alloc, line, draws, tasks)?;
+            push_template(alloc, line, draws, tasks, behind)?;
+        }
+        None => push_template(alloc, line, draws, tasks, template)?,
+    }
+    line.push_str("}}")
+}
+
+/// A record's line of what is asked at a moment.
+pub(crate) fn line_of<R: Abort + AllocGlobal>(
+    rt: &R,
     at: u64,
     template: &str,
     draws: &mut Draws,
     tasks: &Tasks,
-) -> Result<String, AllocError> {
-    let mut line = format!(in alloc; "{{\"pass\":0,\"request\":{{\"at\":{at}")?;
-    match template.split_once("$C") {
-        Some((front, behind)) => {
-            push_template(alloc, &mut line, draws, tasks, front)?;
-            push_commands(alloc, &mut line, draws, tasks)?;
-            push_template(alloc, &mut line, draws, tasks, behind)?;
-        }
-        None => push_template(alloc, &mut line, draws, tasks, template)?,
-    }
-    line.push_str("}}")?;
-    Ok(line)
+) -> String {
+    let front = format!(in rt.alloc(); "{{\"pass\":0,\"request\":{{\"at\":{at}");
+    let mut line = made(rt, front);
+    made(
+        rt,
+        push_asked(rt.alloc(), &mut line, template, draws, tasks),
+    );
+    line
 }
 
 /// A request whose moment is near that of the step with this number.
-pub(crate) fn drawn_line(
-    alloc: Global,
+pub(crate) fn drawn_line<R: Abort + AllocGlobal>(
+    rt: &R,
     draws: &mut Draws,
     known: &Known,
     number: u64,
-) -> Result<String, AllocError> {
+) -> String {
     let at = number.saturating_mul(5).saturating_add(draws.below(30));
     let tasks = known.tasks(draws);
     // A shard that has served nothing has no dispatch.
@@ -186,5 +203,5 @@ pub(crate) fn drawn_line(
     } else {
         operation(draws, known.next)
     };
-    line_of(alloc, at, template, draws, &tasks)
+    line_of(rt, at, template, draws, &tasks)
 }

@@ -1,6 +1,5 @@
 //! A shard that keeps its runs by tables beside one that keeps them by their journals.
 
-ghost use Rattle.std.specs.Prelude.{IfOk};
 ghost use Rattle.shard.specs.View.{IsSetup};
 
 use crate::draws::Draws;
@@ -48,25 +47,36 @@ pub(crate) fn retention(seed: u64) -> u64 {
     Draws::new(seed).below(3000).saturating_add(1)
 }
 
+/// What was made. A test has the memory that it asks for.
+pub(crate) fn made<T: Drop, R: Abort>(rt: &R, made: Result<T, AllocError>) -> T {
+    match made {
+        Ok(value) => value,
+        Err(_) => panic!(rt; "no memory"),
+    }
+}
+
 /// Service 1's shard of that place, with the queue `main`.
-fn setup(alloc: Global, place: Place, retention: u64) -> Result<Setup, AllocError>
-    ensures { IfOk result (λ s. IsSetup s) }
+fn setup<R: Abort + AllocGlobal>(rt: &R, place: Place, retention: u64) -> Setup
+    ensures { IsSetup result }
 {
     let Ok(retention) = Span::new(Field::Retention, retention) else {
-        return Err(AllocError);
+        panic!(rt; "no retention")
+    };
+    let Ok(queues) = main_queue(rt.alloc()) else {
+        panic!(rt; "no memory")
     };
     let (shard, shards) = match place {
         Place::Alone => (0, 1),
         Place::First => (0, 2),
         Place::Second => (1, 2),
     };
-    Ok(Setup {
+    Setup {
         service: 1,
         shard,
         shards,
-        queues: main_queue(alloc)?,
+        queues,
         retention,
-    })
+    }
 }
 
 /// A shard that stands for what was asked of it.
@@ -88,15 +98,19 @@ impl<T: KeepsRun> Model for Standing<T> {
 }
 
 impl<T: KeepsRun> Standing<T> {
-    fn new(alloc: Global, place: Place, retention: u64) -> Result<Standing<T>, AllocError> {
-        let shard = Shard::new(alloc, setup(alloc, place, retention)?)?;
-        Ok(Standing { shard })
+    fn new<R: Abort + AllocGlobal>(rt: &R, place: Place, retention: u64) -> Standing<T> {
+        match Shard::new(rt.alloc(), setup(rt, place, retention)) {
+            Ok(shard) => Standing { shard },
+            Err(_) => panic!(rt; "no memory"),
+        }
     }
 
     /// Serves a request in the gate's two halves.
-    fn serve(&mut self, request: &Request) -> Result<Reply, AllocError> {
-        let plan = Object::prepare(&mut self.shard, request)?;
-        Ok(Object::commit(&mut self.shard, plan))
+    fn serve<R: Abort>(&mut self, rt: &R, request: &Request) -> Reply {
+        match Object::prepare(&mut self.shard, request) {
+            Ok(plan) => Object::commit(&mut self.shard, plan),
+            Err(_) => panic!(rt; "no memory"),
+        }
     }
 }
 
@@ -146,17 +160,17 @@ struct Answered {
 }
 
 /// The entry that a line is.
-fn entry_of<R: Abort + AllocGlobal>(rt: &R, line: &str) -> Result<Entry<Request>, AllocError> {
-    match read_entry(rt.alloc(), line.as_bytes())? {
-        Some(entry) => Ok(entry),
-        None => panic!(rt; "{line} is no entry"),
+fn entry_of<R: Abort + AllocGlobal>(rt: &R, line: &str) -> Entry<Request> {
+    match read_entry(rt.alloc(), line.as_bytes()) {
+        Ok(Some(entry)) => entry,
+        _ => panic!(rt; "{line} is no entry"),
     }
 }
 
 /// The line of the delivery at moment 0 of a transfer, empty where none was answered.
-fn delivery(alloc: Global, reply: Reply) -> Result<String, AllocError> {
+fn delivery<R: Abort + AllocGlobal>(rt: &R, reply: Reply) -> String {
     let Ok(answer) = reply else {
-        return Ok(String::new(alloc));
+        return String::new(rt.alloc());
     };
     match answer.into_transfer() {
         Ok(transfer) => {
@@ -164,9 +178,9 @@ fn delivery(alloc: Global, reply: Reply) -> Result<String, AllocError> {
                 at: Moment::zero(),
                 operation: Operation::Deliver(transfer),
             };
-            entry_line(alloc, &Entry { pass: 0, request })
+            made(rt, entry_line(rt.alloc(), &Entry { pass: 0, request }))
         }
-        Err(_) => Ok(String::new(alloc)),
+        Err(_) => String::new(rt.alloc()),
     }
 }
 
@@ -187,30 +201,39 @@ fn came_of(shard: u16, reply: &Reply) -> Came {
 
 impl<T: KeepsRun> Side<T> {
     /// A shard that has served nothing.
-    pub(crate) fn new(alloc: Global, place: Place, retention: u64) -> Result<Side<T>, AllocError> {
-        Ok(Side {
+    pub(crate) fn new<R: Abort + AllocGlobal>(rt: &R, place: Place, retention: u64) -> Side<T> {
+        Side {
             place,
             retention,
-            tables: Standing::new(alloc, place, retention)?,
-            record: Vec::new(alloc),
-            known: Known::new(alloc, place.shard()),
-            reply: String::new(alloc),
-            delivery: String::new(alloc),
-        })
+            tables: Standing::new(rt, place, retention),
+            record: Vec::new(rt.alloc()),
+            known: Known::new(rt.alloc(), place.shard()),
+            reply: String::new(rt.alloc()),
+            delivery: String::new(rt.alloc()),
+        }
     }
 
     /// What both answer to an entry's request, behind all earlier ones.
-    fn answers<R: Abort + AllocGlobal>(
-        &mut self,
-        rt: &R,
-        line: &str,
-    ) -> Result<Answered, AllocError> {
-        let entry = entry_of(rt, line)?;
-        let tables = self.tables.serve(&entry.request)?;
-        let setup = setup(rt.alloc(), self.place, self.retention)?;
-        let journals = answer(rt.alloc(), setup, &self.record, &entry.request)?;
-        self.record.push(entry)?;
-        Ok(Answered { tables, journals })
+    fn answers<R: Abort + AllocGlobal>(&mut self, rt: &R, line: &str) -> Answered {
+        let entry = entry_of(rt, line);
+        let tables = self.tables.serve(rt, &entry.request);
+        let setup = setup(rt, self.place, self.retention);
+        let journals = answer(rt.alloc(), setup, &self.record, &entry.request);
+        if self.record.push(entry).is_err() {
+            panic!(rt; "no memory");
+        }
+        match journals {
+            Ok(journals) => Answered { tables, journals },
+            Err(_) => panic!(rt; "no memory"),
+        }
+    }
+
+    /// Learns from a reply, and counts it.
+    fn learn<R: Abort>(&mut self, rt: &R, reply: &Reply, seen: &mut Tally) {
+        if !made(rt, seen.add(reply)) {
+            panic!(rt; "a reply of no kind that is awaited");
+        }
+        made(rt, self.known.learn(self.place.shard(), reply));
     }
 
     /// Asserts that both answer a line's request alike, and counts what they answer.
@@ -219,25 +242,19 @@ impl<T: KeepsRun> Side<T> {
         rt: &R,
         line: &str,
         seen: &mut Tally,
-    ) -> Result<Came, AllocError> {
-        let Answered { tables, journals } = self.answers(rt, line)?;
-        if !seen.add(&tables)? {
-            panic!(rt; "a reply of no kind that is awaited");
-        }
-        self.known.learn(self.place.shard(), &tables)?;
+    ) -> Came {
+        let Answered { tables, journals } = self.answers(rt, line);
+        self.learn(rt, &tables, seen);
         let came = came_of(self.place.shard(), &tables);
-        self.reply = alike(
-            rt,
-            reply_text(rt.alloc(), 1, &tables)?,
-            reply_text(rt.alloc(), 1, &journals)?,
-        );
-        self.delivery = alike(
-            rt,
-            delivery(rt.alloc(), tables)?,
-            delivery(rt.alloc(), journals)?,
-        );
-        Ok(came)
+        self.reply = alike(rt, text_of(rt, &tables), text_of(rt, &journals));
+        self.delivery = alike(rt, delivery(rt, tables), delivery(rt, journals));
+        came
     }
+}
+
+/// The line of a reply.
+fn text_of<R: Abort + AllocGlobal>(rt: &R, reply: &Reply) -> String {
+    made(rt, reply_text(rt.alloc(), 1, reply))
 }
 
 /// Asserts that both texts are alike: it is the one that comes back.

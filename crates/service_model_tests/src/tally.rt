@@ -5,108 +5,100 @@ use std::alloc::{AllocError, Global};
 use std::process::Abort;
 use wf_event_values::{DeadlineClass, Field, Refusal, RunId};
 
-/// All kinds of reply that drawn requests get.
-pub(crate) const REPLIES: [&str; 43] = [
-    "started",
-    "existing",
-    "signaled",
-    "repeated",
-    "signaled run",
-    "repeated run",
-    "cancel requested",
-    "terminated",
-    "history",
-    "described",
-    "workflow task",
-    "stale",
-    "completed",
-    "task failed",
-    "failed",
-    "activity task",
-    "activity completed",
-    "retrying",
-    "activity failed",
-    "activity canceled",
-    "heartbeat",
-    "nothing due",
-    "fired execution timeout",
-    "fired run timeout",
-    "fired workflow task",
-    "fired user timer",
-    "fired schedule to close",
-    "fired schedule to start",
-    "fired heartbeat",
-    "fired start to close",
-    "fired retry ready",
-    "fired retention",
-    "dispatch",
-    "no dispatch",
-    "counted",
-    "already counted",
-    "counted out of order",
-    "already started",
-    "not found",
-    "unknown task queue",
-    "cancellation already requested",
-    "another shard's workflow",
-    "bad token",
-];
+/// All kinds of reply that drawn requests get, a line for each.
+pub(crate) const REPLIES: &str = "started
+existing
+signaled
+repeated
+signaled run
+repeated run
+cancel requested
+terminated
+history
+described
+workflow task
+stale
+completed
+task failed
+failed
+activity task
+activity completed
+retrying
+activity failed
+activity canceled
+heartbeat
+nothing due
+fired execution timeout
+fired run timeout
+fired workflow task
+fired user timer
+fired schedule to close
+fired schedule to start
+fired heartbeat
+fired start to close
+fired retry ready
+fired retention
+dispatch
+no dispatch
+counted
+already counted
+counted out of order
+already started
+not found
+unknown task queue
+cancellation already requested
+another shard's workflow
+bad token";
 
 /// All kinds of event that drawn histories have.
-pub(crate) const EVENTS: [&str; 25] = [
-    "WorkflowExecutionStarted",
-    "WorkflowExecutionCompleted",
-    "WorkflowExecutionFailed",
-    "WorkflowExecutionTimedOut",
-    "WorkflowExecutionCanceled",
-    "WorkflowExecutionTerminated",
-    "WorkflowExecutionContinuedAsNew",
-    "WorkflowExecutionCancelRequested",
-    "WorkflowExecutionSignaled",
-    "WorkflowTaskScheduled",
-    "WorkflowTaskStarted",
-    "WorkflowTaskCompleted",
-    "WorkflowTaskTimedOut",
-    "WorkflowTaskFailed",
-    "ActivityTaskScheduled",
-    "ActivityTaskStarted",
-    "ActivityTaskCompleted",
-    "ActivityTaskFailed",
-    "ActivityTaskTimedOut",
-    "ActivityTaskCancelRequested",
-    "ActivityTaskCanceled",
-    "TimerStarted",
-    "TimerFired",
-    "TimerCanceled",
-    "MarkerRecorded",
-];
+pub(crate) const EVENTS: &str = "WorkflowExecutionStarted
+WorkflowExecutionCompleted
+WorkflowExecutionFailed
+WorkflowExecutionTimedOut
+WorkflowExecutionCanceled
+WorkflowExecutionTerminated
+WorkflowExecutionContinuedAsNew
+WorkflowExecutionCancelRequested
+WorkflowExecutionSignaled
+WorkflowTaskScheduled
+WorkflowTaskStarted
+WorkflowTaskCompleted
+WorkflowTaskTimedOut
+WorkflowTaskFailed
+ActivityTaskScheduled
+ActivityTaskStarted
+ActivityTaskCompleted
+ActivityTaskFailed
+ActivityTaskTimedOut
+ActivityTaskCancelRequested
+ActivityTaskCanceled
+TimerStarted
+TimerFired
+TimerCanceled
+MarkerRecorded";
 
 /// All kinds of reply to what a transfer's turn asks, but for those that dispatches have too.
-pub(crate) const DELIVERIES: [&str; 5] = [
-    "transfer",
-    "no transfer",
-    "accepted",
-    "already delivered",
-    "delivered out of order",
-];
+pub(crate) const DELIVERIES: &str = "transfer
+no transfer
+accepted
+already delivered
+delivered out of order";
 
 /// All kinds of event that tell of children and of other workflows.
-pub(crate) const OUTWARD: [&str; 14] = [
-    "StartChildWorkflowExecutionInitiated",
-    "StartChildWorkflowExecutionFailed",
-    "ChildWorkflowExecutionStarted",
-    "ChildWorkflowExecutionCompleted",
-    "ChildWorkflowExecutionFailed",
-    "ChildWorkflowExecutionCanceled",
-    "ChildWorkflowExecutionTimedOut",
-    "ChildWorkflowExecutionTerminated",
-    "SignalExternalWorkflowExecutionInitiated",
-    "SignalExternalWorkflowExecutionFailed",
-    "ExternalWorkflowExecutionSignaled",
-    "RequestCancelExternalWorkflowExecutionInitiated",
-    "RequestCancelExternalWorkflowExecutionFailed",
-    "ExternalWorkflowExecutionCancelRequested",
-];
+pub(crate) const OUTWARD: &str = "StartChildWorkflowExecutionInitiated
+StartChildWorkflowExecutionFailed
+ChildWorkflowExecutionStarted
+ChildWorkflowExecutionCompleted
+ChildWorkflowExecutionFailed
+ChildWorkflowExecutionCanceled
+ChildWorkflowExecutionTimedOut
+ChildWorkflowExecutionTerminated
+SignalExternalWorkflowExecutionInitiated
+SignalExternalWorkflowExecutionFailed
+ExternalWorkflowExecutionSignaled
+RequestCancelExternalWorkflowExecutionInitiated
+RequestCancelExternalWorkflowExecutionFailed
+ExternalWorkflowExecutionCancelRequested";
 
 /// How often something came.
 #[derive(Drop)]
@@ -181,36 +173,23 @@ impl Tally {
     }
 
     /// Asserts that of these kinds of reply just those that are expected never came.
-    pub(crate) fn assert_replies<R: Abort>(
-        &self,
-        rt: &R,
-        kinds: &[&'static str],
-        expected: &[&'static str],
-    ) {
+    pub(crate) fn assert_replies<R: Abort>(&self, rt: &R, kinds: &str, expected: &str) {
         assert_missing(rt, self.replies.as_slice(), kinds, expected);
     }
 
     /// Asserts that of these kinds of event just those that are expected never came.
-    pub(crate) fn assert_events<R: Abort>(
-        &self,
-        rt: &R,
-        kinds: &[&'static str],
-        expected: &[&'static str],
-    ) {
+    pub(crate) fn assert_events<R: Abort>(&self, rt: &R, kinds: &str, expected: &str) {
         assert_missing(rt, self.events.as_slice(), kinds, expected);
     }
 }
 
 /// Asserts that of some kinds just those that are expected never came.
-fn assert_missing<R: Abort>(
-    rt: &R,
-    counts: &[Count],
-    kinds: &[&'static str],
-    expected: &[&'static str],
-) {
-    for kind in kinds {
-        let is_expected = expected.iter().any(|name| name == kind);
-        assert_eq!(rt; times(counts, kind) == 0, is_expected, "{kind}");
+fn assert_missing<R: Abort>(rt: &R, counts: &[Count], kinds: &str, expected: &str) {
+    for kind in kinds.lines() {
+        let is_expected = expected.lines().any(|name| name == kind);
+        if (times(counts, kind) == 0) != is_expected {
+            panic!(rt; "{kind}")
+        }
     }
 }
 

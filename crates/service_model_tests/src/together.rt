@@ -4,7 +4,7 @@ use crate::drawn::{drawn_line, line_of};
 use crate::draws::Draws;
 use crate::known::Tasks;
 use crate::parts::{CHILDREN, ORDERS, numbered, push_part};
-use crate::side::{Came, Place, Side, retention};
+use crate::side::{Came, Place, Side, made, retention};
 use crate::tally::{DELIVERIES, OUTWARD, Tally};
 use crate::templates::{
     COMPLETE, DISPATCHED, NEXT_DISPATCH, START, START_TASK, TERMINATE_CHILD, TIMER_TURN,
@@ -34,12 +34,12 @@ impl<T: KeepsRun> Drop for Two<T> {
 }
 
 impl<T: KeepsRun> Two<T> {
-    fn new(alloc: Global, seed: u64) -> Result<Two<T>, AllocError> {
-        Ok(Two {
-            first: Side::new(alloc, Place::First, retention(seed))?,
-            second: Side::new(alloc, Place::Second, retention(seed))?,
+    fn new<R: Abort + AllocGlobal>(rt: &R, seed: u64) -> Two<T> {
+        Two {
+            first: Side::new(rt, Place::First, retention(seed)),
+            second: Side::new(rt, Place::Second, retention(seed)),
             draws: Draws::for_two(seed),
-        })
+        }
     }
 
     fn tasks(&mut self, shard: u16) -> Tasks {
@@ -57,7 +57,7 @@ impl<T: KeepsRun> Two<T> {
         shard: u16,
         line: &str,
         seen: &mut Tally,
-    ) -> Result<Came, AllocError> {
+    ) -> Came {
         if shard == 0 {
             self.first.compare(rt, line, seen)
         } else {
@@ -74,36 +74,31 @@ impl<T: KeepsRun> Two<T> {
         template: &str,
         tasks: &Tasks,
         seen: &mut Tally,
-    ) -> Result<Came, AllocError> {
-        let line = line_of(rt.alloc(), at, template, &mut self.draws, tasks)?;
+    ) -> Came {
+        let line = line_of(rt, at, template, &mut self.draws, tasks);
         self.ask(rt, shard, line.as_str(), seen)
     }
 
     /// Carries the next transfer: it is read, delivered and counted. Now and then a turn stops before its
     /// end, so that the next one says the same again, and now and then a number is not the next one.
-    fn carry<R: Abort + AllocGlobal>(
-        &mut self,
-        rt: &R,
-        at: u64,
-        seen: &mut Tally,
-    ) -> Result<(), AllocError> {
+    fn carry<R: Abort + AllocGlobal>(&mut self, rt: &R, at: u64, seen: &mut Tally) {
         let from = self.draws.below(2) as u16;
         let to = self.draws.below(2) as u16;
-        let line = next_transfer(rt.alloc(), at, to)?;
-        let Came::Transfer(number) = self.ask(rt, from, line.as_str(), seen)? else {
-            return Ok(());
+        let line = made(rt, next_transfer(rt.alloc(), at, to));
+        let Came::Transfer(number) = self.ask(rt, from, line.as_str(), seen) else {
+            return;
         };
         if self.draws.one_in(8) {
-            return Ok(());
+            return;
         }
-        let line = self.delivery(rt.alloc(), from, at, number)?;
-        let delivered = matches!(self.ask(rt, to, line.as_str(), seen)?, Came::Delivered);
+        let line = made(rt, self.delivery(rt.alloc(), from, at, number));
+        let delivered = matches!(self.ask(rt, to, line.as_str(), seen), Came::Delivered);
         if !delivered || self.draws.one_in(8) {
-            return Ok(());
+            return;
         }
-        let line = acknowledge(rt.alloc(), at, to, near(&mut self.draws, number))?;
-        self.ask(rt, from, line.as_str(), seen)?;
-        Ok(())
+        let near = near(&mut self.draws, number);
+        let line = made(rt, acknowledge(rt.alloc(), at, to, near));
+        self.ask(rt, from, line.as_str(), seen);
     }
 
     /// The delivery of the transfer that a shard was asked for last, under a number near its own.
@@ -124,37 +119,26 @@ impl<T: KeepsRun> Two<T> {
     }
 
     /// Takes the next task of one of the two shards, and completes it where it is a workflow task.
-    fn work<R: Abort + AllocGlobal>(
-        &mut self,
-        rt: &R,
-        at: u64,
-        seen: &mut Tally,
-    ) -> Result<(), AllocError> {
+    fn work<R: Abort + AllocGlobal>(&mut self, rt: &R, at: u64, seen: &mut Tally) {
         let shard = self.draws.below(2) as u16;
         let mut tasks = self.tasks(shard);
-        let next = self.ask_by(rt, shard, at, NEXT_DISPATCH, &tasks, seen)?;
+        let next = self.ask_by(rt, shard, at, NEXT_DISPATCH, &tasks, seen);
         let Came::Dispatch(number, hint) = next else {
-            return Ok(());
+            return;
         };
         tasks.dispatch = number;
         tasks.waiting = hint.task();
-        self.ask_by(rt, shard, at, DISPATCHED, &tasks, seen)?;
-        let Came::Task(task) = self.ask_by(rt, shard, at, START_TASK, &tasks, seen)? else {
-            return Ok(());
+        self.ask_by(rt, shard, at, DISPATCHED, &tasks, seen);
+        let Came::Task(task) = self.ask_by(rt, shard, at, START_TASK, &tasks, seen) else {
+            return;
         };
         tasks.task = task;
         tasks.asked = 0;
-        self.ask_by(rt, shard, at, COMPLETE, &tasks, seen)?;
-        Ok(())
+        self.ask_by(rt, shard, at, COMPLETE, &tasks, seen);
     }
 
     /// Starts a workflow or terminates a child on one of the two, or has a deadline fire there.
-    fn begin<R: Abort + AllocGlobal>(
-        &mut self,
-        rt: &R,
-        at: u64,
-        seen: &mut Tally,
-    ) -> Result<(), AllocError> {
+    fn begin<R: Abort + AllocGlobal>(&mut self, rt: &R, at: u64, seen: &mut Tally) {
         let shard = self.draws.below(2) as u16;
         self.draws.turn_to(shard);
         let tasks = self.tasks(shard);
@@ -163,36 +147,24 @@ impl<T: KeepsRun> Two<T> {
             2..=3 => TERMINATE_CHILD,
             _ => START,
         };
-        self.ask_by(rt, shard, at, template, &tasks, seen)?;
-        Ok(())
+        self.ask_by(rt, shard, at, template, &tasks, seen);
     }
 
     /// Asks one of the two what is drawn next.
-    fn ask_next<R: Abort + AllocGlobal>(
-        &mut self,
-        rt: &R,
-        number: u64,
-        seen: &mut Tally,
-    ) -> Result<(), AllocError> {
+    fn ask_next<R: Abort + AllocGlobal>(&mut self, rt: &R, number: u64, seen: &mut Tally) {
         let shard = self.draws.below(2) as u16;
         self.draws.turn_to(shard);
         let number = number.saturating_mul(4);
         let line = if shard == 0 {
-            drawn_line(rt.alloc(), &mut self.draws, &self.first.known, number)?
+            drawn_line(rt, &mut self.draws, &self.first.known, number)
         } else {
-            drawn_line(rt.alloc(), &mut self.draws, &self.second.known, number)?
+            drawn_line(rt, &mut self.draws, &self.second.known, number)
         };
-        self.ask(rt, shard, line.as_str(), seen)?;
-        Ok(())
+        self.ask(rt, shard, line.as_str(), seen);
     }
 
     /// Carries a transfer, serves a task, begins something, or asks what is drawn next.
-    fn advance<R: Abort + AllocGlobal>(
-        &mut self,
-        rt: &R,
-        number: u64,
-        seen: &mut Tally,
-    ) -> Result<(), AllocError> {
+    fn advance<R: Abort + AllocGlobal>(&mut self, rt: &R, number: u64, seen: &mut Tally) {
         let at = number.saturating_mul(20);
         match self.draws.below(8) {
             0..=2 => self.carry(rt, at, seen),
@@ -202,30 +174,20 @@ impl<T: KeepsRun> Two<T> {
         }
     }
 
-    fn advance_often<R: Abort + AllocGlobal>(
-        &mut self,
-        rt: &R,
-        seen: &mut Tally,
-    ) -> Result<(), AllocError> {
+    fn advance_often<R: Abort + AllocGlobal>(&mut self, rt: &R, seen: &mut Tally) {
         for number in 0..COUNT {
-            self.advance(rt, number, seen)?;
+            self.advance(rt, number, seen);
         }
-        Ok(())
     }
 
     /// Reads the latest history of each workflow ID on both shards.
-    fn read_all<R: Abort + AllocGlobal>(
-        &mut self,
-        rt: &R,
-        seen: &mut Tally,
-    ) -> Result<(), AllocError> {
+    fn read_all<R: Abort + AllocGlobal>(&mut self, rt: &R, seen: &mut Tally) {
         let at = COUNT.saturating_mul(20);
         for number in 0..ORDERS + CHILDREN {
-            let line = history(rt.alloc(), at, number)?;
-            self.first.compare(rt, line.as_str(), seen)?;
-            self.second.compare(rt, line.as_str(), seen)?;
+            let line = made(rt, history(rt.alloc(), at, number));
+            self.first.compare(rt, line.as_str(), seen);
+            self.second.compare(rt, line.as_str(), seen);
         }
-        Ok(())
     }
 }
 
@@ -269,24 +231,19 @@ fn near(draws: &mut Draws, number: u64) -> u64 {
 }
 
 /// Compares two shards through all that a seed draws.
-fn go_through<T: KeepsRun, R: Abort + AllocGlobal>(
-    rt: &R,
-    seed: u64,
-    seen: &mut Tally,
-) -> Result<(), AllocError> {
-    let mut two = Two::<T>::new(rt.alloc(), seed)?;
+fn go_through<T: KeepsRun, R: Abort + AllocGlobal>(rt: &R, seed: u64, seen: &mut Tally) {
+    let mut two = Two::<T>::new(rt, seed);
     seen.turn_to_another_service();
-    two.advance_often(rt, seen)?;
-    two.read_all(rt, seen)
+    two.advance_often(rt, seen);
+    two.read_all(rt, seen);
 }
 
 /// All that a transfer's turn can be answered, and all events of children and of other workflows.
-pub(crate) fn two_shards<T: KeepsRun, R: Abort + AllocGlobal>(rt: &R) -> Result<(), AllocError> {
+pub(crate) fn two_shards<T: KeepsRun, R: Abort + AllocGlobal>(rt: &R) {
     let mut seen = Tally::new(rt.alloc());
     for seed in 1..33_u64 {
-        go_through::<T, R>(rt, seed, &mut seen)?;
+        go_through::<T, R>(rt, seed, &mut seen);
     }
-    seen.assert_replies(rt, &DELIVERIES, &[]);
-    seen.assert_events(rt, &OUTWARD, &[]);
-    Ok(())
+    seen.assert_replies(rt, DELIVERIES, "");
+    seen.assert_events(rt, OUTWARD, "");
 }
