@@ -42,17 +42,16 @@ impl Calls {
         }
     }
 
-    /// One call more.
-    pub(crate) fn push(&mut self, alloc: Global, call: Call) -> Result<(), AllocError>
+    /// One call more, behind those of the last list.
+    pub(crate) fn push(&mut self, call: Call) -> Result<(), AllocError>
         ensures { OnOk result (waiting self.new ≡ waiting self.old ++ call ∷ []) }
     {
-        if self.lists.len() == 0 {
+        let Some(mut last) = self.lists.pop_back() else {
             self.now.push_back(call)?;
             return Ok(());
-        }
-        let mut list = VecDeque::new(alloc);
-        list.push_back(call)?;
-        self.lists.push_back(list)?;
+        };
+        last.push_back(call)?;
+        self.lists.push_back(last)?;
         Ok(())
     }
 

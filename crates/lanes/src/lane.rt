@@ -55,11 +55,11 @@ impl<S: KeepsShard> Lane<S> {
     }
 
     /// One call more.
-    pub(crate) fn ask(&mut self, alloc: Global, call: Call) -> Result<(), AllocError>
+    pub(crate) fn ask(&mut self, call: Call) -> Result<(), AllocError>
         ensures pass { self.new.pass ≡ self.old.pass }
         ensures asked { OnOk result (calls_of self.new ≡ calls_of self.old ++ call ∷ []) }
     {
-        self.asked.push(alloc, call)?;
+        self.asked.push(call)?;
         Ok(())
     }
 
