@@ -6,7 +6,6 @@ use std::alloc::AllocError;
 use std::io::{Error, ErrorKind};
 use std::process::Abort;
 use wfserve_run::{Fault, status};
-use workflow_service::Shard;
 
 /// Whether a fault has this text, and the program ends by it with status 2.
 fn ends_with<S: KeepsShard, R: AllocGlobal>(rt: &R, fault: Fault, expected: &str) -> bool {
@@ -18,7 +17,7 @@ fn ends_with<S: KeepsShard, R: AllocGlobal>(rt: &R, fault: Fault, expected: &str
     is_said && status(&outcome) == 2
 }
 
-fn each_fault<S: KeepsShard, R: Abort + AllocGlobal>(rt: &R) {
+pub(crate) fn each_fault<S: KeepsShard, R: Abort + AllocGlobal>(rt: &R) {
     let memory = "out of memory";
     assert!(rt; ends_with::<S, R>(rt, Fault::Memory(AllocError), memory));
     assert!(rt; ends_with::<S, R>(rt, Fault::Script(ScriptFault::Memory), memory));
@@ -28,9 +27,4 @@ fn each_fault<S: KeepsShard, R: Abort + AllocGlobal>(rt: &R) {
     assert!(rt; ends_with::<S, R>(rt, words, "the command line: invalid data"));
     let output = Fault::Output(Error::from(ErrorKind::OutOfMemory));
     assert!(rt; ends_with::<S, R>(rt, output, "standard output: out of memory"));
-}
-
-#[test]
-fn faults_by_their_texts(rt: HostRuntime) {
-    each_fault::<Shard, HostRuntime>(&rt);
 }

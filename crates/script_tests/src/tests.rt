@@ -3,6 +3,8 @@
 use crate::devices::{
     readers_fail_at_each_byte, writers_fail_at_each_byte, writers_whose_flush_fails,
 };
+use crate::faults::each_fault;
+use crate::{lane_devices, lane_holding, lane_limits, lane_reopen, lane_trace};
 use workflow_service::Shard;
 
 #[test]
@@ -10,4 +12,31 @@ fn devices_that_fail(rt: HostRuntime) {
     readers_fail_at_each_byte::<Shard, HostRuntime>(&rt);
     writers_fail_at_each_byte::<Shard, HostRuntime>(&rt);
     writers_whose_flush_fails::<Shard, HostRuntime>(&rt);
+}
+
+#[test]
+fn faults_by_their_texts(rt: HostRuntime) {
+    each_fault::<Shard, HostRuntime>(&rt);
+}
+
+#[test]
+fn devices_of_lanes_that_fail(rt: HostRuntime) {
+    lane_devices::readers_fail_at_each_byte::<Shard, HostRuntime>(&rt);
+    lane_devices::writers_fail_at_each_byte::<Shard, HostRuntime>(&rt);
+    lane_devices::writers_whose_flush_fails::<Shard, HostRuntime>(&rt);
+}
+
+#[test]
+fn lanes_at_the_same_time(rt: HostRuntime) {
+    lane_holding::holds_one::<Shard, HostRuntime>(&rt, 1);
+    lane_holding::holds_one::<Shard, HostRuntime>(&rt, 2);
+    lane_limits::as_many_lanes_as_there_may_be::<Shard, HostRuntime>(&rt);
+}
+
+#[test]
+fn records_and_steps_of_lanes(rt: HostRuntime) {
+    lane_reopen::records_are_given_back::<Shard, HostRuntime>(&rt);
+    lane_reopen::tasks_that_wait_are_taken_again::<Shard, HostRuntime>(&rt);
+    lane_reopen::openings_that_are_refused::<Shard, HostRuntime>(&rt);
+    lane_trace::steps_of_all_lanes_stand_in_one_list::<Shard, HostRuntime>(&rt);
 }

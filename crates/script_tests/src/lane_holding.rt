@@ -1,10 +1,11 @@
 //! Lanes run at the same time: the call of one is held until that of the other was answered.
 
-use crate::serving::open;
+use crate::lane_serving::settings;
 use lanes::{Door, run_lanes};
-use service::{KeepsShard, Pass};
+use service::{KeepsShard, Pass, Service};
 use service_model_types::answer::{Answer, Reply};
 use service_model_types::call::Call;
+use service_model_types::settings::Settings;
 use std::alloc::{AllocError, AllocGlobal};
 use std::process::Abort;
 use std::sync::Wait;
@@ -77,38 +78,35 @@ impl<S: KeepsShard> Door<S> for HoldingDoor {
     fn meet(&self, _one: &mut Pass<S>, _other: &mut Pass<S>) {}
 }
 
+/// Three passes of a service of three shards.
+fn passes<S: KeepsShard, R: Abort + AllocGlobal>(rt: &R, settings: &Settings) -> Vec<Pass<S>> {
+    match Service::open(rt.alloc(), settings, Vec::new(rt.alloc())) {
+        Ok((_, passes)) => passes,
+        Err(_) => panic!(rt; "the service was not opened"),
+    }
+}
+
 /// Both calls are answered while the one on this shard is held, and printed in the order of the lines.
-fn holds_one<R: Abort + AllocGlobal + Threads + Wait + Sync>(rt: &R, held: u16) {
-    let (settings, _service, passes) = open(rt, 3, 3);
+pub(crate) fn holds_one<
+    S: KeepsShard + Send + Sync,
+    H: Abort + AllocGlobal + Threads + Wait + Sync,
+>(rt: &H, held: u16) {
+    let settings = settings(rt, 3, 3);
     let door = HoldingDoor {
         held,
         answered: AtomicU64::new(0),
         gave_up: AtomicU64::new(0),
     };
-    let mut reader = Counted::new(SCRIPT);
     let mut writer = Counted::new(Vec::new(rt.alloc()));
-    match run_lanes(
+    let came = run_lanes(
         rt,
         rt.alloc(),
         &settings,
         &door,
-        passes,
-        &mut reader,
+        passes::<S, H>(rt, &settings),
+        &mut Counted::new(SCRIPT),
         &mut writer,
-    ) {
-        Ok(outcome) => assert!(rt; !outcome.refused),
-        Err(_) => panic!(rt; "a fault"),
-    }
-    assert!(rt; door.gave_up.load(Ordering::SeqCst) == 0);
-    assert!(rt; writer.inner.as_slice() == OUTPUT);
-}
-
-#[test]
-fn lane_two_is_answered_while_lane_one_is_held(rt: HostRuntime) {
-    holds_one(&rt, 1);
-}
-
-#[test]
-fn lane_one_is_answered_while_lane_two_is_held(rt: HostRuntime) {
-    holds_one(&rt, 2);
+    );
+    assert!(rt; matches!(&came, Ok(outcome) if !outcome.refused && outcome.passes.len() == 3));
+    assert!(rt; door.gave_up.load(Ordering::SeqCst) == 0 && writer.inner.as_slice() == OUTPUT);
 }
