@@ -10,7 +10,7 @@ use wire_counted::Counted;
 
 const LANES: u64 = 256;
 
-/// A start in each lane, and behind a barrier a history of the next lane's workflow.
+/// A start in each lane, and behind a barrier a description of the next lane's workflow.
 fn script(alloc: Global) -> Result<String, AllocError> {
     let mut text = String::new(alloc);
     for lane in 0..LANES {
