@@ -94,7 +94,7 @@ module _ {Keeper Plan : Type 0} where
   begins-phase {serves} {meets} {K} {ps} closes lines s held w w' (inl same) h = subst (λ x. Beginning serves meets K ps lines held x) (sym same) (begins-told lines s held w h)
   begins-phase {serves} {meets} {K} {ps} closes lines s held w w' (inr p) h =
       let b = p.begun in
-      let part = phase-part serves meets closes h.waits s.places.items b.count b.replies s.lanes.items p.after b.left h.plain h.waiting p.phase (subst (λ x. InTurn Took p.phase.replies (take b.count x) b.replies b.left) h.waiting.places b.took) in
+      let part = phase-part serves meets closes h.waits s.places b.count b.replies s.lanes.items p.after b.left h.plain h.waiting p.phase (subst (λ x. InTurn Took p.phase.replies (take b.count x) b.replies b.left) h.waiting.places b.took) in
       begins-front lines s held w w' h.waits b.count b.replies part.0 lines h h.parts part.1 b.written
 
   -- nothing was made of some lines
@@ -113,9 +113,9 @@ module _ {Keeper Plan : Type 0} where
       let is : asked K line ≡ Ok a_barrier = barrier-asked (asked K line) barrier in
       let all = h.waits ++ Ok a_barrier ∷ [] in
       let b = p.begun in
-      let places : s1.places.items ≡ map place_in all = barrier-places (asked K line) h.waits s.places.items s1.places.items is a.places h.waiting.places in
-      let waiting = waiting-same h.waits s.places.items s.lanes.items s1.lanes.items (subst (λ x. WereAsked (λ k. own_calls k x) s.lanes.items s1.lanes.items) is a.lanes) h.waiting in
-      let part = phase-part-barrier serves meets h.waits s.places.items b.count b.replies s1.lanes.items p.after b.left h.plain waiting p.phase (subst (λ x. InTurn Took p.phase.replies (take b.count x) b.replies b.left) places b.took) in
+      let places : s1.places ≡ map place_in all = barrier-places (asked K line) h.waits s.places s1.places is a.places h.waiting.places in
+      let waiting = waiting-same h.waits s.places s.lanes.items s1.lanes.items (subst (λ x. WereAsked (λ k. own_calls k x) s.lanes.items s1.lanes.items) is a.lanes) h.waiting in
+      let part = phase-part-barrier serves meets h.waits s.places b.count b.replies s1.lanes.items p.after b.left h.plain waiting p.phase (subst (λ x. InTurn Took p.phase.replies (take b.count x) b.replies b.left) places b.took) in
       begins-front lines s held w w' all b.count b.replies part.0 (lines ++ line ∷ []) h (asks-push K lines line h.done h.waits h.parts ∙ ap (λ x. h.done ++ (h.waits ++ x ∷ [])) is)
       (subst (λ x. Course serves meets x (take b.count all) b.replies part.0) a.lanes.passes part.1) (subst (λ n. AppendsBeginning w w' (numbered_from n b.replies)) a.first b.written)
 

@@ -9,6 +9,7 @@ pub mod MeetLemmas
 pub mod NumberLemmas
 pub mod PhaseLemmas
 pub mod PlaceLemmas
+pub mod PlacesLemmas
 pub mod PrintLemmas
 pub mod ReopenLemmas
 pub mod SortLemmas

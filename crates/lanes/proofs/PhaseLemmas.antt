@@ -10,8 +10,8 @@ use Rattle.service.specs.ServiceViews.{Pass}
 use Rattle.wire_requests.specs.declared.calls.Asked.{Asked}
 use Rattle.wire_requests.specs.declared.calls.Asked.TheVariants.{Barrier as a_barrier}
 use Rattle.lanes.specs.declared.lane.Lane.{Lane}
-use Rattle.lanes.specs.declared.print.Place.{Place}
-use Rattle.lanes.specs.declared.print.Place.TheVariants.{Barrier}
+use Rattle.lanes.specs.declared.place.Place.{Place}
+use Rattle.lanes.specs.declared.place.Place.TheVariants.{Barrier}
 use Rattle.lanes.specs.Course.{Serves, Meets, InTurn, LineServed, Course}
 use Rattle.lanes.specs.Lanes.{Answered, ArePlain, Phase, Took, Waiting, calls_in, calls_of, is_barrier, passes_of, place_in}
 use Rattle.lanes.proofs.TurnLemmas.{turn-append, turn-one, turn-split}

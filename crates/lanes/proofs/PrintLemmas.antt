@@ -9,8 +9,8 @@ use Rattle.service_model_types.specs.Replies.{Reply}
 use Rattle.script.specs.Serving.{is_refusal, text_of}
 use Rattle.script.specs.Output.{numbered_from}
 use Rattle.lanes.specs.declared.lane.Lane.{Lane}
-use Rattle.lanes.specs.declared.print.Place.{Place}
-use Rattle.lanes.specs.declared.print.Place.TheVariants.{InLane}
+use Rattle.lanes.specs.declared.place.Place.{Place}
+use Rattle.lanes.specs.declared.place.Place.TheVariants.{InLane}
 use Rattle.lanes.specs.Course.{InTurn}
 use Rattle.lanes.specs.Lanes.{AllLeft, Took}
 use Rattle.lanes.specs.Printed.{Begun, BegunIn, Printed, PrintedOne}

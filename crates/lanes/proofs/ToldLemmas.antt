@@ -19,7 +19,7 @@ use Rattle.script.proofs.LineLemmas.{ended-all}
 use Rattle.script.proofs.PartLemmas.{ended-free, ended-line as line-ended, left-free, left-line}
 use Rattle.script.proofs.Steps.{ended-append, left-append}
 use Rattle.wire_counted.proofs.Known.{Appends-none, Appends-then}
-use Rattle.lanes.specs.declared.print.Place.{Place}
+use Rattle.lanes.specs.declared.place.Place.{Place}
 use Rattle.lanes.specs.declared.run.Script.{Script}
 use Rattle.lanes.specs.Course.{AllMet, Serves, Meets, Course, InTurn, LineServed, asks_of}
 use Rattle.lanes.specs.Endings.{Ended}
@@ -89,7 +89,7 @@ module _ {Keeper Plan : Type 0} where
     replies = h.replies;
     parts = asks-push K lines line h.done h.waits h.parts;
     course = subst (λ x. Course serves meets ps h.done h.replies x) (sym a.lanes.passes) h.course;
-    waiting = waiting-more h.waits (asked K line) s.places.items s'.places.items s.lanes.items s'.lanes.items a.places a.lanes h.waiting;
+    waiting = waiting-more h.waits (asked K line) s.places s'.places s.lanes.items s'.lanes.items a.places a.lanes h.waiting;
     plain = plain-push h.waits (asked K line) h.plain no_barrier;
     written = h.written;
     number = a.first ∙ h.number;
@@ -112,7 +112,7 @@ module _ {Keeper Plan : Type 0} where
     replies = h.replies;
     parts = map-append (asked K) lines more ∙ ap (λ x. x ++ asks_of K more) h.parts ∙ append_assoc h.done h.waits (asks_of K more);
     course = subst (λ x. Course serves meets ps h.done h.replies x) (sym a.lanes.passes) h.course;
-    waiting = waiting-all h.waits (asks_of K more) s.places.items s'.places.items s.lanes.items s'.lanes.items a.places a.lanes h.waiting;
+    waiting = waiting-all h.waits (asks_of K more) s.places s'.places s.lanes.items s'.lanes.items a.places a.lanes h.waiting;
     plain = plain-append h.waits (asks_of K more) h.plain plain;
     written = h.written;
     number = a.first ∙ h.number;
@@ -132,9 +132,9 @@ module _ {Keeper Plan : Type 0} where
       let all = h.waits ++ Ok a_barrier ∷ [] in
       let p = c.printed in
       let rs = p.printed.replies in
-      let places : s1.places.items ≡ map place_in all = barrier-places (asked K line) h.waits s.places.items s1.places.items is a.places h.waiting.places in
-      let waiting = waiting-same h.waits s.places.items s.lanes.items s1.lanes.items (subst (λ x. WereAsked (λ k. own_calls k x) s.lanes.items s1.lanes.items) is a.lanes) h.waiting in
-      let phase = phase-barrier serves meets h.waits s.places.items rs s1.lanes.items p.after p.printed.left h.plain waiting p.phase (subst (λ x. InTurn Took p.phase.replies x rs p.printed.left) places p.printed.took) in
+      let places : s1.places ≡ map place_in all = barrier-places (asked K line) h.waits s.places s1.places is a.places h.waiting.places in
+      let waiting = waiting-same h.waits s.places s.lanes.items s1.lanes.items (subst (λ x. WereAsked (λ k. own_calls k x) s.lanes.items s1.lanes.items) is a.lanes) h.waiting in
+      let phase = phase-barrier serves meets h.waits s.places rs s1.lanes.items p.after p.printed.left h.plain waiting p.phase (subst (λ x. InTurn Took p.phase.replies x rs p.printed.left) places p.printed.took) in
       let course = subst (λ x. Course serves meets x all rs (passes_of s'.lanes.items)) a.lanes.passes (subst (λ x. Course serves meets (passes_of s1.lanes.items) all rs x) (sym p.passes) phase) in
       let count : 1 + length h.replies ≡ s1.first = next-number lines s held w h ∙ sym a.first in
       record {
@@ -156,7 +156,7 @@ module _ {Keeper Plan : Type 0} where
   told-served {serves} {meets} {K} {ps} lines s s' held w w' c h =
       let p = c.printed in
       let rs = p.printed.replies in
-      let phase = phase-last serves meets false h.waits s.places.items rs s.lanes.items p.after p.printed.left h.plain h.waiting p.phase (subst (λ x. InTurn Took p.phase.replies x rs p.printed.left) h.waiting.places p.printed.took) in
+      let phase = phase-last serves meets false h.waits s.places rs s.lanes.items p.after p.printed.left h.plain h.waiting p.phase (subst (λ x. InTurn Took p.phase.replies x rs p.printed.left) h.waiting.places p.printed.took) in
       let passes : passes_of p.phase.worked ≡ passes_of s'.lanes.items = sym p.phase.met ∙ sym p.passes in
       record {
         done = h.done ++ h.waits;
@@ -183,7 +183,7 @@ module _ {Keeper Plan : Type 0} where
   told-ended {serves} {meets} {K} {ps} text lines s s' held w w' all c h =
       let p = c.printed in
       let rs = p.printed.replies in
-      let phase = phase-last serves meets true h.waits s.places.items rs s.lanes.items p.after p.printed.left h.plain h.waiting p.phase (subst (λ x. InTurn Took p.phase.replies x rs p.printed.left) h.waiting.places p.printed.took) in
+      let phase = phase-last serves meets true h.waits s.places rs s.lanes.items p.after p.printed.left h.plain h.waiting p.phase (subst (λ x. InTurn Took p.phase.replies x rs p.printed.left) h.waiting.places p.printed.took) in
       record {
         replies = h.replies ++ rs;
         served = passes_of p.phase.worked;
@@ -210,7 +210,7 @@ module _ {Keeper Plan : Type 0} where
     replies = h.replies;
     parts = h.parts;
     course = subst (λ x. Course serves meets ps h.done h.replies (passes_of x.items)) (sym lanes) h.course;
-    waiting = subst (λ x. Waiting h.waits x.items s'.lanes.items) (sym places) (subst (λ x. Waiting h.waits s.places.items x.items) (sym lanes) h.waiting);
+    waiting = subst (λ x. Waiting h.waits x s'.lanes.items) (sym places) (subst (λ x. Waiting h.waits s.places x.items) (sym lanes) h.waiting);
     plain = h.plain;
     written = h.written;
     number = first ∙ h.number;

@@ -15,7 +15,7 @@ use Rattle.wire_requests.specs.declared.calls.Asked.{Asked}
 use Rattle.wire_requests.specs.declared.calls.Asked.TheVariants.{Barrier as a_barrier}
 use Rattle.lanes.specs.declared.answer.Answer.{Answer}
 use Rattle.lanes.specs.declared.lane.Lane.{Lane}
-use Rattle.lanes.specs.declared.print.Place.{Place}
+use Rattle.lanes.specs.declared.place.Place.{Place}
 use Rattle.lanes.specs.declared.replies.Replies.{Replies}
 use Rattle.lanes.specs.Answers.{AreLines, IsLine}
 use Rattle.lanes.specs.Course.{Serves, InTurn}
@@ -271,6 +271,11 @@ module _ {Keeper Plan : Type 0} where
 pub when_err : {T E : Type 0} (r : Result T E) (P : Type 0) → is_err r ≡ true → OnErr r P → P
 when_err (Ok x) P is h = absurd (cc)
 when_err (Err e) P is h = h
+
+-- what is so whatever the result
+pub on_any_ok : {T E : Type 0} (r : Result T E) (P : Type 0) → P → OnOk r P
+on_any_ok (Ok x) P p = p
+on_any_ok (Err e) P p = tt
 
 pub when_ok : {T E : Type 0} (r : Result T E) (P : Type 0) → is_err r ≡ false → OnOk r P → P
 when_ok (Ok x) P is h = h

@@ -10,8 +10,8 @@ use Rattle.service.specs.ServiceViews.{Pass}
 use Rattle.wire_requests.specs.declared.calls.Asked.{Asked}
 use Rattle.wire_requests.specs.declared.calls.Asked.TheVariants.{Barrier as a_barrier, Call as in_a_lane}
 use Rattle.lanes.specs.declared.lane.Lane.{Lane}
-use Rattle.lanes.specs.declared.print.Place.{Place}
-use Rattle.lanes.specs.declared.print.Place.TheVariants.{Barrier, Refused, InLane}
+use Rattle.lanes.specs.declared.place.Place.{Place}
+use Rattle.lanes.specs.declared.place.Place.TheVariants.{Barrier, Refused, InLane}
 use Rattle.lanes.specs.Calls.{waiting}
 use Rattle.lanes.specs.Answers.{AreKept, AreLines, KeepsLines, Wrote}
 use Rattle.lanes.specs.Course.{Serves, Meets, AllMet, InTurn}

@@ -5,7 +5,9 @@ pub mod Endings
 pub mod Found
 pub mod Lanes
 pub mod Meetings
+pub mod Places
 pub mod Printed
 pub mod Reopened
 pub mod Sorted
 pub mod ToldLines
+pub mod Walks

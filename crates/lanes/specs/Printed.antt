@@ -7,7 +7,7 @@ use Rattle.service_model_types.specs.Replies.{Reply}
 use Rattle.script.specs.Serving.{is_refusal, text_of}
 use Rattle.script.specs.Output.{numbered_from}
 use Rattle.lanes.specs.declared.lane.Lane.{Lane}
-use Rattle.lanes.specs.declared.print.Place.{Place}
+use Rattle.lanes.specs.declared.place.Place.{Place}
 use Rattle.lanes.specs.Course.{Serves, Meets, InTurn}
 use Rattle.lanes.specs.Lanes.{AllLeft, AreIdle, Phase, Took, TookIn, passes_of}
 

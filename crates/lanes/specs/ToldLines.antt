@@ -28,7 +28,7 @@ module _ {Keeper Plan : Type 0} where
     pub replies : List (Option Reply)
     pub parts : asks_of K lines ≡ done ++ waits
     pub course : Course serves meets ps done replies (passes_of s.lanes.items)
-    pub waiting : Waiting waits s.places.items s.lanes.items
+    pub waiting : Waiting waits s.places s.lanes.items
     pub plain : ArePlain waits
     pub written : Appends held held' (numbered_from 1 replies)
     pub number : s.first ≡ 1 + length done
@@ -50,14 +50,14 @@ module _ {Keeper Plan : Type 0} where
   -- nothing was read, and no line waits
   pub record Opened (ps : List Pass) (s : Script Keeper Plan) : Type 0 where
     pub passes : passes_of s.lanes.items ≡ ps
-    pub waiting : Waiting [] s.places.items s.lanes.items
+    pub waiting : Waiting [] s.places s.lanes.items
     pub first : s.first ≡ 1
     pub refused : s.refused ≡ false
     pub line : s.line ≡ Some []
 
   -- one line more waits, which asks this
   pub record Added (ask : Result Asked Refusal) (s s' : Script Keeper Plan) : Type 0 where
-    pub places : s'.places.items ≡ s.places.items ++ place_in ask ∷ []
+    pub places : s'.places ≡ s.places ++ place_in ask ∷ []
     pub lanes : WereAsked (λ k. own_calls k ask) s.lanes.items s'.lanes.items
     pub first : s'.first ≡ s.first
     pub refused : s'.refused ≡ s.refused
@@ -65,7 +65,7 @@ module _ {Keeper Plan : Type 0} where
 
   -- lines more wait, which ask this
   pub record AddedAll (asks : List (Result Asked Refusal)) (s s' : Script Keeper Plan) : Type 0 where
-    pub places : s'.places.items ≡ s.places.items ++ map place_in asks
+    pub places : s'.places ≡ s.places ++ map place_in asks
     pub lanes : WereAsked (λ k. calls_in k asks) s.lanes.items s'.lanes.items
     pub first : s'.first ≡ s.first
     pub refused : s'.refused ≡ s.refused
@@ -74,9 +74,9 @@ module _ {Keeper Plan : Type 0} where
   -- what waited was served and printed: nothing waits
   pub record Closed (serves : Serves) (meets : Meets) (closes : Bool) (s s' : Script Keeper Plan) (held held' : Option (List ℕ)) : Type 0 where
     pub refused : Bool
-    pub printed : PhasePrinted serves meets closes s.first s.places.items s.lanes.items s'.lanes.items refused held held'
-    pub first : s'.first ≡ s.first + length s.places.items
-    pub places : s'.places.items ≡ []
+    pub printed : PhasePrinted serves meets closes s.first s.places s.lanes.items s'.lanes.items refused held held'
+    pub first : s'.first ≡ s.first + length s.places
+    pub places : s'.places ≡ []
     pub refused_is : s'.refused ≡ (s.refused || refused)
     pub line : s'.line ≡ s.line
 
@@ -87,7 +87,7 @@ module _ {Keeper Plan : Type 0} where
 
   -- what waited was not served; or it was, and a beginning of it was printed
   abbrev pub Stopped : Serves → Meets → Bool → (Script Keeper Plan) → (held held' : Option (List ℕ)) → Type 0
-  Stopped serves meets closes s held held' = (held' ≡ held) ⊎ PhaseBegun serves meets closes s.first s.places.items s.lanes.items held held'
+  Stopped serves meets closes s held held' = (held' ≡ held) ⊎ PhaseBegun serves meets closes s.first s.places s.lanes.items held held'
 
 -- ---- a step of the script, whatever was told before it
 

@@ -7,7 +7,7 @@ ghost use Rattle.lanes.specs.Lanes.{AnsweredOne, Failed, IsBehind, Made, Worked,
 use crate::answer::Answer;
 use crate::calls::Calls;
 use crate::door::Door;
-use crate::print::Place;
+use crate::place::Mark;
 use crate::replies::Replies;
 use crate::room::make_room;
 use service::{KeepsShard, Pass};
@@ -117,7 +117,7 @@ impl<S: KeepsShard> Lane<S> {
         door: &D,
         lane: usize,
         first: u64,
-        places: &[Place],
+        marks: &[Mark],
     )
         requires { D.admits door.now self.old.pass }
         ensures own { D.admits door.now self.new.pass }
@@ -126,7 +126,7 @@ impl<S: KeepsShard> Lane<S> {
         make_room(alloc);
         self.replies.clear(alloc);
         self.taken = 0;
-        let _ = self.serve_all(rt, alloc, door, lane, first, places);
+        let _ = self.serve_all(rt, alloc, door, lane, first, marks);
         self.asked.clear();
     }
 
@@ -138,7 +138,7 @@ impl<S: KeepsShard> Lane<S> {
         door: &D,
         lane: usize,
         first: u64,
-        places: &[Place],
+        marks: &[Mark],
     ) -> Result<(), AllocError>
         requires own { D.admits door.now self.old.pass }
         requires taken { self.old.taken ≡ 0 }
@@ -147,14 +147,14 @@ impl<S: KeepsShard> Lane<S> {
         ensures made { Made (D.serves door.now) self.old self.new }
     {
         let mut number = first;
-        for place in places {
-            self.serve_line(rt, alloc, door, lane, number, place)?;
+        for mark in marks {
+            self.serve_line(rt, alloc, door, lane, number, mark)?;
             number = number.wrapping_add(1);
         }
         Ok(())
     }
 
-    /// Makes the next call, and the line of its reply, where the line at this place has its call here.
+    /// Makes the next call, and the line of its reply, where the line with this mark has its call here.
     fn serve_line<R: Wait, D: Door<S>>(
         &mut self,
         rt: &R,
@@ -162,7 +162,7 @@ impl<S: KeepsShard> Lane<S> {
         door: &D,
         lane: usize,
         number: u64,
-        place: &Place,
+        mark: &Mark,
     ) -> Result<(), AllocError>
         requires { D.admits door.now self.old.pass }
         ensures own { D.admits door.now self.new.pass }
@@ -170,7 +170,7 @@ impl<S: KeepsShard> Lane<S> {
             ⊎ AnsweredOne (D.serves door.now) self.old self.new) }
         ensures failed { OnErr result (Failed self.old self.new) }
     {
-        if !place.is_in(lane) {
+        if !mark.is_in(lane) {
             return Ok(());
         }
         self.serve_next(rt, alloc, door, number)?;

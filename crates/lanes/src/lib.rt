@@ -12,6 +12,8 @@ mod calls;
 mod door;
 mod lane;
 mod phase;
+mod place;
+mod places;
 mod print;
 mod reading;
 mod reopened;
@@ -19,6 +21,7 @@ mod replies;
 mod room;
 mod run;
 mod sorted;
+mod walk;
 
 pub use door::Door;
 pub use reopened::run_lanes_from;

@@ -8,7 +8,9 @@ ghost use Rattle.lanes.specs.Printed.{PhaseBegun, PhasePrinted};
 
 use crate::door::Door;
 use crate::lane::Lane;
-use crate::print::{Place, print};
+use crate::place::Mark;
+use crate::places::Places;
+use crate::print::print;
 use script::ScriptFault;
 use service::KeepsShard;
 use std::alloc::Global;
@@ -19,14 +21,14 @@ use std::thread::Threads;
 use wire_counted::Counted;
 
 /// Lets all lanes make their calls at the same time, each in a thread of its own. The calls are those of
-/// lines at these places, which are numbered from this one on.
+/// lines with these marks, which are numbered from this one on.
 fn serve_lanes<R: Threads + Wait + Sync, S: KeepsShard + Send + Sync, D: Door<S> + Sync>(
     rt: &R,
     alloc: Global,
     door: &D,
     lanes: &mut [Lane<S>],
     first: u64,
-    places: &[Place],
+    marks: &[Mark],
 )
     requires { All (λ l. D.admits door.now l.pass) lanes.old }
     ensures own { All (λ l. D.admits door.now l.pass) lanes.new }
@@ -43,7 +45,7 @@ fn serve_lanes<R: Threads + Wait + Sync, S: KeepsShard + Send + Sync, D: Door<S>
                 requires { D.admits door.now lane.now.pass }
                 ensures own { D.admits door.entry.now lane.exit.now.pass }
                 ensures worked { Worked (D.serves door.entry.now) lane.entry.now lane.exit.now }
-            { lane.serve(rt, alloc, door, at, first, places) },
+            { lane.serve(rt, alloc, door, at, first, marks) },
         );
     }
 }
@@ -103,7 +105,7 @@ pub(crate) fn serve_phase<
     door: &D,
     lanes: &mut [Lane<S>],
     first: u64,
-    places: &[Place],
+    places: &Places,
     closes: bool,
     writer: &mut Counted<W>,
 ) -> Result<bool, ScriptFault>
@@ -121,7 +123,7 @@ pub(crate) fn serve_phase<
     ensures grows { writer.old.failures ≤ writer.new.failures }
     ensures fault { IfErr result (λ e. IsWriteFault e writer.old.failures writer.new.failures) }
 {
-    serve_lanes(rt, alloc, door, lanes, first, places);
+    serve_lanes(rt, alloc, door, lanes, first, places.marks());
     meet_if(door, lanes, closes);
     let refused = print(alloc, lanes, first, places, writer)?;
     if let Err(error) = writer.flush() {

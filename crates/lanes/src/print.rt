@@ -10,6 +10,8 @@ ghost use Rattle.lanes.specs.Lanes.{AllLeft, calls_of, passes_of};
 ghost use Rattle.lanes.specs.Printed.{Begun, BegunIn, Printed, PrintedIn, PrintedOne};
 
 use crate::lane::Lane;
+use crate::place::Place;
+use crate::places::Places;
 use script::ScriptFault;
 use service::KeepsShard;
 use service_model_types::answer::Reply;
@@ -18,27 +20,6 @@ use std::io::Write;
 use wf_event_values::{Field, Refusal};
 use wire_counted::{Counted, write_whole};
 use wire_replies::reply_text;
-
-/// What a line was found to be.
-#[derive(Clone, Copy)]
-pub(crate) enum Place {
-    /// It has no reply.
-    Barrier,
-    /// It was refused before any lane had it.
-    Refused(Refusal),
-    /// A call in a lane.
-    InLane(u8),
-}
-
-impl Place {
-    /// Whether it is a call in this lane.
-    pub(crate) fn is_in(&self, lane: usize) -> bool {
-        match self {
-            Place::InLane(own) => usize::from(*own) == lane,
-            _ => false,
-        }
-    }
-}
 
 /// Writes the line of a reply.
 fn print_reply<W: Write>(
@@ -170,7 +151,7 @@ pub(crate) fn print<S: KeepsShard, W: Write>(
     alloc: Global,
     lanes: &mut [Lane<S>],
     first: u64,
-    places: &[Place],
+    places: &Places,
     writer: &mut Counted<W>,
 ) -> Result<bool, ScriptFault>
     requires { first + length places.now < 2 ^ 64 }
@@ -187,8 +168,9 @@ pub(crate) fn print<S: KeepsShard, W: Write>(
 {
     let mut refused = false;
     let mut number = first;
-    for place in places {
-        refused |= print_one(alloc, lanes, number, *place, writer)?;
+    let mut walk = places.walk();
+    while let Some(place) = walk.next() {
+        refused |= print_one(alloc, lanes, number, place, writer)?;
         number += 1;
     }
     Ok(refused)

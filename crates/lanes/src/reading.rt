@@ -20,8 +20,9 @@ use std::thread::Threads;
 use wf_event_values::Refusal;
 use wire_requests::{Asked, LineReader};
 
-/// The most readers that there are.
-const MOST: usize = 4;
+/// The most readers that there are: more than most machines have cores, so that a core that is done
+/// finds one that waits.
+const MOST: usize = 8;
 
 /// Fewer bytes are no work for a thread of its own.
 pub(crate) const SHORT: usize = 16_384;

@@ -1,6 +1,6 @@
 use Rattle.std.proofs.Common.{◌∷◌, [], Some, Err, refl, sym, subst}
 use Rattle.script.proofs.Steps.{on_any_err}
-use Rattle.lanes.specs.declared.print.Place.TheVariants.{InLane, Refused}
+use Rattle.lanes.specs.declared.place.Place.TheVariants.{InLane, Refused}
 use Rattle.lanes.specs.Lanes.{Took}
 use Rattle.lanes.specs.Printed.{Begun, BegunIn}
 use Rattle.lanes.proofs.PrintLemmas.{begun-in, begun-one}

@@ -15,11 +15,10 @@ returns-clause-closed g c =
     let back : take old.len (new ++ drop (length new) old.items) ≡ new = take-append-le old.len new _ (omega (arith, count)) ∙ take_all old.len new (omega (arith, count)) in
     record {
       refused = c.in_ok-refused.refused;
-      printed = subst (λ ls'. PhasePrinted serves meets c.args.closes c.args.self.now.first c.args.self.now.places.items old.items ls' c.in_ok-refused.refused w w') (sym back)
-          (subst (λ ps. PhasePrinted serves meets c.args.closes c.args.self.now.first ps old.items new c.in_ok-refused.refused w w') c.as_slice-places.ensures.value
-          (subst (λ ls. PhasePrinted serves meets c.args.closes c.args.self.now.first c.as_slice-places.result.now ls new c.in_ok-refused.refused w w') c.deref_mut.ensures.value c.in_ok-refused.ensures.printed));
-      first = omega (arith, c.in-Some.ensures, c.len-count.ensures, c.args.self.now.places.ok.0);
-      places = c.clear.ensures.items;
+      printed = subst (λ ls'. PhasePrinted serves meets c.args.closes c.args.self.now.first c.args.self.now.places old.items ls' c.in_ok-refused.refused w w') (sym back)
+          (subst (λ ls. PhasePrinted serves meets c.args.closes c.args.self.now.first c.args.self.now.places ls new c.in_ok-refused.refused w w') c.deref_mut.ensures.value c.in_ok-refused.ensures.printed);
+      first = omega (arith, c.in-Some.ensures, c.len-count.ensures);
+      places = c.clear.ensures;
       refused_is = refl;
       line = refl;
     }

@@ -6,7 +6,7 @@ pub returns-then-len-eq0-clause-served : goal.returns-then-len-eq0-clause-served
 returns-then-len-eq0-clause-served g c = inl (record { same = refl; kept = refl })
 
 pub returns-then-len-eq0-clause-none : goal.returns-then-len-eq0-clause-none
-returns-then-len-eq0-clause-none g c = nil_from_length c.args.self.now.places.items (omega (arith, c.if-len-eq0.true, c.len.ensures, c.args.self.now.places.ok.0))
+returns-then-len-eq0-clause-none g c = nil_from_length c.args.self.now.places (omega (arith, c.if-len-eq0.true, c.len.ensures))
 
 pub returns-clause-served : goal.returns-clause-served
 returns-clause-served g c = inr c.in_ok-close.ensures.closed
