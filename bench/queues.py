@@ -2,11 +2,13 @@
 """What whole workflows cost by lines: started, handed to their task queue, polled and completed; with
 activities that fail once and are tried again; and the same over several lanes.
 
-Usage: bench/queues.py [--instructions] [SCALE..]   (default: 1 4, times 12,500 workflows and 5,000 activities)
+Usage: bench/queues.py [--instructions | --first] [SCALE..]
+(default: 1 4, times 12,500 workflows, 5,000 activities, and 12,500 starts with three signals each)
 
 Times are processor times of the built program and times by the clock, the shortest of three runs; with
---instructions they are instructions instead, counted by callgrind over a tenth of the work. The program
-is crates/wfserve/out/wfserve, which `rt run` builds in that folder.
+--instructions they are instructions instead, counted by callgrind over a tenth of the work. With --first
+the program goes before all others (`chrt -r 10`), and each new thread has a core as soon as one is idle. The
+program is crates/wfserve/out/wfserve, which `rt run` builds in that folder.
 """
 import base64
 import json
@@ -104,7 +106,19 @@ def activities(count, shards=1, lanes=1):
     return script.lines
 
 
-CASES = [(workflows, 12_500), (activities, 5_000)]
+def signals(count, shards=1, lanes=1):
+    """Starts, and three signals for each: four lines."""
+    script = Script(shards, lanes)
+    for number in range(count):
+        name = f"order-{number}"
+        shard = shard_of(name, shards)
+        script.add(shard, "start", workflow_id=name, workflow_type="order", task_queue=script.queue(shard))
+        for k in range(3):
+            script.add(shard, "signal", workflow_id=name, name=f"s{k}", input="some text")
+    return script.lines
+
+
+CASES = [(workflows, 12_500), (activities, 5_000), (signals, 12_500)]
 
 
 def run(words, path):
@@ -145,6 +159,7 @@ def measure(name, lines, words, path, counts):
 def main():
     counts = "--instructions" in sys.argv[1:]
     tenth = 10 if counts else 1
+    before = ["chrt", "-r", "10"] if "--first" in sys.argv[1:] else []
     scales = [float(word) for word in sys.argv[1:] if word[0] != "-"] or [1, 4]
     if not os.access(PROGRAM, os.X_OK):
         sys.exit(f"queues: {PROGRAM} is not built; `rt run` in its folder builds it")
@@ -154,9 +169,9 @@ def main():
         path = os.path.join(folder, "lines")
         for case, least in CASES:
             for size in [int(scale * least) for scale in scales]:
-                measure(f"{size} {case.__name__}", case(size // tenth), [PROGRAM, "--queues", names], path, counts)
+                measure(f"{size} {case.__name__}", case(size // tenth), before + [PROGRAM, "--queues", names], path, counts)
         for lanes in () if counts else (1, 2, 4, 8):
-            words = [PROGRAM, "--queues", names, "--shards", str(LANE_SHARDS), "--passes", str(lanes)]
+            words = before + [PROGRAM, "--queues", names, "--shards", str(LANE_SHARDS), "--passes", str(lanes)]
             for case, least in CASES:
                 measure(f"{4 * least} {case.__name__} on {LANE_SHARDS} shards, {lanes} lanes",
                         case(4 * least, LANE_SHARDS, lanes), words, path, counts)
