@@ -1,16 +1,16 @@
 -- A ticket drawn keeps the rule.
-use Rattle.std.proofs.Common.{◌≡◌, ◌≢◌, ◌⊎◌, inr, ⊎_elim, ℕ, ◌+◌, ◌%◌, ◌<◌, List, [], ◌∷◌, length, map, get_or, set, refl, sym, ap, ◌∙◌, subst, arith, le_refl, Option, Some, length-set, get_or-set_other}
+use Rattle.std.proofs.Common.{◌≡◌, ◌⊎◌, inr, ℕ, ◌+◌, ◌%◌, ◌<◌, List, [], length, map, get_or, set, refl, sym, ap, ◌∙◌, subst, arith, le_refl, Option, Some, length-set, get_or-set_other}
 use Rattle.std.proofs.Math.Nat.{mod-eq_of_lt}
 use mathlib.Core.Logic.{dite}
 use mathlib.Core.Option.{some, none}
 use native.Mathlib.Decide.{ℕ_discrete}
 use lib.ListN.{get_elem?, length-map}
-use Rattle.atomic_table.specs.Table.{State, step, keeps, stepped, Allows}
+use Rattle.atomic_table.specs.Table.{State, step, keeps, Allows}
 use Rattle.gate.specs.declared.view.Origin.{Origin}
 use Rattle.gate.specs.declared.view.View.{View}
 use Rattle.gate.specs.declared.view.Holder.TheVariants.{Pass}
 use Rattle.gate.specs.Records.{Begins, contents, Later}
-use Rattle.gate.specs.SlotRule.{Lying, at as at_, width, base, most, Home, Out, IsSeat, IsGated}
+use Rattle.gate.specs.SlotRule.{Lying, at as at_, width, most, Home, Out, IsSeat, IsGated}
 use Rattle.gate.specs.Records.{grounds_by}
 use Rattle.gate.specs.RuleSteps.{Sat, origin_of, holding, drew, IsAbove}
 use Rattle.gate.proofs.Lists.{set_at, kept_set, seats_stay}

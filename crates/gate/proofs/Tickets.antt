@@ -1,21 +1,21 @@
 -- The part of the rule that speaks of tickets, over each kind of step.
-use Rattle.std.proofs.Common.{◌≡◌, ◌≢◌, ◌⊎◌, inl, inr, ⊎_elim, ℕ, zero, suc, ◌+◌, ◌*◌, ◌%◌, ◌<◌, ◌≤◌, List, [], ◌∷◌, ◌++◌, length, map, get_or, set, refl, sym, ap, ◌∙◌, subst, arith, append_assoc, append-nil, length-append, length-set, get_or-set_other, get_or-set_same, mul-le-mul_right, Option, Some, None}
+use Rattle.std.proofs.Common.{◌≡◌, ◌≢◌, ⊎_elim, ℕ, zero, suc, ◌+◌, ◌*◌, ◌<◌, ◌≤◌, List, [], ◌∷◌, ◌++◌, length, get_or, set, refl, sym, ap, ◌∙◌, subst, arith, append_assoc, append-nil, length-append, length-set, get_or-set_other, get_or-set_same, mul-le-mul_right, Option, Some, None}
 use Rattle.std.specs.Prelude.{slice_get}
 use mathlib.Core.Logic.{dite}
 use mathlib.Core.Option.{some, none, some-injective, some-ne-none}
 use mathlib.Core.Option as maybe
 use native.Mathlib.Decide.{ℕ_discrete}
-use lib.ListN.{get_elem?, length-map}
-use Rattle.atomic_table.proofs.Lists.{set_here, set_else, at_longer}
+use lib.ListN.{get_elem?}
+use Rattle.atomic_table.proofs.Lists.{set_here, set_else}
 use Rattle.gate.specs.declared.view.Origin.{Origin}
 use Rattle.gate.specs.declared.view.Taken.{Taken}
 use Rattle.gate.specs.declared.view.View.{View}
 use Rattle.gate.specs.declared.view.Holder.TheVariants.{Nobody}
-use Rattle.gate.specs.Records.{Begins, past, Run, on, tickets_from, grown, IsGrounded}
+use Rattle.gate.specs.Records.{Begins, past, on, tickets_from, grown}
 use Rattle.gate.specs.SlotRule.{Lying, at as at_, width, base, most, Drawn, IsStamped, IsMarked, IsDrawn, IsTicketed}
 use Rattle.gate.specs.RuleSteps.{within, holding, recorded, withdrawn, nobody, IsAbove}
 use Rattle.gate.proofs.Lists.{seats_stay, snoc_at, put, put_here, put_else}
-use Rattle.gate.proofs.Growth.{begins_nil, begins_refl, begins_longer, begins_trans, past_append, past_longer}
+use Rattle.gate.proofs.Growth.{begins_nil, begins_refl, begins_trans, past_append, past_longer}
 use Rattle.gate.proofs.Runs.{on_here, on_else, tickets_here, tickets_else, length-tickets, ticket_below, in_slots_more, run_short, grounded_more, grounded_none}
 use Rattle.step_record.specs.declared.entry.Entry.{Entry}
 

@@ -18,7 +18,7 @@ pub enum Refused {
 /// Contracts see an object by the contents that it stands for. What a request answers and what it
 /// makes of a content are functions of the two alone.
 pub trait Object: Drop {
-    ghost use Rattle.std.specs.Prelude.{List, ℕ};
+    ghost use Rattle.std.specs.Prelude.{Bool, List, ℕ};
     ghost use Rattle.gate.specs.Records.{Later};
 
     type Request: Drop;
@@ -46,6 +46,10 @@ pub trait Object: Drop {
 
     // What has to stand in the contents of all slots before a request is made on one of them.
     ghost grounds: { List Self.Content → ℕ → Self.Request → Type 0 };
+
+    // Whether the records of such objects stay in memory whole. Of others the gate hands out what they
+    // grow by (`Gate::try_hand_out`).
+    ghost whole: { Bool };
 
     // The object is ready to do, by this plan, what the request asks at the content.
     ghost ready: { Self → Self.Content → Self.Request → Self.Plan → Type 0 };
@@ -81,4 +85,18 @@ pub trait Object: Drop {
     // What grounds a request still does when records grow.
     ghost grounds_on: { (before later : List Self.Content) (k : ℕ) (q : Self.Request)
         → Later after before later → grounds before k q → grounds later k q };
+}
+
+/// An object whose record stays in memory whole, so that `Gate::close` gives it.
+pub trait KeepsRecord: Object {
+    ghost use Rattle.std.specs.Prelude.{◌≡◌, true};
+
+    ghost is_whole: { Self.whole ≡ true };
+}
+
+/// An object whose record is handed out while it grows.
+pub trait HandsOut: Object {
+    ghost use Rattle.std.specs.Prelude.{◌≡◌, false};
+
+    ghost is_handed_out: { Self.whole ≡ false };
 }
