@@ -6,7 +6,7 @@ ghost use Rattle.gate.specs.Passes.{view, number};
 ghost use Rattle.gate.specs.Records.{Each, KeepsAll, replay};
 ghost use Rattle.gate_tests.specs.InOrder.{ComesBack, InOrder};
 
-use gate::{ClosedSlot, Gate, Object, Pass};
+use gate::{ClosedSlot, Gate, KeepsRecord, Object, Pass};
 use gate_counter::Counter;
 use std::alloc::AllocGlobal;
 use std::process::Abort;
@@ -105,7 +105,7 @@ pub(crate) fn give_back<O: Object, R: Abort>(
 }
 
 /// The gate's objects and their records, where its passes lie in the order of their numbers.
-pub(crate) fn close<O: Object>(gate: Gate<O>, passes: Vec<Pass<O>>) -> Vec<ClosedSlot<O>>
+pub(crate) fn close<O: KeepsRecord>(gate: Gate<O>, passes: Vec<Pass<O>>) -> Vec<ClosedSlot<O>>
     requires own { InOrder gate passes.items }
     requires count { length passes.items ≡ given gate }
     ensures { length result.items ≡ slots gate }

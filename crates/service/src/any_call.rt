@@ -8,11 +8,11 @@ ghost use Rattle.service.specs.Calls.{CallKept, CallServed, reply_of_poll};
 use crate::service::{Pass, Service};
 use service_model_types::answer::{Answer, Reply};
 use service_model_types::call::{Call, Poll, StepCall};
-use shard_gate::KeepsShard;
+use shard_gate::ShardObject;
 use std::alloc::AllocError;
 use std::sync::Wait;
 
-impl<S: KeepsShard> Service<S> {
+impl<S: ShardObject> Service<S> {
     ghost use Rattle.service.specs.Services.{IsPassOf, known_by};
 
     /// Serves a call of any kind: a step as [`Service::serve_step`] does, a poll as

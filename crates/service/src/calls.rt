@@ -9,13 +9,13 @@ use gate::Refused;
 use service_model_types::answer::Reply;
 use service_model_types::client::ClientRequest;
 use service_model_types::request::{Operation, Read, Request, Signal, Start};
-use shard_gate::KeepsShard;
+use shard_gate::ShardObject;
 use std::alloc::AllocError;
 use std::sync::Wait;
 use wf_event::Boxed;
 use wf_event_values::Moment;
 
-impl<S: KeepsShard> Service<S> {
+impl<S: ShardObject> Service<S> {
     ghost use Rattle.service.specs.Services.{IsPassOf, IsServedBy, IsTried};
 
     /// [`Service::start`] that never waits.

@@ -10,19 +10,19 @@ ghost use Rattle.service.specs.ServiceViews.{Pass as PassView};
 use crate::service::{Pass, Service};
 use matching::QueuesPass;
 use service_model_types::limits::MOST_PASSES;
-use shard_gate::{Closed, KeepsShard, ShardPass};
+use shard_gate::{Closed, KeepsShard, ShardObject, ShardPass};
 use std::alloc::{AllocError, Global};
 
 /// Room for all passes on the shards and at the queues.
 #[derive(Drop)]
-pub(crate) struct PassRoom<S: KeepsShard> {
+pub(crate) struct PassRoom<S: ShardObject> {
     passes: Vec<ShardPass<S>>,
     hints: Vec<QueuesPass>,
     ghost empty: { (length passes.items ≡ 0) × (length hints.items ≡ 0) },
     ghost wide: { (256 ≤ vec_capacity passes) × (256 ≤ vec_capacity hints) },
 }
 
-impl<S: KeepsShard> PassRoom<S> {
+impl<S: ShardObject> PassRoom<S> {
     pub(crate) fn new(alloc: Global) -> Result<PassRoom<S>, AllocError> {
         let passes = Vec::with_capacity(alloc, MOST_PASSES as usize)?;
         let hints = Vec::with_capacity(alloc, MOST_PASSES as usize)?;
@@ -31,7 +31,7 @@ impl<S: KeepsShard> PassRoom<S> {
 }
 
 /// The passes on the shards and at the queues, in the room for them.
-fn handed_down<S: KeepsShard>(
+fn handed_down<S: ShardObject>(
     passes: Vec<Pass<S>>,
     room: PassRoom<S>,
 ) -> (Vec<ShardPass<S>>, Vec<QueuesPass>)

@@ -14,12 +14,12 @@ use service_model_types::answer::{Answer, NumberedDispatch, Reply};
 use service_model_types::call::Stop;
 use service_model_types::client::ClientRequest;
 use service_model_types::request::Operation;
-use shard_gate::KeepsShard;
+use shard_gate::ShardObject;
 use std::alloc::AllocError;
 use std::sync::Wait;
 use wf_event_values::Moment;
 
-impl<S: KeepsShard> Service<S> {
+impl<S: ShardObject> Service<S> {
     ghost use Rattle.service.specs.Services.{IsPassOf, hints_by, known_by, settings_of};
 
     /// Reads the first dispatch of a shard that is not counted, pushes its hint to its task queue, and

@@ -10,19 +10,19 @@ use gate::Refused;
 use matching::QueuesPass;
 use service_model_types::answer::Reply;
 use service_model_types::request::{Operation, Request, Start};
-use shard_gate::{HeldShard, KeepsShard};
+use shard_gate::{HeldShard, ShardObject};
 use std::marker::Model;
 use wf_event::Boxed;
 use wf_event_values::Moment;
 
 /// A pass that keeps others from the shard where its start was served. It can't be dropped: `leave`
 /// spends it.
-pub struct Held<'a, S: KeepsShard> {
+pub struct Held<'a, S: ShardObject> {
     pub(crate) inner: HeldShard<'a, S>,
     pub(crate) hints: QueuesPass,
 }
 
-impl<'a, S: KeepsShard> Model for Held<'a, S> {
+impl<'a, S: ShardObject> Model for Held<'a, S> {
     ghost use Rattle.service.specs.ServiceViews.{Held};
 
     ghost Value = { Held };
@@ -30,7 +30,7 @@ impl<'a, S: KeepsShard> Model for Held<'a, S> {
     ghost view = { λ h. record { inner = h.inner; hints = h.hints } };
 }
 
-impl<S: KeepsShard> Service<S> {
+impl<S: ShardObject> Service<S> {
     ghost use Rattle.service.specs.Services.{IsPassOf, hints_by, known_by, shard_of_request};
     ghost use Rattle.service.specs.HeldPasses.{IsHeldBy, Enters, hints_of};
 
@@ -66,7 +66,7 @@ impl<S: KeepsShard> Service<S> {
     }
 }
 
-impl<S: KeepsShard> Held<'_, S> {
+impl<S: ShardObject> Held<'_, S> {
     ghost use Rattle.service.specs.Services.{IsPassOf, hints_by, known_by};
     ghost use Rattle.service.specs.HeldPasses.{IsHeldBy, hints_of, leaving, promised};
     ghost use Rattle.service.specs.ServiceViews.{Service as ServiceView};

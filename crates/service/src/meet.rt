@@ -5,9 +5,9 @@ ghost use Rattle.gate.specs.Passes.{Agree, KeepsOwn};
 ghost use Rattle.matching.specs.Named.{Met};
 
 use crate::service::{Pass, Service};
-use shard_gate::KeepsShard;
+use shard_gate::ShardObject;
 
-impl<S: KeepsShard> Service<S> {
+impl<S: ShardObject> Service<S> {
     ghost use Rattle.service.specs.Services.{IsPassOf, hints_by, known_by, settings_of};
 
     /// Of each shard, the record that one pass had seen began the one that the other had, and so it

@@ -24,13 +24,13 @@ use service_model_types::limits::{
 };
 use service_model_types::request::Request;
 use service_model_types::settings::Settings;
-use shard_gate::{KeepsShard, Opened, ShardGate, ShardPass};
+use shard_gate::{ShardObject, Opened, ShardGate, ShardPass};
 use std::alloc::{AllocError, Global};
 use std::sync::Mutex;
 use step_record::Record;
 use wf_event_values::{Field, Id, LONGEST_SPAN, Refusal};
 
-impl<S: KeepsShard> Service<S> {
+impl<S: ShardObject> Service<S> {
     /// Opens a service and gives its passes, numbered from 0.
     ///
     /// Without records nothing was done in it. With one record of each shard it goes on where these
@@ -164,7 +164,7 @@ fn open_queues(
 }
 
 /// The passes on the shards with those at the queues.
-fn paired<S: KeepsShard>(
+fn paired<S: ShardObject>(
     alloc: Global,
     inner: Vec<ShardPass<S>>,
     hints: Vec<QueuesPass>,

@@ -10,12 +10,12 @@ use crate::calls::request;
 use crate::service::{Pass, Service};
 use service_model_types::answer::Reply;
 use service_model_types::request::{Hint, Operation};
-use shard_gate::KeepsShard;
+use shard_gate::ShardObject;
 use std::alloc::AllocError;
 use std::sync::Wait;
 use wf_event_values::{Id, Moment, TaskKind};
 
-impl<S: KeepsShard> Service<S> {
+impl<S: ShardObject> Service<S> {
     ghost use Rattle.service.specs.Services.{IsPassOf, IsServedAtLast, hints_by, known_by, settings_of};
 
     /// Takes a workflow task of that task queue for a worker (Temporal, PollWorkflowTaskQueue): the

@@ -11,10 +11,10 @@ use service_model_types::limits::MOST_COMMANDS;
 use service_model_types::request::{Operation, Request, TakenTask};
 use service_model_types::routing::hash_of;
 use service_model_types::settings::Settings;
-use shard_gate::KeepsShard;
+use shard_gate::ShardObject;
 use wf_event_values::{Field, Id, Refusal};
 
-impl<S: KeepsShard> Service<S> {
+impl<S: ShardObject> Service<S> {
     ghost use Rattle.service.specs.Services.{settings_of, shard_of_request};
 
     /// As what an operation is refused before any shard is entered, where it is: its token is looked at

@@ -9,14 +9,14 @@ use service_model_types::answer::Reply;
 use service_model_types::client::ClientRequest;
 use service_model_types::request::Request;
 use service_model_types::settings::Settings;
-use shard_gate::{KeepsShard, ShardGate, ShardPass};
+use shard_gate::{ShardObject, ShardGate, ShardPass};
 use std::alloc::AllocError;
 use std::marker::Model;
 use std::sync::{Mutex, Wait};
 use wf_event_values::Refusal;
 
 /// A workflow service, over shards that `S` keeps.
-pub struct Service<S: KeepsShard> {
+pub struct Service<S: ShardObject> {
     pub(crate) settings: Settings,
     pub(crate) gate: ShardGate<S>,
     pub(crate) queues: Queues,
@@ -26,7 +26,7 @@ pub struct Service<S: KeepsShard> {
     ghost some_pass: { 0 < settings.passes },
 }
 
-impl<S: KeepsShard> Drop for Service<S> {
+impl<S: ShardObject> Drop for Service<S> {
     fn drop(self) {
         let Service {
             settings: _,
@@ -37,7 +37,7 @@ impl<S: KeepsShard> Drop for Service<S> {
     }
 }
 
-impl<S: KeepsShard> Model for Service<S> {
+impl<S: ShardObject> Model for Service<S> {
     ghost use Rattle.service.specs.ServiceViews.{Service};
 
     ghost Value = { Service };
@@ -46,18 +46,18 @@ impl<S: KeepsShard> Model for Service<S> {
 }
 
 /// The right to call one service. It is one thread's at a time.
-pub struct Pass<S: KeepsShard> {
+pub struct Pass<S: ShardObject> {
     pub(crate) inner: ShardPass<S>,
     pub(crate) hints: QueuesPass,
 }
 
-impl<S: KeepsShard> Drop for Pass<S> {
+impl<S: ShardObject> Drop for Pass<S> {
     fn drop(self) {
         let Pass { inner: _, hints: _ } = self;
     }
 }
 
-impl<S: KeepsShard> Model for Pass<S> {
+impl<S: ShardObject> Model for Pass<S> {
     ghost use Rattle.service.specs.ServiceViews.{Pass};
 
     ghost Value = { Pass };
@@ -65,7 +65,7 @@ impl<S: KeepsShard> Model for Pass<S> {
     ghost view = { λ p. record { inner = p.inner; hints = p.hints } };
 }
 
-impl<S: KeepsShard> Pass<S> {
+impl<S: ShardObject> Pass<S> {
     /// The right to step on the shards, and the one to push and pop hints.
     pub(crate) fn into_parts(self) -> (ShardPass<S>, QueuesPass)
         ensures { result ≡ (self.inner, self.hints) }
@@ -75,7 +75,7 @@ impl<S: KeepsShard> Pass<S> {
     }
 }
 
-impl<S: KeepsShard> Service<S> {
+impl<S: ShardObject> Service<S> {
     ghost use Rattle.service.specs.Services.{IsPassOf, IsServedBy, IsServedOnBy, IsTried, IsTriedOn, settings_of};
 
     /// The gate and the queues, and the room that closing needs.

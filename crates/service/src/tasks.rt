@@ -12,12 +12,12 @@ use service_model_types::answer::Reply;
 use service_model_types::request::{
     CompleteWorkflowTask, FailWorkflowTask, Hint, Operation, Request,
 };
-use shard_gate::KeepsShard;
+use shard_gate::ShardObject;
 use std::alloc::AllocError;
 use std::sync::Wait;
 use wf_event_values::Moment;
 
-impl<S: KeepsShard> Service<S> {
+impl<S: ShardObject> Service<S> {
     ghost use Rattle.service.specs.Services.{IsPassOf, IsServedBy, IsServedOnBy, IsTried, IsTriedOn, settings_of};
 
     /// [`Service::start_task`] that never waits.

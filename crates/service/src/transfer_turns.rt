@@ -14,13 +14,13 @@ use service_model_types::answer::{Answer, Reply};
 use service_model_types::call::{Stop, TransferTurn};
 use service_model_types::request::{Acknowledge, Operation, Request};
 use service_model_types::transfer::Transfer;
-use shard_gate::KeepsShard;
+use shard_gate::ShardObject;
 use std::alloc::AllocError;
 use std::sync::Wait;
 use wf_event::Boxed;
 use wf_event_values::Moment;
 
-impl<S: KeepsShard> Service<S> {
+impl<S: ShardObject> Service<S> {
     ghost use Rattle.service.specs.Services.{IsPassOf, IsServedAtLast, hints_by, known_by, settings_of};
 
     /// Reads the first transfer that a shard issued for another one and that is not acknowledged,

@@ -10,12 +10,12 @@ use gate::Refused;
 use service_model_types::answer::Reply;
 use service_model_types::call::StepCall;
 use service_model_types::request::{Operation, Request};
-use shard_gate::KeepsShard;
+use shard_gate::ShardObject;
 use std::alloc::AllocError;
 use std::sync::Wait;
 use wf_event_values::Moment;
 
-impl<S: KeepsShard> Service<S> {
+impl<S: ShardObject> Service<S> {
     ghost use Rattle.service.specs.Services.{IsPassOf, IsServedStep, IsServedOnBy, IsTriedStep, IsTriedOn, settings_of};
 
     /// [`Service::timer_turn`] that never waits.

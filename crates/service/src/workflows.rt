@@ -8,13 +8,13 @@ use crate::service::{Pass, Service};
 use gate::Refused;
 use service_model_types::answer::Reply;
 use service_model_types::request::{Operation, Request, RequestCancel, SignalWithStart, Terminate};
-use shard_gate::KeepsShard;
+use shard_gate::ShardObject;
 use std::alloc::AllocError;
 use std::sync::Wait;
 use wf_event::Boxed;
 use wf_event_values::Moment;
 
-impl<S: KeepsShard> Service<S> {
+impl<S: ShardObject> Service<S> {
     ghost use Rattle.service.specs.Services.{IsPassOf, IsServedBy, IsTried};
 
     /// [`Service::signal_with_start`] that never waits.

@@ -8,7 +8,7 @@ ghost use Rattle.shard.specs.Standing.{StandsFor, IsReady, opened};
 
 use crate::prepare::prepare;
 use crate::shard::Shard;
-use gate::Object;
+use gate::{KeepsRecord, Object};
 use mutable_state_keeper::KeepsRun;
 use service_model_types::answer::Reply;
 use service_model_types::content::Content;
@@ -17,6 +17,8 @@ use shard_store::Plan;
 use std::alloc::AllocError;
 
 impl<T: KeepsRun> Object for Shard<T> {
+    ghost use Rattle.std.specs.Prelude.{true};
+
     type Request = Request;
 
     type Reply = Reply;
@@ -43,6 +45,8 @@ impl<T: KeepsRun> Object for Shard<T> {
 
     ghost grounds_on = { grounds-on };
 
+    ghost whole = { true };
+
     ghost ready = { IsReady };
 
     fn prepare(&mut self, request: &Request) -> Result<Plan<T>, AllocError> {
@@ -52,4 +56,10 @@ impl<T: KeepsRun> Object for Shard<T> {
     fn commit(&mut self, plan: Plan<T>) -> Reply {
         self.store.commit(plan)
     }
+}
+
+impl<T: KeepsRun> KeepsRecord for Shard<T> {
+    ghost use Rattle.std.proofs.Common.{refl};
+
+    ghost is_whole = { refl };
 }

@@ -6,10 +6,10 @@ ghost use Rattle.shard.specs.Standing.{StandsFor};
 use crate::shard::Shard;
 use mutable_state_keeper::KeepsRun;
 use service_model_types::content::{Dispatch, Setup};
-use shard_gate::KeepsShard;
+use shard_gate::{KeepsShard, ShardObject};
 use std::alloc::{AllocError, Global};
 
-impl<T: KeepsRun> KeepsShard for Shard<T> {
+impl<T: KeepsRun> ShardObject for Shard<T> {
     ghost use Rattle.std.proofs.Common.{refl};
 
     ghost answers = { refl };
@@ -30,3 +30,5 @@ impl<T: KeepsRun> KeepsShard for Shard<T> {
         self.store.waiting_tasks(alloc)
     }
 }
+
+impl<T: KeepsRun> KeepsShard for Shard<T> {}

@@ -1,3 +1,4 @@
 mod StepLemmas
 pub mod OpenLemmas
 mod CloseLemmas
+mod MomentLemmas

@@ -6,8 +6,8 @@ ghost use Rattle.gate.specs.Passes.{number, tickets, view as seen_by};
 ghost use Rattle.gate.specs.Records.{Begins, Each, replay};
 ghost use Rattle.shard_gate.specs.GateViews.{PassView};
 
-use crate::keeps_shard::KeepsShard;
 use crate::shard_gate::{ShardGate, ShardPass};
+use crate::shard_object::{KeepsShard, ShardObject};
 use gate::{ClosedSlot, Gate};
 use service_model_types::request::Request;
 use std::alloc::{AllocError, Global};
@@ -19,13 +19,13 @@ const MOST_PASSES: usize = 256;
 
 /// Room for all passes of the gate.
 #[derive(Drop)]
-pub(crate) struct GatePasses<S: KeepsShard> {
+pub(crate) struct GatePasses<S: ShardObject> {
     passes: Vec<gate::Pass<S>>,
     ghost empty: { length passes.items ≡ 0 },
     ghost wide: { 256 ≤ vec_capacity passes },
 }
 
-impl<S: KeepsShard> GatePasses<S> {
+impl<S: ShardObject> GatePasses<S> {
     pub(crate) fn new(alloc: Global) -> Result<GatePasses<S>, AllocError> {
         let passes = Vec::with_capacity(alloc, MOST_PASSES)?;
         Ok(GatePasses { passes })
@@ -34,7 +34,7 @@ impl<S: KeepsShard> GatePasses<S> {
 
 /// What there is when the gate of the shards is closed, each list in the order of the shards.
 #[derive(Drop)]
-pub struct Closed<S: KeepsShard> {
+pub struct Closed<S: ShardObject> {
     /// The record of each shard.
     pub records: Vec<Record<Request>>,
     /// Of each shard, the tickets of the steps that were made since the opening, in their order.
@@ -44,7 +44,7 @@ pub struct Closed<S: KeepsShard> {
     pub shards: Vec<S>,
 }
 
-impl<S: KeepsShard> Closed<S> {
+impl<S: ShardObject> Closed<S> {
     /// Room for so many shards.
     pub(crate) fn new(alloc: Global, shards: usize) -> Result<Closed<S>, AllocError>
         ensures empty { IfOk result (λ c. (length c.records.items ≡ 0)
@@ -64,7 +64,7 @@ impl<S: KeepsShard> Closed<S> {
 }
 
 /// The passes of the gate, in the room for them.
-fn handed_down<S: KeepsShard>(passes: Vec<ShardPass<S>>, room: GatePasses<S>) -> Vec<gate::Pass<S>>
+fn handed_down<S: ShardObject>(passes: Vec<ShardPass<S>>, room: GatePasses<S>) -> Vec<gate::Pass<S>>
     requires { length passes.items ≤ 256 }
     ensures tables { map (λ p. p.seat.table_id) result.items
         ≡ map (λ (p : PassView). p.table) passes.items }
@@ -79,7 +79,7 @@ fn handed_down<S: KeepsShard>(passes: Vec<ShardPass<S>>, room: GatePasses<S>) ->
 }
 
 /// The records, the tickets and the shards, in the room for them.
-fn taken_out<S: KeepsShard>(closed: Vec<ClosedSlot<S>>, room: Closed<S>) -> Closed<S>
+fn taken_out<S: ShardObject>(closed: Vec<ClosedSlot<S>>, room: Closed<S>) -> Closed<S>
     requires empty { (length room.records.items ≡ 0)
         × (length room.tickets.items ≡ 0) × (length room.shards.items ≡ 0) }
     requires wide { (length closed.items ≤ vec_capacity room.records)
@@ -97,6 +97,7 @@ fn taken_out<S: KeepsShard>(closed: Vec<ClosedSlot<S>>, room: Closed<S>) -> Clos
     for slot in closed {
         let ClosedSlot {
             object,
+            handed: _,
             entries,
             tickets,
         } = slot;

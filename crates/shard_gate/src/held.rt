@@ -5,20 +5,20 @@ ghost use Rattle.service_model.specs.Growth.{KeepsHistories};
 ghost use Rattle.service_model.specs.Service.{after, answer};
 ghost use Rattle.gate.specs.Passes.{Refuses, Stamped, Stepped};
 
-use crate::keeps_shard::KeepsShard;
 use crate::shard_gate::{ShardGate, ShardPass};
+use crate::shard_object::ShardObject;
 use gate::{Gate, Refused};
 use service_model_types::answer::Reply;
 use service_model_types::request::Request;
 use std::marker::Model;
 
 /// A pass that is on a shard, with its request served. It can't be dropped: `leave` spends it.
-pub struct HeldShard<'a, S: KeepsShard> {
+pub struct HeldShard<'a, S: ShardObject> {
     inner: gate::Held<'a, S>,
     gate: &'a Gate<S>,
 }
 
-impl<'a, S: KeepsShard> Model for HeldShard<'a, S> {
+impl<'a, S: ShardObject> Model for HeldShard<'a, S> {
     ghost use Rattle.gate.specs.HeldSlots.{IsHeldBy as IsHeldByGate, leaving, promised};
     ghost use Rattle.shard_gate.specs.GateViews.{HeldView};
 
@@ -34,7 +34,7 @@ impl<'a, S: KeepsShard> Model for HeldShard<'a, S> {
     ghost invariant = { λ h. IsHeldByGate S.opening h.inner h.gate.now };
 }
 
-impl<S: KeepsShard> ShardGate<S> {
+impl<S: ShardObject> ShardGate<S> {
     ghost use Rattle.shard_gate.specs.GateViews.{IsHeldBy, IsPassOf, SeenGrounds, slots};
 
     /// Makes a step on a shard as `try_step` does, and stays there. What the pass will have seen and
@@ -68,7 +68,7 @@ impl<S: KeepsShard> ShardGate<S> {
     }
 }
 
-impl<S: KeepsShard> HeldShard<'_, S> {
+impl<S: ShardObject> HeldShard<'_, S> {
     ghost use Rattle.shard_gate.specs.GateViews.{GateView, IsHeldBy, IsPassOf};
 
     /// Leaves the shard, and hands the pass and the step's reply over. It takes no memory.

@@ -11,8 +11,8 @@ ghost use Rattle.shard_gate.specs.Opening.{IsSetup, Opens, opened_with, records_
 ghost use Rattle.shard_gate.specs.GateViews.{PassView};
 
 use crate::close::{Closed, GatePasses};
-use crate::keeps_shard::KeepsShard;
 use crate::shard_gate::{ShardGate, ShardPass};
+use crate::shard_object::ShardObject;
 use gate::{Gate, replayed};
 use service_model_types::content::{Dispatch, Setup};
 use service_model_types::request::Request;
@@ -22,7 +22,7 @@ use step_record::Record;
 
 /// A gate that was opened, its passes, and the tasks that wait on its shards.
 #[derive(Drop)]
-pub struct Opened<S: KeepsShard> {
+pub struct Opened<S: ShardObject> {
     pub gate: ShardGate<S>,
     /// Numbered from 0.
     pub passes: Vec<ShardPass<S>>,
@@ -32,7 +32,7 @@ pub struct Opened<S: KeepsShard> {
 
 /// A shard as its record left it, with that record, and the tasks that wait there.
 #[derive(Drop)]
-struct Reopened<S: KeepsShard> {
+struct Reopened<S: ShardObject> {
     shard: S,
     log: Record<Request>,
     waiting: Vec<Dispatch>,
@@ -40,13 +40,13 @@ struct Reopened<S: KeepsShard> {
 
 /// The shards with their records, and the tasks that wait on them.
 #[derive(Drop)]
-struct Laid<S: KeepsShard> {
+struct Laid<S: ShardObject> {
     objects: Vec<(S, Record<Request>)>,
     waiting: Vec<Dispatch>,
 }
 
 /// One shard, as its record left it.
-fn reopen<S: KeepsShard>(
+fn reopen<S: ShardObject>(
     alloc: Global,
     setup: Setup,
     log: Record<Request>,
@@ -70,7 +70,7 @@ fn reopen<S: KeepsShard>(
 }
 
 /// All shards, each as its record left it.
-fn lay<S: KeepsShard>(
+fn lay<S: ShardObject>(
     alloc: Global,
     given: Vec<(Setup, Record<Request>)>,
 ) -> Result<Laid<S>, AllocError>
@@ -102,7 +102,7 @@ fn lay<S: KeepsShard>(
 }
 
 /// The passes of a gate as those of its shards.
-fn as_shard_passes<S: KeepsShard>(
+fn as_shard_passes<S: ShardObject>(
     alloc: Global,
     inner: Vec<gate::Pass<S>>,
 ) -> Result<Vec<ShardPass<S>>, AllocError>
@@ -118,7 +118,7 @@ fn as_shard_passes<S: KeepsShard>(
     Ok(passes)
 }
 
-impl<S: KeepsShard> ShardGate<S> {
+impl<S: ShardObject> ShardGate<S> {
     /// Opens a gate over 1 to 64 shards, each as its record left it, and gives 1 to 256 passes,
     /// numbered from 0.
     ///

@@ -6,7 +6,7 @@ ghost use Rattle.service_model.specs.Service.{after, answer};
 ghost use Rattle.gate.specs.Passes.{Agree, AgreeTickets, KeepsOwn, Refuses, Stamped, Stepped, SteppedAt, Waited, number, view as seen_by};
 
 use crate::close::{Closed, GatePasses};
-use crate::keeps_shard::KeepsShard;
+use crate::shard_object::ShardObject;
 use gate::{Gate, Refused};
 use service_model_types::answer::Reply;
 use service_model_types::request::Request;
@@ -15,7 +15,7 @@ use std::marker::Model;
 use std::sync::{Mutex, Wait};
 
 /// Shards that threads step on by their passes, each with its record.
-pub struct ShardGate<S: KeepsShard> {
+pub struct ShardGate<S: ShardObject> {
     pub(crate) gate: Gate<S>,
     // Room for what `close` hands down and for what it answers, made by `open` so that closing
     // can't fail. Threads can't share a list of passes, so that one lies behind a lock, which
@@ -30,7 +30,7 @@ pub struct ShardGate<S: KeepsShard> {
         × (gate.board.shared.table_id.slots ≤ vec_capacity closed.shards) },
 }
 
-impl<S: KeepsShard> Drop for ShardGate<S> {
+impl<S: ShardObject> Drop for ShardGate<S> {
     fn drop(self) {
         let ShardGate {
             gate: _,
@@ -40,7 +40,7 @@ impl<S: KeepsShard> Drop for ShardGate<S> {
     }
 }
 
-impl<S: KeepsShard> Model for ShardGate<S> {
+impl<S: ShardObject> Model for ShardGate<S> {
     ghost use Rattle.gate.specs.GateViews.{given, opened};
     ghost use Rattle.gate.specs.RuleSteps.{origin_of};
     ghost use Rattle.shard_gate.specs.GateViews.{GateView};
@@ -54,17 +54,17 @@ impl<S: KeepsShard> Model for ShardGate<S> {
 }
 
 /// The right to step on the shards of one gate. It is one thread's at a time, and on no shard.
-pub struct ShardPass<S: KeepsShard> {
+pub struct ShardPass<S: ShardObject> {
     pub(crate) inner: gate::Pass<S>,
 }
 
-impl<S: KeepsShard> Drop for ShardPass<S> {
+impl<S: ShardObject> Drop for ShardPass<S> {
     fn drop(self) {
         let ShardPass { inner: _ } = self;
     }
 }
 
-impl<S: KeepsShard> Model for ShardPass<S> {
+impl<S: ShardObject> Model for ShardPass<S> {
     ghost use Rattle.gate.specs.Passes.{view as seen_by};
     ghost use Rattle.shard_gate.specs.GateViews.{PassView};
 
@@ -73,7 +73,7 @@ impl<S: KeepsShard> Model for ShardPass<S> {
     ghost view = { λ p. record { table = p.inner.seat.table_id; known = seen_by p.inner } };
 }
 
-impl<S: KeepsShard> ShardPass<S> {
+impl<S: ShardObject> ShardPass<S> {
     pub(crate) fn into_inner(self) -> gate::Pass<S>
         ensures table { result.seat.table_id ≡ self.table }
         ensures known { seen_by result ≡ self.known }
@@ -83,7 +83,7 @@ impl<S: KeepsShard> ShardPass<S> {
     }
 }
 
-impl<S: KeepsShard> ShardGate<S> {
+impl<S: ShardObject> ShardGate<S> {
     ghost use Rattle.gate.specs.GateViews.{opened, given as given_by};
     ghost use Rattle.gate.specs.RuleSteps.{origin_of};
     ghost use Rattle.shard_gate.specs.GateViews.{IsPassOf, SeenGrounds, slots};

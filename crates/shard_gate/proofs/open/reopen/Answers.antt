@@ -7,4 +7,4 @@ pub returns-clause-waiting : goal.returns-clause-waiting
 returns-clause-waiting g c =
     let found = c.in_ok-shard in
     let opened = found.ensures.opening ∙ c.in_ok-fresh.ensures.opened in
-    c.in_ok-waiting.ensures _ found.ensures.stands ∙ ap waiting (replay-as _ g.met.S.KeepsShard.goes_on _ c.args.setup opened found.log c.args.log found.ensures.log)
+    c.in_ok-waiting.ensures _ found.ensures.stands ∙ ap waiting (replay-as _ g.met.S.ShardObject.goes_on _ c.args.setup opened found.log c.args.log found.ensures.log)

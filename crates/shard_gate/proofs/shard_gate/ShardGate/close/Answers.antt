@@ -70,7 +70,7 @@ returns-clause-seen g c = λ k ts j p there mine.
 
 pub returns-clause-history : goal.returns-clause-history
 returns-clause-history g c =
-    let laws = g.met.S.KeepsShard in
+    let laws = g.met.S.ShardObject in
     let parts = c.into_parts-gate.ensures in
     let logs = sym c.taken_out.ensures.records in
     let stamps = sym (ap (map (λ t. t.items)) c.taken_out.ensures.tickets ∙ map-map (λ t. t.items) (λ x. x.tickets) c.close.result.items) in

@@ -5,6 +5,6 @@ use Rattle.shard_gate.proofs.shard_gate.ShardGate.try_step.Goals as goal
 
 pub returns-clause-ok : goal.returns-clause-ok
 returns-clause-ok g c =
-    let laws = g.met.S.KeepsShard in
+    let laws = g.met.S.ShardObject in
     let same = ap (λ (p : PassView). p.known) c.pass.view_is in
     weaker c.try_step.result _ _ (λ r step. stepped-as _ _ _ _ _ _ _ _ _ laws.goes_on laws.answers laws.keeps_histories same _ _ r step) c.try_step.ensures.ok

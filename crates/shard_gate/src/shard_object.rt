@@ -6,14 +6,14 @@ ghost use Rattle.service_model.specs.Service.{after, answer, opening};
 ghost use Rattle.service_model.specs.Waiting.{waiting};
 ghost use Rattle.shard_gate.specs.Grounding.{grounds};
 
-use gate::Object;
+use gate::{KeepsRecord, Object};
 use service_model_types::answer::Reply;
 use service_model_types::content::{Content, Dispatch, Setup};
 use service_model_types::request::Request;
 use std::alloc::{AllocError, Global};
 
 /// An object of the gate that answers as the sequential service does, and changes as it does.
-pub trait KeepsShard: Object<Request = Request, Reply = Reply, Content = Content> {
+pub trait ShardObject: Object<Request = Request, Reply = Reply, Content = Content> {
     ghost use Rattle.std.specs.Prelude.{List, ℕ};
     ghost use Rattle.service_model_types.specs.declared.content.Content.{Content};
     ghost use Rattle.service_model_types.specs.declared.request.Request.{Request};
@@ -54,3 +54,6 @@ pub trait KeepsShard: Object<Request = Request, Reply = Reply, Content = Content
     ghost needs_all: { (contents : List Content) (s : ℕ) (q : Request)
         → Self.grounds contents s q → grounds contents s q };
 }
+
+/// A shard whose record stays in memory whole.
+pub trait KeepsShard: ShardObject + KeepsRecord {}
