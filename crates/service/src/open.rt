@@ -24,7 +24,7 @@ use service_model_types::limits::{
 };
 use service_model_types::request::Request;
 use service_model_types::settings::Settings;
-use shard_gate::{ShardObject, Opened, ShardGate, ShardPass};
+use shard_gate::{Opened, ShardGate, ShardObject, ShardPass};
 use std::alloc::{AllocError, Global};
 use std::sync::Mutex;
 use step_record::Record;

@@ -9,7 +9,7 @@ use service_model_types::answer::Reply;
 use service_model_types::client::ClientRequest;
 use service_model_types::request::Request;
 use service_model_types::settings::Settings;
-use shard_gate::{ShardObject, ShardGate, ShardPass};
+use shard_gate::{ShardGate, ShardObject, ShardPass};
 use std::alloc::AllocError;
 use std::marker::Model;
 use std::sync::{Mutex, Wait};
