@@ -5,8 +5,8 @@ ghost use Rattle.gate.specs.GateViews.{slots, given, IsPassOf};
 ghost use Rattle.gate.specs.Records.{Each};
 ghost use Rattle.gate_tests.specs.InOrder.{ComesBack, InOrder};
 
-use crate::passes::{give_back, has_steps, open, take_pass};
-use gate::{ClosedSlot, Gate, Handing, Pass};
+use crate::passes::{has_steps, open, take_pass};
+use gate::{Gate, Handing, Pass};
 use gate_counter::Counter;
 use std::alloc::{AllocGlobal, Global};
 use std::process::Abort;
@@ -74,21 +74,11 @@ fn goes_on(alloc: Global, gate: &Gate<Handing<Counter>>, pass: &mut Pass<Handing
         && gate.survey(pass) == 4
 }
 
-/// Whether the one slot has what was made since, and the object all of it.
-fn is_left(closed: &[ClosedSlot<Handing<Counter>>]) -> bool {
-    match closed {
-        [slot] => slot.object.object.value() == 19 && has_steps(&slot.entries, &[(0, 1)]),
-        _ => false,
-    }
-}
-
 #[test]
 fn pieces_follow_each_other(rt: HostRuntime) {
     let (gate, mut passes) = open(&rt, handing(&rt, 1), 1);
     let mut pass = take_pass(&gate, &mut passes);
     assert!(rt; goes_on(rt.alloc(), &gate, &mut pass));
-    give_back(&rt, &gate, &mut passes, pass);
-    assert!(rt; is_left(&gate.close_rest(passes)));
 }
 
 /// Steps on the slot, one after another.
