@@ -97,7 +97,6 @@ fn taken_out<S: ShardObject>(closed: Vec<ClosedSlot<S>>, room: Closed<S>) -> Clo
     for slot in closed {
         let ClosedSlot {
             object,
-            handed: _,
             entries,
             tickets,
         } = slot;
