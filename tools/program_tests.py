@@ -39,6 +39,10 @@ def poll(**more):
     return {"op": "poll_workflow_task", "task_queue": "main", **more}
 
 
+def signal(at):
+    return {"at": at, "name": "s", "op": "signal", "workflow_id": "a"}
+
+
 def token(shard, run):
     """The token of a run's first workflow task."""
     return base64.b64encode(struct.pack(">BBHQQI", 1, 1, shard, run, 2, 1)).decode()
@@ -108,6 +112,16 @@ class ManyLines(unittest.TestCase):
     def test_five_thousand_runs_time_out(self):
         self.assert_counts(served(self.timing_out() + self.turns(2000)), class_run_timeout=self.RUNS)
 
+    def test_ten_thousand_timers_fire_in_order(self):
+        """Timers of one completion that are due at one moment fire as they were started, and then none does."""
+        timers = [{"type": "StartTimer", "timer_id": f"t{number}", "duration": 5} for number in range(self.TASKS)]
+        completion = {"op": "complete_workflow_task", "token": token(0, 1), "commands": timers}
+        turns = [{"at": 5, "op": "timer_turn", "shard": 0}] * (self.TASKS + 1)
+        replies = served([start("a"), {"op": "dispatch_turn", "shard": 0}, poll(), completion] + turns)[4:]
+        # the first four events are the run's start, and its task scheduled, started and completed
+        self.assertEqual([reply.get("event") for reply in replies], [*range(5, self.TASKS + 5), None])
+        self.assertEqual(replies[-1]["ok"], "none")
+
     def test_five_thousand_runs_come_and_go(self):
         """They time out and are taken away, and then each workflow begins anew."""
         again = [start(f"w{number}", reuse="RejectDuplicate") for number in range(self.RUNS)]
@@ -142,6 +156,7 @@ STARTED = (
 )
 DISPATCHED = '{"pass":0,"request":{"at":0,"op":"next_dispatch"}}\n{"pass":0,"request":{"at":0,"number":1,"op":"dispatched"}}\n'
 TAKEN = '{"pass":0,"request":{"at":0,"attempt":1,"event":2,"kind":"workflow","op":"start_task","run":1}}\n'
+SIGNALED = '{{"pass":0,"request":{{"at":{0},"input":"","name":"s","op":"signal","workflow_id":"a"}}}}\n'
 RUN_A, RUN_B = "00000000-0001-8000-8000-000000000001", "00000000-0001-8001-8000-000000000001"
 TASK_A = (
     '{{"attempt":1,"line":{0},"ok":"task","run":"' + RUN_A + '","started":3,'
@@ -171,6 +186,13 @@ REOPENED = {
         [STARTED.format("", "a") + DISPATCHED + TAKEN],
         [poll(), start("a")],
         '{"line":1,"ok":"empty"}\n{"error":"AlreadyStarted","line":2,"no":3,"run":"' + RUN_A + '"}\n',
+    ),
+    "a signal at an earlier moment is recorded with that moment": Reopened(
+        [start("a", request_id="r1"), signal(50), signal(40)],
+        [STARTED.format('"request_id":"r1",', "a") + SIGNALED.format(50) + SIGNALED.format(40)],
+        [{"op": "describe", "workflow_id": "a"}],
+        '{"activities":0,"cancels":0,"children":0,"held":0,"length":4,"line":1,"ok":"described","run":"' + RUN_A + '",'
+        '"signals":0,"status":"Running","timers":0}\n',
     ),
     "tasks of two shards wait in the order of the shards": Reopened(
         [start("b"), start("a")],

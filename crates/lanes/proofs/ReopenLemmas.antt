@@ -1,15 +1,21 @@
 -- a service over lanes that was opened from records, from its opening to its close
-use Rattle.std.proofs.Common.{◌≡◌, ◌≢◌, ℕ, ◌<◌, List, [], length, map, slice_get, Bool, Option, Some, sym, ap, subst, ◌∙◌, arith}
+use Rattle.std.proofs.Common.{◌≡◌, ◌≢◌, ℕ, zero, suc, ◌*◌, ◌<◌, ◌≤◌, List, [], ◌∷◌, length, map, slice_get, Bool, Option, Some, refl, sym, ap, subst, ◌∙◌, arith}
 use Rattle.std.specs.Prelude.{Err, slice_index_or}
+use Rattle.std.proofs.lemmas.Option.{get_or_from_slice_get}
 use Rattle.wf_event_values.specs.declared.field.Field.{Field}
 use Rattle.wf_event_values.specs.declared.field.Field.TheVariants as field
 use Rattle.wf_event_values.specs.declared.refusal.Refusal.{Refusal}
 use Rattle.wf_event_values.specs.declared.refusal.Refusal.TheVariants as refusal
 use Rattle.service_model.specs.Service.{Entry}
+use Rattle.service_model_types.specs.declared.request.Hint.{Hint}
 use Rattle.service_model_types.specs.declared.settings.Settings.{Settings}
+use Rattle.service_model.proofs.ListLemmas.{map-get}
+use Rattle.matching.specs.AtClose as of_queue
+use Rattle.matching.specs.Named as matching
+use Rattle.matching.specs.Queues as of_hints
 use Rattle.gate.specs.AtClose.{HasDone, IsEnd}
 use Rattle.gate.specs.Passes.{IsFresh, base, number}
-use Rattle.service.specs.AtClose.{base_of}
+use Rattle.service.specs.AtClose.{base_of, held_at, parts_at}
 use Rattle.service.specs.HeldHints.{HoldsAtOpening}
 use Rattle.service.specs.Reopening.{opens, record_at}
 use Rattle.service.specs.Services.{IsPassOf, known_by, settings_of}
@@ -21,7 +27,7 @@ use Rattle.script.specs.Endings.{IsDeviceFault, IsFaultOf, IsRefusedOpening}
 use Rattle.script.proofs.OpenLemmas.{refused-setting}
 use Rattle.lanes.specs.Endings as over
 use Rattle.lanes.specs.Meetings.{PassServed, PassesMet}
-use Rattle.lanes.specs.Reopened.{AreRecordsAfter, IsFaultFrom, IsOpenedFrom}
+use Rattle.lanes.specs.Reopened.{AreQueuesAfter, AreRecordsAfter, IsFaultFrom, IsOpenedFrom}
 use Rattle.lanes.proofs.NumberLemmas.{course-kept, each-number, met-kept, same-count}
 
 -- ---- numbers
@@ -97,3 +103,39 @@ records-after K R x ends logs is bases count each done = record {
   records = λ s log there. subst (λ b. IsEnd b K.passes log) (bases s) (subst (λ n. IsEnd (base_of x s) n log) (ap (λ k. k.passes) is) (each s log there));
   passes = λ s log k p there at. subst (λ b. HasDone b (known_by p) s log) (bases s) (done s log k p there at);
 }
+
+-- ---- task queues
+
+-- a list has a member at each place below its length
+member : {A : Type 0} (xs : List A) (k : ℕ) → k < length xs → (x : A) × (slice_get xs k ≡ Some x)
+member [] k below = absurd (omega (arith, below))
+member (x ∷ xs) zero below = (x, refl)
+member (x ∷ xs) (suc k) below = member xs k (omega (arith, below))
+
+-- each queue was opened with the hints that a new pass knows of
+held-known : (K : Settings) (held : List (List Hint)) (x : Service) (p : Pass) (number : ℕ) → settings_of x ≡ K → IsPassOf p x → matching.IsFresh K.passes K.shards K.capacity held number p.hints
+    → (slot : ℕ) → slot < 2 * length K.queues → held_at x slot ≡ matching.held_at held slot
+held-known K held x p number is own fresh slot below =
+    let names : length x.queues.names.items ≡ length K.queues = ap length own.opened.names ∙ ap (λ (k : Settings). length k.queues) is in
+    let even = own.hints.even in
+    let width = own.hints.width in
+    let (q, there) = member x.queues.queues.items slot (omega (arith, below, names, even)) in
+    let (r, at) = member p.hints.passes.items slot (omega (arith, below, names, even, width)) in
+    let opened = (own.hints.own slot q r there at).4 in
+    get_or_from_slice_get (matching.held_of x.queues) slot (of_hints.held_of q) [] (map-get of_hints.held_of x.queues.queues.items slot q there)
+    ∙ sym opened ∙ ap (λ v. v.opened) (fresh slot r at)
+
+held-first : (K : Settings) (R : List (List Entry)) (x : Service) (passes : List Pass) (h : HoldsAtOpening K R passes) → settings_of x ≡ K → 0 < length passes → ((k : ℕ) (p : Pass) → slice_get passes k ≡ Some p → IsPassOf p x)
+    → (slot : ℕ) → slot < 2 * length K.queues → held_at x slot ≡ matching.held_at h.held slot
+held-first K R x [] h is some own = absurd (omega (arith, some))
+held-first K R x (p ∷ ps) h is some own = held-known K h.held x p 0 is (own 0 p refl) (h.fresh 0 p refl)
+
+pub queues-after : (K : Settings) (R : List (List Entry)) (x : Service) (passes ends : List Pass) (opened : IsOpenedFrom K R x passes) → 0 < length passes
+    → ((slot : ℕ) → slot < 2 * length (settings_of x).queues → of_queue.IsEnd (held_at x slot) (settings_of x).passes (parts_at ends slot))
+    → AreQueuesAfter K opened.held.held ends
+queues-after K R x passes ends opened some each = λ slot below.
+    let is = opened.settings in
+    let within = ap (λ (k : Settings). length k.queues) is in
+    let by_count = ap (λ (k : Settings). k.passes) is in
+    subst (λ held. of_queue.IsEnd held K.passes (parts_at ends slot)) (held-first K R x passes opened.held is some opened.own slot below)
+    (subst (λ n. of_queue.IsEnd (held_at x slot) n (parts_at ends slot)) by_count (each slot (omega (arith, below, within))))

@@ -1,6 +1,6 @@
 -- MEANING: what a service's passes come to where they are served and where they meet
 use Rattle.std.specs.Prelude.{◌≡◌, ℕ, ◌<◌}
-use Rattle.gate.specs.Passes.{Agree, KeepsOwn, number}
+use Rattle.gate.specs.Passes.{Agree, AgreeTickets, KeepsOwn, number}
 use Rattle.matching.specs.Named.{Met}
 use Rattle.service_model_types.specs.declared.call.Call.{Call}
 use Rattle.service_model_types.specs.Replies.{Reply}
@@ -14,10 +14,12 @@ pub record PassServed (x : Service) (p p' : Pass) (call : Call) (r : Reply) : Ty
   pub named : number (known_by p') ≡ number (known_by p)
   pub served : CallServed x p p' call r
 
--- Two passes of a service, p and q, met, and are p' and q' then: of each shard both have seen the longer of their two records, one of
--- which begins the other, and of each task queue what either of them has seen; each keeps its own steps
+-- Two passes of a service, p and q, met, and are p' and q' then. Of each shard both have seen the longer of their two records, one of
+-- which begins the other, and its tickets. Of each task queue they have seen what either had. Each keeps its own steps.
 pub record PassesMet (x : Service) (p q p' q' : Pass) : Type 0 where
   pub hints : Met (hints_by p) (hints_by q) (hints_by p') (hints_by q')
   pub agree : (shard : ℕ) → shard < (settings_of x).shards → Agree (known_by p) (known_by q) (known_by p') (known_by q') shard
+  pub tickets : (shard : ℕ) → shard < (settings_of x).shards
+      → AgreeTickets (known_by p) (known_by q) (known_by p') (known_by q') shard
   pub first : KeepsOwn (known_by p) (known_by p')
   pub second : KeepsOwn (known_by q) (known_by q')

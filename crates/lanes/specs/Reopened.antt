@@ -1,5 +1,5 @@
 -- MEANING: what lines over several lanes make of a service that was opened from records
-use Rattle.std.specs.Prelude.{◌≡◌, ◌⊎◌, ℕ, ◌<◌, List, Bool, Option, Some, Err, length, slice_get}
+use Rattle.std.specs.Prelude.{◌≡◌, ◌⊎◌, ℕ, ◌*◌, ◌<◌, List, Bool, Option, Some, Err, length, slice_get}
 use Rattle.std.specs.Io.KnownBytes.{Appends}
 use Rattle.wire_counted.specs.Failures.{Rose}
 use Rattle.wire_counted.specs.Written.{AppendsBeginning}
@@ -9,12 +9,15 @@ use Rattle.wf_event_values.specs.declared.refusal.Refusal.TheVariants as refusal
 use Rattle.wf_event_values.specs.Names.{field_name}
 use Rattle.service_model.specs.Service.{Entry}
 use Rattle.service_model_types.specs.declared.call.Call.{Call}
+use Rattle.service_model_types.specs.declared.request.Hint.{Hint}
 use Rattle.service_model_types.specs.declared.settings.Settings.{Settings}
 use Rattle.service_model_types.specs.Replies.{Reply}
 use Rattle.gate.specs.AtClose.{HasDone, IsEnd}
 use Rattle.gate.specs.Passes.{IsFresh, base, seen, tickets as tickets_seen}
 use Rattle.gate.specs.Records.{Begins}
-use Rattle.service.specs.AtClose.{IsHistoryOf}
+use Rattle.matching.specs.AtClose as of_queue
+use Rattle.matching.specs.Named as matching
+use Rattle.service.specs.AtClose.{IsHistoryOf, parts_at}
 use Rattle.service.specs.HeldHints.{HoldsAtOpening}
 use Rattle.service.specs.Ranges.{range_fault}
 use Rattle.service.specs.Reopening.{opens, record_at}
@@ -62,6 +65,13 @@ pub record AreOneHistory (x : Service) (ends : List Pass) (logs : List (List Ent
   pub seen : (s : ℕ) (ts : List ℕ) (k : ℕ) (p : Pass) → slice_get tickets s ≡ Some ts → slice_get ends k ≡ Some p
       → Begins (tickets_seen (known_by p) s) ts
 
+-- What came of the task queues, where each held these hints at the opening, and these are the passes at the end. Of each queue there is
+-- one list of all hints that were pushed, those at the opening first, and one of all that were popped. All are of passes, and those of
+-- each pass are its own, once and in order.
+abbrev pub AreQueuesAfter : Settings → List (List Hint) → List Pass → Type 0
+AreQueuesAfter K held ends = (slot : ℕ) → slot < 2 * length K.queues
+    → of_queue.IsEnd (matching.held_at held slot) K.passes (parts_at ends slot)
+
 -- all lines of the input were served by a service that was opened from the records, these are its records at the end,
 -- and behind the replies
 -- the steps of its one history were written, where they were asked for
@@ -74,6 +84,7 @@ pub record RanFrom (K : Settings) (trace : Bool) (R : List (List Entry)) (unread
   pub replied : Option (List ℕ)
   pub ran : over.Ran (ServedAlong service logs) (PassesMet service) K passes unread held unread' replied refused ends
   pub records : AreRecordsAfter K R ends logs
+  pub queues : AreQueuesAfter K opened.held.held ends
   pub one : AreOneHistory service ends logs
   pub traced : Appends replied held' (trace_if trace one.history.run)
 

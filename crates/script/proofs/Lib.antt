@@ -14,4 +14,3 @@ mod OpeningLaws
 mod KeptLemmas
 mod RecordLaws
 pub mod EndLemmas
-mod RangeLemmas

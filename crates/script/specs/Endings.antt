@@ -5,7 +5,6 @@ use Rattle.wire_counted.specs.Failures.{Rose}
 use Rattle.wire_counted.specs.Written.{AppendsBeginning}
 use Rattle.script.specs.Lines.{all_lines, whole_lines}
 use Rattle.script.specs.Output.{output, records_after, refuses, replies_text}
-use Rattle.script.specs.Serving.{IsOutOfRange}
 use Rattle.script.specs.World.{World}
 use Rattle.script.specs.declared.fault.ScriptFault.{ScriptFault}
 use Rattle.script.specs.declared.fault.ScriptFault.TheVariants.{Memory, Read, Write, Setting, Records, QueueFull}
@@ -18,6 +17,7 @@ use Rattle.record_text.specs.declared.fault.WriteFault.{WriteFault}
 use Rattle.record_text.specs.declared.fault.WriteFault.TheVariants as of_text
 use Rattle.service_model.specs.Service.{Entry}
 use Rattle.service_model_types.specs.declared.settings.Settings.{Settings}
+use Rattle.service.specs.Ranges.{range_fault}
 use Rattle.service.specs.Reopening.{opens}
 
 -- the input was read to its end, just its output was written, `refused` says whether a reply in it is a refusal, and
@@ -70,13 +70,13 @@ IsDeviceFault (Setting name) read read' write write' = ⊥
 IsDeviceFault Records read read' write write' = ⊥
 IsDeviceFault QueueFull read read' write write' = ⊥
 
--- a fault before anything is read: a setting is out of its range, the records are neither none nor one of each shard,
--- the hints of the tasks that wait don't fit, or memory ran out
+-- a fault before anything is read: this setting is the first one out of its range, the records are neither none nor one of
+-- each shard, the hints of the tasks that wait don't fit, or memory ran out
 abbrev pub IsOpeningFault : Settings → List (List Entry) → ScriptFault → Type 0
 IsOpeningFault K R Memory = Unit {0}
 IsOpeningFault K R (Read e) = ⊥
 IsOpeningFault K R (Write e) = ⊥
-IsOpeningFault K R (Setting name) = IsOutOfRange K name.now
+IsOpeningFault K R (Setting name) = (f : Field) × (range_fault K ≡ Err (refusal.InvalidArgument f)) × (name.now ≡ field_name f)
 IsOpeningFault K R Records = opens K R ≡ Err (refusal.InvalidArgument field.Records)
 IsOpeningFault K R QueueFull = opens K R ≡ Err refusal.QueueFull
 

@@ -1,12 +1,11 @@
 -- MEANING: A line as the sequential service serves it.
-use Rattle.std.specs.Prelude.{◌≡◌, ℕ, ◌^◌, ◌<◌, ◌≤◌, ◌⊎◌, List, [], Bool, true, false, codes, Option, None, Some, Result, Ok, Err}
+use Rattle.std.specs.Prelude.{ℕ, List, [], Bool, true, false, Option, None, Some, Result, Ok, Err}
 use Rattle.wf_event_values.specs.declared.refusal.Refusal.{Refusal}
 use Rattle.service_model_types.specs.declared.settings.Settings.{Settings}
 use Rattle.service_model_types.specs.Replies.{Reply}
 use Rattle.wire_replies.specs.Replies.{reply_line}
 use Rattle.wire_requests.specs.declared.calls.Asked.{Asked}
 use Rattle.wire_requests.specs.declared.calls.Asked.TheVariants.{Barrier, Call as in_a_lane}
-use Rattle.service.specs.Ranges.{are_queues}
 use Rattle.script.specs.Asked.{asked}
 use Rattle.script.specs.Lines.{Line}
 use Rattle.script.specs.World.{World, served}
@@ -39,10 +38,3 @@ is_refusal _ = false
 abbrev pub text_of : ℕ → Option Reply → List ℕ
 text_of number None = []
 text_of number (Some reply) = reply_line number reply
-
--- the setting of this name is out of its range
-abbrev pub IsOutOfRange : Settings → List ℕ → Type 0
-IsOutOfRange K name =
-    ((name ≡ codes "shards") × ((K.shards ≡ 0) ⊎ (64 < K.shards))) ⊎ (((name ≡ codes "service") × (2 ^ 48 ≤ K.service))
-    ⊎ (((name ≡ codes "queues") × (are_queues K.queues ≡ false)) ⊎ (((name ≡ codes "capacity") × ((K.capacity ≡ 0) ⊎ (65536 < K.capacity)))
-    ⊎ ((name ≡ codes "retention") × (10 ^ 12 < K.retention)))))

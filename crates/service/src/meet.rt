@@ -1,7 +1,7 @@
 //! How two passes tell each other what they have seen.
 
 ghost use Rattle.std.specs.Prelude.{◌≡◌, ℕ, ◌<◌};
-ghost use Rattle.gate.specs.Passes.{Agree, KeepsOwn};
+ghost use Rattle.gate.specs.Passes.{Agree, AgreeTickets, KeepsOwn};
 ghost use Rattle.matching.specs.Named.{Met};
 
 use crate::service::{Pass, Service};
@@ -11,8 +11,9 @@ impl<S: ShardObject> Service<S> {
     ghost use Rattle.service.specs.Services.{IsPassOf, hints_by, known_by, settings_of};
 
     /// Of each shard, the record that one pass had seen began the one that the other had, and so it
-    /// was with what each had seen of a task queue. Afterwards both have seen the longer. It takes no
-    /// memory, and changes no shard and no queue.
+    /// was with the tickets of its steps and with what each had seen of a task queue. Afterwards both
+    /// have seen the longer, so each later step of either has a ticket above all that both had seen.
+    /// It takes no memory, and changes no shard and no queue.
     pub fn meet(&self, first: &mut Pass<S>, second: &mut Pass<S>)
         requires first { IsPassOf first.old self.now }
         requires second { IsPassOf second.old self.now }
@@ -22,6 +23,9 @@ impl<S: ShardObject> Service<S> {
             (hints_by first.new) (hints_by second.new) }
         ensures agree { (shard : ℕ) → shard < (settings_of self.now).shards
             → Agree (known_by first.old) (known_by second.old)
+            (known_by first.new) (known_by second.new) shard }
+        ensures tickets { (shard : ℕ) → shard < (settings_of self.now).shards
+            → AgreeTickets (known_by first.old) (known_by second.old)
             (known_by first.new) (known_by second.new) shard }
         ensures first { KeepsOwn (known_by first.old) (known_by first.new) }
         ensures second { KeepsOwn (known_by second.old) (known_by second.new) }

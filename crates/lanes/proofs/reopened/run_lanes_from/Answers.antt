@@ -1,11 +1,12 @@
-use Rattle.std.proofs.Common.{◌≡◌, inl, inr, map}
+use Rattle.std.proofs.Common.{◌≡◌, ◌<◌, inl, inr, length, map, arith}
 use Rattle.std.proofs.lemmas.Result.{err_from_is_err_and}
 use Rattle.script.proofs.Steps.{on_any_err}
 use Rattle.script.proofs.EndLemmas.{not_refused_at_end}
 use Rattle.lanes.proofs.FaultLemmas.{device-fault}
 use Rattle.lanes.proofs.AlongLemmas.{ran-along}
 use Rattle.lanes.proofs.TraceLemmas.{closed-merged, closed-ticketed, one-history}
-use Rattle.lanes.proofs.ReopenLemmas.{device-from, ends-all, ends-count, number_of, numbers-kept, opened-from, opening-refused, records-after}
+use Rattle.lanes.proofs.ReopenLemmas.{device-from, ends-all, ends-count, number_of, numbers-kept, opened-from, opening-refused, queues-after, records-after}
+use Rattle.service.proofs.OpenLemmas.{in-range}
 use Rattle.lanes.proofs.reopened.run_lanes_from.Goals as goal
 
 pub returns-in-Err-clause-fault : goal.returns-in-Err-clause-fault
@@ -45,14 +46,17 @@ returns-clause-ran g c =
     let e = c.close-closed.ensures in
     let x = c.in-Ok.opened.0 in
     let logs = c.close-closed.result.records.items in
+    let some : 0 < length c.in-Ok.opened.1.items = let range = (in-range c.args.settings.now o.range).some_pass in let count = o.count in omega (arith, range, count) in
+    let opened = opened-from c.args.settings.now c.args.records.items x c.in-Ok.opened.1.items o.settings o.count o.own o.fresh o.records o.held in
     record {
       service = x;
       passes = c.in-Ok.opened.1.items;
-      opened = opened-from c.args.settings.now c.args.records.items x c.in-Ok.opened.1.items o.settings o.count o.own o.fresh o.records o.held;
+      opened = opened;
       ends = c.in_ok-ended.ended.passes.items;
       replied = g.W.Write.contents c.run_lanes.new.writer.inner;
       ran = ran-along x logs _ _ _ _ _ _ _ _ e.count (λ s log k p there at. (e.passes s log k p there at).0) c.in_ok-ended.ensures.ran;
       records = records-after c.args.settings.now c.args.records.items x c.in_ok-ended.ended.passes.items logs o.settings o.records e.count e.records e.passes;
+      queues = queues-after c.args.settings.now c.args.records.items x c.in-Ok.opened.1.items c.in_ok-ended.ended.passes.items opened some e.queues;
       one = one-history x c.in_ok-ended.ended.passes.items logs c.close-closed.result.tickets.items e.history e.seen;
       traced = c.in_ok-print_trace.ensures.ok e.history.run (λ t. closed-merged c.args.records.items x logs _ o.records e.count e.history (c.requires t));
     }

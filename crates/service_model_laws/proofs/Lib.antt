@@ -1,0 +1,2 @@
+mod DoLemmas
+mod RecordLemmas
