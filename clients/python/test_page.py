@@ -4,6 +4,7 @@ WFSERVE_PICTURE names a file for a picture of a history.
 """
 
 import os
+import time
 import unittest
 
 from browser import CHROMIUM, Browser
@@ -11,6 +12,7 @@ from programs import needs_program, needs_server
 from test_server import WithAServer
 from workflows import Retry, Worker, attempt, hours, input_of, seconds, workflow
 
+SECONDS = 20
 MARKUP = "<img src=x onerror=\"document.title='taken over'\">"
 
 
@@ -48,7 +50,8 @@ class Page(WithAServer):
 
     def work_until(self, expression):
         """Works, as the page shows what comes of it."""
-        for _ in range(200):
+        late = time.monotonic() + SECONDS
+        while time.monotonic() < late:
             self.worker.work()
             try:
                 if self.browser.value(expression):
