@@ -22,6 +22,7 @@ from __future__ import annotations
 import dataclasses
 import json
 import logging
+import os
 import subprocess
 import threading
 from collections import deque
@@ -32,9 +33,10 @@ from typing import Callable, Deque, Iterable, List, Optional, Sequence, Tuple
 from co_process import Program
 from compaction import (
     NotCompacted, NotOpened, folder_of, keep_log, keep_private, last_moment_in, load_options, open_program,
-    remove_leftovers, save_records,
+    record_files, remove_leftovers, save_records,
 )
 from line_log import LineLog, LogFault
+from operations import READS
 from service_settings import OtherSettings, RefusedSettings, Settings, check_settings, read_header
 from wfserve import Calls, Clock, Ended, answered, request_of, text_of
 
@@ -43,8 +45,6 @@ __all__ = [
 ]
 
 LOG = logging.getLogger("wfserve.log")
-# What changes nothing is asked without a line of the log.
-READS = ("history", "describe")
 
 
 @dataclass
@@ -151,6 +151,23 @@ class DurableService(Calls):
     def size(self) -> int:
         """How many bytes the log has."""
         return self._log.size
+
+    @property
+    def records_size(self) -> int:
+        """How many bytes the records have that the log goes on from."""
+        return sum(os.path.getsize(path) for path in self.record_files())
+
+    @property
+    def wrong(self) -> str:
+        """Why no call is taken now, in one word; empty where they are."""
+        with self._changed:
+            if self._closed is not None:
+                return "ended"
+            return "compacting" if self._paused else "broken" if self._log.broken else ""
+
+    def record_files(self) -> List[str]:
+        """The files of the records that the log goes on from, by their shards."""
+        return record_files(self._log.path, self._generation)
 
     # Opening.
 

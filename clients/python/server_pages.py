@@ -6,10 +6,11 @@ history is an image, in which no script runs.
 
 from __future__ import annotations
 
+import asyncio
 import importlib
 import pathlib
 import sys
-from typing import List
+from typing import List, Optional
 
 from aiohttp import web
 
@@ -18,6 +19,8 @@ from server_list import Entry, Workflows
 
 HERE = pathlib.Path(__file__).resolve().parent
 MOST_ROWS = 200
+# So many runs are read for one request of the list; the next request goes on.
+MOST_READS = 2_000
 POLICY = (
     "default-src 'none'; script-src 'self'; style-src 'self'; img-src 'self'; connect-src 'self'; "
     "form-action 'none'; frame-ancestors 'none'; base-uri 'none'"
@@ -98,11 +101,15 @@ class Pages:
     async def rows(self, request: web.Request) -> web.Response:
         """The latest workflows of a search, with their status."""
         text, status = request.query.get("search", ""), request.query.get("status", "")
+        await self._look_for_begun()
         entries = self._workflows.search(text, status, MOST_ROWS)
-        for entry in entries:
-            await self._read(entry)
-        rows = [entry.row() for entry in entries if not status or entry.status == status]
-        return web.json_response({"workflows": rows})
+        left = MOST_READS
+        # One whose history was read may not be of this status, and then the next ones are looked at.
+        while left > 0 and (stale := [entry for entry in entries if entry.stale]):
+            await asyncio.gather(*[self._read(entry) for entry in stale])
+            left -= len(stale)
+            entries = self._workflows.search(text, status, MOST_ROWS)
+        return web.json_response({"workflows": [entry.row() for entry in entries if entry.is_shown(status)]})
 
     async def history(self, request: web.Request) -> web.Response:
         """A history, or only that it is as long as before."""
@@ -115,28 +122,44 @@ class Pages:
 
     async def picture(self, request: web.Request) -> web.Response:
         entry = await self._entry(request)
+        now = self._backend.moments.now() if entry.status == "Running" else None
         return web.Response(
-            text=self._timeline.picture_file(entry.events), content_type="image/svg+xml",
+            text=self._timeline.picture_file(entry.events, now), content_type="image/svg+xml",
             headers={"Content-Security-Policy": PICTURE_POLICY, "Cache-Control": "no-cache"},
         )
 
     async def _entry(self, request: web.Request) -> Entry:
-        """The run that a path names, as it is now. One that the list doesn't have, as a child, is added."""
+        """The run that a path names, as it is now. One that the list doesn't have is added."""
         workflow_id, run = request.match_info["workflow_id"], request.match_info["run"]
         entry = self._workflows.find(workflow_id, run)
         if entry is None:
-            reply = await self._backend.call({"op": "history", "workflow_id": workflow_id, "run": run})
+            reply = await self._ask("history", workflow_id, run)
             if "error" in reply:
-                raise web.HTTPNotFound()
-            started = reply["events"][0]
-            entry = self._workflows.add(workflow_id, run, started["attrs"]["workflow_type"], started["at"])
+                raise web.HTTPNotFound(text=f"there is no run {run} of {workflow_id}")
+            entry = self._workflows.add(workflow_id, run)
         await self._read(entry)
+        if not entry.events:
+            raise web.HTTPNotFound(text=f"there is no run {run} of {workflow_id} any more")
         return entry
 
     async def _read(self, entry: Entry) -> None:
-        if entry.stale:
-            entry.stale = False
-            reply = await self._backend.call(
-                {"op": "history", "workflow_id": entry.workflow_id, "run": entry.run}
-            )
-            entry.events = reply.get("events", entry.events)
+        """Reads a history that may have changed. A run that is gone leaves the list."""
+        if not entry.stale:
+            return
+        entry.stale = False
+        reply = await self._ask("history", entry.workflow_id, entry.run)
+        if "events" in reply:
+            self._workflows.take(entry, reply["events"])
+        elif reply.get("error") == "NotFound":
+            self._workflows.remove(entry.run)
+
+    async def _look_for_begun(self) -> None:
+        """Asks for the runs that others began: children, and those that continue a run."""
+        wanted = self._workflows.looked_for()[:MOST_READS]
+        replies = await asyncio.gather(*[self._ask("describe", workflow_id) for workflow_id in wanted])
+        for workflow_id, reply in zip(wanted, replies):
+            self._workflows.found(workflow_id, reply.get("run"))
+
+    async def _ask(self, op: str, workflow_id: str, run: Optional[str] = None) -> dict:
+        named = {} if run is None else {"run": run}
+        return await self._backend.ask({"op": op, "workflow_id": workflow_id, **named})

@@ -9,7 +9,7 @@ import unittest
 
 from browser import CHROMIUM, Browser
 from programs import needs_program, needs_server
-from test_server import WithAServer
+from test_server import TOKEN, WithAServer
 from workflows import Retry, Worker, attempt, hours, input_of, seconds, workflow
 
 SECONDS = 20
@@ -105,6 +105,55 @@ class Page(WithAServer):
             self.browser.wait(f"document.title === 'to {button}'")
             self.browser.value(f"document.querySelector('#{button} button').click()")
             self.browser.wait(f"document.body.innerText.includes('{kind}')")
+
+
+    def test_a_run_that_is_stuck_is_shown_so(self):
+        run = self.start("order-1")
+        client = self.server.client(wait=5_000)
+        for _ in range(2):
+            client.fail_workflow_task(client.poll_workflow_task(), f"a fault {MARKUP}")
+        self.browser.open(self.server.url)
+        self.browser.wait("document.querySelectorAll('#rows tr').length === 1")
+        self.assertEqual(self.texts("#rows td:nth-child(3)"), ["Stuck"])
+        self.browser.open(f"{self.server.url}workflows/order-1/{run}")
+        self.browser.wait("document.getElementById('status').innerText === 'Stuck'")
+        said = self.browser.value("document.getElementById('stuck').innerText")
+        self.assertEqual(said, f"Its workflow task fails, at attempt 3 now: WorkflowWorkerUnhandledFailure: a fault {MARKUP}")
+        self.assertFalse(self.browser.value("document.getElementById('actions').hidden"))
+
+
+@needs_server
+@needs_program
+@unittest.skipUnless(CHROMIUM, "chromium is not here")
+class ByAnotherName(WithAServer):
+    """Over plain HTTP by a name that is not this machine's own a browser gives pages less."""
+
+    def test_buttons_work(self):
+        server = self.serve("--host", "0.0.0.0", "--token-file", self.token_file())
+        client = server.client(token=TOKEN)
+        browser = Browser(hosts=["orders.test"])
+        self.addCleanup(browser.close)
+        browser.open(f"http://orders.test:{server.port}/?token={TOKEN.replace(' ', '%20')}")
+        browser.wait("document.title === 'Workflows'")
+        self.assertFalse(browser.value("isSecureContext"))
+        for form, kind in (("signal", "WorkflowExecutionSignaled"), ("cancel", "WorkflowExecutionCancelRequested")):
+            run = client.start(f"to {form}", "order")
+            browser.open(f"http://orders.test:{server.port}/workflows/to%20{form}/{run}")
+            browser.wait(f"document.title === 'to {form}'")
+            browser.value("document.getElementById('signal-name').value = 'call off'")
+            browser.value(f"document.querySelector('#{form} button').click()")
+            browser.wait(f"document.body.innerText.includes('{kind}')")
+
+    def test_a_server_that_ends_is_said_by_its_buttons(self):
+        server = self.serve()
+        run = server.client().start("w", "order")
+        browser = Browser()
+        self.addCleanup(browser.close)
+        browser.open(f"{server.url}workflows/w/{run}")
+        browser.wait("document.title === 'w'")
+        server.kill()
+        browser.value("document.querySelector('#cancel button').click()")
+        browser.wait("document.getElementById('said').innerText.includes('TypeError')")
 
 
 if __name__ == "__main__":

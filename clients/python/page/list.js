@@ -9,7 +9,7 @@ function row(it) {
   return made("tr", [
     made("td", [link]),
     made("td", it.type),
-    made("td", it.status, `status ${it.status}`),
+    made("td", statusOf(it), `status ${statusOf(it)}`),
     made("td", moment(it.started)),
     made("td", `${it.length} ${it.last}, ${moment(it.last_at)}`),
   ]);

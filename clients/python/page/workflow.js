@@ -34,9 +34,17 @@ function showWorkflow(workflow) {
   element("title").textContent = workflow.workflow_id;
   element("type").textContent = workflow.type;
   element("run").textContent = workflow.run;
-  element("status").textContent = workflow.status;
-  element("status").className = `status ${workflow.status}`;
+  element("status").textContent = statusOf(workflow);
+  element("status").className = `status ${statusOf(workflow)}`;
+  showStuck(workflow.stuck);
   element("actions").hidden = workflow.status !== "Running";
+}
+
+function showStuck(stuck) {
+  element("stuck").hidden = !stuck;
+  if (!stuck) return;
+  const message = stuck.message ? `: ${stuck.message}` : "";
+  element("stuck").textContent = `Its workflow task fails, at attempt ${stuck.attempt} now: ${stuck.cause}${message}`;
 }
 
 function showPicture() {
@@ -61,9 +69,13 @@ async function show() {
 function button(form, call) {
   element(form).addEventListener("submit", async (event) => {
     event.preventDefault();
-    const reply = await called({ workflow_id: workflowId, run, ...call() });
-    say(reply.error ? `${form}: ${reply.error}` : `${form}: ${reply.ok}`);
-    await show();
+    try {
+      const reply = await called({ workflow_id: workflowId, run, ...call() });
+      say(reply.error ? `${form}: ${reply.error}` : `${form}: ${reply.ok}`);
+      await show();
+    } catch (fault) {
+      say(`${form}: ${fault}`);
+    }
   });
 }
 
@@ -71,8 +83,8 @@ button("signal", () => ({
   op: "signal",
   name: element("signal-name").value,
   input: element("signal-input").value,
-  request_id: crypto.randomUUID(),
+  request_id: requestId(),
 }));
-button("cancel", () => ({ op: "request_cancel", request_id: crypto.randomUUID() }));
+button("cancel", () => ({ op: "request_cancel", request_id: requestId() }));
 button("terminate", () => ({ op: "terminate", reason: element("reason").value }));
 repeat(show);

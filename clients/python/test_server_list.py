@@ -1,0 +1,194 @@
+"""The list: children, runs that continue others, what a compaction left, and workflows whose code fails."""
+
+import threading
+import time
+import unittest
+
+from durable import DurableService
+from programs import BUILT, needs_program, needs_server
+from server_list import Workflows, run_id, stuck_task
+from test_server import WithAServer
+from wfserve import Clock
+from workflows import Worker, input_of, workflow
+
+
+@workflow
+async def parent(ctx, count):
+    for number in range(count):
+        ctx.child(child, id=f"{ctx.workflow_id}-child-{number}", parent_close="Abandon")
+    await ctx.signal("end")
+
+
+@workflow
+async def child(ctx):
+    await ctx.signal("end")
+
+
+@workflow
+async def chain(ctx, left):
+    if left > 0:
+        ctx.continue_as_new(left - 1)
+    await ctx.signal("end")
+
+
+@workflow
+async def broken(ctx):
+    raise KeyError("a fault of the code")
+
+
+def event(number, kind, **attrs):
+    return {"id": number, "type": kind, "at": 10 * number, "attrs": attrs}
+
+
+def tasks(*ends):
+    """A history whose workflow tasks ended so, each at its attempt, and the last of which waits."""
+    events, attempt = [event(1, "WorkflowExecutionStarted")], 1
+    for kind, attrs in ends:
+        events.append(event(len(events) + 1, "WorkflowTaskScheduled", attempt=attempt))
+        events.append(event(len(events) + 1, kind, **attrs))
+        attempt = 1 if kind == "WorkflowTaskCompleted" else attempt + 1
+    return [*events, event(len(events) + 1, "WorkflowTaskScheduled", attempt=attempt)]
+
+
+FAILED = ("WorkflowTaskFailed", {"cause": "WorkflowWorkerUnhandledFailure", "message": "KeyError: 'x'"})
+UNHANDLED = ("WorkflowTaskFailed", {"cause": "UnhandledCommand", "message": ""})
+TIMED_OUT = ("WorkflowTaskTimedOut", {})
+COMPLETED = ("WorkflowTaskCompleted", {})
+
+
+class Stuck(unittest.TestCase):
+    def test_a_run_is_stuck_where_its_task_fails_or_is_over_twice(self):
+        for ends, attempt in (
+            ((), None), ((COMPLETED,), None), ((TIMED_OUT,), None), ((UNHANDLED,), None), ((FAILED, COMPLETED), None),
+            ((FAILED,), 2), ((COMPLETED, FAILED, FAILED), 3), ((TIMED_OUT, TIMED_OUT), 3), ((FAILED, TIMED_OUT), 3),
+        ):
+            found = stuck_task(tasks(*ends))
+            self.assertEqual(found and found["attempt"], attempt, ends)
+        said = stuck_task(tasks(COMPLETED, FAILED))
+        self.assertEqual((said["cause"], said["message"]), ("WorkflowWorkerUnhandledFailure", "KeyError: 'x'"))
+
+    def test_runs_that_a_retention_took_away_are_not_added_again(self):
+        workflows = Workflows()
+        entry = workflows.add("w", run_id(1, 0, 2), "chain", 5)
+        events = [{**event(1, "WorkflowExecutionStarted", workflow_type="chain", continued_from=run_id(1, 0, 1))}]
+        workflows.take(entry, events)
+        self.assertEqual(len(workflows.search("", "", 10)), 2)
+        workflows.remove(run_id(1, 0, 1))
+        workflows.take(entry, [*events, event(2, "WorkflowTaskScheduled", attempt=1)])
+        self.assertEqual([it.run for it in workflows.search("", "", 10)], [run_id(1, 0, 2)])
+
+
+@needs_server
+@needs_program
+class Lists(WithAServer):
+    def work(self, client, done):
+        """Has a worker work until something is so."""
+        stop = threading.Event()
+        worker = Worker(client, workflows=[parent, child, chain, broken])
+        working = threading.Thread(target=worker.run, args=(stop,))
+        working.start()
+        try:
+            late = time.monotonic() + 20
+            while not done():
+                self.assertLess(time.monotonic(), late)
+                time.sleep(0.05)
+        finally:
+            stop.set()
+            working.join()
+
+    def rows(self, server, search=""):
+        return server.read(f"/api/workflows?{search}")["workflows"]
+
+    def found(self, server, search=""):
+        return sorted((row["workflow_id"], row["type"], row["status"]) for row in self.rows(server, search))
+
+    def start_all(self, server):
+        """A parent of three, a chain of four runs, and a workflow that was started twice."""
+        client = server.client(wait=100)
+        client.start("p", "parent", input=input_of([3]), request_id="p")
+        client.start("c", "chain", input=input_of([3]), request_id="c")
+        client.start("again", "child")
+        client.terminate("again")
+        client.start("again", "child")
+        self.work(client, lambda: len(self.rows(server, "status=Running")) == 6)
+        return client
+
+    ALL = [
+        ("again", "child", "Running"), ("again", "child", "Terminated"), ("c", "chain", "ContinuedAsNew"),
+        ("c", "chain", "ContinuedAsNew"), ("c", "chain", "ContinuedAsNew"), ("c", "chain", "Running"),
+        ("p", "parent", "Running"), ("p-child-0", "child", "Running"), ("p-child-1", "child", "Running"),
+        ("p-child-2", "child", "Running"),
+    ]
+
+    def test_children_and_runs_that_continue_others_are_listed(self):
+        server = self.serve("--shards", "2")
+        self.start_all(server)
+        self.assertEqual(self.found(server), self.ALL)
+        self.assertEqual(self.found(server, "search=child-1"), [("p-child-1", "child", "Running")])
+        self.assertEqual(self.found(server, "search=c&status=ContinuedAsNew"), [("c", "chain", "ContinuedAsNew")] * 3)
+
+    def test_they_are_listed_after_a_restart_and_after_a_compaction(self):
+        server = self.serve("--shards", "2")
+        self.start_all(server)
+        for compacted in (False, True, True):
+            if compacted:
+                status, _, text = server.asked("POST", "/compact", b"{}")
+                self.assertEqual(status, 200, text)
+            server.stop()
+            server.start()
+            self.assertEqual(self.found(server), self.ALL)
+        self.assertEqual(server.said.read_text(), "")
+
+    def test_a_log_that_an_earlier_server_compacted_is_listed(self):
+        with DurableService([str(BUILT)], str(self.log), clock=Clock(1_000)) as service:
+            for number in range(30):
+                service.start(f"w{number % 7}", "child" if number % 2 else "chain", reuse="AllowDuplicate", conflict="TerminateExisting")
+                service.send({"op": "start", "workflow_id": f"w{number % 7}", "workflow_type": "no", "task_queue": "main"}).result()
+            service.compact()
+        server = self.serve()
+        rows = self.rows(server)
+        self.assertEqual(len({(row["workflow_id"], row["run"]) for row in rows}), 30)
+        self.assertEqual({row["type"] for row in rows}, {"child", "chain"})
+        self.assertEqual(sum(row["status"] == "Running" for row in rows), 7)
+
+    def test_with_a_retention_the_latest_runs_of_a_compacted_log_are_listed(self):
+        server = self.serve("--retention", "500")
+        client = server.client()
+        for _ in range(3):
+            client.start("w", "child")
+            client.terminate("w")
+            client.start("kept", "child", conflict="UseExisting")
+            time.sleep(0.6)
+        client.start("w", "child")
+        self.assertEqual(server.asked("POST", "/compact", b"{}")[0], 200)
+        server.stop()
+        server.start()
+        time.sleep(1.2)
+        self.assertEqual(self.found(server), [("kept", "child", "Running"), ("w", "child", "Running")])
+
+    def test_a_workflow_whose_code_fails_is_shown_as_stuck(self):
+        server = self.serve()
+        client = server.client(wait=100)
+        client.start("b", "broken", request_id="b")
+        client.start("fine", "child", request_id="fine")
+        with self.assertLogs("workflows", "WARNING"):
+            self.work(client, lambda: [row["workflow_id"] for row in self.rows(server, "status=Stuck")] == ["b"])
+        row = self.rows(server, "search=b")[0]
+        self.assertEqual(row["status"], "Running")
+        self.assertIn("a fault of the code", row["stuck"]["message"])
+        self.assertEqual({row["workflow_id"] for row in self.rows(server, "status=Running")}, {"b", "fine"})
+        self.assertNotIn("stuck", self.rows(server, "search=fine")[0])
+
+    def test_a_status_is_found_behind_many_others(self):
+        with DurableService([str(BUILT)], str(self.log), clock=Clock(int(time.time() * 1_000))) as service:
+            service.start("first", "child")
+            service.terminate("first")
+            asked = [{"op": "start", "workflow_id": f"w{number}", "workflow_type": "child", "task_queue": "main"} for number in range(500)]
+            for reply in [service.send({**it, "at": int(time.time() * 1_000)}) for it in asked]:
+                reply.result()
+        server = self.serve()
+        self.assertEqual(self.found(server, "status=Terminated"), [("first", "child", "Terminated")])
+
+
+if __name__ == "__main__":
+    unittest.main()
