@@ -163,7 +163,9 @@ class DurableService(Calls):
         with self._changed:
             if self._closed is not None:
                 return "ended"
-            return "compacting" if self._paused else "broken" if self._log.broken else ""
+            if self._log.broken:
+                return "broken"
+            return "compacting" if self._paused else "full" if self._log.full else ""
 
     def record_files(self) -> List[str]:
         """The files of the records that the log goes on from, by their shards."""

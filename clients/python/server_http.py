@@ -15,7 +15,6 @@ from server_calls import BadCall, Backend, Busy, Draining, request_of
 from wfserve import Ended
 
 LOG = logging.getLogger("wfserve.http")
-COOKIE = "wfserve_token"
 # Asked by what starts and watches servers, which has no token; they say nothing of workflows.
 HEALTH = ("/health/live", "/health/ready")
 
@@ -61,6 +60,11 @@ async def answer_faults(request: web.Request, handler):
         return fault(500, "Fault", "the server is at fault; its standard error says more")
 
 
+def cookie_of(request: web.Request) -> str:
+    """The name of the token's cookie. A browser gives cookies to all ports of a host, so each server has its own."""
+    return f"wfserve_token_{request.url.port}"
+
+
 class Guard:
     """Who may ask: whoever bears the token, where there is one; and no page of another site."""
 
@@ -70,8 +74,7 @@ class Guard:
 
     @web.middleware
     async def check(self, request: web.Request, handler):
-        host = request.host.rpartition(":")[0] or request.host
-        if self._hosts is not None and host.lower() not in self._hosts:
+        if self._hosts is not None and not self._is_named(request.host):
             return fault(403, "WrongHost", "this name is not served here")
         if self._token is None or request.path in HEALTH:
             return await handler(request)
@@ -81,9 +84,13 @@ class Guard:
             return fault(401, "NoToken", "this server wants its token")
         return await handler(request)
 
+    def _is_named(self, host: str) -> bool:
+        name, _, port = host.partition(":")
+        return name.lower() in self._hosts and (not port or port.isdigit())
+
     def _given(self, request: web.Request) -> str:
         scheme, _, said = request.headers.get("Authorization", "").partition(" ")
-        return said if scheme.lower() == "bearer" else request.cookies.get(COOKIE, "")
+        return said if scheme.lower() == "bearer" else request.cookies.get(cookie_of(request), "")
 
     def _is_token(self, given: str) -> bool:
         return hmac.compare_digest(given.encode("utf-8", "surrogateescape"), self._token.encode())
@@ -91,7 +98,7 @@ class Guard:
     def _let_in(self, request: web.Request) -> NoReturn:
         """A browser keeps the token that its first address had. It is sent to a path of this server alone."""
         answer = web.HTTPSeeOther("/" + request.rel_url.raw_path.replace("\\", "/").lstrip("/"))
-        answer.set_cookie(COOKIE, self._token, httponly=True, samesite="Strict")
+        answer.set_cookie(cookie_of(request), self._token, httponly=True, samesite="Strict")
         raise answer
 
 

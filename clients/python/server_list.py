@@ -1,4 +1,4 @@
-"""The runs that the server knows of, and their histories as they were last read.
+"""The runs that the server knows of, and what their histories said when they were last read.
 
 A run is known by the reply to its start, by the commands that begin children and continue runs, by the
 histories that name it, and after a compaction by the records. A history is read again only where a line
@@ -9,7 +9,7 @@ from __future__ import annotations
 
 import base64
 import binascii
-from dataclasses import dataclass, field
+from dataclasses import dataclass
 from typing import Dict, Iterable, List, Optional, Tuple
 
 from operations import READS
@@ -29,6 +29,7 @@ BEGINS_RUNS = {"StartChildWorkflowExecution", "ContinueAsNewWorkflowExecution"}
 NOTHING_WRONG = "UnhandledCommand"
 # So often a run that was begun elsewhere is looked for.
 MOST_LOOKS = 100
+MOST_BEGUN = 100_000
 
 
 def stuck_task(events: List[dict]) -> Optional[dict]:
@@ -52,19 +53,21 @@ def stuck_task(events: List[dict]) -> Optional[dict]:
 
 @dataclass
 class Entry:
-    """A run of a workflow. Its type is not known before its history was read, where nobody saw its start."""
+    """A run of a workflow, and what its history said when it was last read.
+
+    Its type and its start are not known before that, where nobody saw it begin.
+    """
 
     workflow_id: str
     run: str
     workflow_type: str
     started: int
-    events: List[dict] = field(default_factory=list)
-    stale: bool = True
+    status: str = "Running"
+    length: int = 0
+    last: str = ""
+    last_at: int = 0
     stuck: Optional[dict] = None
-
-    @property
-    def status(self) -> str:
-        return STATUS.get(self.events[-1]["type"], "Running") if self.events else "Running"
+    stale: bool = True
 
     def is_shown(self, status: str) -> bool:
         """Whether a list of this status has it. One that is stuck is running too."""
@@ -72,16 +75,17 @@ class Entry:
 
     def take(self, events: List[dict]) -> None:
         """Takes a history that was read."""
-        self.workflow_type, self.started = events[0]["attrs"]["workflow_type"], events[0]["at"]
-        self.events = events
+        first, last = events[0], events[-1]
+        self.workflow_type, self.started = first["attrs"]["workflow_type"], first["at"]
+        self.status, self.length = STATUS.get(last["type"], "Running"), len(events)
+        self.last, self.last_at = last["type"], last["at"]
         self.stuck = stuck_task(events) if self.status == "Running" else None
 
     def row(self) -> dict:
         """What the list shows of it."""
-        last = self.events[-1] if self.events else {"type": "", "at": self.started, "id": 0}
         row = {
             "workflow_id": self.workflow_id, "run": self.run, "type": self.workflow_type, "status": self.status,
-            "started": self.started, "last": last["type"], "last_at": last["at"], "length": len(self.events),
+            "started": self.started, "last": self.last, "last_at": self.last_at or self.started, "length": self.length,
         }
         return {**row, "stuck": self.stuck} if self.stuck else row
 
@@ -157,6 +161,9 @@ class Workflows:
             workflow_id = command.get("workflow_id") if child else parent and parent.workflow_id
             if isinstance(workflow_id, str):
                 self._begun[workflow_id] = 0
+                if len(self._begun) > MOST_BEGUN:
+                    # Nobody looks at the list. Histories name these too.
+                    del self._begun[next(iter(self._begun))]
 
     def add(self, workflow_id: str, run: str, workflow_type: str = "", started: int = 0) -> Entry:
         entry = self._by_run.get(run)
@@ -180,7 +187,7 @@ class Workflows:
 
     def take(self, entry: Entry, events: List[dict]) -> None:
         """Takes the history of a run, and adds the runs that its new events name."""
-        started, known = entry.started, len(entry.events)
+        started, known = entry.started, entry.length
         entry.take(events)
         if entry.started != started:
             self._ordered = None

@@ -10,7 +10,7 @@ import asyncio
 import importlib
 import pathlib
 import sys
-from typing import List, Optional
+from typing import List, Optional, Tuple
 
 from aiohttp import web
 
@@ -106,52 +106,60 @@ class Pages:
         left = MOST_READS
         # One whose history was read may not be of this status, and then the next ones are looked at.
         while left > 0 and (stale := [entry for entry in entries if entry.stale]):
-            await asyncio.gather(*[self._read(entry) for entry in stale])
+            await self._read_all(stale)
             left -= len(stale)
             entries = self._workflows.search(text, status, MOST_ROWS)
         return web.json_response({"workflows": [entry.row() for entry in entries if entry.is_shown(status)]})
 
     async def history(self, request: web.Request) -> web.Response:
         """A history, or only that it is as long as before."""
-        entry = await self._entry(request)
+        entry, events = await self._entry(request)
         row = entry.row()
-        if request.query.get("length") == str(len(entry.events)):
+        if request.query.get("length") == str(entry.length):
             return web.json_response({"workflow": row})
-        found = [] if row["status"] != "Running" else pending(entry.events)
-        return web.json_response({"workflow": row, "events": entry.events, "pending": found})
+        events = events or await self._events(entry)
+        found = [] if row["status"] != "Running" else pending(events)
+        return web.json_response({"workflow": row, "events": events, "pending": found})
 
     async def picture(self, request: web.Request) -> web.Response:
-        entry = await self._entry(request)
+        entry, events = await self._entry(request)
+        events = events or await self._events(entry)
         now = self._backend.moments.now() if entry.status == "Running" else None
         return web.Response(
-            text=self._timeline.picture_file(entry.events, now), content_type="image/svg+xml",
+            text=self._timeline.picture_file(events, now), content_type="image/svg+xml",
             headers={"Content-Security-Policy": PICTURE_POLICY, "Cache-Control": "no-cache"},
         )
 
-    async def _entry(self, request: web.Request) -> Entry:
-        """The run that a path names, as it is now. One that the list doesn't have is added."""
+    async def _entry(self, request: web.Request) -> Tuple[Entry, List[dict]]:
+        """The run that a path names, as it is now, and its history where it was read for that."""
         workflow_id, run = request.match_info["workflow_id"], request.match_info["run"]
         entry = self._workflows.find(workflow_id, run)
-        if entry is None:
-            reply = await self._ask("history", workflow_id, run)
-            if "error" in reply:
-                raise web.HTTPNotFound(text=f"there is no run {run} of {workflow_id}")
-            entry = self._workflows.add(workflow_id, run)
-        await self._read(entry)
-        if not entry.events:
-            raise web.HTTPNotFound(text=f"there is no run {run} of {workflow_id} any more")
-        return entry
+        if entry is not None and not entry.stale:
+            return entry, []
+        entry = entry or Entry(workflow_id, run, "", 0)
+        events = await self._read(entry)
+        return self._workflows.find(workflow_id, run) or entry, events
 
-    async def _read(self, entry: Entry) -> None:
-        """Reads a history that may have changed. A run that is gone leaves the list."""
-        if not entry.stale:
-            return
-        entry.stale = False
+    async def _events(self, entry: Entry) -> List[dict]:
+        """The history of a run. A run that is gone leaves the list."""
         reply = await self._ask("history", entry.workflow_id, entry.run)
-        if "events" in reply:
-            self._workflows.take(entry, reply["events"])
-        elif reply.get("error") == "NotFound":
+        if "error" in reply:
             self._workflows.remove(entry.run)
+            raise web.HTTPNotFound(text=f"there is no run {entry.run} of {entry.workflow_id}")
+        return reply["events"]
+
+    async def _read(self, entry: Entry) -> List[dict]:
+        """Reads a history that may have changed, for the list."""
+        entry.stale = False
+        events = await self._events(entry)
+        self._workflows.take(self._workflows.add(entry.workflow_id, entry.run), events)
+        return events
+
+    async def _read_all(self, entries: List[Entry]) -> None:
+        """Reads the histories of these runs. Some may be gone by now."""
+        for found in await asyncio.gather(*[self._read(entry) for entry in entries], return_exceptions=True):
+            if isinstance(found, Exception) and not isinstance(found, web.HTTPNotFound):
+                raise found
 
     async def _look_for_begun(self) -> None:
         """Asks for the runs that others began: children, and those that continue a run."""

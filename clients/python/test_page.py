@@ -146,7 +146,9 @@ class ByAnotherName(WithAServer):
 
     def test_a_server_that_ends_is_said_by_its_buttons(self):
         server = self.serve()
-        run = server.client().start("w", "order")
+        client = server.client()
+        self.addCleanup(client.close)
+        run = client.start("w", "order")
         browser = Browser()
         self.addCleanup(browser.close)
         browser.open(f"{server.url}workflows/w/{run}")

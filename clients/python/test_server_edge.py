@@ -1,6 +1,7 @@
 """The server's edge: health, how it stops, faults as JSON, tokens, names, and connections that say nothing."""
 
 import json
+import resource
 import socket
 import subprocess
 import threading
@@ -11,13 +12,6 @@ import urllib.parse
 from programs import BUILT, SERVER_PYTHON, needs_program, needs_server
 from served import HERE
 from test_server import TOKEN, WithAServer, posted
-
-try:
-    from server_connections import Connections
-except ImportError:
-    # aiohttp is there for another Python, if at all.
-    Connections = None
-
 
 # Answers a history with an event that has nothing.
 TOO_LITTLE = """
@@ -50,6 +44,19 @@ class Health(WithAServer):
         said = json.loads(text)
         self.assertEqual((status, said["status"], said["clock_ahead"], said["queue_full"]), (200, "ready", 0, False))
         self.assertGreaterEqual(said["lines"], 1)
+
+    def test_a_full_disk_is_said_until_there_is_room(self):
+        # Its files may have so many bytes, and no more.
+        server = self.serve("--read-timeout", "5", program=self.double())
+        client = server.client()
+        resource.prlimit(server.process.pid, resource.RLIMIT_FSIZE, (self.log.stat().st_size, resource.RLIM_INFINITY))
+        status = server.asked("POST", "/calls", b'{"op":"signal","name":"x"}')[0]
+        self.assertEqual((status, server.asked("GET", "/health/ready")[0]), (507, 503))
+        self.assertEqual(server.read("/health/ready")["status"], "full")
+        self.assertEqual(server.asked("POST", "/calls", b'{"op":"describe","workflow_id":"w"}')[0], 200)
+        resource.prlimit(server.process.pid, resource.RLIMIT_FSIZE, (resource.RLIM_INFINITY, resource.RLIM_INFINITY))
+        self.assertTrue(client.signal("w", "x"))
+        self.assertEqual(server.asked("GET", "/health/ready")[0], 200)
 
     def test_health_wants_no_token_and_all_else_does(self):
         server = self.serve("--host", "0.0.0.0", "--token-file", self.token_file(), program=self.double())
@@ -135,6 +142,7 @@ class Answers(WithAServer):
         server = self.serve(program=self.double())
         for host, status in (
             ("LOCALHOST", 200), (f"LocalHost:{server.port}", 200), ("127.0.0.1", 200), ("EVIL.test", 403), ("127.0.0.1.evil.test", 403),
+            ("127.0.0.1:80@evil.test", 403), ("evil.test:127.0.0.1", 403), ("", 403),
         ):
             self.assertEqual(server.asked("GET", "/api/workflows", headers={"Host": host})[0], status, host)
         server.stop()
@@ -169,29 +177,6 @@ class Answers(WithAServer):
             return connection.recv(12)
         except ConnectionResetError:
             return b""
-
-
-@unittest.skipIf(Connections is None, "no aiohttp for this Python")
-class Silent(unittest.TestCase):
-    def test_a_connection_without_a_request_is_closed(self):
-        class Transport:
-            closed = False
-
-            def abort(self):
-                self.closed = True
-
-        class Connection:
-            def __init__(self):
-                self.transport = Transport()
-
-        connections = Connections(seconds=30)
-        silent, spoken = Connection(), Connection()
-        connections._asked.add(spoken)
-        for now in (100, 120, 130):
-            connections._close_silent({silent, spoken}, now)
-        self.assertFalse(silent.transport.closed)
-        connections._close_silent({silent, spoken}, 131)
-        self.assertEqual((silent.transport.closed, spoken.transport.closed), (True, False))
 
 
 @needs_server
