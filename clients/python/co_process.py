@@ -17,6 +17,14 @@ CHANGES_NOTHING = b'{"op":"dispatch_turn","shard":0,"stop":1}'
 LINES_KEPT = 5
 
 
+def hand_on(line: bytes) -> None:
+    """Says a line on standard error, where that is open."""
+    try:
+        os.write(2, line)
+    except OSError:
+        pass
+
+
 class Program:
     """A running program. What it says on standard error is handed on, but for lines with a text of `unsaid`."""
 
@@ -35,7 +43,7 @@ class Program:
             text = line.decode(errors="replace").strip()
             self._said.append(text)
             if not any(unsaid in text for unsaid in self._unsaid):
-                os.write(2, line)
+                hand_on(line)
 
     def said(self) -> str:
         """The last of what it said on standard error. It has to have ended."""

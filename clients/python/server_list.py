@@ -67,7 +67,9 @@ class Entry:
     last: str = ""
     last_at: int = 0
     stuck: Optional[dict] = None
-    stale: bool = True
+    # Whether a line since may have changed it, and how many transfers had been accepted when it was read.
+    changed: bool = True
+    transfers: int = 0
 
     def is_shown(self, status: str) -> bool:
         """Whether a list of this status has it. One that is stuck is running too."""
@@ -128,6 +130,8 @@ class Workflows:
         self._by_workflow: Dict[str, List[Entry]] = {}
         # The entries from the latest start on, where they are in this order.
         self._ordered: Optional[List[Entry]] = None
+        # How many transfers were accepted. Nobody sees what they change.
+        self._transfers = 0
         # Workflow IDs a run of which was begun by another one, and how often it was looked for.
         self._begun: Dict[str, int] = {}
 
@@ -138,18 +142,18 @@ class Workflows:
         if op in ("start", "signal_with_start") and reply.get("ok") == "started":
             self.add(request["workflow_id"], reply["run"], request["workflow_type"], request.get("at", 0))
         if op == "transfer_turn" and reply.get("ok") == "accepted":
-            self._all_stale()
+            self._transfers += 1
         if op == "timer_turn" and reply.get("class") == "retention":
             self.remove(reply["run"])
         run = run_of_token(str(request.get("token", "")), self._service)
         if op == "complete_workflow_task":
             self._observe_commands(request, run)
         for changed in (reply.get("run"), run):
-            self._stale(self._by_run.get(changed))
+            self._change(self._by_run.get(changed))
         workflow_id = request.get("workflow_id")
         if isinstance(workflow_id, str):
             for entry in self._by_workflow.get(workflow_id, ()):
-                self._stale(entry)
+                self._change(entry)
 
     def _observe_commands(self, request: dict, run: Optional[str]) -> None:
         """Remembers which workflows the commands begin a run of."""
@@ -221,13 +225,17 @@ class Workflows:
 
     # What changed.
 
-    def _stale(self, entry: Optional[Entry]) -> None:
-        if entry is not None and entry.status == "Running":
-            entry.stale = True
+    def _change(self, entry: Optional[Entry]) -> None:
+        if entry is not None:
+            entry.changed = True
 
-    def _all_stale(self) -> None:
-        for entry in self._entries.values():
-            self._stale(entry)
+    def is_stale(self, entry: Entry) -> bool:
+        """Whether a run may have gone on since its history was read. One that has closed doesn't."""
+        return entry.status == "Running" and (entry.changed or entry.transfers != self._transfers)
+
+    def reading(self, entry: Entry) -> None:
+        """Tells that the history of a run is being read."""
+        entry.changed, entry.transfers = False, self._transfers
 
     # What is shown.
 
@@ -240,7 +248,7 @@ class Workflows:
             self._ordered = sorted(self._entries.values(), key=lambda entry: entry.started)[::-1]
         found = []
         for entry in self._ordered:
-            if text in entry.workflow_id and (entry.stale or entry.is_shown(status)):
+            if text in entry.workflow_id and (entry.is_shown(status) or self.is_stale(entry)):
                 found.append(entry)
             if len(found) == most:
                 break

@@ -105,7 +105,7 @@ class Pages:
         entries = self._workflows.search(text, status, MOST_ROWS)
         left = MOST_READS
         # One whose history was read may not be of this status, and then the next ones are looked at.
-        while left > 0 and (stale := [entry for entry in entries if entry.stale]):
+        while left > 0 and (stale := [entry for entry in entries if self._workflows.is_stale(entry)]):
             await self._read_all(stale)
             left -= len(stale)
             entries = self._workflows.search(text, status, MOST_ROWS)
@@ -134,7 +134,7 @@ class Pages:
         """The run that a path names, as it is now, and its history where it was read for that."""
         workflow_id, run = request.match_info["workflow_id"], request.match_info["run"]
         entry = self._workflows.find(workflow_id, run)
-        if entry is not None and not entry.stale:
+        if entry is not None and not self._workflows.is_stale(entry):
             return entry, []
         entry = entry or Entry(workflow_id, run, "", 0)
         events = await self._read(entry)
@@ -150,7 +150,7 @@ class Pages:
 
     async def _read(self, entry: Entry) -> List[dict]:
         """Reads a history that may have changed, for the list."""
-        entry.stale = False
+        self._workflows.reading(entry)
         events = await self._events(entry)
         self._workflows.take(self._workflows.add(entry.workflow_id, entry.run), events)
         return events
