@@ -11,10 +11,10 @@ log's own settings and gives it the lines again; then it goes on.
 
 A call returns once its line was synced and the program has answered. Threads may call at once: one
 sync serves all lines that wait for it. A call that was not answered may have taken effect or not;
-one with a request id can be made again, and takes effect once.
+one with a request id can be made again, and takes effect once. Reads change nothing, and are no lines.
 
-A log grows by every line. `compact()` puts the records of the shards in the place of its lines, which
-then are opened in the place of serving each line again.
+A log grows by every line. `compact()` puts the records of the shards in the place of its lines: a
+service is opened from them in the place of serving each line again.
 """
 
 from __future__ import annotations
@@ -160,12 +160,14 @@ class DurableService(Calls):
     @property
     def wrong(self) -> str:
         """Why no call is taken now, in one word; empty where they are."""
-        with self._changed:
-            if self._closed is not None:
-                return "ended"
-            if self._log.broken:
-                return "broken"
-            return "compacting" if self._paused else "full" if self._log.full else ""
+        if self._closed is not None:
+            return "ended"
+        return "broken" if self._log.broken else "full" if self._log.full else ""
+
+    @property
+    def compacting(self) -> bool:
+        """Whether calls wait until the log is compacted."""
+        return self._paused
 
     def record_files(self) -> List[str]:
         """The files of the records that the log goes on from, by their shards."""
@@ -421,6 +423,18 @@ class DurableService(Calls):
         log, generation = self._log.path, self._generation + 1
         words = [*self._command, *self.settings.options(), *load_options(log, self._generation)]
         save_records(words, self._lines_for_replay(), folder_of(log, generation))
+        try:
+            program, settings = self._opened_from(generation, capacity)
+        except BaseException:
+            remove_leftovers(log, self._generation)
+            raise
+        if settings != self.settings:
+            self._tell_growth(settings)
+        self._go_on_with(program, generation)
+
+    def _opened_from(self, generation: int, capacity: int) -> Tuple[Program, Settings]:
+        """A program that was opened from these records, and its settings, once the log begins with them."""
+        log = self._log.path
         wanted = dataclasses.replace(self.settings, capacity=capacity)
         program, settings = open_program(self._command, wanted, log, generation)
         try:
@@ -429,9 +443,7 @@ class DurableService(Calls):
         except BaseException:
             program.kill()
             raise
-        if settings != self.settings:
-            self._tell_growth(settings)
-        self._go_on_with(program, generation)
+        return program, settings
 
     def _go_on_with(self, program: Program, generation: int) -> None:
         with self._changed:

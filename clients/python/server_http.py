@@ -170,5 +170,6 @@ class Health:
         said = {
             "status": wrong or "ready", "lines": service.lines, "bytes": service.size,
             "clock_ahead": self._backend.moments.ahead, "queue_full": self._backend.full,
+            "compacting": service.compacting,
         }
         return web.json_response(said, status=503 if wrong else 200)

@@ -118,7 +118,7 @@ class Compacted(Durable):
             data = self.log.read_bytes()
             with mock.patch("compaction.MOST_CAPACITY", 4), self.assertRaisesRegex(NotOpened, MORE_THAN_QUEUES_HOLD):
                 service.compact()
-            self.assertEqual(self.log.read_bytes(), data)
+            self.assertEqual((self.log.read_bytes(), self.names()), (data, ["a.log"]))
             service.signal("w4", "go")
         self.assertEqual([e["type"] for e in self.open().history("w4")][-1], "WorkflowExecutionSignaled")
 
@@ -131,7 +131,7 @@ class Compacted(Durable):
             data = self.log.read_bytes()
             with self.assertRaisesRegex(NotOpened, "status 2: no such records"):
                 service.compact()
-            self.assertEqual(self.log.read_bytes(), data)
+            self.assertEqual((self.log.read_bytes(), self.names()), (data, ["a.log", "refuses"]))
             service.signal("w0", "go")
         with self.open() as service:
             self.assertEqual([e["type"] for e in service.history("w0")][-1], "WorkflowExecutionSignaled")
@@ -153,7 +153,9 @@ class Compacted(Durable):
             with mock.patch("os.link", side_effect=OSError(1, "Operation not permitted")):
                 with self.assertRaisesRegex(NotCompacted, "Operation not permitted"):
                     service.compact()
-            self.assertEqual(self.log.read_bytes(), data)
+            with mock.patch("os.rename", side_effect=OSError(5, "Input/output error")), self.assertRaises(OSError):
+                service.compact()
+            self.assertEqual((self.log.read_bytes(), self.names()), (data, ["a.log"]))
             service.signal("w0", "go")
         self.assertEqual(len(self.open().history("w0")), 3)
 

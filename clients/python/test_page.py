@@ -104,6 +104,10 @@ class Page(WithAServer):
             self.browser.open(f"{self.server.url}workflows/to%20{button}/{run}")
             self.browser.wait(f"document.title === 'to {button}'")
             self.browser.value(f"document.querySelector('#{button} button').click()")
+            if button == "terminate":
+                self.browser.wait("document.querySelector('#terminate button').innerText === 'Terminate at once?'")
+                self.assertEqual(self.client.describe("to terminate")["status"], "Running")
+                self.browser.value("document.querySelector('#terminate button').click()")
             self.browser.wait(f"document.body.innerText.includes('{kind}')")
 
 

@@ -3,6 +3,8 @@
 
 const [, , workflowId, run] = location.pathname.split("/").map(decodeURIComponent);
 const path = `/workflows/${encodeURIComponent(workflowId)}/${run}`;
+// For so many milliseconds a button waits for its second press.
+const SURE = 5000;
 let length = -1;
 
 function eventRow(event) {
@@ -65,10 +67,21 @@ async function show() {
   }
 }
 
+// What can't be taken back wants a second press.
+function isSure(form, sure) {
+  const pressed = element(form).querySelector("button");
+  if (!sure || pressed.textContent === sure) return true;
+  const asked = pressed.textContent;
+  pressed.textContent = sure;
+  setTimeout(() => (pressed.textContent = asked), SURE);
+  return false;
+}
+
 // Each press of a button is one request, which takes effect once.
-function button(form, call) {
+function button(form, call, sure) {
   element(form).addEventListener("submit", async (event) => {
     event.preventDefault();
+    if (!isSure(form, sure)) return;
     try {
       const reply = await called({ workflow_id: workflowId, run, ...call() });
       say(reply.error ? `${form}: ${reply.error}` : `${form}: ${reply.ok}`);
@@ -86,5 +99,5 @@ button("signal", () => ({
   request_id: requestId(),
 }));
 button("cancel", () => ({ op: "request_cancel", request_id: requestId() }));
-button("terminate", () => ({ op: "terminate", reason: element("reason").value }));
+button("terminate", () => ({ op: "terminate", reason: element("reason").value }), "Terminate at once?");
 repeat(show);
