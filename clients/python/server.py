@@ -80,6 +80,7 @@ async def serve(said: argparse.Namespace, service: DurableService, workflows: Wo
 
 
 async def told_to_stop() -> None:
+    """Returns once a signal has told the server to stop."""
     stop = asyncio.Event()
     for number in (signal.SIGINT, signal.SIGTERM):
         asyncio.get_running_loop().add_signal_handler(number, stop.set)

@@ -68,7 +68,7 @@ def members(value: Any) -> list:
 class Observers:
     """Those who are told each request and its reply. One that is at fault is said, and stops nothing."""
 
-    def __init__(self, *observers):
+    def __init__(self, *observers: Any):
         self._observers = observers
 
     def observe(self, request: dict, reply: dict) -> None:

@@ -62,7 +62,8 @@ async def answer_faults(request: web.Request, handler):
 
 def cookie_of(request: web.Request) -> str:
     """The name of the token's cookie. A browser gives cookies to all ports of a host, so each server has its own."""
-    return f"wfserve_token_{request.url.port}"
+    port = request.host.rpartition(":")[2]
+    return f"wfserve_token_{port if port.isdigit() else 80}"
 
 
 class Guard:

@@ -117,7 +117,8 @@ class Answers(WithAServer):
         for method, path, body, status, name in (
             ("GET", "/nothing", None, 404, "NotFound"), ("GET", "/page/../server.py", None, 404, "NotFound"),
             ("GET", "/calls", None, 405, "MethodNotAllowed"), ("PUT", "/calls", b"{}", 405, "MethodNotAllowed"),
-            ("POST", "/calls", b" " * 1_048_577, 413, "RequestEntityTooLarge"), ("POST", "/compact", b" " * 1_048_577, 413, "RequestEntityTooLarge"),
+            ("POST", "/calls", b" " * 1_048_577, 413, "RequestEntityTooLarge"),
+            ("POST", "/compact", b" " * 1_048_577, 413, "RequestEntityTooLarge"),
         ):
             answer = server.asked(method, path, body)
             self.assertEqual((answer[0], json.loads(answer[2])["error"]), (status, name), path)
@@ -141,12 +142,14 @@ class Answers(WithAServer):
     def test_names_and_schemes_in_any_case(self):
         server = self.serve(program=self.double())
         for host, status in (
-            ("LOCALHOST", 200), (f"LocalHost:{server.port}", 200), ("127.0.0.1", 200), ("EVIL.test", 403), ("127.0.0.1.evil.test", 403),
+            ("LOCALHOST", 200), (f"LocalHost:{server.port}", 200), ("127.0.0.1", 200), ("EVIL.test", 403),
+            ("127.0.0.1.evil.test", 403),
             ("127.0.0.1:80@evil.test", 403), ("evil.test:127.0.0.1", 403), ("", 403),
         ):
             self.assertEqual(server.asked("GET", "/api/workflows", headers={"Host": host})[0], status, host)
         server.stop()
         server = self.serve("--token-file", self.token_file(), program=self.double())
+        self.assertEqual(server.asked("GET", "/", headers={"Host": "localhost:no port"})[0], 403)
         for scheme, status in (("Bearer", 200), ("bearer", 200), ("BEARER", 200), ("Basic", 401), ("", 401)):
             self.assertEqual(server.asked("GET", "/", headers={"Authorization": f"{scheme} {TOKEN}"})[0], status, scheme)
 

@@ -87,7 +87,8 @@ class Read(unittest.TestCase):
             for op in KEYS:
                 for reply in ({"ok": "none"}, {"ok": "completed"}, {"ok": "accepted"}, {"ok": "signaled"}, {}):
                     with mock.patch("server_calls.LOG.exception") as said:
-                        Observers(Workflows(), Deadlines()).observe({"op": op, **json.loads(f"{{{poison}}}")}, {"line": 1, **reply})
+                        request = {"op": op, **json.loads(f"{{{poison}}}")}
+                        Observers(Workflows(), Deadlines()).observe(request, {"line": 1, **reply})
                     said.assert_not_called()
 
 

@@ -142,8 +142,11 @@ class Lists(WithAServer):
     def test_a_log_that_an_earlier_server_compacted_is_listed(self):
         with DurableService([str(BUILT)], str(self.log), clock=Clock(1_000)) as service:
             for number in range(30):
-                service.start(f"w{number % 7}", "child" if number % 2 else "chain", reuse="AllowDuplicate", conflict="TerminateExisting")
-                service.send({"op": "start", "workflow_id": f"w{number % 7}", "workflow_type": "no", "task_queue": "main"}).result()
+                workflow_id, kind = f"w{number % 7}", "child" if number % 2 else "chain"
+                service.start(workflow_id, kind, conflict="TerminateExisting")
+                # This one begins no run, so it has no ordinal.
+                refused = {"op": "start", "workflow_id": workflow_id, "workflow_type": "no", "task_queue": "main"}
+                self.assertEqual(service.send(refused).result()["error"], "AlreadyStarted")
             service.compact()
         server = self.serve()
         rows = self.rows(server)
@@ -183,8 +186,8 @@ class Lists(WithAServer):
         with DurableService([str(BUILT)], str(self.log), clock=Clock(int(time.time() * 1_000))) as service:
             service.start("first", "child")
             service.terminate("first")
-            asked = [{"op": "start", "workflow_id": f"w{number}", "workflow_type": "child", "task_queue": "main"} for number in range(500)]
-            for reply in [service.send({**it, "at": int(time.time() * 1_000)}) for it in asked]:
+            asked = {"op": "start", "at": int(time.time() * 1_000), "workflow_type": "child", "task_queue": "main"}
+            for reply in [service.send({**asked, "workflow_id": f"w{number}"}) for number in range(500)]:
                 reply.result()
         server = self.serve()
         self.assertEqual(self.found(server, "status=Terminated"), [("first", "child", "Terminated")])
