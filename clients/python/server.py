@@ -6,7 +6,7 @@
                         A poll may `wait` so many milliseconds for a task.
     GET  /              the workflows, and their histories
     GET  /api/workflows ?search=TEXT&status=STATUS: the list as JSON, at most 200 rows, the latest first
-    POST /compact       compacts the log; calls wait meanwhile
+    POST /compact       compacts the log; calls wait meanwhile. Queues get room for `capacity` tasks, where that is more.
     GET  /health/live   answers while the server runs
     GET  /health/ready  200 where calls are taken, else 503 and why
 
@@ -18,6 +18,7 @@ from __future__ import annotations
 
 import argparse
 import asyncio
+import dataclasses
 import logging
 import pathlib
 import signal
@@ -27,8 +28,8 @@ from typing import List, Optional
 
 from aiohttp import web
 
-from durable import DurableService, Settings
-from line_log import LogFault
+from durable import DurableService, Settings, read_header
+from line_log import LogFault, first_line
 from server_calls import Backend, Observers
 from server_connections import Connections
 from server_http import Calls, Guard, Health, answer_faults
@@ -125,18 +126,19 @@ def words_of(words: List[str]) -> argparse.Namespace:
     return parser.parse_args(words)
 
 
-def settings_of(said: argparse.Namespace) -> Optional[Settings]:
-    """The settings that were named; None where none was, for the log's own."""
+def settings_of(said: argparse.Namespace, log: str) -> Settings:
+    """The settings that were named; all others are the log's own, or the defaults of a new one."""
     numbers = ("shards", "capacity", "retention")
     named = {name: getattr(said, name) for name in numbers if getattr(said, name) is not None}
     if said.queues is not None:
         named["queues"] = tuple(said.queues.split(","))
-    return Settings(**named) if named else None
+    header = first_line(log)
+    return dataclasses.replace(Settings() if header is None else read_header(header, log)[0], **named)
 
 
 def opened(said: argparse.Namespace, log: str, workflows: Workflows, deadlines: Deadlines) -> DurableService:
     """The service of the log. The list has its runs, also those of the records that it goes on from."""
-    service = DurableService([said.program], log, settings_of(said), replayed=Observers(workflows, deadlines).observe)
+    service = DurableService([said.program], log, settings_of(said, log), replayed=Observers(workflows, deadlines).observe)
     try:
         Recorded(service, workflows).add_all()
     except BaseException:

@@ -4,6 +4,7 @@ from __future__ import annotations
 
 import asyncio
 import hmac
+import json
 import logging
 from typing import List, NoReturn, Optional
 
@@ -12,6 +13,7 @@ from aiohttp import web
 from line_log import LogFault, LogFull
 from operations import POLLS
 from server_calls import BadCall, Backend, Busy, Draining, request_of
+from service_settings import MOST_CAPACITY
 from wfserve import Ended
 
 LOG = logging.getLogger("wfserve.http")
@@ -121,6 +123,17 @@ async def body_of(request: web.Request, seconds: float) -> bytes:
         raise Refusal(400, "BadCall", "the client hung up") from None
 
 
+def capacity_of(body: bytes) -> int:
+    """For how many tasks a request to compact wants room in the queues; 0 where it doesn't say."""
+    try:
+        capacity = json.loads(body).get("capacity", 0)
+    except (ValueError, RecursionError, AttributeError):
+        raise Refusal(400, "BadCall", "the body is no JSON object") from None
+    if not isinstance(capacity, int) or isinstance(capacity, bool) or not 0 <= capacity <= MOST_CAPACITY:
+        raise Refusal(400, "BadCall", f"capacity is a whole number, at most {MOST_CAPACITY}")
+    return capacity
+
+
 class Calls:
     """POST /calls, and POST /compact."""
 
@@ -139,17 +152,18 @@ class Calls:
         return web.json_response(await self._backend.call(call))
 
     async def compact(self, request: web.Request) -> web.Response:
-        """Compacts the log while it is served. Calls wait meanwhile."""
-        await body_of(request, self._read_seconds)
+        """Compacts the log while it is served, with room for so many tasks in its queues. Calls wait meanwhile."""
+        capacity = capacity_of(await body_of(request, self._read_seconds))
         if self._compacting or self._backend.closing:
             return fault(503, "Busy", "the log is being compacted, or the server is told to stop")
         service, self._compacting = self._backend.service, True
         lines, size = service.lines, service.size
         try:
-            await asyncio.get_running_loop().run_in_executor(None, service.compact)
+            await asyncio.get_running_loop().run_in_executor(None, service.compact, capacity)
         finally:
             self._compacting = False
-        return web.json_response({"ok": "compacted", "lines": lines, "bytes": size, "records": service.records_size})
+        said = {"lines": lines, "bytes": size, "records": service.records_size, "capacity": service.settings.capacity}
+        return web.json_response({"ok": "compacted", **said})
 
 
 class Health:

@@ -73,6 +73,12 @@ class Stopped(WithAServer):
         connection.sendall(posted(call))
         return connection
 
+    def ended(self, server):
+        """The status of a server that was told to stop."""
+        status = server.process.wait(timeout=20)
+        server.stop()
+        return status
+
     def test_calls_on_their_way_are_answered_and_polls_end(self):
         server = self.serve(program=self.double())
         slow = [self.connected(server, {"op": "signal", "name": f"slow {number}"}) for number in range(3)]
@@ -84,7 +90,7 @@ class Stopped(WithAServer):
             status, reply = answer_on(connection)
             self.assertEqual((status, reply["ok"]), (200, "signaled"))
         self.assertEqual(answer_on(poll)[1]["ok"], "empty")
-        self.assertEqual(server.stop(), 0)
+        self.assertEqual(self.ended(server), 0)
         self.assertLess(time.monotonic() - begun, 10)
         self.assertEqual(self.log.read_bytes().count(b'"slow '), 3)
 
@@ -106,7 +112,7 @@ class Stopped(WithAServer):
         self.assertEqual((status, said["status"]), (503, "draining"))
         for connection in slow:
             self.assertEqual(answer_on(connection)[0], 200)
-        self.assertEqual(server.stop(), 0)
+        self.assertEqual(self.ended(server), 0)
         self.assertNotIn(b'"late"', self.log.read_bytes())
 
 
@@ -197,6 +203,26 @@ class CompactedByCommand(WithAServer):
         self.assertEqual([row["workflow_id"] for row in server.read("/api/workflows")["workflows"]], ["w"])
         ran = subprocess.run(words, capture_output=True, text=True)
         self.assertEqual((ran.returncode, ran.stderr), (2, "server: --compact needs a --log\n"))
+
+    def test_queues_get_room_while_they_are_served_and_when_a_log_is_opened(self):
+        server = self.serve("--shards", "2", "--queues", "main,more", "--capacity", "2")
+        client = server.client()
+        for number in range(8):
+            client.start(f"w{number}", "T")
+        for body in (b"", b"[]", b'{"capacity":true}', b'{"capacity":-1}', b'{"capacity":65537}', b'{"capacity":"8"}', b"[" * 100_000):
+            self.assertEqual(server.asked("POST", "/compact", body)[0], 400, body[:40])
+        for body, capacity in ((b"{}", 8), (b'{"capacity":32}', 32), (b'{"capacity":16}', 32)):
+            status, _, text = server.asked("POST", "/compact", body)
+            self.assertEqual((status, json.loads(text)["capacity"] >= capacity), (200, True), text)
+        server.stop()
+        # What isn't named is the log's own.
+        other = self.serve("--capacity", "64")
+        self.assertEqual(json.loads(other.asked("POST", "/compact", b"{}")[2])["capacity"], 64)
+        found = {other.client().poll_workflow_task().workflow_id for _ in range(8)}
+        self.assertEqual(found, {f"w{number}" for number in range(8)})
+        other.stop()
+        with self.assertRaisesRegex(AssertionError, "the log's shards is 2, and not 1"):
+            self.serve("--shards", "1")
 
     def test_a_log_is_compacted_while_it_is_served(self):
         server, stop, wrong = self.serve(), threading.Event(), []
