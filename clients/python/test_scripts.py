@@ -12,7 +12,7 @@ import tempfile
 import unittest
 import xml.etree.ElementTree as xml
 
-from programs import ROOT
+from programs import BUILT, ROOT, needs_program
 from stored_cases import cases_of
 
 sys.path.append(str(ROOT / "tools"))
@@ -175,6 +175,15 @@ class Serve(InAFolder):
         (self.top / "tools/build_program.py").write_text("raise SystemExit(3)\n")
         ran = self.serve()
         self.assertEqual((ran.returncode, ran.stdout), (3, ""))
+
+
+@needs_program
+class Help(unittest.TestCase):
+    def test_it_lists_the_options_that_the_program_has(self):
+        said, has = run([ROOT / "serve", "--help"]).stdout, run([BUILT, "--help"])
+        options = set(re.findall("--[a-z]+", has.stdout + has.stderr)) - {"--help"}
+        self.assertGreater(len(options), 5)
+        self.assertEqual(set(re.findall("--[a-z]+", said)), options)
 
 
 class ServeHttp(Serve):
