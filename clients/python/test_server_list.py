@@ -1,15 +1,25 @@
-"""The list: children, runs that continue others, what a compaction left, and workflows whose code fails."""
+"""The list: children, runs that continue others, what a compaction left, and workflows whose code fails.
 
+WFSERVE_SEED draws other calls.
+"""
+
+import os
+import random
+import sys
+import tempfile
 import threading
 import time
 import unittest
 
-from durable import DurableService
+from durable import DurableService, Settings
 from programs import BUILT, needs_program, needs_server
 from server_list import Workflows, run_id, stuck_task
+from server_records import Recorded
 from test_server import WithAServer
 from wfserve import Clock
-from workflows import Worker, input_of, workflow
+from workflows import Driver, Worker, input_of, workflow
+
+SEED = int(os.environ.get("WFSERVE_SEED", random.randrange(1 << 32)))
 
 
 @workflow
@@ -76,6 +86,69 @@ class Stuck(unittest.TestCase):
         workflows.remove(run_id(1, 0, 1))
         workflows.take(entry, [*events, event(2, "WorkflowTaskScheduled", attempt=1)])
         self.assertEqual([it.run for it in workflows.search("", "", 10)], [run_id(1, 0, 2)])
+
+
+@needs_program
+class InRecords(unittest.TestCase):
+    """What the records of drawn calls show is what there is: starts that are refused, children, runs that continue others."""
+
+    IDS = [f"w{number}" for number in range(8)] + [f"child-{number}" for number in range(9)]
+
+    def test_the_runs_of_records_are_all_that_there_are(self):
+        print(f"\nruns of records: seed {SEED}", file=sys.stderr)
+        draw = random.Random(SEED)
+        with tempfile.TemporaryDirectory() as folder:
+            with DurableService([str(BUILT)], f"{folder}/a.log", Settings(shards=2, capacity=4), clock=Clock(1)) as service:
+                driver = Driver(service, 2)
+                for _ in range(300):
+                    service.clock.advance(10)
+                    self.make_one(service, driver, draw)
+                service.compact()
+                found = Workflows()
+                Recorded(service, found).add_all()
+                runs = self.all_runs(service)
+        self.assertGreater(len(runs), 60)
+        self.assertEqual({(entry.workflow_id, entry.run) for entry in found.search("", "", 10_000)}, runs)
+
+    def all_runs(self, service):
+        """Each ordinal of each shard, until one is nobody's, is asked for under each workflow ID."""
+        runs = set()
+        for shard in range(2):
+            for ordinal in range(1, 1_000):
+                run = run_id(1, shard, ordinal)
+                asked = [service.send({"op": "describe", "workflow_id": it, "run": run}) for it in self.IDS]
+                owners = [it for it, reply in zip(self.IDS, asked) if "error" not in reply.result()]
+                if not owners:
+                    break
+                runs.add((owners[0], run))
+        return runs
+
+    def make_one(self, service, driver, draw):
+        """A start that may be refused, a termination, or a worker's step."""
+        workflow_id = f"w{draw.randrange(8)}"
+        op = draw.choice(["start", "start", "start", "terminate", "work", "work"])
+        if op == "start":
+            policies = {"conflict": draw.choice(["Fail", "UseExisting", "TerminateExisting"]),
+                        "reuse": draw.choice(["AllowDuplicate", "AllowDuplicateFailedOnly", "RejectDuplicate"])}
+            start = {"workflow_id": workflow_id, "workflow_type": draw.choice("ab"), "task_queue": "main", **policies}
+            service.send({"op": "start", "at": service.clock.now, **start}).result()
+        elif op == "terminate":
+            service.send({"op": "terminate", "at": service.clock.now, "workflow_id": workflow_id}).result()
+        else:
+            driver.turn()
+            self.work(service, draw)
+
+    def work(self, service, draw):
+        task = service.poll_workflow_task()
+        if task is None:
+            return
+        child = {"type": "StartChildWorkflowExecution", "workflow_id": f"child-{draw.randrange(9)}", "workflow_type": "c",
+                 "task_queue": "main", "parent_close": draw.choice(["Abandon", "Terminate"])}
+        commands = [child] * draw.randrange(2)
+        end = draw.choice([None, "ContinueAsNewWorkflowExecution", "CompleteWorkflowExecution"])
+        if end is not None:
+            commands.append({"type": end})
+        service.complete_workflow_task(task, commands)
 
 
 @needs_server
