@@ -15,11 +15,11 @@ class Browser:
     """One page of a browser. Each name of `hosts` stands for this machine."""
 
     def __init__(self, width=1100, height=1000, hosts=()):
-        self._folder = tempfile.mkdtemp()
+        self._folder, self._hosts = tempfile.mkdtemp(), hosts
         to_read, self._write = os.pipe()
         self._read, to_write = os.pipe()
         self._process = subprocess.Popen(
-            self._command(width, height, hosts), stdout=subprocess.DEVNULL, stderr=subprocess.DEVNULL,
+            self._command(width, height), stdout=subprocess.DEVNULL, stderr=subprocess.DEVNULL,
             pass_fds=[to_read, to_write], env={**os.environ, "TO_READ": str(to_read), "TO_WRITE": str(to_write)},
         )
         os.close(to_read)
@@ -29,12 +29,12 @@ class Browser:
         self._session = self._ask("Target.attachToTarget", targetId=target, flatten=True)["sessionId"]
         self._ask("Page.enable")
 
-    def _command(self, width, height, hosts):
+    def _command(self, width, height):
         """The browser has its pipe at the numbers 3 and 4."""
         words = [
             CHROMIUM, "--headless=new", "--no-sandbox", "--disable-gpu", "--remote-debugging-pipe", "--no-first-run",
             f"--user-data-dir={self._folder}", f"--window-size={width},{height}", "--lang=en",
-            f"--host-resolver-rules={','.join(f'MAP {host} 127.0.0.1' for host in hosts)}",
+            f"--host-resolver-rules={','.join(f'MAP {host} 127.0.0.1' for host in self._hosts)}",
         ]
         return ["bash", "-c", 'exec 3<&"$TO_READ" 4>&"$TO_WRITE"; exec "$@"', "browser", *words]
 

@@ -28,7 +28,7 @@ import threading
 from collections import deque
 from concurrent.futures import Future
 from dataclasses import dataclass, field
-from typing import Callable, Deque, Iterable, List, Optional, Sequence, Tuple
+from typing import Any, Callable, Deque, Iterable, List, Optional, Sequence, Tuple
 
 from co_process import Program
 from compaction import (
@@ -45,6 +45,8 @@ __all__ = [
 ]
 
 LOG = logging.getLogger("wfserve.log")
+# The program refuses a line of a later moment.
+MOMENTS = 1 << 64
 
 
 @dataclass
@@ -248,7 +250,7 @@ class DurableService(Calls):
 
     def _replay_one(self, number: int, request: dict, replayed: Callable[[dict, dict], None]) -> None:
         moment = request.get("at")
-        if isinstance(moment, int):
+        if isinstance(moment, int) and moment < MOMENTS:
             self.last_moment = max(self.last_moment, moment)
         if request.get("op") in READS:
             self._program.skip_reply(number)
@@ -273,7 +275,7 @@ class DurableService(Calls):
 
     # Calls.
 
-    def call(self, op, **fields):
+    def call(self, op: str, **fields: Any) -> dict:
         request = request_of(op, self.clock.now, fields)
         return answered(request, self.send(request).result())
 
@@ -305,17 +307,16 @@ class DurableService(Calls):
 
     def _kept(self, calls: List[Waiting]) -> List[Waiting]:
         """Logs the calls, and gives them their numbers. Where that can't be done, only the reads are left."""
-        number = self.lines
-        for call in calls:
-            number += call.logged
-            call.number = number
-        logged = [call for call in calls if call.logged]
+        logged, number = [call for call in calls if call.logged], self.lines
         try:
             if logged:
                 self._log.append([call.line for call in logged])
         except LogFault as fault:
             fail(logged, fault)
-            return [call for call in calls if not call.logged]
+            calls = [call for call in calls if not call.logged]
+        for call in calls:
+            number += call.logged
+            call.number = number
         return calls
 
     def _hand_over(self, calls: List[Waiting]) -> None:

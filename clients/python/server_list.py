@@ -242,6 +242,10 @@ class Workflows:
     def find(self, workflow_id: str, run: str) -> Optional[Entry]:
         return self._entries.get((workflow_id, run))
 
+    def find_run(self, run: Optional[str]) -> Optional[Entry]:
+        """The entry of a run, whatever its workflow ID is."""
+        return self._by_run.get(run)
+
     def search(self, text: str, status: str, most: int) -> List[Entry]:
         """The latest whose ID has this text and that have this status, or may have it: those are stale."""
         if self._ordered is None:

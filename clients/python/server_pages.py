@@ -119,7 +119,9 @@ class Pages:
             return web.json_response({"workflow": row})
         events = events or await self._events(entry)
         found = [] if row["status"] != "Running" else pending(events)
-        return web.json_response({"workflow": row, "events": events, "pending": found})
+        parent = self._workflows.find_run(events[0]["attrs"].get("parent_run"))
+        named = {} if parent is None else {"parent": {"workflow_id": parent.workflow_id, "run": parent.run}}
+        return web.json_response({"workflow": row, "events": events, "pending": found, **named})
 
     async def picture(self, request: web.Request) -> web.Response:
         entry, events = await self._entry(request)

@@ -30,6 +30,20 @@ async def order(ctx, order_id):
     return {"receipt": receipt, "shipped": done.index == 0}
 
 
+@workflow
+async def parent(ctx, continued=False):
+    if not continued:
+        ctx.child(child, id="c 1", parent_close="Abandon")
+        await ctx.signal("go on")
+        ctx.continue_as_new(True)
+    await ctx.signal("end")
+
+
+@workflow
+async def child(ctx):
+    await ctx.signal("end")
+
+
 @needs_server
 @needs_program
 @unittest.skipUnless(CHROMIUM, "chromium is not here")
@@ -110,6 +124,34 @@ class Page(WithAServer):
                 self.browser.value("document.querySelector('#terminate button').click()")
             self.browser.wait(f"document.body.innerText.includes('{kind}')")
 
+
+    def test_runs_link_to_those_that_they_began_and_that_began_them(self):
+        worker = Worker(self.client, workflows=[parent, child])
+        first = self.client.start("p/1", "parent", request_id="p")
+        self.wait(worker, lambda: self.runs("c 1"))
+        self.client.signal("p/1", "go on", request_id="go on")
+        self.wait(worker, lambda: len(self.runs("p/1")) == 2)
+        (begun,), (second,) = self.runs("c 1"), set(self.runs("p/1")) - {first}
+        pages = {run: f"/workflows/{name}/{run}" for name, run in (("p%2F1", first), ("p%2F1", second), ("c%201", begun))}
+        self.assertEqual(self.links(pages[first], "#events a", 2), [pages[begun], pages[second]])
+        self.assertEqual(self.links(pages[second], "#events a", 1), [pages[first]])
+        self.assertEqual(self.links(pages[begun], "#parent a", 1), [pages[first]])
+
+    def runs(self, workflow_id):
+        return [row["run"] for row in self.server.read("/api/workflows")["workflows"] if row["workflow_id"] == workflow_id]
+
+    def wait(self, worker, holds):
+        late = time.monotonic() + SECONDS
+        while not holds():
+            self.assertLess(time.monotonic(), late)
+            worker.work()
+
+    def links(self, path, selector, count):
+        """Where the links of a page lead, once it has so many."""
+        self.browser.open(self.server.url.rstrip("/") + path)
+        found = f"[...document.querySelectorAll('{selector}')].map((it) => new URL(it.href).pathname)"
+        self.browser.wait(f"location.pathname === '{path}' && {found}.length === {count}")
+        return self.browser.value(found)
 
     def test_a_run_that_is_stuck_is_shown_so(self):
         run = self.start("order-1")

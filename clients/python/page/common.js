@@ -16,6 +16,17 @@ function made(tag, content, kind) {
   return it;
 }
 
+function pathOf(workflowId, run) {
+  return `/workflows/${encodeURIComponent(workflowId)}/${run}`;
+}
+
+// A link to a run's page.
+function linked(text, workflowId, run) {
+  const link = made("a", text);
+  link.href = pathOf(workflowId, run);
+  return link;
+}
+
 function moment(milliseconds) {
   return new Date(milliseconds).toLocaleString();
 }

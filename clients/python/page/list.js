@@ -4,10 +4,8 @@
 let shown = "";
 
 function row(it) {
-  const link = made("a", it.workflow_id);
-  link.href = `/workflows/${encodeURIComponent(it.workflow_id)}/${it.run}`;
   return made("tr", [
-    made("td", [link]),
+    made("td", [linked(it.workflow_id, it.workflow_id, it.run)]),
     made("td", it.type),
     made("td", statusOf(it), `status ${statusOf(it)}`),
     made("td", moment(it.started)),

@@ -2,7 +2,7 @@
 // One run: its history, what is pending, and the buttons. It is read again every second.
 
 const [, , workflowId, run] = location.pathname.split("/").map(decodeURIComponent);
-const path = `/workflows/${encodeURIComponent(workflowId)}/${run}`;
+const path = pathOf(workflowId, run);
 // For so many milliseconds a button waits for its second press.
 const SURE = 5000;
 let length = -1;
@@ -20,9 +20,22 @@ function attributes(attrs) {
   const list = made("dl", []);
   for (const [name, value] of Object.entries(attrs)) {
     if (value === "" || value === 0) continue;
-    list.append(made("dt", name), made("dd", typeof value === "string" ? value : JSON.stringify(value)));
+    const text = typeof value === "string" ? value : JSON.stringify(value);
+    const other = workflowOf(name, attrs);
+    list.append(made("dt", name), made("dd", other ? [linked(text, other, value)] : text));
   }
   return list;
+}
+
+// The workflow whose run an attribute names, where that is another run.
+function workflowOf(name, attrs) {
+  if (name === "new_run" || name === "continued_from") return workflowId;
+  return name === "run" ? attrs.workflow_id : undefined;
+}
+
+function showParent(parent) {
+  element("parent").hidden = !parent;
+  if (parent) element("parent").replaceChildren("Child of ", linked(parent.workflow_id, parent.workflow_id, parent.run));
 }
 
 function showPending(pending) {
@@ -62,6 +75,7 @@ async function show() {
   if (answer.events) {
     length = answer.events.length;
     showPending(answer.pending);
+    showParent(answer.parent);
     element("events").replaceChildren(...answer.events.map(eventRow));
     showPicture();
   }
