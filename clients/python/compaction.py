@@ -56,7 +56,7 @@ def load_options(log: str, generation: int) -> List[str]:
 
 
 def generation_in(name: str, prefix: str) -> int:
-    """The generation that stands behind a prefix in a file's name, or -1."""
+    """The generation that follows a prefix in a file's name, or -1."""
     text = name[len(prefix):]
     return int(text) if name.startswith(prefix) and text.isascii() and text.isdigit() else -1
 

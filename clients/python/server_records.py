@@ -87,7 +87,7 @@ class Recorded:
                     self._known[reply.result()["run"]] = workflow_id
 
     def _add_latest(self, found: List[Beginning]) -> None:
-        """Of what a retention took away nothing is known, and so not whose ordinals these were."""
+        """Of what a retention deleted nothing is known, and so not whose ordinals these were."""
         latest = {workflow_id: run for run, workflow_id in self._known.items()}
         for it in found:
             if it.workflow_id in latest:

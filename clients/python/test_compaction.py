@@ -32,7 +32,7 @@ class Compacted(Durable):
         return sorted(path.name for path in self.log.parent.iterdir())
 
     def compacted(self):
-        """A service whose log was compacted behind a start, a dispatch, a taken task and a signal."""
+        """A service whose log was compacted after a start, a dispatch, a taken task and a signal."""
         service = self.open(clock=Clock(7))
         service.start("a", "w", input="x", request_id="q")
         service.dispatch_turn()

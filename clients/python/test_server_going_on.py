@@ -76,7 +76,7 @@ class Clocks(unittest.TestCase):
 @needs_server
 @needs_program
 class GoingOn(WithAServer):
-    def test_a_poll_finds_what_waits_behind_hints_of_what_is_over(self):
+    def test_a_poll_finds_what_waits_after_hints_of_what_is_over(self):
         server = self.serve("--capacity", "2")
         client = server.client(wait=10_000)
         for name in "abcde":

@@ -77,7 +77,7 @@ class Stuck(unittest.TestCase):
         said = stuck_task(tasks(COMPLETED, FAILED))
         self.assertEqual((said["cause"], said["message"]), ("WorkflowWorkerUnhandledFailure", "KeyError: 'x'"))
 
-    def test_runs_that_a_retention_took_away_are_not_added_again(self):
+    def test_runs_that_a_retention_deleted_are_not_added_again(self):
         workflows = Workflows()
         entry = workflows.add("w", run_id(1, 0, 2), "chain", 5)
         events = [{**event(1, "WorkflowExecutionStarted", workflow_type="chain", continued_from=run_id(1, 0, 1))}]
@@ -255,7 +255,7 @@ class Lists(WithAServer):
         self.assertEqual({row["workflow_id"] for row in self.rows(server, "status=Running")}, {"b", "fine"})
         self.assertNotIn("stuck", self.rows(server, "search=fine")[0])
 
-    def test_a_status_is_found_behind_many_others(self):
+    def test_a_status_is_found_after_many_others(self):
         with DurableService([str(BUILT)], str(self.log), clock=Clock(int(time.time() * 1_000))) as service:
             service.start("first", "child")
             service.terminate("first")
