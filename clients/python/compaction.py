@@ -29,6 +29,8 @@ from service_settings import MOST_CAPACITY, Settings
 from wfserve import Ended
 
 MORE_THAN_QUEUES_HOLD = "more tasks wait in the records than their queues hold"
+# How much more room the queues get at once. Each opening reads all records.
+GROWTH = 4
 MOMENT = re.compile(rb'"at":([0-9]+)')
 
 
@@ -113,7 +115,7 @@ def open_program(command: Sequence[str], settings: Settings, log: str, generatio
             program.kill()
             if MORE_THAN_QUEUES_HOLD not in program.said() or settings.capacity >= MOST_CAPACITY:
                 raise NotOpened(f"{folder_of(log, generation)}: {ended}") from ended
-        settings = dataclasses.replace(settings, capacity=min(2 * settings.capacity, MOST_CAPACITY))
+        settings = dataclasses.replace(settings, capacity=min(GROWTH * settings.capacity, MOST_CAPACITY))
 
 
 def keep_log(log: str, generation: int) -> None:

@@ -212,12 +212,12 @@ class Backend:
     # The end.
 
     async def drain(self, seconds: float = DRAIN_SECONDS) -> None:
-        """Takes no more calls, ends the polls that wait, and lets the calls on their way be answered."""
+        """Takes no more calls, ends the polls that wait, and lets those on their way and a compaction be answered."""
         self.closing = True
         waiters: List[asyncio.Future] = [waiter for queue in self._waiting.values() for waiter in queue]
         for waiter in waiters:
             if not waiter.done():
                 waiter.set_result(None)
         late = time.monotonic() + seconds
-        while self._calls and time.monotonic() < late:
+        while (self._calls or self.service.compacting) and time.monotonic() < late:
             await asyncio.sleep(0.01)

@@ -8,6 +8,7 @@ import threading
 import time
 import unittest
 import urllib.parse
+from concurrent.futures import ThreadPoolExecutor
 
 from programs import BUILT, SERVER_PYTHON, needs_program, needs_server
 from served import HERE
@@ -203,6 +204,23 @@ class CompactedByCommand(WithAServer):
         self.assertEqual([row["workflow_id"] for row in server.read("/api/workflows")["workflows"]], ["w"])
         ran = subprocess.run(words, capture_output=True, text=True)
         self.assertEqual((ran.returncode, ran.stderr), (2, "server: --compact needs a --log\n"))
+
+    def test_a_compaction_is_finished_before_the_server_ends(self):
+        path = self.folder / "saves slowly"
+        path.write_text(f'#!/bin/sh\ncase "$*" in *--save*) sleep 1;; esac\nexec {BUILT} "$@"\n')
+        path.chmod(0o755)
+        server = self.serve(program=str(path))
+        server.client().start("w", "T")
+        with ThreadPoolExecutor(1) as pool:
+            asked = pool.submit(server.asked, "POST", "/compact", b"{}")
+            time.sleep(0.4)
+            self.assertTrue(server.read("/health/ready")["compacting"])
+            server.process.terminate()
+            self.assertEqual(asked.result()[0], 200)
+        self.assertEqual(server.process.wait(timeout=20), 0)
+        server.stop()
+        server.start()
+        self.assertEqual([row["workflow_id"] for row in server.read("/api/workflows")["workflows"]], ["w"])
 
     def test_queues_get_room_while_they_are_served_and_when_a_log_is_opened(self):
         server = self.serve("--shards", "2", "--queues", "main,more", "--capacity", "2")
