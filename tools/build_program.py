@@ -126,7 +126,7 @@ def main(words):
     copy(names, lines)
     print(
         f"build: proving {name} and the {len(names) - 1} crates below it, {at_once()} at a time;"
-        " the first time that takes about 20 minutes on four cores",
+        " the first time that takes some 140 minutes of processor time, 40 on four quiet cores",
         file=sys.stderr,
     )
     failure = prove(names) or link(name)

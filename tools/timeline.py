@@ -13,12 +13,14 @@ that ended them: light while they wait, dark while a worker has them. A ring mar
 held back while a workflow task was started: it stands behind events that were made later.
 The page needs nothing beside itself. This script only reads replies; no proof covers it.
 """
-import html
 import json
 import sys
 
 import trace_picture
+from trace_picture import escaped
 
+# As many letters as there is room for beside an event's type.
+LETTERS = 24
 ROW, LEFT, WIDTH, RIGHT, TOP = 22, 290, 700, 40, 46
 KINDS = {"task": "#4c6ef5", "activity": "#2b8a3e", "timer": "#e8590c", "child": "#9c36b5"}
 OPENS = {
@@ -98,6 +100,10 @@ class Bar:
         self.taken = at
         self.attempt = attempt or self.attempt
 
+    def dark_from(self):
+        """The moment from which on it is drawn dark, if any: a worker has none of a timer or a child that is pending."""
+        return None if self.kind in ("timer", "child") and self.end is None else self.taken
+
 
 def bars_of(events):
     """The bars of a history, by the ids of the events that opened them."""
@@ -118,10 +124,10 @@ def bars_of(events):
 
 
 class Scale:
-    """Moments as places across the page."""
+    """Moments as places across the page: up to the last event, or to now where the run is open."""
 
-    def __init__(self, events):
-        moments = [event["at"] for event in events]
+    def __init__(self, events, now=None):
+        moments = [event["at"] for event in events] + ([] if now is None else [now])
         self.first, self.last = min(moments), max(moments)
 
     def x(self, moment):
@@ -137,13 +143,13 @@ def rectangle(x, y, width, color, opacity):
 
 
 def drawn_bar(bar, scale):
-    """A bar: light up to its taking, dark from there on; an open end fades out to the right."""
+    """A bar: light up to its taking, dark from there on. One without an end goes on to the right."""
     y, color = TOP + bar.row * ROW - 5, KINDS[bar.kind]
     end = scale.last if bar.end is None else bar.end
-    taken = end if bar.taken is None else bar.taken
-    begin, middle, stop = scale.x(bar.begin), scale.x(taken), scale.x(end)
+    dark = bar.dark_from()
+    begin, middle, stop = scale.x(bar.begin), scale.x(end if dark is None else dark), scale.x(end)
     parts = [rectangle(begin, y, middle - begin, color, 0.25)]
-    if bar.taken is not None:
+    if dark is not None:
         parts.append(rectangle(middle, y, stop - middle, color, 0.45 if bar.end is None else 0.85))
     if bar.attempt > 1:
         parts.append(f'<text x="{stop + 8:.1f}" y="{y + 9}" class="note">attempt {bar.attempt}</text>')
@@ -154,14 +160,14 @@ def label(event):
     """What stands beside an event: its id, its type and the first field that says more."""
     said = next((event["attrs"][key] for key in SAID if key in event["attrs"]), "")
     text = f'{event["id"]}  {event["type"]}'
-    return html.escape(text), html.escape(str(said))[:24]
+    return escaped(text), escaped(str(said)[:LETTERS])
 
 
 def drawn_event(event, scale, held):
     y = TOP + (event["id"] - 1) * ROW
     name, said = label(event)
     ring = f'<circle cx="{scale.x(event["at"]):.1f}" cy="{y}" r="7" class="ring"/>' if event["id"] in held else ""
-    details = html.escape(json.dumps(event["attrs"], ensure_ascii=False))
+    details = escaped(json.dumps(event["attrs"], ensure_ascii=False))
     return (
         f'<g><title>at {event["at"]}: {details}</title>'
         f'<text x="8" y="{y + 4}">{name} <tspan class="note">{said}</tspan></text>'
@@ -193,9 +199,9 @@ svg { font: 12px ui-monospace, monospace; fill: currentColor; }
 """
 
 
-def picture(events, style=""):
-    """The history as SVG. As a file of its own it has its style within."""
-    scale, held = Scale(events), held_back(events)
+def picture(events, style="", now=None):
+    """The history as SVG. As a file of its own it has its style within. What is pending goes on until now."""
+    scale, held = Scale(events, now), held_back(events)
     height = TOP + len(events) * ROW
     width = LEFT + WIDTH + RIGHT + 60
     bars = "".join(drawn_bar(bar, scale) for bar in bars_of(events).values())
@@ -218,16 +224,20 @@ def since_the_first(events):
     return counted
 
 
-def picture_file(events):
-    """The history as an SVG file, for a page that shows it as an image. Its moments count from the start."""
-    events = since_the_first(events)
+def picture_file(events, now=None):
+    """The history as an SVG file, for a page that shows it as an image. Its moments count from the start.
+
+    Of a run that is open `now` says up to when what is pending goes on.
+    """
+    first = min(event["at"] for event in events)
+    events, now = since_the_first(events), None if now is None else max(now - first, 0)
     dark = "@media (prefers-color-scheme: dark) { svg { color: #e9ecef; } }"
-    return picture(events, f"<style>{STYLE}{dark}</style>")
+    return picture(events, f"<style>{STYLE}{dark}</style>", now)
 
 
 def page(history):
     legend = "".join(f'<span style="color:{color}">&#9632;</span> {kind} ' for kind, color in KINDS.items())
-    title = html.escape(history["run"])
+    title = escaped(history["run"])
     return (
         f"<!doctype html><html lang=en><meta charset=utf-8><title>{title}</title><style>{STYLE}</style>"
         f"<h1>Run {title}</h1><p>{legend} &mdash; light: waits, dark: a worker has it, "

@@ -6,11 +6,19 @@ the step that acknowledged it. Which these are is read off the requests. No proo
 import base64
 import html
 import json
+import re
 
 ROW, COLUMN, LEFT, TOP = 22, 270, 90, 46
 KEYS = {"pass", "request", "shard", "ticket"}
 # As many letters as a column has room for.
 LETTERS = 34
+# What no XML may have, in whatever spelling.
+NOT_IN_XML = re.compile("[^\t\n\r\x20-\ud7ff\ue000-\ufffd\U00010000-\U0010ffff]")
+
+
+def escaped(text):
+    """A text as XML has it. A letter that XML has not is shown as the sign for one that is not known."""
+    return html.escape(NOT_IN_XML.sub("\ufffd", text))
 
 
 def steps_in(said):
@@ -86,12 +94,12 @@ def drawn_step(steps, row):
     step = steps[row]
     op = step["request"]["op"]
     x, y = place(steps, row)
-    said = html.escape(said_of(step["request"])[:LETTERS - len(op)])
-    details = html.escape(json.dumps(step["request"], ensure_ascii=False))
+    said = escaped(said_of(step["request"])[:LETTERS - len(op)])
+    details = escaped(json.dumps(step["request"], ensure_ascii=False))
     return (
         f'<g><title>{details}</title><text x="8" y="{y + 4}" class="note">{step["ticket"]}</text>'
         f'<text x="50" y="{y + 4}" class="note">{step["pass"]}</text><circle cx="{x}" cy="{y}" r="3"/>'
-        f'<text x="{x + 10}" y="{y + 4}" class="said">{html.escape(op)} <tspan class="note">{said}</tspan></text></g>'
+        f'<text x="{x + 10}" y="{y + 4}" class="said">{escaped(op)} <tspan class="note">{said}</tspan></text></g>'
     )
 
 

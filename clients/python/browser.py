@@ -12,10 +12,10 @@ CHROMIUM = shutil.which("chromium")
 
 
 class Browser:
-    """One page of a browser."""
+    """One page of a browser. Each name of `hosts` stands for this machine."""
 
-    def __init__(self, width=1100, height=1000):
-        self._folder = tempfile.mkdtemp()
+    def __init__(self, width=1100, height=1000, hosts=()):
+        self._folder, self._hosts = tempfile.mkdtemp(), hosts
         to_read, self._write = os.pipe()
         self._read, to_write = os.pipe()
         self._process = subprocess.Popen(
@@ -34,6 +34,7 @@ class Browser:
         words = [
             CHROMIUM, "--headless=new", "--no-sandbox", "--disable-gpu", "--remote-debugging-pipe", "--no-first-run",
             f"--user-data-dir={self._folder}", f"--window-size={width},{height}", "--lang=en",
+            f"--host-resolver-rules={','.join(f'MAP {host} 127.0.0.1' for host in self._hosts)}",
         ]
         return ["bash", "-c", 'exec 3<&"$TO_READ" 4>&"$TO_WRITE"; exec "$@"', "browser", *words]
 

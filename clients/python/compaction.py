@@ -1,24 +1,45 @@
-"""A log that begins with the records of the shards: how they are saved, and what a crash in between leaves.
+"""A log that begins with the records of the shards: how they are saved and opened, and what a crash leaves.
 
 The program itself saves the record of each shard and is opened from them again (--save, --load). A log
-whose first line names a folder of records goes on where these end. They take the place of the log's
-lines in one step, the renaming of the new log over the old one: a crash before it leaves the old log
-with its own records, a crash behind it the new one. What the other one left is removed when the log is
-opened again.
+whose first line names a folder of records goes on where these end. Each compaction begins another
+generation of the log:
+
+    a.log                   the log, whose first line has its generation, as 2
+    a.log.records-2         the records that it goes on from
+    a.log.generation-1      the log before, with all its lines
+    a.log.records-1         the records that the log before goes on from
+
+A log takes the place of the one before by one renaming, and only after a program that was opened from
+the new records has answered. A crash leaves the one log or the other, with its records. The generation
+before stays until the next compaction: renamed to a.log, it goes on where it was.
 """
 
 from __future__ import annotations
 
+import dataclasses
 import os
+import re
 import shutil
 import subprocess
-from typing import Iterable, List, Optional, Sequence
+from typing import Iterable, Iterator, List, Sequence, Tuple
 
+from co_process import Program
 from line_log import LogFault, sync_folder
+from service_settings import MOST_CAPACITY, Settings
+from wfserve import Ended
+
+MORE_THAN_QUEUES_HOLD = "more tasks wait in the records than their queues hold"
+# How much more room the queues get at once. Each opening reads all records.
+GROWTH = 4
+MOMENT = re.compile(rb'"at":([0-9]+)')
 
 
 class NotCompacted(LogFault):
-    """The records could not be saved. The log is as it was."""
+    """The log could not be compacted. It is as it was."""
+
+
+class NotOpened(LogFault):
+    """The program refuses the records that the log goes on from."""
 
 
 def folder_of(log: str, generation: int) -> str:
@@ -26,31 +47,45 @@ def folder_of(log: str, generation: int) -> str:
     return f"{log}.records-{generation}"
 
 
+def kept_log(log: str, generation: int) -> str:
+    """The name of a log of an earlier generation."""
+    return f"{log}.generation-{generation}"
+
+
 def load_options(log: str, generation: int) -> List[str]:
     """The program's options for a log that was compacted so often."""
     return ["--load", folder_of(log, generation)] if generation else []
 
 
-def is_generation(text: str) -> bool:
-    return text.isascii() and text.isdigit()
+def generation_in(name: str, prefix: str) -> int:
+    """The generation that follows a prefix in a file's name, or -1."""
+    text = name[len(prefix):]
+    return int(text) if name.startswith(prefix) and text.isascii() and text.isdigit() else -1
 
 
 def remove_leftovers(log: str, generation: int) -> None:
-    """Removes what an interrupted compaction left: a new log that was not renamed, and other records."""
+    """Removes what an interrupted compaction left, and what is older than the generation before."""
     folder, name = os.path.split(os.path.abspath(log))
     for found in os.listdir(folder):
         path = os.path.join(folder, found)
-        if found == f"{name}.new":
+        records, lines = generation_in(found, f"{name}.records-"), generation_in(found, f"{name}.generation-")
+        if found == f"{name}.new" or lines not in (-1, generation - 1):
             os.remove(path)
-        elif found.startswith(f"{name}.records-") and is_generation(found[len(name) + 9:]):
-            if found != os.path.basename(folder_of(log, generation)):
-                shutil.rmtree(path)
+        elif records not in (-1, generation, generation - 1):
+            shutil.rmtree(path)
+
+
+def keep_private(folder: str) -> None:
+    """Lets nobody else read the records: they have all that workflows were given."""
+    os.chmod(folder, 0o700)
+    for name in os.listdir(folder):
+        os.chmod(os.path.join(folder, name), 0o600)
 
 
 def save_records(command: Sequence[str], lines: Iterable[bytes], folder: str) -> None:
     """Has the program serve the lines of the log and save its records into a new folder, on the disk."""
     shutil.rmtree(folder, ignore_errors=True)
-    os.mkdir(folder)
+    os.mkdir(folder, 0o700)
     saving = subprocess.Popen(
         [*command, "--save", folder],
         stdin=subprocess.PIPE, stdout=subprocess.DEVNULL, stderr=subprocess.PIPE,
@@ -60,11 +95,56 @@ def save_records(command: Sequence[str], lines: Iterable[bytes], folder: str) ->
     if saving.returncode not in (0, 1):
         shutil.rmtree(folder, ignore_errors=True)
         raise NotCompacted(f"{folder}: {said.decode(errors='replace').strip() or saving.returncode}")
+    keep_private(folder)
     sync_folder(os.path.join(folder, "."))
     sync_folder(folder)
 
 
-def generation_of(values: dict) -> int:
-    """How often a log was compacted, by its first line."""
-    generation: Optional[int] = values.pop("compacted", 0)
-    return generation or 0
+def open_program(command: Sequence[str], settings: Settings, log: str, generation: int) -> Tuple[Program, Settings]:
+    """A program that was opened from the records and has answered, and the settings that it has.
+
+    Where more tasks wait in the records than the queues hold, they get more room.
+    """
+    while True:
+        words = [*command, *settings.options(), *load_options(log, generation)]
+        program = Program(words, unsaid=[MORE_THAN_QUEUES_HOLD])
+        try:
+            program.check_answers()
+            return program, settings
+        except Ended as ended:
+            program.kill()
+            if MORE_THAN_QUEUES_HOLD not in program.said() or settings.capacity >= MOST_CAPACITY:
+                raise NotOpened(f"{folder_of(log, generation)}: {ended}") from ended
+        settings = dataclasses.replace(settings, capacity=min(GROWTH * settings.capacity, MOST_CAPACITY))
+
+
+def keep_log(log: str, generation: int) -> None:
+    """Gives the log a second name, under which it stays where another one takes its place."""
+    kept = kept_log(log, generation)
+    try:
+        if os.path.exists(kept):
+            os.remove(kept)
+        os.link(log, kept)
+        sync_folder(kept)
+    except OSError as fault:
+        raise NotCompacted(f"{kept}: {fault.strerror}: the log can't be kept under this name") from fault
+
+
+def record_files(log: str, generation: int) -> List[str]:
+    """The files of the records, by their shards."""
+    folder = folder_of(log, generation)
+    return sorted(os.path.join(folder, name) for name in os.listdir(folder) if name.endswith(".rec")) if generation else []
+
+
+def last_moment_in(log: str, generation: int) -> int:
+    """The greatest moment of the records that a log goes on from."""
+    return max((moment for path in record_files(log, generation) for moment in moments_in(path)), default=0)
+
+
+def moments_in(path: str) -> Iterator[int]:
+    """The moments of a record's steps. A text in them has no such key, since its quotes are escaped."""
+    with open(path, "rb") as record:
+        for line in record:
+            found = MOMENT.search(line)
+            if found:
+                yield int(found[1])

@@ -11,132 +11,87 @@ log's own settings and gives it the lines again; then it goes on.
 
 A call returns once its line was synced and the program has answered. Threads may call at once: one
 sync serves all lines that wait for it. A call that was not answered may have taken effect or not;
-one with a request id can be made again, and takes effect once.
+one with a request id can be made again, and takes effect once. Reads change nothing, and are no lines.
 
-A log grows by every line. `compact()` puts the records of the shards in the place of its lines, which
-then are opened in the place of serving each line again.
+A log grows by every line. `compact()` puts the records of the shards in the place of its lines: a
+service is opened from them in the place of serving each line again.
 """
 
 from __future__ import annotations
 
+import dataclasses
 import json
+import logging
+import os
 import subprocess
 import threading
 from collections import deque
 from concurrent.futures import Future
-from dataclasses import asdict, dataclass, field, fields
-from typing import Callable, Deque, List, Optional, Sequence, Tuple
+from dataclasses import dataclass, field
+from typing import Any, Callable, Deque, Iterable, List, Optional, Sequence, Tuple
 
-from compaction import folder_of, generation_of, load_options, remove_leftovers, save_records
-from line_log import LineLog, LogDamaged, LogFault
+from co_process import Program
+from compaction import (
+    NotCompacted, NotOpened, folder_of, keep_log, keep_private, last_moment_in, load_options, open_program,
+    record_files, remove_leftovers, save_records,
+)
+from line_log import LineLog, LogFault
+from operations import READS
+from service_settings import OtherSettings, RefusedSettings, Settings, check_settings, read_header
 from wfserve import Calls, Clock, Ended, answered, request_of, text_of
 
-FORMAT = 1
+__all__ = [
+    "DurableService", "NotCompacted", "NotOpened", "OtherSettings", "RefusedSettings", "Settings", "read_header",
+]
 
-
-class OtherSettings(LogFault):
-    """The log is of a service with other settings."""
-
-
-class RefusedSettings(LogFault):
-    """The program serves no service with these settings, so no log is begun with them."""
-
-
-@dataclass(frozen=True)
-class Settings:
-    """What a service is opened with. The log's first line has it."""
-
-    shards: int = 1
-    service: int = 1
-    queues: Sequence[str] = ("main",)
-    capacity: int = 1024
-    # For how many milliseconds a workflow that has closed is kept; 0 for ever.
-    retention: int = 0
-
-    def options(self) -> List[str]:
-        """The program's options for it."""
-        return [
-            "--shards", str(self.shards), "--service", str(self.service),
-            "--queues", ",".join(self.queues), "--capacity", str(self.capacity),
-            "--retention", str(self.retention),
-        ]
-
-    def header(self, generation: int = 0) -> bytes:
-        """The first line of a log that was compacted so often."""
-        compacted = {"compacted": generation} if generation else {}
-        return json.dumps({"format": FORMAT, **compacted, **asdict(self)}, separators=(",", ":")).encode()
-
-
-def read_header(header: bytes, path: str) -> Tuple[Settings, int]:
-    """The settings that a log's first line names, and how often the log was compacted."""
-    values = json.loads(header)
-    if values.pop("format", None) != FORMAT:
-        raise LogDamaged(f"{path}: this is no log of format {FORMAT}")
-    generation = generation_of(values)
-    return Settings(**{**values, "queues": tuple(values["queues"])}), generation
-
-
-def check_settings(found: Settings, wanted: Settings, path: str) -> None:
-    """Refuses a log of other settings, naming the first one that differs."""
-    for setting in fields(Settings):
-        has, asked = getattr(found, setting.name), getattr(wanted, setting.name)
-        if setting.name == "queues":
-            has, asked = ",".join(has), ",".join(asked)
-        if has != asked:
-            raise OtherSettings(f"{path}: the log's {setting.name} is {has}, and not {asked}")
+LOG = logging.getLogger("wfserve.log")
+# The program refuses a line of a later moment.
+MOMENTS = 1 << 64
 
 
 @dataclass
 class Waiting:
-    """A call on its way."""
+    """A call on its way. Its number is that of its line in the log, or of the last line before a read."""
 
     line: bytes
+    logged: bool = True
+    number: int = 0
     reply: "Future[dict]" = field(default_factory=Future)
 
 
-def fail(calls: Sequence[Waiting], fault: Exception) -> None:
+def waiting_for(request: dict) -> Waiting:
+    """A call that waits for its turn. A read is asked at no moment, so that it sets none."""
+    if request.get("op") not in READS:
+        return Waiting(text_of(request).encode())
+    return Waiting(text_of({name: value for name, value in request.items() if name != "at"}).encode(), logged=False)
+
+
+def fail(calls: Iterable[Waiting], fault: Exception) -> None:
     for call in calls:
         call.reply.set_exception(fault)
 
 
-class Program:
-    """The program, over its two pipes."""
+def request_in(line: bytes) -> dict:
+    """The request that a line of the log has. One that can't be read was refused when it was made."""
+    try:
+        return json.loads(line)
+    except (ValueError, RecursionError):
+        return {}
 
-    def __init__(self, command: Sequence[str]):
-        self._process = subprocess.Popen(command, stdin=subprocess.PIPE, stdout=subprocess.PIPE)
 
-    def write(self, lines: Sequence[bytes]) -> None:
-        """Gives it lines. That it has ended shows where its replies are read."""
-        try:
-            self._process.stdin.write(b"".join(line + b"\n" for line in lines))
-            self._process.stdin.flush()
-        except (BrokenPipeError, ValueError):
-            pass
+def for_replay(line: bytes) -> bytes:
+    """What the program is given for a line of the log when it is served again.
 
-    def reply(self, line: int) -> dict:
-        """The next reply, which has to be the one to this line."""
-        text = self._process.stdout.readline()
-        if not text.endswith(b"\n"):
-            raise Ended(f"line {line}: the program ended with status {self._process.wait()}")
-        reply = json.loads(text)
-        if reply.get("line") != line:
-            raise Ended(f"line {line}: the reply is to another line: {text[:200]!r}")
-        return reply
-
-    def end_input(self) -> None:
-        try:
-            self._process.stdin.close()
-        except BrokenPipeError:
-            pass
-
-    def kill(self) -> None:
-        self._process.kill()
-        self._process.wait()
-
-    def wait(self) -> int:
-        status = self._process.wait()
-        self._process.stdout.close()
-        return status
+    A log of an earlier time has reads, and a history is long. A description sets the same moment on the same
+    shard, and changes as little.
+    """
+    if b'"history"' not in line:
+        return line
+    request = request_in(line)
+    if request.get("op") != "history":
+        return line
+    named = {name: request[name] for name in ("workflow_id", "run") if isinstance(request.get(name), str)}
+    return text_of({"op": "describe", "at": request.get("at", 0), **named}).encode()
 
 
 class DurableService(Calls):
@@ -173,10 +128,15 @@ class DurableService(Calls):
         self._command = list(command)
         self._log = LineLog(log)
         self._start(settings)
-        line = self._replay(replayed or (lambda request, reply: None))
+        self._replay(replayed or (lambda request, reply: None))
         self._writer = threading.Thread(target=self._write_calls, daemon=True)
         self._writer.start()
-        self._read_on(line)
+        self._read_on()
+        try:
+            self._grow(settings)
+        except BaseException:
+            self.close()
+            raise
 
     def __enter__(self) -> "DurableService":
         return self
@@ -194,20 +154,62 @@ class DurableService(Calls):
         """How many bytes the log has."""
         return self._log.size
 
+    @property
+    def records_size(self) -> int:
+        """How many bytes the records have that the log goes on from."""
+        return sum(os.path.getsize(path) for path in self.record_files())
+
+    @property
+    def wrong(self) -> str:
+        """Why no call is taken now, in one word; empty where they are."""
+        if self._closed is not None:
+            return "ended"
+        return "broken" if self._log.broken else "full" if self._log.full else ""
+
+    @property
+    def compacting(self) -> bool:
+        """Whether calls wait until the log is compacted."""
+        return self._paused
+
+    def record_files(self) -> List[str]:
+        """The files of the records that the log goes on from, by their shards."""
+        return record_files(self._log.path, self._generation)
+
     # Opening.
 
-    def _start(self, settings: Optional[Settings]) -> None:
+    def _start(self, wanted: Optional[Settings]) -> None:
         """Starts the program with the log's settings, and from its records where it has some."""
         try:
-            self.settings, self._generation = self._settled(settings)
+            self.settings, self._generation = self._settled(wanted)
             remove_leftovers(self._log.path, self._generation)
-            self._program = Program(self._program_words())
+            if self._generation:
+                self._start_from_records()
+            else:
+                self._program = Program([*self._command, *self.settings.options()])
         except BaseException:
             self._log.close()
             raise
 
-    def _program_words(self) -> List[str]:
-        return [*self._command, *self.settings.options(), *load_options(self._log.path, self._generation)]
+    def _start_from_records(self) -> None:
+        log, generation = self._log.path, self._generation
+        keep_private(folder_of(log, generation))
+        self.last_moment = last_moment_in(log, generation)
+        self._program, settings = open_program(self._command, self.settings, log, generation)
+        if settings == self.settings:
+            return
+        if self.lines:
+            # With other queues these lines may be answered otherwise than they were.
+            self._program.kill()
+            raise NotOpened(f"{log}: more tasks wait in its records than its queues hold, and it has lines after them")
+        self._log = self._log.replaced([settings.header(generation)])
+        self._tell_growth(settings)
+
+    def _tell_growth(self, settings: Settings) -> None:
+        LOG.warning(
+            "%s: the queues have room for %d tasks from now on, and had for %d",
+            self._log.path, settings.capacity, self.settings.capacity,
+        )
+        self.settings = settings
 
     def _settled(self, wanted: Optional[Settings]) -> Tuple[Settings, int]:
         """The log's settings, and how often it was compacted; a new log gets the settings that are wanted."""
@@ -228,31 +230,52 @@ class DurableService(Calls):
         if ran.returncode:
             raise RefusedSettings(f"the program refuses {' '.join(settings.options())}: status {ran.returncode}")
 
-    def _replay(self, replayed: Callable[[dict, dict], None]) -> int:
-        """Gives the program the lines of the log, and takes its replies. How many there are."""
-        lines = list(self._log.lines())[1:]
+    def _lines_for_replay(self) -> List[bytes]:
+        return [for_replay(line) for line in list(self._log.lines())[1:]]
+
+    def _replay(self, replayed: Callable[[dict, dict], None]) -> None:
+        """Gives the program the lines of the log, and takes its replies."""
+        lines = self._lines_for_replay()
         feeder = threading.Thread(target=self._feed, args=(lines,), daemon=True)
         feeder.start()
         try:
             for number, line in enumerate(lines, 1):
-                request = json.loads(line)
-                self.last_moment = max(self.last_moment, request.get("at", 0))
-                replayed(request, self._program.reply(number))
+                self._replay_one(number, request_in(line), replayed)
         except BaseException:
             self._program.kill()
             feeder.join()
             self._log.close()
             raise
         feeder.join()
-        return len(lines)
+
+    def _replay_one(self, number: int, request: dict, replayed: Callable[[dict, dict], None]) -> None:
+        moment = request.get("at")
+        if isinstance(moment, int) and moment < MOMENTS:
+            self.last_moment = max(self.last_moment, moment)
+        if request.get("op") in READS:
+            self._program.skip_reply(number)
+        else:
+            replayed(request, self._program.reply(number))
 
     def _feed(self, lines: List[bytes]) -> None:
         for begin in range(0, len(lines), 1_000):
             self._program.write(lines[begin:begin + 1_000])
 
+    def _grow(self, wanted: Optional[Settings]) -> None:
+        """Gives the queues the room that is wanted, where that is more than they have."""
+        if wanted is None or wanted.capacity == self.settings.capacity:
+            return
+        if wanted.capacity > self.settings.capacity:
+            self.compact(wanted.capacity)
+        else:
+            LOG.warning(
+                "%s: the queues keep their room for %d tasks: it never falls, so %d is not taken",
+                self._log.path, self.settings.capacity, wanted.capacity,
+            )
+
     # Calls.
 
-    def call(self, op, **fields):
+    def call(self, op: str, **fields: Any) -> dict:
         request = request_of(op, self.clock.now, fields)
         return answered(request, self.send(request).result())
 
@@ -260,7 +283,7 @@ class DurableService(Calls):
         """Asks without waiting: the reply comes to the future, a refusal as the reply that it is."""
         if request.get("barrier") is True or request.get("lane", 0) != 0:
             raise ValueError("a service with a log has one lane, and no barriers")
-        waiting = Waiting(text_of(request).encode())
+        waiting = waiting_for(request)
         # Nobody can call back what is logged.
         waiting.reply.set_running_or_notify_cancel()
         with self._changed:
@@ -277,15 +300,24 @@ class DurableService(Calls):
             if not calls:
                 self._program.end_input()
                 return
-            try:
-                self._log.append([call.line for call in calls])
-            except LogFault as fault:
-                fail(calls, fault)
-            else:
-                self._hand_over(calls)
+            self._hand_over(self._kept(calls))
             with self._changed:
                 self._writing = False
                 self._changed.notify_all()
+
+    def _kept(self, calls: List[Waiting]) -> List[Waiting]:
+        """Logs the calls, and gives them their numbers. Where that can't be done, only the reads are left."""
+        logged, number = [call for call in calls if call.logged], self.lines
+        try:
+            if logged:
+                self._log.append([call.line for call in logged])
+        except LogFault as fault:
+            fail(logged, fault)
+            calls = [call for call in calls if not call.logged]
+        for call in calls:
+            number += call.logged
+            call.number = number
+        return calls
 
     def _hand_over(self, calls: List[Waiting]) -> None:
         with self._changed:
@@ -306,21 +338,25 @@ class DurableService(Calls):
             self._writing = count > 0
             return [self._asked.popleft() for _ in range(count)]
 
-    def _read_on(self, line: int) -> None:
-        """Begins to read the program's replies, behind the one to this line."""
-        self._reader = threading.Thread(target=self._read_replies, args=(self._program, line), daemon=True)
+    def _read_on(self) -> None:
+        """Begins to read the program's replies."""
+        self._reader = threading.Thread(target=self._read_replies, args=(self._program,), daemon=True)
         self._reader.start()
 
-    def _read_replies(self, program: Program, line: int) -> None:
+    def _next_number(self) -> int:
+        """The number of the line whose reply comes next."""
+        with self._changed:
+            return self._sent[0].number if self._sent else self.lines + 1
+
+    def _read_replies(self, program: Program) -> None:
         """Gives each call its reply. One thread does this for each program."""
         try:
             while True:
-                line += 1
-                reply = program.reply(line)
+                reply = program.reply(self._next_number())
                 with self._changed:
                     call = self._sent.popleft()
                     self._changed.notify_all()
-                call.reply.set_result(reply)
+                call.reply.set_result({**reply, "line": call.number})
         except Exception as fault:
             with self._changed:
                 replaced = self._program is not program
@@ -352,16 +388,19 @@ class DurableService(Calls):
 
     # Compaction.
 
-    def compact(self) -> None:
-        """Puts the records of the shards in the place of the log's lines.
+    def compact(self, capacity: int = 0) -> None:
+        """Puts the records of the shards in the place of the log's lines, and goes on from them.
 
-        Calls wait meanwhile. Each task that waits to be taken has its hint in its queue again then, so
-        a worker may be handed `stale` once for a task that it was handed before. A crash at any moment
-        leaves the old log or the new one. NotCompacted where the records could not be saved.
+        Calls wait meanwhile. The log gives way only after a program that was opened from the records has
+        answered, and it stays beside the new one until the next compaction. The queues get room for
+        `capacity` tasks, and for more where more wait; they keep what they have where that is more. Each
+        task that waits has its hint in its queue again, so a worker may be handed `stale` for one that it
+        was handed before. NotCompacted or NotOpened where it can't be done: the service then goes on as
+        it was.
         """
         self._pause()
         try:
-            self._save_and_go_on()
+            self._save_and_go_on(max(capacity, self.settings.capacity))
         finally:
             with self._changed:
                 self._paused = False
@@ -380,16 +419,38 @@ class DurableService(Calls):
                 self._changed.notify_all()
                 raise self._closed
 
-    def _save_and_go_on(self) -> None:
+    def _save_and_go_on(self, capacity: int) -> None:
         """Saves the records, has the log begin with them, and goes on with a program that is opened from them."""
         log, generation = self._log.path, self._generation + 1
-        save_records(self._program_words(), list(self._log.lines())[1:], folder_of(log, generation))
-        self._log = self._log.replaced([self.settings.header(generation)])
+        words = [*self._command, *self.settings.options(), *load_options(log, self._generation)]
+        save_records(words, self._lines_for_replay(), folder_of(log, generation))
+        try:
+            program, settings = self._opened_from(generation, capacity)
+        except BaseException:
+            remove_leftovers(log, self._generation)
+            raise
+        if settings != self.settings:
+            self._tell_growth(settings)
+        self._go_on_with(program, generation)
+
+    def _opened_from(self, generation: int, capacity: int) -> Tuple[Program, Settings]:
+        """A program that was opened from these records, and its settings, once the log begins with them."""
+        log = self._log.path
+        wanted = dataclasses.replace(self.settings, capacity=capacity)
+        program, settings = open_program(self._command, wanted, log, generation)
+        try:
+            keep_log(log, self._generation)
+            self._log = self._log.replaced([settings.header(generation)])
+        except BaseException:
+            program.kill()
+            raise
+        return program, settings
+
+    def _go_on_with(self, program: Program, generation: int) -> None:
         with self._changed:
-            old, self._generation = self._program, generation
-            self._program = Program(self._program_words())
+            old, self._program, self._generation = self._program, program, generation
         old.end_input()
         self._reader.join()
         old.wait()
-        remove_leftovers(log, generation)
-        self._read_on(0)
+        remove_leftovers(self._log.path, generation)
+        self._read_on()

@@ -2,9 +2,13 @@
 
     server.py --program PROGRAM --log FILE [OPTIONS]
 
-    POST /calls      one line of docs/PROFILE.md as JSON; answered by its reply. The server sets its moment.
-                     A poll may `wait` so many milliseconds for a task.
-    GET  /           the workflows that were started here, and their histories
+    POST /calls         one line of docs/PROFILE.md as JSON; answered by its reply. The server sets its moment.
+                        A poll may `wait` so many milliseconds for a task.
+    GET  /              the workflows, and their histories
+    GET  /api/workflows ?search=TEXT&status=STATUS: the list as JSON, at most 200 rows, the latest first
+    POST /compact       compacts the log; calls wait meanwhile. Queues get room for `capacity` tasks, where that is more.
+    GET  /health/live   answers while the server runs
+    GET  /health/ready  200 where calls are taken, else 503 and why
 
 It needs aiohttp (setup.sh). It listens on 127.0.0.1 alone, unless --host says otherwise, and then every
 request has to bear a token. No proof covers it.
@@ -14,138 +18,70 @@ from __future__ import annotations
 
 import argparse
 import asyncio
-import hmac
+import dataclasses
 import logging
 import pathlib
 import signal
 import sys
 import tempfile
-from typing import List, NoReturn, Optional
+from typing import List, Optional
 
 from aiohttp import web
 
-from durable import DurableService, Settings
-from line_log import LogFault, LogFull
-from server_calls import POLLS, BadCall, Backend, Busy, request_of
+from durable import DurableService, Settings, read_header
+from line_log import LogFault, first_line
+from server_calls import Backend, Observers
+from server_connections import Connections
+from server_http import Calls, Guard, Health, answer_faults
 from server_list import Workflows
+from server_moments import Moments
 from server_pages import Pages
+from server_records import Recorded
 from server_turns import Deadlines, Turns
 from wfserve import Ended
 
 BODY_LIMIT = 1_048_576
 LOCAL = "127.0.0.1"
-COOKIE = "wfserve_token"
 SHORTEST_TOKEN = 16
 
 
-def fault(status: int, name: str, said: str) -> web.Response:
-    return web.json_response({"error": name, "said": said}, status=status)
-
-
-class Guard:
-    """Who may ask: whoever bears the token, where there is one; and no page of another site."""
-
-    def __init__(self, token: Optional[str], hosts: Optional[List[str]]):
-        self._token = token
-        self._hosts = hosts
-
-    @web.middleware
-    async def check(self, request: web.Request, handler):
-        host = request.host.rpartition(":")[0] or request.host
-        if self._hosts is not None and host not in self._hosts:
-            return fault(403, "WrongHost", "this name is not served here")
-        if self._token is None:
-            return await handler(request)
-        if self._is_token(request.query.get("token", "")) and request.method == "GET":
-            self._let_in(request)
-        said = request.headers.get("Authorization", "")
-        given = said[len("Bearer "):] if said.startswith("Bearer ") else request.cookies.get(COOKIE, "")
-        if not self._is_token(given):
-            return fault(401, "NoToken", "this server wants its token")
-        return await handler(request)
-
-    def _is_token(self, given: str) -> bool:
-        return hmac.compare_digest(given.encode("utf-8", "surrogateescape"), self._token.encode())
-
-    def _let_in(self, request: web.Request) -> NoReturn:
-        """A browser keeps the token that its first address had."""
-        answer = web.HTTPSeeOther(request.path)
-        answer.set_cookie(COOKIE, self._token, httponly=True, samesite="Strict")
-        raise answer
-
-
-def is_gone(request: web.Request) -> bool:
-    """Whether the client has hung up."""
-    return request.transport is None or request.transport.is_closing()
-
-
-class Calls:
-    """POST /calls."""
-
-    def __init__(self, backend: Backend):
-        self._backend = backend
-
-    async def answer(self, request: web.Request) -> web.Response:
-        # A page of another site can't send this type without asking first.
-        if request.content_type != "application/json":
-            return fault(415, "NotJson", "a call is application/json")
-        try:
-            body = await request.read()
-        except ConnectionError:
-            return fault(400, "BadCall", "the client hung up")
-        return await self._answer(request, body)
-
-    async def _answer(self, request: web.Request, body: bytes) -> web.Response:
-        try:
-            call = request_of(body)
-            if call.get("op") in POLLS:
-                reply = await self._backend.poll(call, lambda: is_gone(request))
-            else:
-                reply = await self._backend.call(call)
-        except BadCall as bad:
-            return fault(400, "BadCall", str(bad))
-        except Busy as busy:
-            return fault(503, "Busy", str(busy))
-        except LogFull as full:
-            return fault(507, "LogFull", str(full))
-        except (LogFault, Ended) as ended:
-            return fault(500, type(ended).__name__, str(ended))
-        return web.json_response(reply)
-
-
-def application(backend: Backend, workflows: Workflows, guard: Guard) -> web.Application:
-    app = web.Application(middlewares=[guard.check], client_max_size=BODY_LIMIT)
-    app.router.add_post("/calls", Calls(backend).answer)
-    app.router.add_routes(Pages(backend, workflows).routes())
+def application(
+    said: argparse.Namespace, backend: Backend, workflows: Workflows, connections: Connections
+) -> web.Application:
+    middlewares = [connections.note, answer_faults, guard_of(said).check]
+    app = web.Application(middlewares=middlewares, client_max_size=BODY_LIMIT)
+    for part in (Calls(backend, said.read_timeout), Health(backend), Pages(backend, workflows)):
+        app.router.add_routes(part.routes())
     return app
 
 
 async def serve(said: argparse.Namespace, service: DurableService, workflows: Workflows, deadlines: Deadlines) -> int:
     """Serves until it is told to stop, or the program ends. The status to end with."""
-    def observe(request: dict, reply: dict) -> None:
-        workflows.observe(request, reply)
-        deadlines.observe(request, reply)
-
-    backend = Backend(service, said.queue_limit, observe)
-    runner = web.AppRunner(application(backend, workflows, guard_of(said)))
+    moments, connections = Moments(service.last_moment), Connections(said.read_timeout)
+    backend = Backend(service, said.queue_limit, Observers(workflows, deadlines).observe, moments)
+    runner = web.AppRunner(application(said, backend, workflows, connections))
     await runner.setup()
     await web.TCPSite(runner, said.host, said.port, shutdown_timeout=2).start()
     host = f"[{said.host}]" if ":" in said.host else said.host
     print(f"serving http://{host}:{runner.addresses[0][1]}/", flush=True)
     turns = asyncio.create_task(Turns(backend, service.settings.shards, deadlines).run())
+    looking = asyncio.create_task(connections.run(runner.server))
     try:
         await asyncio.wait({turns, asyncio.create_task(told_to_stop())}, return_when=asyncio.FIRST_COMPLETED)
         if turns.done():
             print(f"server: {turns.exception()}", file=sys.stderr)
             return 2
+        await backend.drain()
         return 0
     finally:
-        backend.close()
+        backend.closing = True
         turns.cancel()
+        looking.cancel()
         await runner.cleanup()
 
 
 async def told_to_stop() -> None:
+    """Returns once a signal has told the server to stop."""
     stop = asyncio.Event()
     for number in (signal.SIGINT, signal.SIGTERM):
         asyncio.get_running_loop().add_signal_handler(number, stop.set)
@@ -181,28 +117,42 @@ def words_of(words: List[str]) -> argparse.Namespace:
     add("--port", type=port, default=7233, help="the port, 7233 by default; 0 takes a free one")
     add("--token-file", help="a file with the token that every request has to bear")
     add("--queue-limit", type=int, default=1_000, help="how many calls may wait, 1,000 by default")
+    add("--read-timeout", type=float, default=30, help="how many seconds a request may take to come, 30 by default")
     add("--shards", type=int, help="how many shards a new log's service has, 1 by default")
     add("--queues", help="the names of a new log's task queues, with commas between them, main by default")
-    add("--capacity", type=int, help="how many tasks wait in a queue of a new log's service at most")
+    add("--capacity", type=int, help="how many tasks wait in a queue at most, 1,024 by default; a log's may grow")
     add("--retention", type=int, help="for how many milliseconds a new log's service keeps what has closed, for ever by default")
+    add("--compact", action="store_true", help="puts the log's records in the place of its lines, and ends")
     return parser.parse_args(words)
 
 
-def settings_of(said: argparse.Namespace) -> Optional[Settings]:
-    """The settings that were named; None where none was, for the log's own."""
+def settings_of(said: argparse.Namespace, log: str) -> Settings:
+    """The settings that were named; all others are the log's own, or the defaults of a new one."""
     numbers = ("shards", "capacity", "retention")
     named = {name: getattr(said, name) for name in numbers if getattr(said, name) is not None}
     if said.queues is not None:
         named["queues"] = tuple(said.queues.split(","))
-    return Settings(**named) if named else None
+    header = first_line(log)
+    return dataclasses.replace(Settings() if header is None else read_header(header, log)[0], **named)
 
 
 def opened(said: argparse.Namespace, log: str, workflows: Workflows, deadlines: Deadlines) -> DurableService:
-    def replayed(request: dict, reply: dict) -> None:
-        workflows.observe(request, reply)
-        deadlines.observe(request, reply)
+    """The service of the log. The list has its runs, also those of the records that it goes on from."""
+    service = DurableService([said.program], log, settings_of(said, log), replayed=Observers(workflows, deadlines).observe)
+    try:
+        Recorded(service, workflows).add_all()
+    except BaseException:
+        service.close()
+        raise
+    return service
 
-    return DurableService([said.program], log, settings_of(said), replayed=replayed)
+
+def compact(service: DurableService) -> int:
+    """Compacts a log that is not served."""
+    lines, size = service.lines, service.size
+    service.compact()
+    print(f"{lines} lines, {size} bytes; now {service.records_size} bytes of records")
+    return 0
 
 
 def main(words: List[str]) -> int:
@@ -210,10 +160,12 @@ def main(words: List[str]) -> int:
     workflows, deadlines = Workflows(), Deadlines()
     try:
         guard_of(said)
+        if said.compact and not said.log:
+            raise ValueError("--compact needs a --log")
         with tempfile.TemporaryDirectory() as folder:
             log = said.log or f"{folder}/log"
             with opened(said, log, workflows, deadlines) as service:
-                return asyncio.run(serve(said, service, workflows, deadlines))
+                return compact(service) if said.compact else asyncio.run(serve(said, service, workflows, deadlines))
     except (LogFault, Ended, OSError, ValueError) as wrong:
         print(f"server: {wrong}", file=sys.stderr)
         return 2

@@ -6,10 +6,11 @@ history is an image, in which no script runs.
 
 from __future__ import annotations
 
+import asyncio
 import importlib
 import pathlib
 import sys
-from typing import List
+from typing import List, Optional, Tuple
 
 from aiohttp import web
 
@@ -18,6 +19,8 @@ from server_list import Entry, Workflows
 
 HERE = pathlib.Path(__file__).resolve().parent
 MOST_ROWS = 200
+# So many runs are read for one request of the list; the next request goes on.
+MOST_READS = 2_000
 POLICY = (
     "default-src 'none'; script-src 'self'; style-src 'self'; img-src 'self'; connect-src 'self'; "
     "form-action 'none'; frame-ancestors 'none'; base-uri 'none'"
@@ -98,45 +101,75 @@ class Pages:
     async def rows(self, request: web.Request) -> web.Response:
         """The latest workflows of a search, with their status."""
         text, status = request.query.get("search", ""), request.query.get("status", "")
+        await self._look_for_begun()
         entries = self._workflows.search(text, status, MOST_ROWS)
-        for entry in entries:
-            await self._read(entry)
-        rows = [entry.row() for entry in entries if not status or entry.status == status]
-        return web.json_response({"workflows": rows})
+        left = MOST_READS
+        # One whose history was read may not be of this status, and then the next ones are looked at.
+        while left > 0 and (stale := [entry for entry in entries if self._workflows.is_stale(entry)]):
+            await self._read_all(stale)
+            left -= len(stale)
+            entries = self._workflows.search(text, status, MOST_ROWS)
+        return web.json_response({"workflows": [entry.row() for entry in entries if entry.is_shown(status)]})
 
     async def history(self, request: web.Request) -> web.Response:
         """A history, or only that it is as long as before."""
-        entry = await self._entry(request)
+        entry, events = await self._entry(request)
         row = entry.row()
-        if request.query.get("length") == str(len(entry.events)):
+        if request.query.get("length") == str(entry.length):
             return web.json_response({"workflow": row})
-        found = [] if row["status"] != "Running" else pending(entry.events)
-        return web.json_response({"workflow": row, "events": entry.events, "pending": found})
+        events = events or await self._events(entry)
+        found = [] if row["status"] != "Running" else pending(events)
+        parent = self._workflows.find_run(events[0]["attrs"].get("parent_run"))
+        named = {} if parent is None else {"parent": {"workflow_id": parent.workflow_id, "run": parent.run}}
+        return web.json_response({"workflow": row, "events": events, "pending": found, **named})
 
     async def picture(self, request: web.Request) -> web.Response:
-        entry = await self._entry(request)
+        entry, events = await self._entry(request)
+        events = events or await self._events(entry)
+        now = self._backend.moments.now() if entry.status == "Running" else None
         return web.Response(
-            text=self._timeline.picture_file(entry.events), content_type="image/svg+xml",
+            text=self._timeline.picture_file(events, now), content_type="image/svg+xml",
             headers={"Content-Security-Policy": PICTURE_POLICY, "Cache-Control": "no-cache"},
         )
 
-    async def _entry(self, request: web.Request) -> Entry:
-        """The run that a path names, as it is now. One that the list doesn't have, as a child, is added."""
+    async def _entry(self, request: web.Request) -> Tuple[Entry, List[dict]]:
+        """The run that a path names, as it is now, and its history where it was read for that."""
         workflow_id, run = request.match_info["workflow_id"], request.match_info["run"]
         entry = self._workflows.find(workflow_id, run)
-        if entry is None:
-            reply = await self._backend.call({"op": "history", "workflow_id": workflow_id, "run": run})
-            if "error" in reply:
-                raise web.HTTPNotFound()
-            started = reply["events"][0]
-            entry = self._workflows.add(workflow_id, run, started["attrs"]["workflow_type"], started["at"])
-        await self._read(entry)
-        return entry
+        if entry is not None and not self._workflows.is_stale(entry):
+            return entry, []
+        entry = entry or Entry(workflow_id, run, "", 0)
+        events = await self._read(entry)
+        return self._workflows.find(workflow_id, run) or entry, events
 
-    async def _read(self, entry: Entry) -> None:
-        if entry.stale:
-            entry.stale = False
-            reply = await self._backend.call(
-                {"op": "history", "workflow_id": entry.workflow_id, "run": entry.run}
-            )
-            entry.events = reply.get("events", entry.events)
+    async def _events(self, entry: Entry) -> List[dict]:
+        """The history of a run. A run that is gone leaves the list."""
+        reply = await self._ask("history", entry.workflow_id, entry.run)
+        if "error" in reply:
+            self._workflows.remove(entry.run)
+            raise web.HTTPNotFound(text=f"there is no run {entry.run} of {entry.workflow_id}")
+        return reply["events"]
+
+    async def _read(self, entry: Entry) -> List[dict]:
+        """Reads a history that may have changed, for the list."""
+        self._workflows.reading(entry)
+        events = await self._events(entry)
+        self._workflows.take(self._workflows.add(entry.workflow_id, entry.run), events)
+        return events
+
+    async def _read_all(self, entries: List[Entry]) -> None:
+        """Reads the histories of these runs. Some may be gone by now."""
+        for found in await asyncio.gather(*[self._read(entry) for entry in entries], return_exceptions=True):
+            if isinstance(found, Exception) and not isinstance(found, web.HTTPNotFound):
+                raise found
+
+    async def _look_for_begun(self) -> None:
+        """Asks for the runs that others began: children, and those that continue a run."""
+        wanted = self._workflows.looked_for()[:MOST_READS]
+        replies = await asyncio.gather(*[self._ask("describe", workflow_id) for workflow_id in wanted])
+        for workflow_id, reply in zip(wanted, replies):
+            self._workflows.found(workflow_id, reply.get("run"))
+
+    async def _ask(self, op: str, workflow_id: str, run: Optional[str] = None) -> dict:
+        named = {} if run is None else {"run": run}
+        return await self._backend.ask({"op": op, "workflow_id": workflow_id, **named})

@@ -13,7 +13,7 @@ import logging
 from typing import List
 
 from line_log import LogFull
-from server_calls import Backend, wall_moment
+from server_calls import Backend
 
 LOG = logging.getLogger("wfserve.turns")
 SECOND = 1_000
@@ -38,9 +38,14 @@ class Deadlines:
             heapq.heappush(self._moments, reply["ready"])
         commands = request.get("commands")
         for members in [request, *(commands if isinstance(commands, list) else [])]:
-            for name in DURATIONS:
-                if isinstance(members.get(name), int) and members[name] > 0:
-                    heapq.heappush(self._moments, request.get("at", 0) + members[name])
+            if isinstance(members, dict):
+                self._expect(request.get("at", 0), members)
+
+    def _expect(self, at: int, members: dict) -> None:
+        for name in DURATIONS:
+            duration = members.get(name)
+            if isinstance(duration, int) and duration > 0:
+                heapq.heappush(self._moments, at + duration)
 
     def next(self, now: int) -> int:
         """How many milliseconds it is until something may be due; a second at most."""
@@ -62,6 +67,8 @@ class Turns:
         self._looked = 0
 
     async def run(self) -> None:
+        # What a server that ended left undone is done first.
+        self._backend.called.set()
         while True:
             try:
                 await self._turn()
@@ -74,7 +81,7 @@ class Turns:
     async def _turn(self) -> None:
         called = self._backend.called.is_set()
         self._backend.called.clear()
-        now = wall_moment()
+        now = self._backend.moments.now()
         if self._deadlines.next(now) == 0 or now - self._looked >= SECOND:
             self._deadlines.pass_by(now)
             self._looked = now
@@ -85,7 +92,7 @@ class Turns:
     async def _rest(self) -> None:
         """Waits for a call, or for something to be due."""
         try:
-            now = wall_moment()
+            now = self._backend.moments.now()
             wait = min(self._deadlines.next(now), max(self._looked + SECOND - now, 0)) / 1_000
             await asyncio.wait_for(self._backend.called.wait(), wait)
         except asyncio.TimeoutError:
@@ -107,6 +114,7 @@ class Turns:
             moved += dispatched
 
     async def _dispatches(self) -> int:
+        self._backend.full = False
         return sum(await asyncio.gather(*[
             self._repeat({"op": "dispatch_turn", "shard": shard}) for shard in self._shards
         ]))
@@ -123,6 +131,8 @@ class Turns:
         while True:
             replies = await asyncio.gather(*[self._backend.ask(turn) for _ in range(at_once)])
             useful = sum(reply.get("ok") not in (None, "none") for reply in replies)
+            if any(reply.get("error") == "QueueFull" for reply in replies):
+                self._backend.full = True
             made += useful
             if useful < at_once:
                 return made

@@ -1,20 +1,27 @@
-"""The service with a log: against a program that counts its lines, and against wfserve where it is built."""
+"""The service with a log: against a program that counts its lines, and against wfserve where it is built.
+
+WFSERVE_SEED draws other calls.
+"""
 
 import json
+import os
 import pathlib
+import random
 import subprocess
 import sys
 import tempfile
 import threading
 import time
 import unittest
+from unittest import mock
 
-from durable import DurableService, OtherSettings, RefusedSettings, Settings, read_header
-from line_log import LogDamaged, LogInUse
+from durable import DurableService, OtherSettings, RefusedSettings, Settings, for_replay, read_header
+from line_log import LineLog, LogDamaged, LogFull, LogInUse
 from programs import BUILT, COUNTING, needs_program
 from wfserve import Clock, Ended, Refused
 
 HERE = pathlib.Path(__file__).resolve().parent
+SEED = int(os.environ.get("WFSERVE_SEED", random.randrange(1 << 32)))
 
 # Makes calls while the log has room for so many bytes more, then gives room, and goes on.
 FULL = """
@@ -101,13 +108,18 @@ class Counted(Durable):
             "shards is 1, and not 2": Settings(shards=2),
             "service is 1, and not 9": Settings(service=9),
             "queues is main, and not main,more": Settings(queues=("main", "more")),
-            "capacity is 1024, and not 8": Settings(capacity=8),
             "retention is 0, and not 1000": Settings(retention=1_000),
         }
         for said, settings in others.items():
             with self.assertRaisesRegex(OtherSettings, said):
                 self.open(settings)
         self.assertEqual(self.log.read_bytes(), data)
+
+    def test_the_room_of_queues_does_not_fall(self):
+        self.open(Settings()).close()
+        with self.assertLogs("wfserve.log", "WARNING") as said:
+            self.assertEqual(self.open(Settings(capacity=8)).settings, Settings())
+        self.assertIn("the queues keep their room for 1024 tasks: it never falls, so 8 is not taken", said.output[0])
 
     def test_a_log_of_a_time_before_retentions_has_none(self):
         self.open().close()
@@ -141,6 +153,40 @@ class Counted(Durable):
             self.open()
         first.close()
         self.open()
+
+    def test_reads_are_no_lines_of_the_log(self):
+        with self.open(clock=Clock(5)) as service:
+            service.signal("w", "a")
+            before = self.log.read_bytes()
+            reply = service.call("history", workflow_id="w")
+            self.assertEqual(json.loads(reply["said"]), {"op": "history", "workflow_id": "w"})
+            self.assertEqual((reply["line"], service.lines, self.log.read_bytes()), (1, 1, before))
+            self.assertEqual(service.call("signal", name="b")["line"], 2)
+
+    def test_reads_are_answered_where_the_log_is_full(self):
+        with self.open() as service, mock.patch("os.pwrite", side_effect=OSError(28, "No space left on device")):
+            with self.assertRaises(LogFull):
+                service.signal("w", "a")
+            self.assertEqual(service.call("describe", workflow_id="w")["line"], 0)
+
+    def test_a_log_of_a_time_with_reads_is_opened_without_making_them_again(self):
+        lines = [b'{"op":"signal","at":3,"name":"a"}', b'{"op":"history","at":9,"workflow_id":"w","run":"r","x":[1]}']
+        log = LineLog(self.log)
+        log.append([Settings().header(), *lines, b'{"op":"describe","at":11,"workflow_id":"w"}', lines[0]])
+        log.close()
+        seen = []
+        service = self.open(replayed=lambda request, reply: seen.append((reply["line"], json.loads(reply["said"]))))
+        self.assertEqual(seen, [(1, json.loads(lines[0])), (4, json.loads(lines[0]))])
+        self.assertEqual((service.lines, service.last_moment), (4, 11))
+        self.assertEqual(json.loads(for_replay(lines[1])), {"op": "describe", "at": 9, "workflow_id": "w", "run": "r"})
+        self.assertEqual(for_replay(lines[0]), lines[0])
+
+    def test_a_line_that_is_too_deep_to_be_read_again_opens(self):
+        log = LineLog(self.log)
+        log.append([Settings().header(), b'{"op":"timer_turn","n":' + b"[" * 200_000 + b"]" * 200_000 + b"}"])
+        log.close()
+        self.program = [*COUNTING[:3], "import sys\nfor n, _ in enumerate(sys.stdin, 1): print('{\"line\":%d}' % n, flush=True)"]
+        self.assertEqual(self.open().lines, 1)
 
     def test_threads_get_their_own_replies(self):
         service = self.open()
@@ -191,6 +237,23 @@ if sys.stdin.readline():
         self.assertEqual(self.open().lines, 0)
 
 
+def made_up_call(service, draw, workflow_id, number):
+    """A start, a signal, a turn, or a worker's step of a workflow that has a timer."""
+    op = draw.choice(["start", "signal", "dispatch_turn", "timer_turn", "work", "work"])
+    if op == "start":
+        service.send({"op": op, "at": service.clock.now, "workflow_id": workflow_id, "workflow_type": "w",
+                      "task_queue": "main"}).result()
+    elif op == "signal":
+        service.send({"op": op, "at": service.clock.now, "workflow_id": workflow_id, "name": f"s{number}"}).result()
+    elif op == "work":
+        task = service.poll_workflow_task()
+        if task is not None:
+            timer = {"type": "StartTimer", "timer_id": str(number), "duration": draw.randrange(1, 100_000)}
+            service.send({"op": "complete_workflow_task", "token": task.token, "commands": [timer]}).result()
+    else:
+        service.call(op, shard=0)
+
+
 @needs_program
 class Served(Durable):
     program = [str(BUILT)]
@@ -210,10 +273,28 @@ class Served(Durable):
 
     def test_a_refusal_is_raised_and_the_service_goes_on(self):
         service = self.open()
-        with self.assertRaisesRegex(Refused, "line 1: history: NotFound"):
+        with self.assertRaisesRegex(Refused, "line 0: history: NotFound"):
             service.history("nobody")
         service.start("a", "w")
         self.assertEqual(service.close(), 1)
+
+    def test_reads_leave_no_trace_in_later_histories(self):
+        print(f"\nreads: seed {SEED}", file=sys.stderr)
+        draw, ids = random.Random(SEED), [f"w{number}" for number in range(5)]
+        with self.open(clock=Clock(1_000)) as service:
+            for number in range(400):
+                # A read that set a moment would move the events that follow it.
+                service.clock.now = draw.randrange(1_000, 1_000_000)
+                made_up_call(service, draw, draw.choice(ids), number)
+                service.clock.now = 10_000_000
+                for op in ("history", "describe"):
+                    service.send({"op": op, "at": 10_000_000, "workflow_id": draw.choice(ids)}).result()
+            before = [service.history(workflow_id) for workflow_id in ids]
+        self.assertLess(max(event["at"] for events in before for event in events), 1_000_000)
+        with self.open() as service:
+            self.assertEqual([service.history(workflow_id) for workflow_id in ids], before)
+            service.compact()
+            self.assertEqual([service.history(workflow_id) for workflow_id in ids], before)
 
     def test_an_order_that_is_killed_goes_on_and_is_paid_once(self):
         call = [sys.executable, str(HERE / "survive.py"), str(BUILT), str(self.log)]
@@ -224,85 +305,6 @@ class Served(Durable):
         first.communicate()
         second = subprocess.run(call, stdout=subprocess.PIPE, text=True, check=True)
         self.assertEqual(second.stdout, "shipped with receipt 4711\n")
-
-    def compacted(self):
-        """A service whose log was compacted behind a start, a dispatch, a taken task and a signal."""
-        service = self.open(clock=Clock(7))
-        service.start("a", "w", input="x", request_id="q")
-        service.dispatch_turn()
-        token = service.poll_workflow_task().token
-        service.signal("a", "go", request_id="s")
-        before = service.history("a")
-        service.compact()
-        return service, token, before
-
-    def test_a_compacted_log_goes_on_where_it_was(self):
-        service, token, before = self.compacted()
-        self.assertEqual((service.lines, service.history("a")), (0, before))
-        self.assertFalse(service.signal("a", "go", request_id="s"))
-        service.call("complete_workflow_task", token=token, commands=[])
-        after = service.history("a")
-        service.close()
-        with self.open() as service:
-            self.assertEqual(service.history("a"), after)
-            service.compact()
-            service.compact()
-            self.assertEqual(service.history("a"), after)
-        self.assertEqual(
-            sorted(path.name for path in self.log.parent.iterdir()), ["a.log", "a.log.records-3"]
-        )
-
-    def test_a_task_that_waited_is_found_again_in_a_compacted_log(self):
-        with self.open() as service:
-            service.start("a", "w")
-            service.compact()
-            self.assertEqual(service.poll_workflow_task().attempt, 1)
-
-    def test_what_an_interrupted_compaction_left_is_removed(self):
-        service, _, before = self.compacted()
-        service.close()
-        (self.log.parent / "a.log.new").write_bytes(b"begun")
-        (self.log.parent / "a.log.records-2").mkdir()
-        (self.log.parent / "a.log.records-x").mkdir()
-        with self.open() as service:
-            self.assertEqual(service.history("a"), before)
-        self.assertEqual(
-            sorted(path.name for path in self.log.parent.iterdir()),
-            ["a.log", "a.log.records-1", "a.log.records-x"],
-        )
-
-    def test_records_that_are_not_saved_leave_the_log(self):
-        with self.open() as service:
-            service.start("a", "w", request_id="q")
-            before = service.history("a")
-            data = self.log.read_bytes()
-            # The program is not there when it is to save.
-            service._command = [str(self.log.parent / "nobody")]
-            with self.assertRaises(OSError):
-                service.compact()
-            self.assertEqual(self.log.read_bytes(), data)
-            self.assertEqual(service.history("a"), before)
-
-    def test_threads_go_on_while_the_log_is_compacted(self):
-        with self.open() as service:
-            def calls(thread):
-                for number in range(50):
-                    service.call("signal_with_start", workflow_id=f"w{thread}", workflow_type="w",
-                                 task_queue="main", name=f"{number}", request_id=f"{thread}:{number}")
-
-            threads = [threading.Thread(target=calls, args=(thread,)) for thread in range(4)]
-            for thread in threads:
-                thread.start()
-            for _ in range(5):
-                service.compact()
-            for thread in threads:
-                thread.join()
-            histories = [service.history(f"w{thread}") for thread in range(4)]
-        for events in histories:
-            names = [e["attrs"]["name"] for e in events if e["type"] == "WorkflowExecutionSignaled"]
-            self.assertEqual(names, [str(number) for number in range(50)])
-        with self.open() as service:
-            self.assertEqual([service.history(f"w{thread}") for thread in range(4)], histories)
 
     def test_a_full_disk_loses_nothing_that_was_answered(self):
         call = [sys.executable, "-c", FULL, str(self.log), *self.program]

@@ -12,7 +12,7 @@ import tempfile
 import unittest
 import xml.etree.ElementTree as xml
 
-from programs import ROOT
+from programs import BUILT, ROOT, needs_program
 from stored_cases import cases_of
 
 sys.path.append(str(ROOT / "tools"))
@@ -48,6 +48,26 @@ class Timeline(unittest.TestCase):
         events = json.loads(replies_of_case("examples", "an order")[-1])["events"]
         bars = timeline.bars_of(events[:5])
         self.assertEqual((bars[5].taken, bars[5].end), (None, None))
+
+    def test_what_is_pending_goes_on_until_now(self):
+        events = json.loads(replies_of_case("examples", "an order")[-1])["events"][:11]
+        picture = timeline.picture(events, now=events[-1]["at"] + 60_000)
+        rows = {11: timeline.TOP + 10 * timeline.ROW - 5}
+        bars = re.findall(rf'<rect x="([0-9.]+)" y="{rows[11]}" width="([0-9.]+)"[^>]*fill-opacity="([0-9.]+)"', picture)
+        # A timer that is pending is with nobody, so it is light; it reaches to the right end, which is now.
+        self.assertEqual([opacity for _, _, opacity in bars], ["0.25"])
+        self.assertAlmostEqual(float(bars[0][0]) + float(bars[0][1]), timeline.LEFT + timeline.WIDTH, delta=0.2)
+        self.assertGreater(float(bars[0][1]), timeline.WIDTH * 0.9)
+
+    def test_texts_of_any_kind_are_shown_in_pictures(self):
+        events = json.loads(replies_of_case("examples", "an order")[-1])["events"]
+        for text in ('x' * 20 + '<&">' * 3, "x" * 23 + "&" * 9, "\x01\x00\x1f\ufffe\uffff", "\ud800", "\U0001f600", "]]>"):
+            for event in events:
+                event["attrs"]["name"] = text
+            picture = xml.fromstring(timeline.picture_file(events, 100_000))
+            shown = ["".join(it.itertext()) for it in picture.iter("{http://www.w3.org/2000/svg}tspan")]
+            wanted = re.sub("[\x00-\x08\x0b-\x1f\ud800-\udfff\ufffe\uffff]", "\ufffd", text[:timeline.LETTERS])
+            self.assertEqual(shown, [wanted] * len(events))
 
     def test_events_that_were_held_back_have_rings(self):
         replies = replies_of_case("whole_workflows", "signal held then flushed")
@@ -108,6 +128,9 @@ class InAFolder(unittest.TestCase):
 
 
 class Serve(InAFolder):
+    NAME = "serve"
+    # What the script answers by itself.
+    ANSWERED = {"--help": "usage: ", "--version": "wfserve, sources of "}
     SAYS = 'echo "served $*"; cat; exit 1'
 
     def setUp(self):
@@ -141,15 +164,33 @@ class Serve(InAFolder):
         os.utime(kept, (later, later))
         self.assertEqual(self.serve().stderr, "")
 
+    def test_help_and_version_build_nothing_and_are_no_fault(self):
+        for word, said in self.ANSWERED.items():
+            ran = run([self.top / self.NAME, word], cwd="/")
+            self.assertEqual((ran.returncode, ran.stderr), (0, ""), word)
+            self.assertIn(said, ran.stdout)
+        self.assertFalse(self.program.exists())
+
     def test_it_serves_nothing_where_the_build_fails(self):
         (self.top / "tools/build_program.py").write_text("raise SystemExit(3)\n")
         ran = self.serve()
         self.assertEqual((ran.returncode, ran.stdout), (3, ""))
 
 
+@needs_program
+class Help(unittest.TestCase):
+    def test_it_lists_the_options_that_the_program_has(self):
+        said, has = run([ROOT / "serve", "--help"]).stdout, run([BUILT, "--help"])
+        options = set(re.findall("--[a-z]+", has.stdout + has.stderr)) - {"--help"}
+        self.assertGreater(len(options), 5)
+        self.assertEqual(set(re.findall("--[a-z]+", said)), options)
+
+
 class ServeHttp(Serve):
     """The same build, behind a Python that has aiohttp and says how the server was called."""
 
+    NAME = "serve-http"
+    ANSWERED = {"--version": "wfserve, sources of "}
     # As the program: an empty script is served with status 0, and a call for help is refused.
     SAYS = '[ $# -eq 0 ] || exit 2; cat'
 

@@ -16,8 +16,29 @@ function made(tag, content, kind) {
   return it;
 }
 
+function pathOf(workflowId, run) {
+  return `/workflows/${encodeURIComponent(workflowId)}/${run}`;
+}
+
+// A link to a run's page.
+function linked(text, workflowId, run) {
+  const link = made("a", text);
+  link.href = pathOf(workflowId, run);
+  return link;
+}
+
 function moment(milliseconds) {
   return new Date(milliseconds).toLocaleString();
+}
+
+// What a status is called: of a run that is open and fails again and again that it is stuck.
+function statusOf(workflow) {
+  return workflow.stuck ? "Stuck" : workflow.status;
+}
+
+// A text that no other call has. crypto.randomUUID is there only where a page came over HTTPS or from localhost.
+function requestId() {
+  return Array.from(crypto.getRandomValues(new Uint8Array(16)), (it) => it.toString(16).padStart(2, "0")).join("");
 }
 
 function say(text) {
@@ -36,7 +57,9 @@ async function called(call) {
     headers: { "Content-Type": "application/json" },
     body: JSON.stringify(call),
   });
-  return answer.json();
+  const reply = await answer.json();
+  if (!answer.ok) throw new Error(`the server answered ${answer.status}: ${reply.said}`);
+  return reply;
 }
 
 // Does something again and again; what goes wrong is said, and it goes on.

@@ -4,12 +4,10 @@
 let shown = "";
 
 function row(it) {
-  const link = made("a", it.workflow_id);
-  link.href = `/workflows/${encodeURIComponent(it.workflow_id)}/${it.run}`;
   return made("tr", [
-    made("td", [link]),
+    made("td", [linked(it.workflow_id, it.workflow_id, it.run)]),
     made("td", it.type),
-    made("td", it.status, `status ${it.status}`),
+    made("td", statusOf(it), `status ${statusOf(it)}`),
     made("td", moment(it.started)),
     made("td", `${it.length} ${it.last}, ${moment(it.last_at)}`),
   ]);

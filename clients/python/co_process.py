@@ -1,0 +1,106 @@
+"""The program as a co-process: lines go in by one pipe, and their replies come out by another."""
+
+from __future__ import annotations
+
+import json
+import os
+import subprocess
+import threading
+from collections import deque
+from typing import Deque, Sequence
+
+from wfserve import Ended
+
+# A line that is answered by every program that has opened, and leaves all as it was: the first part of a
+# dispatch turn only reads.
+CHANGES_NOTHING = b'{"op":"dispatch_turn","shard":0,"stop":1}'
+LINES_KEPT = 5
+
+
+def hand_on(line: bytes) -> None:
+    """Says a line on standard error, where that is open."""
+    try:
+        os.write(2, line)
+    except OSError:
+        pass
+
+
+class Program:
+    """A running program. What it says on standard error is handed on, but for lines with a text of `unsaid`."""
+
+    def __init__(self, command: Sequence[str], unsaid: Sequence[str] = ()):
+        self._process = subprocess.Popen(
+            command, stdin=subprocess.PIPE, stdout=subprocess.PIPE, stderr=subprocess.PIPE
+        )
+        self._unsaid = unsaid
+        self._said: Deque[str] = deque(maxlen=LINES_KEPT)
+        self._replies = 0
+        self._listener = threading.Thread(target=self._listen, daemon=True)
+        self._listener.start()
+
+    def _listen(self) -> None:
+        for line in self._process.stderr:
+            text = line.decode(errors="replace").strip()
+            self._said.append(text)
+            if not any(unsaid in text for unsaid in self._unsaid):
+                hand_on(line)
+
+    def said(self) -> str:
+        """The last of what it said on standard error. It has to have ended."""
+        self._listener.join()
+        return "; ".join(line for line in self._said if line)
+
+    def write(self, lines: Sequence[bytes]) -> None:
+        """Gives it lines. That it has ended shows where its replies are read."""
+        try:
+            self._process.stdin.write(b"".join(line + b"\n" for line in lines))
+            self._process.stdin.flush()
+        except (BrokenPipeError, ValueError):
+            pass
+
+    def reply(self, line: int) -> dict:
+        """The next reply, under the number that its line has in the log."""
+        text = self._reply_text(line)
+        reply = json.loads(text)
+        if reply.get("line") != self._replies:
+            raise Ended(f"line {line}: the reply is to another line: {text[:200]!r}")
+        reply["line"] = line
+        return reply
+
+    def skip_reply(self, line: int) -> None:
+        """Reads over the next reply."""
+        self._reply_text(line)
+
+    def _reply_text(self, line: int) -> bytes:
+        text = self._process.stdout.readline()
+        if not text.endswith(b"\n"):
+            status = self._process.wait()
+            said = self.said()
+            raise Ended(f"line {line}: the program ended with status {status}" + (f": {said}" if said else ""))
+        self._replies += 1
+        return text
+
+    def check_answers(self) -> None:
+        """Returns once it has opened and answered a line that changes nothing. Ended where it doesn't."""
+        self.write([CHANGES_NOTHING])
+        self.reply(0)
+
+    def end_input(self) -> None:
+        try:
+            self._process.stdin.close()
+        except BrokenPipeError:
+            pass
+
+    def kill(self) -> None:
+        """Ends it at once."""
+        self._process.kill()
+        self.end_input()
+        self.wait()
+
+    def wait(self) -> int:
+        """Its status, once it has ended."""
+        status = self._process.wait()
+        self._listener.join()
+        self._process.stdout.close()
+        self._process.stderr.close()
+        return status
