@@ -1,0 +1,64 @@
+//! Batches of lines with their replies, and what of them is found.
+
+use journal_disk::Disk;
+use journal_frames::{CommitFault, Journal, is_plain};
+use std::alloc::Global;
+
+/// Some batches: long and short, an empty one, and one of what its own check may look like.
+pub(crate) const BATCHES: [(&[u8], &[u8]); 5] = [
+    (b"{\"op\":\"start\"}\n{\"op\":\"signal\"}\n", b"{\"line\":1}\n{\"line\":2}\n"),
+    (b"", b""),
+    (b"{\"op\":\"history\"}\n", b"{\"line\":3}\n"),
+    (b"aaaaaaaaaaaaaaaabaaaaaaaaaaaaaaa", b"{\"line\":4}\n"),
+    (b"{\"input\":\"\xc3\xa9 \xf0\x9f\x98\x80\\u0000\"}\n", b"{\"line\":5}\n"),
+];
+
+/// Commits a batch. Its text has to be plain.
+pub(crate) fn commit<D: Disk>(
+    alloc: Global,
+    journal: &mut Journal<D>,
+    batch: (&[u8], &[u8]),
+) -> Option<Result<(), CommitFault>> {
+    let (body, replies) = batch;
+    if !is_plain(body) {
+        return None;
+    }
+    Some(journal.commit(alloc, body, replies))
+}
+
+/// Commits these batches one after the other up to the first fault, and says how many it committed.
+pub(crate) fn commit_each<D: Disk>(
+    alloc: Global,
+    journal: &mut Journal<D>,
+    batches: &[(&[u8], &[u8])],
+) -> usize {
+    let mut done = 0;
+    for batch in batches {
+        let Some(Ok(())) = commit(alloc, journal, *batch) else {
+            break;
+        };
+        done += 1;
+    }
+    done
+}
+
+/// Whether these are the first batches, in order.
+pub(crate) fn are_first(bodies: &[Vec<u8>]) -> bool {
+    bodies.len() <= BATCHES.len()
+        && bodies
+            .iter()
+            .zip(BATCHES.iter())
+            .all(|(body, batch)| body.as_slice() == batch.0)
+}
+
+/// Whether these are just the replies to so many batches.
+pub(crate) fn are_told(told: &[u8], count: usize) -> bool {
+    let mut rest = told;
+    for (_, replies) in BATCHES.iter().take(count) {
+        let Some(after) = rest.strip_prefix(*replies) else {
+            return false;
+        };
+        rest = after;
+    }
+    rest.is_empty()
+}

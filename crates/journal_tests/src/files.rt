@@ -1,0 +1,83 @@
+//! A real file, and replies that can't be told.
+
+use crate::batches::{BATCHES, are_first, are_told, commit_each};
+use journal_disk::DiskError;
+use journal_file::FileDisk;
+use journal_frames::{RecoverFault, open};
+use script_devices::Full;
+use std::alloc::AllocGlobal;
+use std::fs::{self, OpenOptions};
+use std::rt::Files;
+
+/// Where the test's file is.
+const PATH: &str = "journal_tests.journal";
+
+/// Where a test keeps a file with which nothing can be done but read it.
+const READ_ONLY: &str = "journal_tests.read_only";
+
+/// How many batches are found in the file, where they are the first ones, and then the others are
+/// committed to it by their replies' room.
+fn go_on<R: Files + AllocGlobal>(rt: &R, room: usize) -> Option<(usize, usize, Vec<u8>)> {
+    let alloc = rt.alloc();
+    let file = OpenOptions::new()
+        .read(true)
+        .write(true)
+        .create(true)
+        .open(rt, PATH)
+        .ok()?;
+    let replies = Full {
+        held: Vec::new(alloc),
+        room,
+        flushes: u64::MAX,
+    };
+    let (mut journal, bodies) = open(alloc, FileDisk::new(alloc, file, replies)).ok()?;
+    if !are_first(&bodies) {
+        return None;
+    }
+    let rest = BATCHES.get(bodies.len()..).unwrap_or_default();
+    let done = commit_each(alloc, &mut journal, rest);
+    let (_, replies) = journal.into_disk().into_parts();
+    Some((bodies.len(), done, replies.held))
+}
+
+#[test]
+fn goes_on_where_replies_were_not_told(rt: HostRuntime) {
+    if matches!(fs::exists(&rt, PATH), Ok(true)) {
+        assert!(rt; fs::remove_file(&rt, PATH).is_ok());
+    }
+    // Of the first replies half are told: the batch is on the disk.
+    let Some((found, done, told)) = go_on(&rt, 15) else {
+        panic!(rt; "no file")
+    };
+    assert!(rt; found == 0 && done == 0 && told.as_slice() == b"{\"line\":1}\n{\"li".as_slice());
+    // The second batch has no replies, and of the third's none is told.
+    let Some((found, done, told)) = go_on(&rt, 0) else {
+        panic!(rt; "no file")
+    };
+    assert!(rt; found == 1 && done == 1 && told.is_empty());
+    let Some((found, done, _)) = go_on(&rt, 1000) else {
+        panic!(rt; "no file")
+    };
+    assert!(rt; found == 3 && done == 2);
+    assert!(rt; fs::remove_file(&rt, PATH).is_ok());
+    let Some((found, done, told)) = go_on(&rt, 1000) else {
+        panic!(rt; "no file")
+    };
+    assert!(rt; found == 0 && done == BATCHES.len() && are_told(&told, done));
+    assert!(rt; fs::remove_file(&rt, PATH).is_ok());
+}
+
+#[test]
+fn a_file_that_is_not_written_is_a_fault(rt: HostRuntime) {
+    let alloc = rt.alloc();
+    assert!(rt; fs::write(&rt, READ_ONLY, b"").is_ok());
+    let Ok(file) = fs::open(&rt, READ_ONLY) else {
+        panic!(rt; "no file")
+    };
+    let fault = match open(alloc, FileDisk::new(alloc, file, Vec::new(alloc))) {
+        Ok(_) => None,
+        Err((fault, _)) => Some(fault),
+    };
+    assert!(rt; fault == Some(RecoverFault::Device(DiskError::Failed)));
+    assert!(rt; fs::remove_file(&rt, READ_ONLY).is_ok());
+}

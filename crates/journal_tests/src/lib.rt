@@ -1,0 +1,16 @@
+//! A journal over files that fail, that are damaged, and whose machine crashes.
+//!
+//! What is proved of a journal is proved of every disk that says what a crash may leave. That a file by
+//! its calls is such a disk is shown here, by one that crashes behind each of them.
+#![tactic(auto)]
+
+#[cfg(test)]
+mod batches;
+#[cfg(test)]
+mod crashes;
+#[cfg(test)]
+mod crashing_file;
+#[cfg(test)]
+mod damage;
+#[cfg(test)]
+mod files;
