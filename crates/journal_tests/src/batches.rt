@@ -6,11 +6,17 @@ use std::alloc::Global;
 
 /// Some batches: long and short, an empty one, and one of what its own check may look like.
 pub(crate) const BATCHES: [(&[u8], &[u8]); 5] = [
-    (b"{\"op\":\"start\"}\n{\"op\":\"signal\"}\n", b"{\"line\":1}\n{\"line\":2}\n"),
+    (
+        b"{\"op\":\"start\"}\n{\"op\":\"signal\"}\n",
+        b"{\"line\":1}\n{\"line\":2}\n",
+    ),
     (b"", b""),
     (b"{\"op\":\"history\"}\n", b"{\"line\":3}\n"),
     (b"aaaaaaaaaaaaaaaabaaaaaaaaaaaaaaa", b"{\"line\":4}\n"),
-    (b"{\"input\":\"\xc3\xa9 \xf0\x9f\x98\x80\\u0000\"}\n", b"{\"line\":5}\n"),
+    (
+        b"{\"input\":\"\xc3\xa9 \xf0\x9f\x98\x80\\u0000\"}\n",
+        b"{\"line\":5}\n",
+    ),
 ];
 
 /// Commits a batch. Its text has to be plain.

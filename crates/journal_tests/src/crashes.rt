@@ -23,7 +23,13 @@ struct Left {
 
 /// Commits the batches from this one on over such a file, on a machine that does so many calls, and then
 /// crashes. All batches before that one have to be found.
-fn run(alloc: Global, image: Vec<u8>, first: usize, calls: u64, seed: u64) -> Result<Left, AllocError> {
+fn run(
+    alloc: Global,
+    image: Vec<u8>,
+    first: usize,
+    calls: u64,
+    seed: u64,
+) -> Result<Left, AllocError> {
     let file = CrashingFile::new(alloc, image, calls)?;
     let disk = FileDisk::new(alloc, file, Vec::new(alloc));
     let (disk, committed) = match open(alloc, disk) {

@@ -55,12 +55,7 @@ fn put(image: &mut Vec<u8>, at: usize, bytes: &[u8]) -> Result<(), AllocError> {
 
 /// Writes of the bytes those that are drawn over those that are there, and after the end a beginning of
 /// the rest. Returns the state of the draws.
-fn put_some(
-    image: &mut Vec<u8>,
-    at: usize,
-    bytes: &[u8],
-    drawn: u64,
-) -> Result<u64, AllocError> {
+fn put_some(image: &mut Vec<u8>, at: usize, bytes: &[u8], drawn: u64) -> Result<u64, AllocError> {
     let from = at.min(image.len());
     let there = &mut image[from..];
     let over = there.len().min(bytes.len());
@@ -74,7 +69,11 @@ fn put_some(
     let rest = &bytes[over..];
     let state = next_state(state);
     let kept = ((state >> 20) as usize).min(rest.len());
-    let kept = if state >> 63 == 1 { kept % rest.len().max(1) } else { kept };
+    let kept = if state >> 63 == 1 {
+        kept % rest.len().max(1)
+    } else {
+        kept
+    };
     image.extend_from_slice(&rest[..kept])?;
     Ok(state)
 }

@@ -14,6 +14,9 @@ const MARKS: usize = 34;
 /// What a byte becomes: a zero, a mark, and bytes that a text or a check has.
 const VALUES: [u8; 8] = [0, 10, 29, 30, 32, 97, 112, 255];
 
+/// The byte before a batch.
+const START: u8 = 29;
+
 /// Where the batches begin, and where the last one ends.
 fn begins(alloc: Global) -> Result<Vec<usize>, AllocError> {
     let mut places = Vec::new(alloc);
@@ -51,8 +54,8 @@ fn reading(alloc: Global, bytes: Vec<u8>) -> Option<Result<usize, usize>> {
     }
 }
 
-/// Whether a changed byte of this batch is refused, at the batch's first byte. With a zero in it the last
-/// one is as a crash may leave it, and is left away.
+/// Whether a changed byte of this batch is refused, at the batch's first byte. The last one is as a crash
+/// may leave it where it has a zero or doesn't end, and is left away.
 fn is_found(
     alloc: Global,
     bytes: &[u8],
@@ -70,7 +73,9 @@ fn is_found(
     *byte = value;
     let (number, begin) = batch;
     let is_last = number.saturating_add(1) == BATCHES.len();
-    let expected = if is_last && value == 0 { Ok(number) } else { Err(begin) };
+    let ends_it = place.saturating_add(ZEROS + 1) == bytes.len();
+    let is_torn = is_last && (value == 0 || (ends_it && value != START));
+    let expected = if is_torn { Ok(number) } else { Err(begin) };
     Ok(reading(alloc, changed) == Some(expected))
 }
 
@@ -85,7 +90,11 @@ fn a_changed_byte_is_refused(rt: HostRuntime) {
         panic!(rt; "no file")
     };
     for place in 0..end {
-        let number = places.iter().filter(|begin| **begin <= place).count().saturating_sub(1);
+        let number = places
+            .iter()
+            .filter(|begin| **begin <= place)
+            .count()
+            .saturating_sub(1);
         let begin = places.get(number).copied().unwrap_or(0);
         for value in VALUES {
             assert!(rt; is_found(alloc, &bytes, place, value, (number, begin)) == Ok(true));
