@@ -7,14 +7,23 @@
 FILE has replies as wfserve prints them; each history of that workflow among them is replayed. Status 0
 where the code agrees with all of them, 1 where it does not, 2 where there is none or it can't be read.
 MODULE has its workflows in WORKFLOWS and its activities in ACTIVITIES.
+
+`work` ends with 0 where it was told to stop, once what it has in hand is done; with 2 where what it was given
+is wrong, as a queue that the service doesn't have; and with 1 where something else kept it from going on.
+`start` says the run. Where the workflow was started before it says so, and ends with 1 if that was another
+type or another input. 2 where nothing was started.
 """
 
 import argparse
 import importlib
+import inspect
 import json
+import logging
 import pathlib
+import signal
 import sys
 import threading
+import traceback
 
 from http_calls import HttpService
 from wfserve import Refused, Unavailable
@@ -23,10 +32,12 @@ from .definitions import type_of
 from .errors import NonDeterminism
 from .replay import check
 from .values import input_of
-from .worker import Worker
+from .worker import Worker, run_together
 
-# How many milliseconds a worker's poll waits for a task.
-WAIT = 10_000
+# How many milliseconds a worker's poll waits for a task. So long it may take to stop.
+WAIT = 5_000
+# For how many seconds a start is tried.
+START_PATIENCE = 3.0
 
 
 def histories(lines, workflow_type):
@@ -52,8 +63,7 @@ def replay_one(function, reply):
 
 def replay(file, named):
     """How many histories agree. Raises NonDeterminism at the first that does not."""
-    module, _, name = named.partition(":")
-    function = getattr(importlib.import_module(module), name)
+    function = workflow_named(named)
     count = 0
     with open(file, encoding="utf-8") as lines:
         for reply in histories(lines, type_of(function)):
@@ -76,27 +86,63 @@ def checked(said):
 
 
 def work(said):
-    """`work`: threads for workflow tasks and threads for activities, until the process is stopped."""
+    """`work`: workers for workflows and activities, until the process is told to stop. The status."""
     module = importlib.import_module(said.module)
     service, stop = HttpService(said.url, token_of(said), wait=WAIT), threading.Event()
-    workers = [Worker(service, said.queue, workflows=module.WORKFLOWS) for _ in range(said.threads)]
-    workers += [Worker(service, said.queue, activities=module.ACTIVITIES) for _ in range(said.threads)]
-    threads = [threading.Thread(target=worker.run, args=(stop,), daemon=True) for worker in workers]
-    for thread in threads:
-        thread.start()
+    workers = [
+        Worker(service, said.queue, module.WORKFLOWS, module.ACTIVITIES) for _ in range(said.threads)
+    ]
+    for number in (signal.SIGINT, signal.SIGTERM):
+        signal.signal(number, lambda *_: stop.set())
     print(f"working on {said.queue} of {said.url}", flush=True)
-    for thread in threads:
-        thread.join()
+    try:
+        run_together([lambda worker=worker: worker.run(stop) for worker in workers], stop)
+    except (Refused, Unavailable):
+        raise
+    except Exception:
+        traceback.print_exc()
+        return 1
     return 0
 
 
 def start(said):
-    """`start`: says the workflow's run."""
-    _, _, name = said.workflow.partition(":")
-    with HttpService(said.url, token_of(said)) as service:
-        arguments = [json.loads(argument) for argument in said.argument]
-        print(service.start(said.id, name, said.queue, input=input_of(arguments), request_id=said.id))
-    return 0
+    """`start`: says the workflow's run, and whether it was there. The status."""
+    name, text = type_of(workflow_named(said.workflow)), input_of([value_of_word(word) for word in said.argument])
+    with HttpService(said.url, token_of(said), patience=START_PATIENCE) as service:
+        reply = service.call(
+            "start", workflow_id=said.id, workflow_type=name, task_queue=said.queue, input=text, request_id=said.id
+        )
+        print(reply["run"])
+        if reply["ok"] != "existing":
+            return 0
+        return say_existing(said.id, name, text, service.history(said.id, reply["run"])[0]["attrs"])
+
+
+def say_existing(workflow_id, name, text, began):
+    """Says of a workflow that was there how it was started. 1 where that was in another way."""
+    as_asked = (began["workflow_type"], began["input"]) == (name, text)
+    how = "" if as_asked else f", as {began['workflow_type']} with the input {began['input'] or 'of none'}"
+    print(f"workflows: {workflow_id} was started before{how}: nothing was started now", file=sys.stderr)
+    return 0 if as_asked else 1
+
+
+def workflow_named(text):
+    """The workflow of MODULE:WORKFLOW."""
+    module, _, name = text.partition(":")
+    found = vars(importlib.import_module(module))
+    if not getattr(found.get(name), "is_workflow", False):
+        known = [it for it in found if inspect.isfunction(found[it]) and hasattr(found[it], "is_workflow")]
+        raise ValueError(f"{module} has no workflow {name}; it has {', '.join(known) or 'none'}")
+    return found[name]
+
+
+def value_of_word(word):
+    """The value of an argument, which is JSON."""
+    try:
+        return json.loads(word)
+    except ValueError:
+        quoted = "'" + json.dumps(word) + "'"
+        raise ValueError(f"the argument {word} is no JSON; a text has quotes of its own: {quoted}") from None
 
 
 def token_of(said):
@@ -112,6 +158,13 @@ def named(text):
     return text
 
 
+def threads_of(text):
+    """A number of threads."""
+    if not text.isdigit() or not 1 <= int(text) <= 1_000:
+        raise argparse.ArgumentTypeError(f"{text} is no number from 1 to 1,000")
+    return int(text)
+
+
 def words_of(words):
     parser = argparse.ArgumentParser(prog="python3 -m workflows")
     commands = parser.add_subparsers(required=True)
@@ -122,7 +175,7 @@ def words_of(words):
     working = commands.add_parser("work", help="work for a server")
     working.add_argument("url", help="the server's address, as http://127.0.0.1:7233")
     working.add_argument("module", help="a module with WORKFLOWS and ACTIVITIES")
-    working.add_argument("--threads", type=int, default=2, help="for workflow tasks, and as many for activities")
+    working.add_argument("--threads", type=threads_of, default=2, help="for workflow tasks, and as many for activities")
     working.set_defaults(does=work)
     starting = commands.add_parser("start", help="start a workflow")
     starting.add_argument("url", help="the server's address, as http://127.0.0.1:7233")
@@ -141,10 +194,11 @@ def main(words):
     sys.path.insert(0, "")
     try:
         return said.does(said)
-    except (OSError, ValueError, ImportError, AttributeError, KeyError, Refused, Unavailable) as fault:
+    except (OSError, ValueError, TypeError, ImportError, AttributeError, KeyError, Refused, Unavailable) as fault:
         print(f"workflows: {type(fault).__name__}: {fault}", file=sys.stderr)
         return 2
 
 
 if __name__ == "__main__":
+    logging.basicConfig(level=logging.WARNING, format="%(asctime)s %(message)s")
     sys.exit(main(sys.argv[1:]))

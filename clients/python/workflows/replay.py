@@ -1,17 +1,25 @@
 """Runs a workflow's code over a history: what the history has is answered from it, and what comes
-next becomes the commands. Code that asks for something else than the history has is found."""
+next becomes the commands. Code that asks for something else than the history has is found.
+
+All that a workflow task brought is handed to the code before it goes on: signals, and what ended, in the
+order of the history; and a request to cancel last. Earlier versions of this client let the code go on
+behind each event, and waited for no child that was cancelled. Which rules a run has is in its history: a
+run goes on by these older rules if its completed tasks agree with them, and not with the present ones.
+"""
 
 from __future__ import annotations
 
-from typing import Callable, Dict, List, Optional, Tuple
+from typing import Any, Callable, Dict, List, Optional, Set, Tuple
 
 from .commands import Command, has, match
 from .context import Context
 from .errors import Cancelled, ContinueAsNew, Failure, NonDeterminism
 from .history import Turn, turns
+from .limits import check_command
 from .loop import Loop, Task
-from .operations import Child, Inbox, Operation
-from .values import arguments_of, clipped, text_of, value_of
+from .operations import Child, Operation
+from .signals import Inbox
+from .values import arguments_of, clipped, input_of, input_with_signals, parts_of_input, text_of, value_of
 
 # By which attribute an event names the one that it settles.
 SETTLES = {
@@ -36,10 +44,14 @@ SETTLES = {
 class Replay:
     """One run of the code over one history."""
 
-    def __init__(self, function: Callable, events: List[dict], run: str):
-        self.loop = Loop()
+    def __init__(self, function: Callable, events: List[dict], run: str, older: bool = False):
+        self.loop = Loop(older)
         self.inbox = Inbox(self.loop)
         self.operations: Dict[Tuple[str, int], Operation] = {}
+        # What was cancelled, and has to end before the run may close.
+        self.ending: Set[Operation] = set()
+        # The signals that nobody had taken when the run closed.
+        self.left: List[Tuple[str, Any]] = []
         self.commands: List[Command] = []
         self.turn: Optional[Turn] = None
         self.cancel_requested = False
@@ -47,7 +59,7 @@ class Replay:
         self._events = events
         self._context = Context(self, events[0], run)
         self._main: Optional[Task] = None
-        self._closed = False
+        self.has_closed = False
         self._disagreement: Optional[NonDeterminism] = None
 
     def run(self) -> List[Command]:
@@ -59,9 +71,22 @@ class Replay:
         finally:
             self.loop.close()
 
+    @property
+    def is_in_the_past(self) -> bool:
+        """Whether the turn that it is at was completed: what goes wrong there is a disagreement."""
+        return self.turn is not None and self.turn.completed is not None
+
+    def unheard(self) -> List[Task]:
+        """The coroutines that failed, and that nobody has waited for."""
+        return [
+            task for task in self.loop.tasks
+            if task is not self._main and isinstance(task.fault, Exception) and not task.heard
+        ]
+
     # What the code asks for.
 
     def ask(self, command: Command) -> None:
+        check_command(command.type, command.members)
         self.commands.append(command)
 
     def take_back(self, command: Command) -> None:
@@ -92,19 +117,38 @@ class Replay:
 
     def _take(self, turn: Turn) -> None:
         self.turn, self.commands = turn, []
-        for event in turn.news:
-            self._learn(event)
-            self.loop.run()
+        if self.loop.older:
+            self._take_one_by_one(turn.news)
+        else:
+            self._take_all(turn.news)
+        if self.loop.guard.fault is not None:
+            raise self.loop.guard.fault
         self._close()
         if self._disagreement is not None:
             raise self._disagreement
         if turn.completed is not None:
             match(self.commands, turn.recorded, turn.completed)
 
+    def _take_all(self, news: List[dict]) -> None:
+        """Hands the code what came, and then the request to cancel: what the history has comes first."""
+        cancels = [event for event in news if event["type"] == "WorkflowExecutionCancelRequested"]
+        for event in news:
+            if event not in cancels:
+                self._learn(event)
+        self.loop.run()
+        for event in cancels:
+            self._learn(event)
+        self.loop.run()
+
+    def _take_one_by_one(self, news: List[dict]) -> None:
+        for event in news:
+            self._learn(event)
+            self.loop.run()
+
     def _learn(self, event: dict) -> None:
         kind, attrs = event["type"], event["attrs"]
         if kind == "WorkflowExecutionStarted":
-            self._main = self.loop.task(self._function(self._context, *arguments_of(attrs["input"])))
+            self._begin(attrs)
         elif kind == "WorkflowExecutionSignaled":
             self.inbox.deliver(attrs["name"], value_of(attrs["input"]))
         elif kind == "WorkflowExecutionCancelRequested":
@@ -117,6 +161,14 @@ class Replay:
         elif kind in SETTLES:
             self._settle(event, SETTLES[kind])
 
+    def _begin(self, attrs: dict) -> None:
+        arguments, signals = arguments_of(attrs["input"]), []
+        if attrs.get("continued_from"):
+            arguments, signals = parts_of_input(attrs["input"])
+        for name, value in signals:
+            self.inbox.deliver(name, value)
+        self._main = self.loop.task(self._function(self._context, *arguments))
+
     def _settle(self, event: dict, key: str) -> None:
         """What a request to cancel a child came to is nobody's."""
         operation = self.operations.get((key, event["attrs"][key]))
@@ -125,14 +177,15 @@ class Replay:
 
     def _close(self) -> None:
         """How the workflow ends, where its code has come to its end."""
-        if not self._main.done or self._closed:
+        if not self._main.done or self.has_closed or self.ending:
             return
-        self._closed = True
+        self.has_closed = True
+        self.left = self.inbox.left()
         fault = self._main.fault
         if fault is None:
             self.ask(Command("CompleteWorkflowExecution", {"result": text_of(self._main.value)}))
         elif isinstance(fault, ContinueAsNew):
-            self.ask(Command("ContinueAsNewWorkflowExecution", fault.members))
+            self.ask(Command("ContinueAsNewWorkflowExecution", self._continued(fault)))
         elif isinstance(fault, Cancelled) and self.cancel_requested:
             self.ask(Command("CancelWorkflowExecution", {"details": ""}))
         elif isinstance(fault, (Failure, Cancelled)):
@@ -141,9 +194,34 @@ class Replay:
             raise fault
 
 
+    def _continued(self, asked: ContinueAsNew) -> dict:
+        """The members of the command to continue as new."""
+        text = input_of(asked.arguments)
+        if asked.with_signals and self.left:
+            text, self.left = input_with_signals(asked.arguments, self.left), []
+        return {**({"input": text} if text else {}), **asked.members}
+
+
+def replayed(function: Callable, events: List[dict], run: str) -> Tuple[Replay, List[Command]]:
+    """A replay by the rules that the history agrees with, and what the code asks for next."""
+    replay = Replay(function, events, run)
+    try:
+        return replay, replay.run()
+    except Exception:
+        if not replay.is_in_the_past:
+            raise
+        older = Replay(function, events, run, older=True)
+        try:
+            return older, older.run()
+        except Exception:
+            if not older.is_in_the_past:
+                raise
+        raise
+
+
 def commands_of(function: Callable, events: List[dict], run: str) -> List[Command]:
     """What the code of a workflow asks for next, by its history."""
-    return Replay(function, events, run).run()
+    return replayed(function, events, run)[1]
 
 
 def check(function: Callable, events: List[dict], run: str) -> None:
