@@ -37,8 +37,8 @@ def entry(what: str, order: str, **more) -> None:
     """Writes an effect, in one write: it is in the ledger or it is not."""
     made = attempt()
     line = {
-        "what": what, "order": order, "pid": os.getpid(), "run": made.run, "activity": made.activity_id,
-        "attempt": made.number, **more,
+        "what": what, "order": order, "worker": [os.getpid(), threading.get_ident()], "run": made.run,
+        "activity": made.activity_id, "attempt": made.number, **more,
     }
     ledger = os.open(LEDGER, os.O_WRONLY | os.O_APPEND | os.O_CREAT, 0o600)
     try:
@@ -65,7 +65,7 @@ def charge(order: str, failures: int, declined: bool) -> str:
     if declined:
         raise CardDeclined("the card was declined")
     entry("charge", order)
-    time.sleep(0.05)
+    time.sleep(0.25)
     return f"receipt of {order}"
 
 

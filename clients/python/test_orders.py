@@ -2,7 +2,8 @@
 program are killed. Every order ends right: no signal is lost, no charge is made twice but by a worker that was
 killed within it, and what was not shipped is refunded.
 
-WFSERVE_SEED draws others; WFSERVE_ORDERS and WFSERVE_KILLS are how many, 200 and 50 without them.
+WFSERVE_SEED draws others. WFSERVE_KILLS is how many kills there are, 50 without it; more of them are made in
+rounds of 50, each over WFSERVE_ORDERS orders, 200 without it.
 """
 
 import collections
@@ -27,6 +28,7 @@ from workflows import input_of, text_of
 SEED = int(os.environ.get("WFSERVE_SEED", random.randrange(1 << 32)))
 ORDERS = int(os.environ.get("WFSERVE_ORDERS", 200))
 KILLS = int(os.environ.get("WFSERVE_KILLS", 50))
+ROUNDS = max(KILLS // 50, 1)
 WORKERS, CLIENTS = 3, 8
 # Seconds for which the orders may go on behind the last kill.
 LATEST = 150
@@ -112,7 +114,7 @@ class Killer:
         return subprocess.Popen(command, stdout=self._said, stderr=self._said)
 
     def run(self):
-        for _ in range(KILLS):
+        for _ in range(KILLS // ROUNDS):
             time.sleep(self._draw.uniform(0.05, 0.8))
             self._kill(self._draw.choices(("worker", "server", "program"), (4, 1, 1))[0])
 
@@ -164,28 +166,33 @@ def children_of(pid):
 @needs_program
 @unittest.skipUnless(pathlib.Path("/proc/self/stat").exists(), "no /proc, which says what the server's program is")
 class UnderKills(unittest.TestCase):
-    def setUp(self):
-        folder = memory_folder()
-        self.addCleanup(folder.cleanup)
-        self.folder = pathlib.Path(folder.name)
-
     def test_every_order_ends_right(self):
         print(f"\norders under kills: seed {SEED}", file=sys.stderr)
-        begun = time.monotonic()
-        server = Server(str(BUILT), self.folder / "log", "--shards", "2")
-        self.addCleanup(lambda: server.process.poll() is None and server.stop())
-        clients, killer = Orders(server, SEED), Killer(server, self.folder, SEED)
-        self.addCleanup(killer.stop)
-        killing = threading.Thread(target=killer.run)
-        killing.start()
-        clients.run()
-        killing.join()
-        self.wait(clients)
-        self.look(clients, killer)
+        self.told, begun = collections.Counter(), time.monotonic()
+        for number in range(ROUNDS):
+            with memory_folder() as folder:
+                self.round(pathlib.Path(folder), f"{SEED} {number}")
         print(
-            f"orders under kills: {ORDERS} orders, kills {dict(killer.kills)}, {self.told}, {time.monotonic() - begun:.0f} s",
-            file=sys.stderr,
+            f"orders under kills: {ROUNDS * ORDERS} orders, {dict(self.told)}, {time.monotonic() - begun:.0f} s", file=sys.stderr
         )
+
+    def round(self, folder, seed):
+        server = Server(str(BUILT), folder / "log", "--shards", "2")
+        try:
+            clients, killer = Orders(server, seed), Killer(server, folder, seed)
+            try:
+                killing = threading.Thread(target=killer.run)
+                killing.start()
+                clients.run()
+                killing.join()
+                self.wait(clients)
+            finally:
+                killer.stop()
+            self.entries = [json.loads(line) for line in (folder / "ledger").read_text().splitlines()]
+            self.look(clients, killer)
+        finally:
+            if server.process.poll() is None:
+                server.stop()
 
     def wait(self, clients):
         """Waits until all orders have closed."""
@@ -201,15 +208,14 @@ class UnderKills(unittest.TestCase):
 
     def look(self, clients, killer):
         """What the orders came to, and what the ledger has of them."""
-        self.entries = [json.loads(line) for line in (self.folder / "ledger").read_text().splitlines()]
-        self.assertEqual(sum(killer.kills.values()), KILLS)
-        ends = collections.Counter()
+        self.assertEqual(sum(killer.kills.values()), KILLS // ROUNDS)
         for name, plan in clients.plans.items():
             with self.subTest(name, plan=plan):
-                ends[self.look_at(clients.client, name, plan)] += 1
-        doubled = self.look_at_charges(killer.killed)
+                self.told[self.look_at(clients.client, name, plan)] += 1
+        self.told["charges made again after a kill"] += self.look_at_charges(killer.killed)
         self.look_at_attempts()
-        self.told = f"ends {dict(ends)}, {len(self.entries)} effects, {doubled} charges made twice by workers that were killed"
+        self.told["effects"] += len(self.entries)
+        self.told.update({f"kills of {kind}": count for kind, count in killer.kills.items()})
 
     def made(self, what, name):
         return sum(entry["what"] == what and entry["order"] == name for entry in self.entries)
@@ -272,16 +278,18 @@ class UnderKills(unittest.TestCase):
                 return
 
     def look_at_charges(self, killed):
-        """How many charges were made again, each of which was made first by a worker that was killed."""
-        doubled, by_order = 0, collections.defaultdict(list)
+        """How many charges were made again. Who made one of these before was killed within it: it did nothing more."""
+        last, by_order = {}, collections.defaultdict(list)
         for entry in self.entries:
+            last[tuple(entry["worker"])] = entry
             if entry["what"] == "charge":
                 by_order[entry["order"]].append(entry)
-        for name, charges in by_order.items():
-            for earlier in charges[:-1]:
-                doubled += 1
-                self.assertIn(earlier["pid"], killed, f"{name} was charged twice by a worker that lived: {charges}")
-        return doubled
+        earlier = [charge for charges in by_order.values() for charge in charges[:-1]]
+        for charge in earlier:
+            pid, thread = charge["worker"]
+            self.assertIn(pid, killed, f"made twice by a worker that lived: {charge}")
+            self.assertEqual(last[pid, thread], charge, "made twice, and its worker had gone on")
+        return len(earlier)
 
     def look_at_attempts(self):
         """No attempt was handed to two workers, or twice to one."""

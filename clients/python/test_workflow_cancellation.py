@@ -145,6 +145,17 @@ async def told_once(ctx):
 
 
 @workflow
+async def goes_on(ctx, shield):
+    """Goes on in a new run for each charge. A cancellation that comes with the charge is not lost with the run."""
+    with ctx.scope(shield=shield):
+        receipt = await ctx.activity(charge, start_to_close=seconds(5))
+    try:
+        ctx.continue_as_new(shield)
+    except Cancelled:
+        return f"refunded {receipt}"
+
+
+@workflow
 async def words(ctx):
     """A word that was asked for in the task of the cancellation is not sent."""
     await ctx.signal("go")
@@ -158,7 +169,7 @@ async def words(ctx):
 class Cancellations(WithAService):
     WORKFLOWS = [
         paid, waits, abandons, child, parent, parent_of_two, parent_in_a_hurry, parent_that_does_not_wait, shields, scoped,
-        told_once, words,
+        told_once, words, goes_on,
     ]
     ACTIVITIES = [charge, undo, interrupted]
 
@@ -257,6 +268,19 @@ class Cancellations(WithAService):
         MEANWHILE[:] = [ring, self.decide, lambda: self.service.request_cancel("w"), self.decide]
         self.start(told_once)
         self.assertEqual(self.ended(), ("Completed", ["cancelled"]))
+
+    def test_a_run_that_goes_on_in_a_new_one_loses_no_cancellation(self):
+        for shield in (False, True):
+            with self.subTest(shield=shield):
+                self.setUp()
+                self.start(goes_on, shield)
+                self.decide()
+                task = self.service.poll_activity_task()
+                self.service.request_cancel("w")
+                if shield:
+                    self.decide()
+                self.service.complete_activity(task, '"receipt 4711"')
+                self.assertEqual(self.ended(), ("Completed", "refunded receipt 4711"))
 
     def test_a_word_that_was_not_sent_is_taken_back(self):
         self.start(words)

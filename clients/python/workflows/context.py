@@ -8,7 +8,7 @@ from typing import TYPE_CHECKING, Any, Callable, Coroutine, List, NoReturn, Opti
 
 from .commands import Command
 from .definitions import Named, type_of
-from .errors import ContinueAsNew, ReplayOver
+from .errors import Cancelled, ContinueAsNew, ReplayOver
 from .loop import Future, Task
 from .operations import Activity, Cancellation, Child, Timer, Word
 from .scopes import Scope
@@ -147,7 +147,10 @@ class Context:
         """Ends this run, and begins the next one of this workflow with a history of its own.
 
         `with_signals` hands on the signals that nobody took; they and the arguments are one input, which
-        has its limit. Without it a worker's log says how many were left."""
+        has its limit. Without it a worker's log says how many were left. Raises Cancelled in a run that was
+        asked to cancel, where the code has not learned of that yet: the next run would not be asked."""
+        if self._asking().learns_of_cancellation():
+            raise Cancelled()
         raise ContinueAsNew(
             arguments, given(task_queue=queue, workflow_type=type_of(workflow) if workflow else None), with_signals,
         )

@@ -201,6 +201,20 @@ class Task(Future):
         """Whether a cancellation of a scope reaches the code where it is: no shield is between them."""
         return not any(inner.shield for inner in self._within(scope))
 
+    def learn_at_once(self) -> bool:
+        """Whether it was cancelled as a whole, and its code has not learned of that: it learns now, shielded or not."""
+        if None not in self._owed:
+            return False
+        self.take_as_told()
+        return True
+
+    def take_as_told(self) -> None:
+        """Its code has learned that it is cancelled as a whole."""
+        self._owed = [owed for owed in self._owed if owed is not None]
+        self._told = True
+        for scope in self.scopes:
+            scope.passes_on = True
+
     def _learn(self) -> None:
         """Its code learns of the cancellations that reach it."""
         for owed in [owed for owed in self._owed if self._reaches(owed)]:

@@ -55,6 +55,8 @@ class Replay:
         self.commands: List[Command] = []
         self.turn: Optional[Turn] = None
         self.cancel_requested = False
+        # Whether this turn brought a request to cancel that the code has not been handed.
+        self._cancel_comes = False
         self._function = function
         self._events = events
         self._context = Context(self, events[0], run)
@@ -82,6 +84,16 @@ class Replay:
             task for task in self.loop.tasks
             if task is not self._main and isinstance(task.fault, Exception) and not task.heard
         ]
+
+    def learns_of_cancellation(self) -> bool:
+        """For code that ends this run and goes on in a new one: whether it was asked to cancel, and doesn't know it.
+
+        The new run would not be asked. So the code learns of it now, also of a request that this task brought."""
+        if self._cancel_comes:
+            self._cancel_comes, self.cancel_requested = False, True
+            self._main.take_as_told()
+            return True
+        return self._main.learn_at_once()
 
     # What the code asks for.
 
@@ -132,6 +144,7 @@ class Replay:
     def _take_all(self, news: List[dict]) -> None:
         """Hands the code what came, and then the request to cancel: what the history has comes first."""
         cancels = [event for event in news if event["type"] == "WorkflowExecutionCancelRequested"]
+        self._cancel_comes = bool(cancels)
         for event in news:
             if event not in cancels:
                 self._learn(event)
@@ -153,7 +166,9 @@ class Replay:
             self.inbox.deliver(attrs["name"], value_of(attrs["input"]))
         elif kind == "WorkflowExecutionCancelRequested":
             self.cancel_requested = True
-            self._main.cancel()
+            if self._cancel_comes or self.loop.older:
+                self._cancel_comes = False
+                self._main.cancel()
         elif kind == "ChildWorkflowExecutionStarted":
             child = self.operations.get(("initiated", attrs["initiated"]))
             if isinstance(child, Child):
