@@ -172,6 +172,11 @@ def main(url: str, ledger: str) -> None:
     workers = [threading.Thread(target=Worker(service, "main", WORKFLOWS, ACTIVITIES).run, args=(stop,)) for _ in range(WORKERS)]
     for worker in workers:
         worker.start()
+    # It ends with who started it.
+    parent = os.getppid()
+    while not stop.wait(0.5):
+        if os.getppid() != parent:
+            stop.set()
     for worker in workers:
         worker.join()
 

@@ -156,6 +156,18 @@ async def goes_on(ctx, shield):
 
 
 @workflow
+async def goes_on_behind_a_child(ctx, gone_on=False):
+    """It has come to its end, and its run waits for the end of the child that it gave up."""
+    if not gone_on:
+        await ctx.first(ctx.child(child, id="child"), ctx.timer(seconds(1)))
+        ctx.continue_as_new(True)
+    try:
+        await ctx.signal("never")
+    except Cancelled:
+        return "cancelled in the next run"
+
+
+@workflow
 async def words(ctx):
     """A word that was asked for in the task of the cancellation is not sent."""
     await ctx.signal("go")
@@ -169,7 +181,7 @@ async def words(ctx):
 class Cancellations(WithAService):
     WORKFLOWS = [
         paid, waits, abandons, child, parent, parent_of_two, parent_in_a_hurry, parent_that_does_not_wait, shields, scoped,
-        told_once, words, goes_on,
+        told_once, words, goes_on, goes_on_behind_a_child,
     ]
     ACTIVITIES = [charge, undo, interrupted]
 
@@ -281,6 +293,17 @@ class Cancellations(WithAService):
                     self.decide()
                 self.service.complete_activity(task, '"receipt 4711"')
                 self.assertEqual(self.ended(), ("Completed", "refunded receipt 4711"))
+
+    def test_the_next_run_is_asked_where_the_code_of_this_one_has_ended(self):
+        self.start(goes_on_behind_a_child)
+        self.idle()
+        self.clock.now += 1_000
+        self.decide()
+        self.service.request_cancel("w")
+        self.decide()
+        self.assertEqual(DONE, [])
+        self.assertEqual(self.ended(), ("Completed", "cancelled in the next run"))
+        self.assertEqual(DONE, ["undo child"])
 
     def test_a_word_that_was_not_sent_is_taken_back(self):
         self.start(words)

@@ -92,6 +92,18 @@ async def parts(ctx, count):
     return await ctx.activity(in_parts, count, start_to_close=seconds(50), retry=Retry(initial=10, attempts=2))
 
 
+def keyed():
+    CALLED[attempt().key] += 1
+    if attempt().number == 1:
+        raise ConnectionError("again")
+
+
+@workflow
+async def keys(ctx):
+    for _ in range(2):
+        await ctx.activity(keyed, start_to_close=seconds(5), retry=Retry(initial=10))
+
+
 @workflow
 async def five(ctx):
     for _ in range(5):
@@ -123,9 +135,10 @@ class Away(Calls):
 
 @needs_program
 class Results(WithAService):
-    WORKFLOWS = [one, parts, unheard]
+    WORKFLOWS = [one, parts, unheard, keys]
     ACTIVITIES = [
-        charge, in_parts, dated, too_long, gives_a_coroutine, ends_the_process, says_it_was_cancelled, asks_wrongly, long_details,
+        charge, keyed, in_parts, dated, too_long, gives_a_coroutine, ends_the_process, says_it_was_cancelled, asks_wrongly,
+        long_details,
     ]
 
     def setUp(self):
@@ -195,6 +208,12 @@ class Results(WithAService):
                 self.start(one, name)
                 status, (error_type, reason, _) = self.ended()
                 self.assertEqual((status, error_type, reason), ("Completed", kind, "MaximumAttemptsReached"))
+
+    def test_all_attempts_of_an_activity_have_one_key_and_no_other_has_it(self):
+        for id in ("w", "v"):
+            self.start(keys, id=id)
+            self.assertEqual(self.ended(id)[0], "Completed")
+        self.assertEqual(sorted(CALLED.values()), [2, 2, 2, 2])
 
     def test_a_coroutine_that_failed_and_that_nobody_waited_for_is_told(self):
         self.start(unheard)
@@ -266,13 +285,18 @@ async def bad_retry(ctx):
     await ctx.activity(charge, start_to_close=seconds(5), retry=Retry(initial=5_000, maximum=100))
 
 
+@workflow
+async def no_policy(ctx):
+    await ctx.child(five, parent_close="Abandoned")
+
+
 @needs_program
 class Stuck(WithAService):
     """A run whose code is at fault is tried again with growing pauses, whatever it says and whoever tries it."""
 
     WORKFLOWS = [
         too_long_an_input, half_a_millisecond, another_each_time, no_timeout, no_json, no_end, too_long_a_result,
-        twice_the_same_id, bad_retry,
+        twice_the_same_id, bad_retry, no_policy,
     ]
     ACTIVITIES = [charge, takes]
     SAID = {
@@ -285,6 +309,7 @@ class Stuck(WithAService):
         "too_long_a_result": "ValueError: result of CompleteWorkflowExecution has 5002 bytes",
         "bad_retry": "ValueError: the maximum of retry of ScheduleActivityTask charge is less than its initial wait",
         "twice_the_same_id": "",
+        "no_policy": "ValueError: parent_close of StartChildWorkflowExecution five is one of Terminate, RequestCancel, Abandon",
     }
 
     def failed(self):
@@ -409,6 +434,7 @@ class Running(unittest.TestCase):
         thread.join(10)
         self.assertFalse(thread.is_alive())
         self.assertEqual(self.faults[0].name, "UnknownTaskQueue")
+        self.assertFalse(self.stop.is_set(), "others were told to stop")
 
     def test_a_token_that_is_wrong_ends_the_worker(self):
         class Closed(Calls):

@@ -31,6 +31,11 @@ class WallClock(Expecting):
     def now(self) -> int:
         return time.time_ns() // 1_000_000
 
+    def expect(self, moment: int) -> None:
+        """Something may be due then. Nobody may ever jump, so what is over is forgotten here too."""
+        self._next(self.now)
+        super().expect(moment)
+
     def jump(self, most: int = 1_000) -> None:
         """Sleeps until the next expected moment, and at most so long."""
         now = self.now

@@ -13,6 +13,10 @@ IDS = {"activity_id", "timer_id", "workflow_id", "task_queue"}
 DURATIONS = {
     "duration", "schedule_to_start", "start_to_close", "schedule_to_close", "heartbeat", "run_timeout", "task_timeout",
 }
+POLICIES = {
+    "parent_close": ("Terminate", "RequestCancel", "Abandon"),
+    "reuse": ("AllowDuplicate", "AllowDuplicateFailedOnly", "RejectDuplicate"),
+}
 # The least and the greatest number of each member of a retry policy.
 RETRY_RANGES = {
     "initial": (1, DURATION_LIMIT), "coefficient": (100, 100_000), "maximum": (0, DURATION_LIMIT), "attempts": (0, 2**32 - 1),
@@ -34,6 +38,9 @@ def check_member(about: str, name: str, value: Any) -> None:
         check_number(about, value, 0, DURATION_LIMIT, " of milliseconds, as seconds(1.5) gives one")
     elif name == "retry":
         check_retry(about, value)
+    elif name in POLICIES:
+        if value not in POLICIES[name]:
+            raise ValueError(f"{about} is one of {', '.join(POLICIES[name])}, and not {value!r}")
     elif name == "scheduled":
         check_number(about, value, 1, 2**64 - 1)
     elif name in IDS:

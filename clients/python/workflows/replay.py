@@ -57,6 +57,8 @@ class Replay:
         self.cancel_requested = False
         # Whether this turn brought a request to cancel that the code has not been handed.
         self._cancel_comes = False
+        # Whether it was asked to cancel once its code had come to its end.
+        self._cancel_came_late = False
         self._function = function
         self._events = events
         self._context = Context(self, events[0], run)
@@ -168,6 +170,7 @@ class Replay:
             self.cancel_requested = True
             if self._cancel_comes or self.loop.older:
                 self._cancel_comes = False
+                self._cancel_came_late = self._main.done
                 self._main.cancel()
         elif kind == "ChildWorkflowExecutionStarted":
             child = self.operations.get(("initiated", attrs["initiated"]))
@@ -200,6 +203,9 @@ class Replay:
         if fault is None:
             self.ask(Command("CompleteWorkflowExecution", {"result": text_of(self._main.value)}))
         elif isinstance(fault, ContinueAsNew):
+            if self._cancel_came_late and not self.loop.older:
+                # Its code waited for the end of a child alone. The next run is asked in its place.
+                self.ask(Command("RequestCancelExternalWorkflowExecution", {"workflow_id": self._context.workflow_id}))
             self.ask(Command("ContinueAsNewWorkflowExecution", self._continued(fault)))
         elif isinstance(fault, Cancelled) and self.cancel_requested:
             self.ask(Command("CancelWorkflowExecution", {"details": ""}))
@@ -207,7 +213,6 @@ class Replay:
             self.ask(Command("FailWorkflowExecution", {"message": clipped(str(fault) or "cancelled")}))
         else:
             raise fault
-
 
     def _continued(self, asked: ContinueAsNew) -> dict:
         """The members of the command to continue as new."""

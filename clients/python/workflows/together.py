@@ -20,7 +20,7 @@ class Several(Future):
 
     @property
     def told(self) -> bool:
-        return super().told or any(part.told for part in self._parts if isinstance(part, Task))
+        return super().told or self._cancelling and any(part.told for part in self._parts if isinstance(part, Task))
 
     def _look(self) -> None:
         if self.done:

@@ -5,7 +5,7 @@ from __future__ import annotations
 import logging
 import threading
 import traceback
-from typing import Callable, Dict, Iterable, List, Optional
+from typing import Callable, Dict, Iterable, List, Optional, Union
 
 from http_calls import POLLS
 from line_log import LogFull
@@ -71,12 +71,12 @@ class Worker:
         """Works until it is told to stop, on workflows and on activities at the same time.
 
         Where the service can't be reached, it tries again. A task in hand is finished first."""
-        self._reports.stop = stop
+        stop = self._reports.stop = ToldOrFailed(stop)
         kinds = [kind for kind, has in ((self._decide_one, self._workflows), (self._attempt_one, self._activities)) if has]
         loops = [lambda kind=kind: self._work_on(kind, stop, pause) for kind in kinds]
         run_together([*loops, lambda: self._tell_later(stop)], stop)
 
-    def _work_on(self, kind: Callable[[], bool], stop: threading.Event, pause: float) -> None:
+    def _work_on(self, kind: Callable[[], bool], stop: ToldOrFailed, pause: float) -> None:
         while not stop.is_set():
             try:
                 if not kind():
@@ -93,7 +93,7 @@ class Worker:
                 LOG.error("what the worker said was refused: %s", refused)
                 stop.wait(UNAVAILABLE_PAUSE)
 
-    def _tell_later(self, stop: threading.Event) -> None:
+    def _tell_later(self, stop: ToldOrFailed) -> None:
         while not stop.is_set():
             try:
                 if not self._later.tell_due():
@@ -194,7 +194,27 @@ class Worker:
         return True
 
 
-def run_together(loops: List[Callable[[], None]], stop: threading.Event) -> None:
+class ToldOrFailed:
+    """An event that is set where another one is, or where one of several loops has failed."""
+
+    def __init__(self, told: threading.Event):
+        self._told, self._failed = told, threading.Event()
+
+    def set(self) -> None:
+        self._failed.set()
+
+    def is_set(self) -> bool:
+        return self._told.is_set() or self._failed.is_set()
+
+    def wait(self, timeout: float) -> bool:
+        self._told.wait(timeout)
+        return self.is_set()
+
+
+Stop = Union[threading.Event, ToldOrFailed]
+
+
+def run_together(loops: List[Callable[[], None]], stop: Stop) -> None:
     """Runs loops on threads until all have ended. What one of them raises ends the others, and is raised."""
     faults: List[BaseException] = []
 
