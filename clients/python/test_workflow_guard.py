@@ -22,9 +22,10 @@ from unittest import mock
 
 from programs import needs_program
 from workflow_fixture import WithAService
-from workflows import seconds, watch, workflow
+from workflows import check, seconds, watch, workflow
 from workflows.errors import Blocked, ForbiddenCall
 from workflows.guard import Guard
+from workflows.replay import commands_of
 from workflows.watch import Watch
 
 FORBIDDEN = {
@@ -192,6 +193,38 @@ class InWorkflows(WithAService):
         self.start(made_once)
         status, (name, again, took) = self.ended()
         self.assertEqual((status, name == again, took), ("Completed", True, True))
+
+
+@workflow
+async def measured(ctx):
+    """It looks at the time, and decides nothing by it: as code that was there before there was a guard."""
+    time.time()
+    await ctx.activity(echo, 1, start_to_close=seconds(5))
+    return "done"
+
+
+class InThePast(unittest.TestCase):
+    """What the code did before was decided, and is held to the history; `check` says all that is not allowed."""
+
+    EVENTS = [
+        {"id": number, "at": 0, "type": kind, "attrs": attrs} for number, (kind, attrs) in enumerate((
+            ("WorkflowExecutionStarted", {"workflow_id": "w", "workflow_type": "measured", "task_queue": "main", "input": ""}),
+            ("WorkflowTaskScheduled", {}), ("WorkflowTaskStarted", {}), ("WorkflowTaskCompleted", {}),
+            ("ActivityTaskScheduled", {"activity_id": "1", "activity_type": "echo", "input": "[1]"}),
+            ("ActivityTaskStarted", {}), ("ActivityTaskCompleted", {"scheduled": 5, "result": "1"}),
+            ("WorkflowTaskScheduled", {}), ("WorkflowTaskStarted", {}),
+        ), 1)
+    ]
+
+    def test_runs_go_on_whose_code_has_passed_what_is_not_allowed(self):
+        commands = commands_of(measured, self.EVENTS, "r")
+        self.assertEqual([command.type for command in commands], ["CompleteWorkflowExecution"])
+        with self.assertRaises(ForbiddenCall):
+            commands_of(measured, self.EVENTS[:3], "r")
+
+    def test_a_check_against_histories_says_all_of_it(self):
+        with self.assertRaisesRegex(ForbiddenCall, "time.time in a workflow's code"):
+            check(measured, self.EVENTS, "r")
 
 
 class Watched(unittest.TestCase):

@@ -20,6 +20,7 @@ class Loop:
         self.older = older
         self.closed = False
         self.guard = Guard()
+        self.is_guarded = True
         # The task whose code runs now.
         self.current: Optional[Task] = None
         self.tasks: List[Task] = []
@@ -32,6 +33,13 @@ class Loop:
         """Runs until everything waits."""
         while self._ready:
             self._ready.popleft()()
+
+    def step(self, go_on: Callable[[], Any]) -> Any:
+        """Lets code go on, under the guard where it is told to be."""
+        if not self.is_guarded:
+            return go_on()
+        with self.guard:
+            return go_on()
 
     def task(self, coroutine: Coroutine) -> "Task":
         task = Task(self, coroutine)
@@ -147,12 +155,10 @@ class Task(Future):
         awaited, self._awaited = self._awaited, None
         if self._cancelled:
             self._cancelled, self._told = False, True
-            with self.loop.guard:
-                return self._coroutine.throw(Cancelled())
+            return self.loop.step(lambda: self._coroutine.throw(Cancelled()))
         if awaited is not None and awaited.told:
             self._learn()
-        with self.loop.guard:
-            return self._coroutine.send(None)
+        return self.loop.step(lambda: self._coroutine.send(None))
 
     def _await(self, awaited: Any) -> None:
         if not isinstance(awaited, Future):

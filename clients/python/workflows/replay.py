@@ -44,8 +44,10 @@ SETTLES = {
 class Replay:
     """One run of the code over one history."""
 
-    def __init__(self, function: Callable, events: List[dict], run: str, older: bool = False):
+    def __init__(self, function: Callable, events: List[dict], run: str, older: bool = False, guards_all: bool = False):
         self.loop = Loop(older)
+        # Code is guarded where it comes for the first time. What it did before has been decided, and is matched.
+        self._guards_all = guards_all
         self.inbox = Inbox(self.loop)
         self.operations: Dict[Tuple[str, int], Operation] = {}
         # What was cancelled, and has to end before the run may close.
@@ -100,7 +102,8 @@ class Replay:
     # What the code asks for.
 
     def ask(self, command: Command) -> None:
-        check_command(command.type, command.members)
+        if not self.is_in_the_past:
+            check_command(command.type, command.members)
         self.commands.append(command)
 
     def take_back(self, command: Command) -> None:
@@ -131,6 +134,7 @@ class Replay:
 
     def _take(self, turn: Turn) -> None:
         self.turn, self.commands = turn, []
+        self.loop.is_guarded = self._guards_all or not self.is_in_the_past
         if self.loop.older:
             self._take_one_by_one(turn.news)
         else:
@@ -222,15 +226,15 @@ class Replay:
         return {**({"input": text} if text else {}), **asked.members}
 
 
-def replayed(function: Callable, events: List[dict], run: str) -> Tuple[Replay, List[Command]]:
+def replayed(function: Callable, events: List[dict], run: str, guards_all: bool = False) -> Tuple[Replay, List[Command]]:
     """A replay by the rules that the history agrees with, and what the code asks for next."""
-    replay = Replay(function, events, run)
+    replay = Replay(function, events, run, guards_all=guards_all)
     try:
         return replay, replay.run()
     except Exception:
         if not replay.is_in_the_past:
             raise
-        older = Replay(function, events, run, older=True)
+        older = Replay(function, events, run, older=True, guards_all=guards_all)
         try:
             return older, older.run()
         except Exception:
@@ -245,5 +249,6 @@ def commands_of(function: Callable, events: List[dict], run: str) -> List[Comman
 
 
 def check(function: Callable, events: List[dict], run: str) -> None:
-    """Raises NonDeterminism where the code asks for something else than the history has."""
-    commands_of(function, events, run)
+    """Raises NonDeterminism where the code asks for something else than the history has, and ForbiddenCall where
+    it calls anywhere what is not the same twice."""
+    replayed(function, events, run, guards_all=True)
