@@ -1,12 +1,14 @@
 """python3 -m workflows: what `work` and `start` say, and with which status they end."""
 
 import contextlib
+import http.server
 import io
 import os
 import pathlib
 import signal
 import subprocess
 import sys
+import threading
 import time
 import unittest
 
@@ -63,8 +65,8 @@ class WithAServer(unittest.TestCase):
     def start(self, *arguments, workflow="examples.order:order"):
         return said("start", self.server.url, workflow, "order-17", *arguments)
 
-    def work(self, *words):
-        command = [sys.executable, "-m", "workflows", "work", self.server.url, *words]
+    def work(self, *words, url=None):
+        command = [sys.executable, "-m", "workflows", "work", url or self.server.url, *words]
         worker = subprocess.Popen(command, cwd=HERE, stdout=subprocess.PIPE, stderr=subprocess.PIPE, text=True)
         self.addCleanup(worker.stdout.close)
         self.addCleanup(worker.stderr.close)
@@ -104,6 +106,26 @@ class WithAServer(unittest.TestCase):
             _, err = worker.communicate(timeout=60)
             self.assertEqual(worker.returncode, 2, err)
             self.assertTrue(err.startswith("workflows: "), err)
+
+    def test_what_keeps_a_worker_from_going_on_is_shown_and_ends_with_1(self):
+        class Garbled(http.server.BaseHTTPRequestHandler):
+            def do_POST(self):
+                self.send_response(200)
+                self.end_headers()
+                self.wfile.write(b"this is no reply")
+
+            def log_message(self, *_):
+                pass
+
+        garbled = http.server.ThreadingHTTPServer(("127.0.0.1", 0), Garbled)
+        serving = threading.Thread(target=garbled.serve_forever, args=(0.02,), daemon=True)
+        serving.start()
+        self.addCleanup(garbled.server_close)
+        self.addCleanup(garbled.shutdown)
+        worker = self.work("examples.order", url=f"http://127.0.0.1:{garbled.server_port}")
+        _, err = worker.communicate(timeout=60)
+        self.assertEqual(worker.returncode, 1)
+        self.assertIn("JSONDecodeError", err)
 
     def test_a_worker_that_is_told_to_stop_ends_with_0(self):
         for number in (signal.SIGTERM, signal.SIGINT):

@@ -28,6 +28,17 @@ from workflows.guard import Guard
 from workflows.replay import commands_of
 from workflows.watch import Watch
 
+
+
+def zone(name):
+    """A time zone, where this Python and this machine have them."""
+    try:
+        import zoneinfo
+        return zoneinfo.ZoneInfo(name)
+    except (ImportError, LookupError):
+        return datetime.timezone.utc
+
+
 FORBIDDEN = {
     "time.time": (time.time, imported_time),
     "time.monotonic": (time.monotonic,),
@@ -55,6 +66,7 @@ ALLOWED = {
     "a moment that is given": lambda: imported(2026, 1, 1) + datetime.timedelta(days=1),
     "an id of a name": lambda: uuid.uuid5(uuid.NAMESPACE_URL, "order-17"),
     "a log": lambda: logging.getLogger("workflows.test").error("said"),
+    "a time zone": lambda: imported(2026, 1, 1, tzinfo=zone("Europe/Berlin")).isoformat(),
     "an import": lambda: __import__("colorsys"),
     "what is sorted, counted and joined": lambda: ",".join(sorted(map(str, collections.Counter("abc").values()))),
 }

@@ -24,6 +24,7 @@ import signal
 import sys
 import threading
 import traceback
+from typing import Any, Callable, Iterable, Iterator, List, Optional
 
 from http_calls import HttpService
 from wfserve import Refused, Unavailable
@@ -40,7 +41,7 @@ WAIT = 5_000
 START_PATIENCE = 3.0
 
 
-def histories(lines, workflow_type):
+def histories(lines: Iterable[str], workflow_type: str) -> Iterator[dict]:
     """The histories of a workflow type among replies."""
     for line in lines:
         reply = json.loads(line)
@@ -52,7 +53,7 @@ class CodeFails(Exception):
     """The code raised what no workflow may."""
 
 
-def replay_one(function, reply):
+def replay_one(function: Callable, reply: dict) -> None:
     try:
         check(function, reply["events"], reply["run"])
     except NonDeterminism:
@@ -61,7 +62,7 @@ def replay_one(function, reply):
         raise CodeFails(f"it raises {type(fault).__name__}: {fault}") from fault
 
 
-def replay(file, named):
+def replay(file: str, named: str) -> int:
     """How many histories agree. Raises NonDeterminism at the first that does not."""
     function = workflow_named(named)
     count = 0
@@ -72,7 +73,7 @@ def replay(file, named):
     return count
 
 
-def checked(said):
+def checked(said: argparse.Namespace) -> int:
     """`replay`: says whether the code agrees. The status."""
     try:
         count = replay(said.file, said.workflow)
@@ -85,7 +86,7 @@ def checked(said):
     return 0
 
 
-def work(said):
+def work(said: argparse.Namespace) -> int:
     """`work`: workers for workflows and activities, until the process is told to stop. The status."""
     module = importlib.import_module(said.module)
     service, stop = HttpService(said.url, token_of(said), wait=WAIT), threading.Event()
@@ -105,7 +106,7 @@ def work(said):
     return 0
 
 
-def start(said):
+def start(said: argparse.Namespace) -> int:
     """`start`: says the workflow's run, and whether it was there. The status."""
     name, text = type_of(workflow_named(said.workflow)), input_of([value_of_word(word) for word in said.argument])
     with HttpService(said.url, token_of(said), patience=START_PATIENCE) as service:
@@ -118,7 +119,7 @@ def start(said):
         return say_existing(said.id, name, text, service.history(said.id, reply["run"])[0]["attrs"])
 
 
-def say_existing(workflow_id, name, text, began):
+def say_existing(workflow_id: str, name: str, text: str, began: dict) -> int:
     """Says of a workflow that was there how it was started. 1 where that was in another way."""
     as_asked = (began["workflow_type"], began["input"]) == (name, text)
     how = "" if as_asked else f", as {began['workflow_type']} with the input {began['input'] or 'of none'}"
@@ -126,7 +127,7 @@ def say_existing(workflow_id, name, text, began):
     return 0 if as_asked else 1
 
 
-def workflow_named(text):
+def workflow_named(text: str) -> Callable:
     """The workflow of MODULE:WORKFLOW."""
     module, _, name = text.partition(":")
     found = vars(importlib.import_module(module))
@@ -136,7 +137,7 @@ def workflow_named(text):
     return found[name]
 
 
-def value_of_word(word):
+def value_of_word(word: str) -> Any:
     """The value of an argument, which is JSON."""
     try:
         return json.loads(word)
@@ -145,12 +146,12 @@ def value_of_word(word):
         raise ValueError(f"the argument {word} is no JSON; a text has quotes of its own: {quoted}") from None
 
 
-def token_of(said):
+def token_of(said: argparse.Namespace) -> Optional[str]:
     """The token of --token-file, if one was given."""
     return pathlib.Path(said.token_file).read_text(encoding="utf-8").strip() if said.token_file else None
 
 
-def named(text):
+def named(text: str) -> str:
     """MODULE:WORKFLOW, as it was written."""
     module, _, name = text.partition(":")
     if not module or not name:
@@ -158,14 +159,14 @@ def named(text):
     return text
 
 
-def threads_of(text):
+def threads_of(text: str) -> int:
     """A number of threads."""
     if not text.isdigit() or not 1 <= int(text) <= 1_000:
         raise argparse.ArgumentTypeError(f"{text} is no number from 1 to 1,000")
     return int(text)
 
 
-def words_of(words):
+def words_of(words: List[str]) -> argparse.Namespace:
     parser = argparse.ArgumentParser(prog="python3 -m workflows")
     commands = parser.add_subparsers(required=True)
     checking = commands.add_parser("replay", help="check code against stored histories")
@@ -189,7 +190,7 @@ def words_of(words):
     return parser.parse_args(words)
 
 
-def main(words):
+def main(words: List[str]) -> int:
     said = words_of(words)
     sys.path.insert(0, "")
     try:

@@ -53,8 +53,8 @@ NAMED: Dict[int, Tuple[str, str]] = {
         ("threading.Thread.start", threading.Thread.start, THREADS),
     )
 }
-# Modules whose own calls are no decision of the code: logs have times, and imports read files.
-FREE = ("logging", "importlib", "zipimport", "linecache", "traceback", "warnings")
+# Modules whose own calls are no decision of the code: logs have times, and imports and time zones read files.
+FREE = ("logging", "importlib", "zipimport", "zoneinfo", "linecache", "traceback", "warnings")
 
 
 def asyncio_names() -> Dict[int, Tuple[str, str]]:
