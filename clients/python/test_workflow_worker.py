@@ -8,13 +8,13 @@ import time
 import unittest
 from unittest import mock
 
+from durable import DurableService
 from http_calls import CallLost, NotServed
-from programs import BUILT, needs_program
-from wfserve import Calls, Refused, Service, Unavailable
+from programs import BUILT, memory_folder, needs_program
+from wfserve import Calls, Clock, Refused, Service, Unavailable
 from workflow_fixture import WithAService
 from workflows import (
-    ActivityFailed, Cancelled, Driver, Retry, WallClock, Worker, attempt, run_until_closed, seconds,
-    workflow,
+    ActivityFailed, Cancelled, Driver, Retry, WallClock, Worker, attempt, days, run, run_until_closed, seconds, workflow,
 )
 
 CALLED = collections.Counter()
@@ -378,6 +378,28 @@ class Stuck(WithAService):
                 break
         self.assertEqual(self.service.describe("five")["status"], "Completed")
         self.assertEqual(self.clock.now, 0)
+
+
+@workflow
+async def rings(ctx):
+    await ctx.timer(seconds(0.05))
+    return "rang"
+
+
+@needs_program
+class Local(unittest.TestCase):
+    def test_a_log_whose_clock_was_ahead_goes_on(self):
+        with memory_folder() as folder:
+            log = f"{folder}/log"
+            with DurableService([str(BUILT)], log, clock=Clock(WallClock().now + days(1))) as service:
+                service.start("earlier", "rings", request_id="earlier")
+            found = []
+            running = threading.Thread(
+                target=lambda: found.append(run([str(BUILT)], log, rings, [], "w")), daemon=True
+            )
+            running.start()
+            running.join(30)
+            self.assertEqual(found, ["rang"])
 
 
 class Waiting(Calls):

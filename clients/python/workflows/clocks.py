@@ -27,9 +27,17 @@ class Expecting:
 class WallClock(Expecting):
     """Milliseconds since 1970."""
 
+    def __init__(self):
+        super().__init__()
+        self._ahead = 0
+
     @property
     def now(self) -> int:
-        return time.time_ns() // 1_000_000
+        return time.time_ns() // 1_000_000 + self._ahead
+
+    def go_on_from(self, moment: int) -> None:
+        """Is no earlier than a moment at which something was done: the wall's clock may have been ahead then."""
+        self._ahead += max(moment - self.now, 0)
 
     def expect(self, moment: int) -> None:
         """Something may be due then. Nobody may ever jump, so what is over is forgotten here too."""
