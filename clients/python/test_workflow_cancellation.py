@@ -168,6 +168,19 @@ async def goes_on_behind_a_child(ctx, gone_on=False):
 
 
 @workflow
+async def given_up(ctx, by):
+    """A charge in a coroutine that is given up where a signal or a timer comes first."""
+    receipts = []
+
+    async def pay():
+        receipts.append(await ctx.activity(charge, start_to_close=seconds(5)))
+
+    done = await ctx.first(pay(), ctx.signal("call off") if by == "signal" else ctx.timer(seconds(1)))
+    await ctx.timer(1)
+    return [done.index, receipts]
+
+
+@workflow
 async def words(ctx):
     """A word that was asked for in the task of the cancellation is not sent."""
     await ctx.signal("go")
@@ -182,6 +195,7 @@ class Cancellations(WithAService):
     WORKFLOWS = [
         paid, waits, abandons, child, parent, parent_of_two, parent_in_a_hurry, parent_that_does_not_wait, shields, scoped,
         told_once, words, goes_on, goes_on_behind_a_child,
+        given_up,
     ]
     ACTIVITIES = [charge, undo, interrupted]
 
@@ -304,6 +318,25 @@ class Cancellations(WithAService):
         self.assertEqual(DONE, [])
         self.assertEqual(self.ended(), ("Completed", "cancelled in the next run"))
         self.assertEqual(DONE, ["undo child"])
+
+    def test_what_ended_in_the_task_in_which_it_is_given_up_has_its_end(self):
+        def ring():
+            self.clock.now += 1_000
+            self.service.timer_turn()
+
+        others = {"signal": lambda: self.service.signal("w", "call off"), "timer": ring}
+        wanted = {("signal", True): 1, ("signal", False): 1, ("timer", True): 0, ("timer", False): 1}
+        for (by, charge_first), index in wanted.items():
+            with self.subTest(by, charge_first=charge_first):
+                self.setUp()
+                self.start(given_up, by)
+                self.decide()
+                task = self.service.poll_activity_task()
+                acts = [lambda: self.service.complete_activity(task, '"receipt 4711"'), others[by]]
+                for act in acts if charge_first else acts[::-1]:
+                    act()
+                self.assertEqual(self.ended(), ("Completed", [index, ["receipt 4711"]]))
+                self.assertNotIn("ActivityTaskCancelRequested", self.types())
 
     def test_a_word_that_was_not_sent_is_taken_back(self):
         self.start(words)

@@ -4,7 +4,7 @@ import unittest
 
 from programs import needs_program
 from workflow_fixture import WithAService
-from workflows import hours, seconds, text_of, workflow
+from workflows import Cancelled, hours, seconds, text_of, workflow
 
 
 @workflow
@@ -58,9 +58,34 @@ async def beside_a_timer(ctx):
     return list(await ctx.first(ctx.timer(seconds(1)), ctx.signal("number")))
 
 
+@workflow
+async def flagged(ctx):
+    """Something beside the main code looks for a signal."""
+    called_off = []
+
+    async def look():
+        called_off.append(await ctx.signal("call off"))
+
+    ctx.task(look())
+    await ctx.activity("work", start_to_close=seconds(5))
+    return "called off" if called_off else "shipped"
+
+
+@workflow
+async def done_and_given_up(ctx):
+    """Both are done when the code looks, and the first of them counts."""
+    both = ctx.gather(ctx.signal("number"), ctx.signal("number"))
+    await ctx.timer(seconds(1))
+    done = await ctx.first(ctx.signal("go"), both)
+    try:
+        await both
+    except Cancelled:
+        return [done.index, ctx.signals("number").drain()]
+
+
 @needs_program
 class Signals(WithAService):
-    WORKFLOWS = [summed, one_a_run, forgetful, closes, looked_at, given_back, beside_a_timer]
+    WORKFLOWS = [summed, one_a_run, forgetful, closes, looked_at, given_back, beside_a_timer, flagged, done_and_given_up]
 
     def send(self, *values, name="number"):
         for value in values:
@@ -106,7 +131,7 @@ class Signals(WithAService):
         self.send("now", name="go")
         self.assertEqual(self.ended(), ("Completed", [1, 2]))
 
-    def test_of_a_timer_and_a_signal_in_one_task_the_first_in_the_history_counts(self):
+    def test_of_a_timer_and_a_signal_in_one_task_the_signal_comes_first(self):
         for order in (("timer", "signal"), ("signal", "timer")):
             with self.subTest(order):
                 self.setUp()
@@ -118,7 +143,22 @@ class Signals(WithAService):
                     else:
                         self.clock.now += 1_000
                         self.service.timer_turn()
-                self.assertEqual(self.ended(), ("Completed", [0, None] if order[0] == "timer" else [1, 7]))
+                self.assertEqual(self.ended(), ("Completed", [1, 7]))
+
+    def test_what_is_beside_the_main_code_has_its_signal_before_that_goes_on(self):
+        self.start(flagged)
+        self.decide()
+        task = self.service.poll_activity_task()
+        self.service.complete_activity(task)
+        self.send("now", name="call off")
+        self.assertEqual(self.ended(), ("Completed", "called off"))
+
+    def test_signals_of_what_was_done_and_given_up_stay(self):
+        self.start(done_and_given_up)
+        self.idle()
+        self.send(1, 2)
+        self.send("now", name="go")
+        self.assertEqual(self.ended(), ("Completed", [0, [1, 2]]))
 
 
 if __name__ == "__main__":

@@ -60,6 +60,10 @@ class Operation(Future):
             self.replay.take_back(self.command)
             self.set_fault(Cancelled())
             return
+        end = self.replay.end_in_this_turn(self)
+        if end is not None:
+            self.ended(end)
+            return
         self._cancelling = True
         if self.cancellation is not Cancellation.ABANDON:
             self._ask_to_cancel()

@@ -1,10 +1,11 @@
 """Runs a workflow's code over a history: what the history has is answered from it, and what comes
 next becomes the commands. Code that asks for something else than the history has is found.
 
-All that a workflow task brought is handed to the code before it goes on: signals, and what ended, in the
-order of the history; and a request to cancel last. Earlier versions of this client let the code go on
-behind each event, and waited for no child that was cancelled. Which rules a run has is in its history: a
-run goes on by these older rules if its completed tasks agree with them, and not with the present ones.
+All signals that a workflow task brought are handed to the code before it goes on, then what ended, in the
+order of the history, and a request to cancel last. What ended in a task has its end there also where the
+code gives it up. Earlier versions of this client took all events in their order, and waited for no child that
+was cancelled. Which rules a run has is in its history: a run goes on by these older rules if its completed
+tasks agree with them, and not with the present ones.
 """
 
 from __future__ import annotations
@@ -41,6 +42,11 @@ SETTLES = {
 }
 
 
+# What is handed to the code before all else.
+FIRST = ("WorkflowExecutionStarted", "WorkflowExecutionSignaled")
+CANCEL = "WorkflowExecutionCancelRequested"
+
+
 class Replay:
     """One run of the code over one history."""
 
@@ -57,6 +63,8 @@ class Replay:
         self.commands: List[Command] = []
         self.turn: Optional[Turn] = None
         self.cancel_requested = False
+        # What ended by an event of this turn, by that event.
+        self._ends: Dict[Tuple[str, int], dict] = {}
         # Whether this turn brought a request to cancel that the code has not been handed.
         self._cancel_comes = False
         # Whether it was asked to cancel once its code had come to its end.
@@ -106,6 +114,10 @@ class Replay:
             check_command(command.type, command.members)
         self.commands.append(command)
 
+    def end_in_this_turn(self, operation: Operation) -> Optional[dict]:
+        """The event of this turn that ends it, where there is one."""
+        return self._ends.get((operation.key, operation.event))
+
     def take_back(self, command: Command) -> None:
         """Forgets a command that was asked for in this turn."""
         if command in self.commands:
@@ -138,7 +150,7 @@ class Replay:
         if self.loop.older:
             self._take_one_by_one(turn.news)
         else:
-            self._take_all(turn.news)
+            self._take_in_order(turn.news)
         if self.loop.guard.fault is not None:
             raise self.loop.guard.fault
         self._close()
@@ -147,17 +159,17 @@ class Replay:
         if turn.completed is not None:
             match(self.commands, turn.recorded, turn.completed)
 
-    def _take_all(self, news: List[dict]) -> None:
-        """Hands the code what came, and then the request to cancel: what the history has comes first."""
-        cancels = [event for event in news if event["type"] == "WorkflowExecutionCancelRequested"]
+    def _take_in_order(self, news: List[dict]) -> None:
+        """Hands the code the signals, then what ended, and a request to cancel last."""
+        signals = [event for event in news if event["type"] in FIRST]
+        cancels = [event for event in news if event["type"] == CANCEL]
+        others = [event for event in news if event["type"] not in (*FIRST, CANCEL)]
         self._cancel_comes = bool(cancels)
-        for event in news:
-            if event not in cancels:
-                self._learn(event)
-        self.loop.run()
-        for event in cancels:
+        self._ends = {end_of(event): event for event in others if event["type"] in SETTLES}
+        for event in signals:
             self._learn(event)
         self.loop.run()
+        self._take_one_by_one([*others, *cancels])
 
     def _take_one_by_one(self, news: List[dict]) -> None:
         for event in news:
@@ -170,7 +182,7 @@ class Replay:
             self._begin(attrs)
         elif kind == "WorkflowExecutionSignaled":
             self.inbox.deliver(attrs["name"], value_of(attrs["input"]))
-        elif kind == "WorkflowExecutionCancelRequested":
+        elif kind == CANCEL:
             self.cancel_requested = True
             if self._cancel_comes or self.loop.older:
                 self._cancel_comes = False
@@ -181,7 +193,7 @@ class Replay:
             if isinstance(child, Child):
                 child.run = attrs["run"]
         elif kind in SETTLES:
-            self._settle(event, SETTLES[kind])
+            self._settle(event)
 
     def _begin(self, attrs: dict) -> None:
         arguments, signals = arguments_of(attrs["input"]), []
@@ -191,9 +203,9 @@ class Replay:
             self.inbox.deliver(name, value)
         self._main = self.loop.task(self._function(self._context, *arguments))
 
-    def _settle(self, event: dict, key: str) -> None:
+    def _settle(self, event: dict) -> None:
         """What a request to cancel a child came to is nobody's."""
-        operation = self.operations.get((key, event["attrs"][key]))
+        operation = self.operations.get(end_of(event))
         if operation is not None:
             operation.ended(event)
 
@@ -224,6 +236,12 @@ class Replay:
         if asked.with_signals and self.left:
             text, self.left = input_with_signals(asked.arguments, self.left), []
         return {**({"input": text} if text else {}), **asked.members}
+
+
+def end_of(event: dict) -> Tuple[str, int]:
+    """By which key and which event an event names the operation that it ends."""
+    key = SETTLES[event["type"]]
+    return key, event["attrs"][key]
 
 
 def replayed(function: Callable, events: List[dict], run: str, guards_all: bool = False) -> Tuple[Replay, List[Command]]:

@@ -48,6 +48,9 @@ class Signal(Future):
             self.set_fault(Cancelled())
         elif not self.taken and self.fault is None:
             self.taken = True
+            if not self.loop.older:
+                # Who looks at it all the same must not have what another one gets.
+                self.fault = Cancelled()
             self._inbox.give_back(self.name, Came(self.number, self.value))
 
 

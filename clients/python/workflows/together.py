@@ -15,6 +15,7 @@ class Several(Future):
         super().__init__(loop)
         self._parts = parts
         self._cancelling = False
+        self._taken = False
         for part in parts:
             part.when_done(self._look)
 
@@ -30,7 +31,17 @@ class Several(Future):
         elif all(part.done for part in self._parts):
             self._end_cancelled()
 
+    def result(self) -> Any:
+        """Takes its value, and so the signals that are in it."""
+        value = super().result()
+        self._taken = True
+        for part in self._counting():
+            part.result()
+        return value
+
     def cancel(self) -> None:
+        if self.done and not self._taken and not self.loop.older:
+            self._give_up()
         if self.done or self._cancelling:
             return
         if self.loop.older:
@@ -56,6 +67,10 @@ class Several(Future):
         self.set_fault(next((fault for fault in faults if not isinstance(fault, Cancelled)), Cancelled()))
         self._give_up()
 
+    def _counting(self) -> List[Future]:
+        """The parts whose values are in its own."""
+        raise NotImplementedError
+
     def _look_for_end(self) -> None:
         """Ends it where enough of its parts are done."""
         raise NotImplementedError
@@ -72,6 +87,9 @@ class Gathered(Several):
         super().__init__(loop, parts)
         self._look()
 
+    def _counting(self) -> List[Future]:
+        return self._parts
+
     def _look_for_end(self) -> None:
         failed = next((part for part in self._parts if part.done and part.fault is not None), None)
         if failed is not None:
@@ -81,11 +99,11 @@ class Gathered(Several):
             else:
                 self._give_up(but=failed)
         elif all(part.done for part in self._parts):
-            self.set_value([part.result() for part in self._parts])
+            self.set_value([part.value for part in self._parts])
 
     def _end_cancelled(self) -> None:
         if all(part.fault is None for part in self._parts):
-            self.set_value([part.result() for part in self._parts])
+            self.set_value([part.value for part in self._parts])
         else:
             self._end_in_vain()
 
@@ -100,6 +118,9 @@ class First(NamedTuple):
 class FirstOf(Several):
     """The first of several that is done. The others are given up."""
 
+    def _counting(self) -> List[Future]:
+        return [self._parts[self.value.index]]
+
     def _look_for_end(self) -> None:
         index = next((i for i, part in enumerate(self._parts) if part.done), None)
         if index is None:
@@ -108,7 +129,7 @@ class FirstOf(Several):
         if winner.fault is not None:
             self.set_fault(winner.fault)
         else:
-            self.set_value(First(index, winner.result()))
+            self.set_value(First(index, winner.value))
         self._give_up(but=winner)
 
     def _end_cancelled(self) -> None:
@@ -116,7 +137,7 @@ class FirstOf(Several):
         if index is None:
             self._end_in_vain()
         else:
-            self.set_value(First(index, self._parts[index].result()))
+            self.set_value(First(index, self._parts[index].value))
             self._give_up(but=self._parts[index])
 
 
