@@ -80,11 +80,28 @@ async def paid_by(ctx, how, number, receipts):
         receipts.append(await ctx.child(child, number))
     elif how == "shield":
         with ctx.scope(shield=True):
-            receipts.append(await paying(ctx, number))
+            await noted(ctx, number, receipts)
     elif how == "beside":
         await beside(ctx, number, receipts)
+    elif how == "two":
+        await ctx.gather(noted(ctx, number, receipts), noted(ctx, number, receipts))
+    elif how == "in time":
+        await ctx.first(noted(ctx, number, receipts), ctx.timer(1))
+    elif how == "scope":
+        with ctx.scope() as part:
+            ctx.task(ended(ctx, part))
+            await noted(ctx, number, receipts)
     else:
-        receipts.append(await paying(ctx, number))
+        await noted(ctx, number, receipts)
+
+
+async def noted(ctx, number, receipts):
+    receipts.append(await paying(ctx, number))
+
+
+async def ended(ctx, scope):
+    await ctx.timer(1)
+    scope.cancel()
 
 
 async def beside(ctx, number, receipts):
@@ -140,7 +157,7 @@ class Race:
     def played(self):
         """Plays it to its end. The result."""
         plan = {"drains": self.draw.random() < 0.5, "a_run": self.draw.randint(1, 3),
-                "by": self.draw.choice(["activity", "child", "shield", "beside"])}
+                "by": self.draw.choice(["activity", "child", "shield", "beside", "two", "in time", "scope"])}
         self.service.start("w", "raced", input=input_of([plan]), request_id="start")
         for _ in range(self.draw.randint(5, 200)):
             self.step()
@@ -205,6 +222,13 @@ class Between(Calls):
         return self._service.call(op, **fields)
 
 
+def receipts_of(events):
+    """The receipts that a history has."""
+    kinds = ("ActivityTaskCompleted", "ChildWorkflowExecutionCompleted")
+    results = [value_of(event["attrs"]["result"]) for event in events if event["type"] in kinds]
+    return [result for result in results if isinstance(result, str) and result.startswith("receipt")]
+
+
 @needs_program
 class Races(unittest.TestCase):
     def setUp(self):
@@ -241,14 +265,15 @@ class Races(unittest.TestCase):
             told["children"] += 1
             self.look_at_replays(child, run, events)
             self.assertIn(events[-1]["type"], ("WorkflowExecutionCompleted", "WorkflowExecutionCanceled"))
+            if events[-1]["type"] == "WorkflowExecutionCanceled":
+                told["cancelled children"] += 1
+                self.assertIn(receipts_of(events) or [None], REFUNDED)
         told.update({"signals": race.sent, "runs": len(runs), "lost replies": race.losing.lost,
                      "receipts refunded": len(result["receipts"])})
 
     def look_at_receipts(self, result, events):
         """Each receipt that the last run's history has was known to the code that refunds."""
-        paid = [value_of(e["attrs"]["result"]) for e in events
-                if e["type"] in ("ActivityTaskCompleted", "ChildWorkflowExecutionCompleted")]
-        self.assertEqual(result["receipts"], [it for it in paid if isinstance(it, str) and it.startswith("receipt")])
+        self.assertEqual(sorted(result["receipts"]), sorted(receipts_of(events)))
         self.assertIn(result["receipts"], REFUNDED)
 
     def look_at_replays(self, function, run, events):
