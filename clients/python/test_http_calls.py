@@ -18,7 +18,7 @@ DROPPED = "dropped"
 
 
 class Scripted(http.server.BaseHTTPRequestHandler):
-    """Answers each call as the server's script says; behind its end, that it was signaled."""
+    """Answers each call as the server's script says; after its end, that it was signaled."""
 
     protocol_version = "HTTP/1.1"
 

@@ -30,7 +30,7 @@ ORDERS = int(os.environ.get("WFSERVE_ORDERS", 200))
 KILLS = int(os.environ.get("WFSERVE_KILLS", 50))
 ROUNDS = max(KILLS // 50, 1)
 WORKERS, CLIENTS = 3, 8
-# Seconds for which the orders may go on behind the last kill.
+# Seconds for which the orders may go on after the last kill.
 LATEST = 150
 ENDS = ("shipped", "shipped", "shipped", "cancelled", "timeout", "declined")
 

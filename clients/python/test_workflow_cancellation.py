@@ -137,7 +137,7 @@ async def told_once(ctx):
                 interrupted, "cancelled", start_to_close=seconds(50), heartbeat=seconds(50),
                 cancellation=Cancellation.WAIT_CANCELLATION_COMPLETED,
             )
-        said.append("behind the scope")
+        said.append("after the scope")
     except Cancelled:
         said.append("cancelled")
     await ctx.timer(seconds(1))
@@ -156,7 +156,7 @@ async def goes_on(ctx, shield):
 
 
 @workflow
-async def goes_on_behind_a_child(ctx, gone_on=False):
+async def goes_on_after_a_child(ctx, gone_on=False):
     """It has come to its end, and its run waits for the end of the child that it gave up."""
     if not gone_on:
         await ctx.first(ctx.child(child, id="child"), ctx.timer(seconds(1)))
@@ -194,7 +194,7 @@ async def words(ctx):
 class Cancellations(WithAService):
     WORKFLOWS = [
         paid, waits, abandons, child, parent, parent_of_two, parent_in_a_hurry, parent_that_does_not_wait, shields, scoped,
-        told_once, words, goes_on, goes_on_behind_a_child,
+        told_once, words, goes_on, goes_on_after_a_child,
         given_up,
     ]
     ACTIVITIES = [charge, undo, interrupted]
@@ -309,7 +309,7 @@ class Cancellations(WithAService):
                 self.assertEqual(self.ended(), ("Completed", "refunded receipt 4711"))
 
     def test_the_next_run_is_asked_where_the_code_of_this_one_has_ended(self):
-        self.start(goes_on_behind_a_child)
+        self.start(goes_on_after_a_child)
         self.idle()
         self.clock.now += 1_000
         self.decide()

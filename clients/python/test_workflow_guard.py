@@ -275,7 +275,7 @@ class Watched(unittest.TestCase):
                     time.sleep(0.02)
         self.assertEqual(len(logged.output), 1)
 
-    def test_an_interruption_hits_nothing_behind_the_code(self):
+    def test_an_interruption_hits_nothing_after_the_code(self):
         for _ in range(10):
             try:
                 with self.watch.of("order-17", 1) as watched:

@@ -33,7 +33,7 @@ def takes(value):
 
 
 def in_parts(parts):
-    """Pays part by part, and fails once behind the last."""
+    """Pays part by part, and fails once after the last."""
     for part in range(attempt().details or 0, parts):
         CALLED[f"part {part}"] += 1
         attempt().heartbeat(part + 1)
@@ -119,7 +119,7 @@ async def unheard(ctx):
 
 
 class Away(Calls):
-    """A service that is away for some calls of an operation: before they take effect, or behind that."""
+    """A service that is away for some calls of an operation: before they take effect, or after that."""
 
     def __init__(self, service, op, *faults):
         self._service, self._op, self.faults = service, op, list(faults)
@@ -128,9 +128,9 @@ class Away(Calls):
         if op != self._op or not self.faults:
             return self._service.call(op, **fields)
         fault = self.faults.pop(0)
-        if fault == "behind":
+        if fault == "after":
             self._service.call(op, **fields)
-        raise CallLost("the reply was lost") if fault in ("before", "behind") else fault
+        raise CallLost("the reply was lost") if fault in ("before", "after") else fault
 
 
 @needs_program
@@ -154,7 +154,7 @@ class Results(WithAService):
         return status, self.service.history("w")[-1]["attrs"].get("result")
 
     def test_a_result_is_told_until_it_is_heard(self):
-        for faults in (["before"] * 5, ["behind"], ["before", "behind"], [NotServed(503, "busy"), NotServed(500, "ended")]):
+        for faults in (["before"] * 5, ["after"], ["before", "after"], [NotServed(503, "busy"), NotServed(500, "ended")]):
             with self.subTest(faults):
                 self.setUp()
                 self.start(one, "charge")
@@ -164,13 +164,13 @@ class Results(WithAService):
 
     def test_a_failure_is_told_until_it_is_heard(self):
         self.start(parts, 2)
-        away = Away(self.service, "fail_activity", "before", "behind")
+        away = Away(self.service, "fail_activity", "before", "after")
         self.assertEqual(self.played(away), ("Completed", "2"))
         self.assertEqual(CALLED, {"part 0": 1, "part 1": 1})
 
     def test_heartbeats_that_are_not_heard_fail_no_attempt_and_are_told_before_its_failure(self):
         self.start(parts, 3)
-        away = Away(self.service, "heartbeat", "before", "behind", "before")
+        away = Away(self.service, "heartbeat", "before", "after", "before")
         self.assertEqual(self.played(away), ("Completed", "3"))
         self.assertEqual(CALLED, {"part 0": 1, "part 1": 1, "part 2": 1})
 

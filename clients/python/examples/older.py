@@ -1,6 +1,6 @@
 """Workflows of which an earlier version of this client made the stored histories: examples/histories/older.jsonl.
 
-That version let the code go on behind each event of a task, and waited for no child that was cancelled. The
+That version let the code go on after each event of a task, and waited for no child that was cancelled. The
 histories are kept as they were made: the code has to agree with them, by the rules of their time.
 """
 

@@ -26,7 +26,7 @@ from .values import clipped
 from .watch import WATCH
 
 LOG = logging.getLogger("workflows")
-# How many milliseconds the second failure of a task is held back; each later one twice as long.
+# How many milliseconds the second failure of a task is delayed; each later one twice as long.
 FIRST_PAUSE = 1_000
 # How many runs a worker remembers of which it said that they are stuck.
 MOST_STUCK = 10_000
@@ -36,8 +36,8 @@ class Worker:
     """Works on one task queue. It keeps nothing of a workflow: each task begins with its history.
 
     A task whose code disagrees with the history, or is at fault in another way, is failed with a
-    message, and the service has it tried again at once. From the second time on a worker holds the
-    failure back, longer each time by the failures in the history, and in the end until the task's
+    message, and the service has it tried again at once. From the second time on a worker delays the
+    failure, longer each time by the failures in the history, and in the end until the task's
     time is over. So no run spins, whichever worker has it, and mended code goes on.
     """
 
@@ -235,7 +235,7 @@ def run_together(loops: List[Callable[[], None]], stop: Stop) -> None:
 
 
 def pause_after(faults: int) -> int:
-    """For how many milliseconds a failure is held back, where the history has so many."""
+    """For how many milliseconds a failure is delayed, where the history has so many."""
     return FIRST_PAUSE << (faults - 1) if faults else 0
 
 
