@@ -25,7 +25,7 @@ LEDGER = ""
 WAIT, WORKERS = 1_000, 2
 TASK_TIMEOUT = seconds(3)
 # No server is away for so long: a charge whose worker lives is told before its time is over.
-CHARGE_TIMEOUT = seconds(20)
+CHARGE_TIMEOUT = seconds(30)
 PATIENT = {"start_to_close": seconds(4), "retry": Retry(initial=50, maximum=500)}
 
 

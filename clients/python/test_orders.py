@@ -134,7 +134,17 @@ class Killer:
             self.server.process.wait(20)
         self.server.kill()
         time.sleep(pause)
-        self.server.start()
+        self._start_again()
+
+    def _start_again(self):
+        """A client that looks for the server may have its port for a moment."""
+        for left in (2, 1, 0):
+            try:
+                return self.server.start()
+            except AssertionError:
+                if not left:
+                    raise
+                time.sleep(0.5)
 
     def _end(self, worker):
         self.killed.add(worker.pid)

@@ -61,7 +61,7 @@ async def raced(ctx, plan, seen=()):
     seen, receipts = list(seen), []
     try:
         while True:
-            seen.append(await ctx.signal("number"))
+            seen.append(await next_number(ctx, plan))
             if plan["drains"]:
                 seen += ctx.signals("number").drain()
             await paid_by(ctx, plan["by"], seen[-1], receipts)
@@ -73,6 +73,15 @@ async def raced(ctx, plan, seen=()):
         with ctx.scope(shield=True):
             await ctx.activity(refund, receipts, start_to_close=seconds(20))
         return {"seen": seen + ctx.signals("number").drain(), "receipts": receipts}
+
+
+async def next_number(ctx, plan):
+    """The next signal; it is waited for anew now and then."""
+    while plan["waits anew"]:
+        done = await ctx.first(ctx.timer(5), ctx.signal("number"))
+        if done.index == 1:
+            return done.value
+    return await ctx.signal("number")
 
 
 async def paid_by(ctx, how, number, receipts):
@@ -87,6 +96,10 @@ async def paid_by(ctx, how, number, receipts):
         await ctx.gather(noted(ctx, number, receipts), noted(ctx, number, receipts))
     elif how == "in time":
         await ctx.first(noted(ctx, number, receipts), ctx.timer(1))
+    elif how == "tried":
+        await noted(ctx, number, receipts, Cancellation.TRY_CANCEL)
+    elif how == "tried in time":
+        await ctx.first(noted(ctx, number, receipts, Cancellation.TRY_CANCEL), ctx.timer(1))
     elif how == "scope":
         with ctx.scope() as part:
             ctx.task(ended(ctx, part))
@@ -95,8 +108,8 @@ async def paid_by(ctx, how, number, receipts):
         await noted(ctx, number, receipts)
 
 
-async def noted(ctx, number, receipts):
-    receipts.append(await paying(ctx, number))
+async def noted(ctx, number, receipts, cancellation=Cancellation.WAIT_CANCELLATION_COMPLETED):
+    receipts.append(await paying(ctx, number, cancellation))
 
 
 async def ended(ctx, scope):
@@ -114,11 +127,13 @@ async def beside(ctx, number, receipts):
             receipts.append(paid.result())
 
 
-def paying(ctx, number):
+def paying(ctx, number, cancellation=Cancellation.WAIT_CANCELLATION_COMPLETED):
     return ctx.activity(
-        pay, number, start_to_close=seconds(20), retry=Retry(initial=10),
-        cancellation=Cancellation.WAIT_CANCELLATION_COMPLETED,
+        pay, number, start_to_close=seconds(20), retry=Retry(initial=10), cancellation=cancellation,
     )
+
+
+HOW = ["activity", "child", "shield", "beside", "two", "in time", "scope", "tried", "tried in time"]
 
 
 WORKFLOWS, ACTIVITIES = [raced, child], [pay, refund, hold]
@@ -152,12 +167,13 @@ class Race:
         self.service = Service([str(BUILT)], self.clock)
         self.losing = Losing(self.service, self.draw)
         self.driver = Driver(self.service)
+        self.by = self.draw.choice(HOW)
         self.sent = 0
 
     def played(self):
         """Plays it to its end. The result."""
-        plan = {"drains": self.draw.random() < 0.5, "a_run": self.draw.randint(1, 3),
-                "by": self.draw.choice(["activity", "child", "shield", "beside", "two", "in time", "scope"])}
+        plan = {"drains": self.draw.random() < 0.5, "waits anew": self.draw.random() < 0.3,
+                "a_run": self.draw.randint(1, 3), "by": self.by}
         self.service.start("w", "raced", input=input_of([plan]), request_id="start")
         for _ in range(self.draw.randint(5, 200)):
             self.step()
@@ -222,10 +238,17 @@ class Between(Calls):
         return self._service.call(op, **fields)
 
 
-def receipts_of(events):
-    """The receipts that a history has."""
+def given_up(by, events):
+    """The activities of a history that the code asked to cancel, and didn't wait for: the events that scheduled them."""
+    asked = [e["attrs"]["scheduled"] for e in events if e["type"] == "ActivityTaskCancelRequested"]
+    return asked if by.startswith("tried") else []
+
+
+def receipts_of(events, but=()):
+    """The receipts that a history has, but for those of some activities."""
     kinds = ("ActivityTaskCompleted", "ChildWorkflowExecutionCompleted")
-    results = [value_of(event["attrs"]["result"]) for event in events if event["type"] in kinds]
+    results = [value_of(event["attrs"]["result"]) for event in events
+               if event["type"] in kinds and event["attrs"].get("scheduled") not in but]
     return [result for result in results if isinstance(result, str) and result.startswith("receipt")]
 
 
@@ -257,7 +280,7 @@ class Races(unittest.TestCase):
         self.assertEqual(last["type"], "WorkflowExecutionCompleted", last)
         result = json.loads(last["attrs"]["result"])
         self.assertEqual(result["seen"], list(range(race.sent)))
-        self.look_at_receipts(result, runs[-1][1])
+        self.look_at_receipts(race.by, result, runs[-1][1])
         for run, events in runs:
             self.look_at_replays(raced, run, events)
             told["tasks that knew too little"] += sum(e["attrs"].get("cause") == "UnhandledCommand" for e in events)
@@ -271,9 +294,10 @@ class Races(unittest.TestCase):
         told.update({"signals": race.sent, "runs": len(runs), "lost replies": race.losing.lost,
                      "receipts refunded": len(result["receipts"])})
 
-    def look_at_receipts(self, result, events):
-        """Each receipt that the last run's history has was known to the code that refunds."""
-        self.assertEqual(sorted(result["receipts"]), sorted(receipts_of(events)))
+    def look_at_receipts(self, by, result, events):
+        """Each receipt that the last run's history has was known to the code that refunds, but for those of
+        activities that were asked to cancel, and that the code didn't wait for."""
+        self.assertEqual(sorted(result["receipts"]), sorted(receipts_of(events, given_up(by, events))))
         self.assertIn(result["receipts"], REFUNDED)
 
     def look_at_replays(self, function, run, events):
