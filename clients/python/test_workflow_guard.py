@@ -168,6 +168,12 @@ async def keyword_argument(ctx):
 
 
 @workflow
+async def never_waits(ctx):
+    while True:
+        ctx.now
+
+
+@workflow
 async def made_once(ctx):
     name = ctx.once(lambda: uuid.uuid4().hex)
     took = ctx.unguarded(time.monotonic)
@@ -180,7 +186,7 @@ def echo(value):
 
 @needs_program
 class InWorkflows(WithAService):
-    WORKFLOWS = [sleeps, gathers, catches, dataclass_argument, keyword_argument, made_once]
+    WORKFLOWS = [sleeps, gathers, catches, dataclass_argument, keyword_argument, made_once, never_waits]
     ACTIVITIES = [echo]
 
     def test_the_failed_task_says_what_to_use(self):
@@ -200,6 +206,14 @@ class InWorkflows(WithAService):
                 failed = [e["attrs"]["message"] for e in self.service.history("w") if e["type"] == "WorkflowTaskFailed"]
                 self.assertEqual(len(failed), 1)
                 self.assertIn(said, failed[0])
+
+    def test_an_endless_loop_fails_its_task_by_its_line_and_the_worker_goes_on(self):
+        self.service.start("w", "never_waits", request_id="w", task_timeout=400)
+        self.start(made_once, id="v")
+        self.idle()
+        failed = [e["attrs"]["message"] for e in self.service.history("w") if e["type"] == "WorkflowTaskFailed"]
+        self.assertRegex(failed[0], "blocked its worker for most of its task's time, at line [0-9]+ of .*[.]py")
+        self.assertEqual(self.service.describe("v")["status"], "Completed")
 
     def test_what_is_made_once_and_what_decides_nothing_may_be_anything(self):
         self.start(made_once)

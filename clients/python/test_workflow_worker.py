@@ -458,6 +458,23 @@ class Running(unittest.TestCase):
         self.assertEqual(self.faults[0].name, "UnknownTaskQueue")
         self.assertFalse(self.stop.is_set(), "others were told to stop")
 
+    def test_a_service_that_is_away_is_asked_again_and_the_log_says_it_now_and_then(self):
+        asked = itertools.count(1)
+
+        class Gone(Calls):
+            def call(self, op, **fields):
+                if next(asked) <= 20:
+                    raise CallLost("refused")
+                return {"ok": "empty"}
+
+        with self.assertLogs("workflows", "WARNING") as logged, mock.patch("workflows.reports.FIRST_LOOK", 0):
+            self.begin(Worker(Gone(), workflows=[five]).run)
+            late = time.monotonic() + 20
+            while len(logged.output) < 6 and time.monotonic() < late:
+                time.sleep(0.02)
+        said = [record.getMessage() for record in logged.records]
+        self.assertEqual(said, ["the service is not there: refused"] * 5 + ["the service is there again"])
+
     def test_a_token_that_is_wrong_ends_the_worker(self):
         class Closed(Calls):
             def call(self, op, **fields):

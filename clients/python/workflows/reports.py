@@ -16,6 +16,8 @@ from wfserve import Refused, Unavailable
 LOG = logging.getLogger("workflows")
 # Seconds between a report and the same one again, while the service is away.
 FIRST_PAUSE, LONGEST_PAUSE = 0.2, 10.0
+# Seconds until a service that is away is asked again for a task.
+FIRST_LOOK, LAST_LOOK = 0.2, 5.0
 # For how many seconds a worker that was told to stop tries to tell what it has.
 GRACE = 10.0
 
@@ -58,6 +60,27 @@ class Reports:
                         raise
                 LOG.warning("%s: the service is not there, its result is told later: %s", about, fault)
                 time.sleep(pause) if self.stop.is_set() else self.stop.wait(pause)
+
+
+class Absence:
+    """How often a service was not there: what is said of that, and the pause until it is asked again."""
+
+    def __init__(self):
+        self._times = 0
+        self._pauses = pauses(FIRST_LOOK, LAST_LOOK)
+
+    def pause(self, fault: Exception) -> float:
+        """For how many seconds. The log says it at the first time, the second, the fourth, and so on."""
+        self._times += 1
+        if not self._times & (self._times - 1):
+            LOG.warning("the service is not there: %s", fault)
+        return next(self._pauses)
+
+    def ended(self) -> None:
+        """The service is there."""
+        if self._times:
+            LOG.warning("the service is there again")
+            self._times, self._pauses = 0, pauses(FIRST_LOOK, LAST_LOOK)
 
 
 class Later:

@@ -40,9 +40,13 @@ class Watched:
         return self
 
     def __exit__(self, kind, fault, trace) -> None:
-        self._watch.end(self)
-        if self.interrupted and kind is not Blocked:
-            self._await_interruption()
+        try:
+            self._watch.end(self)
+            if self.interrupted and kind is not Blocked:
+                self._await_interruption()
+        except Blocked:
+            # It came while this ended, and hits nothing more.
+            self._watch.end(self)
 
     def _await_interruption(self) -> None:
         """The code came to its end while it was interrupted: the interruption must not hit what comes next."""

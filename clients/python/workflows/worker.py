@@ -20,7 +20,7 @@ from .errors import Blocked, NonDeterminism, NotHere
 from .history import NOTHING_WRONG, WORKERS_OWN, faults_of
 from .limits import COMMANDS_LIMIT, DURATIONS
 from .replay import Replay, replayed
-from .reports import Later, Reports, TaskOver
+from .reports import Absence, Later, Reports, TaskOver
 from .signals import told_of
 from .values import clipped
 from .watch import WATCH
@@ -77,15 +77,17 @@ class Worker:
         run_together([*loops, lambda: self._tell_later(stop)], stop)
 
     def _work_on(self, kind: Callable[[], bool], stop: ToldOrFailed, pause: float) -> None:
+        absence = Absence()
         while not stop.is_set():
             try:
-                if not kind():
+                worked = kind()
+                absence.ended()
+                if not worked:
                     stop.wait(pause)
             except (Unavailable, LogFull) as fault:
                 if not getattr(fault, "passes", True):
                     raise
-                LOG.warning("the service is not there: %s", fault)
-                stop.wait(UNAVAILABLE_PAUSE)
+                stop.wait(absence.pause(fault))
             except Refused as refused:
                 # A queue that isn't there stays so; of another refusal the next task knows nothing.
                 if refused.request["op"] in POLLS:
@@ -258,4 +260,7 @@ def said_of(fault: BaseException) -> str:
         return f"a command is refused: {fault}"
     if isinstance(fault, (NonDeterminism, NotHere)):
         return str(fault)
+    if isinstance(fault, Blocked):
+        place = traceback.extract_tb(fault.__traceback__)[-1]
+        return f"{fault}, at line {place.lineno} of {place.filename}"
     return f"{type(fault).__name__}: {fault}"
