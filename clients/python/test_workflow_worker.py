@@ -300,16 +300,16 @@ class Stuck(WithAService):
     ]
     ACTIVITIES = [charge, takes]
     SAID = {
-        "too_long_an_input": "ValueError: input of ScheduleActivityTask charge has 5004 bytes, and a text has at most 4096",
-        "half_a_millisecond": "TypeError: duration of StartTimer is a whole number of milliseconds, as seconds(1.5) gives one, and not 1.5",
+        "too_long_an_input": "BadCommand: input of ScheduleActivityTask charge has 5004 bytes, and a text has at most 4096",
+        "half_a_millisecond": "BadCommand: duration of StartTimer is a whole number of milliseconds, as seconds(1.5) gives one, and not 1.5",
         "another_each_time": "event ",
-        "no_timeout": "ValueError: ScheduleActivityTask charge has neither start_to_close nor schedule_to_close",
+        "no_timeout": "BadCommand: ScheduleActivityTask charge has neither start_to_close nor schedule_to_close",
         "no_json": "TypeError: Object of type date is not JSON serializable",
         "no_end": "KeyError: 'a bug",
-        "too_long_a_result": "ValueError: result of CompleteWorkflowExecution has 5002 bytes",
-        "bad_retry": "ValueError: the maximum of retry of ScheduleActivityTask charge is less than its initial wait",
+        "too_long_a_result": "BadCommand: result of CompleteWorkflowExecution has 5002 bytes",
+        "bad_retry": "BadCommand: the maximum of retry of ScheduleActivityTask charge is less than its initial wait",
         "twice_the_same_id": "",
-        "no_policy": "ValueError: parent_close of StartChildWorkflowExecution five is one of Terminate, RequestCancel, Abandon",
+        "no_policy": "BadCommand: parent_close of StartChildWorkflowExecution five is one of Terminate, RequestCancel, Abandon",
     }
 
     def failed(self):
@@ -338,6 +338,15 @@ class Stuck(WithAService):
                     self.assertLess(len(self.service.history("w")), 70)
                     self.assertIn(self.SAID[function.__name__], failed[0]["attrs"]["message"])
                     self.assertEqual(self.service.describe("w")["status"], "Running")
+
+    def test_what_the_service_would_refuse_is_said_once(self):
+        for function in (too_long_an_input, half_a_millisecond, no_timeout, too_long_a_result, bad_retry, no_policy):
+            with self.subTest(function.__name__):
+                self.setUp()
+                self.start(function)
+                self.minute(self.worker)
+                self.assertEqual(len(self.failed()), 1)
+                self.assertEqual(self.types().count("WorkflowTaskTimedOut"), 5)
 
     def test_the_pauses_grow_up_to_the_tasks_timeout(self):
         self.start(no_end)

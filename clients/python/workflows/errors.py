@@ -84,6 +84,10 @@ class ReplayOver(BaseException):
     """The replay in which some code waited has ended: nothing more can be asked there."""
 
 
+class BadCommand(Exception):
+    """A workflow's code asks for what the service would refuse."""
+
+
 class ForbiddenCall(Exception):
     """A workflow's code called what isn't the same in its next replay."""
 

@@ -4,6 +4,7 @@ from __future__ import annotations
 
 from typing import Any, Dict
 
+from .errors import BadCommand
 from .values import checked_text
 
 ID_LIMIT = 255
@@ -25,8 +26,15 @@ RETRY_TYPES_LIMIT = 100
 
 
 def check_command(command_type: str, members: Dict[str, Any]) -> None:
-    """Raises TypeError or ValueError where the service would refuse the command, by the member's name."""
+    """Raises BadCommand where the service would refuse the command, by the member's name."""
     about = f"{command_type} {members.get('activity_type') or members.get('workflow_type') or ''}".strip()
+    try:
+        check_members(about, command_type, members)
+    except (TypeError, ValueError) as fault:
+        raise BadCommand(str(fault)) from None
+
+
+def check_members(about: str, command_type: str, members: Dict[str, Any]) -> None:
     for name, value in members.items():
         check_member(f"{name} of {about}", name, value)
     if command_type == "ScheduleActivityTask" and not {"start_to_close", "schedule_to_close"} & set(members):

@@ -16,7 +16,7 @@ from .clocks import WallClock
 from .commands import Command
 from .definitions import activities_by_type, workflows_by_type
 from .driver import UNAVAILABLE_PAUSE
-from .errors import Blocked, NonDeterminism, NotHere
+from .errors import BadCommand, Blocked, NonDeterminism, NotHere
 from .history import NOTHING_WRONG, WORKERS_OWN, faults_of
 from .limits import COMMANDS_LIMIT, DURATIONS
 from .replay import Replay, replayed
@@ -136,7 +136,7 @@ class Worker:
             raise NotHere(f"this worker has no workflow {kind}")
         replay, commands = replayed(self._workflows[kind], events, task.run)
         if len(commands) > COMMANDS_LIMIT:
-            raise ValueError(f"one task asks for {len(commands)} things, and at most {COMMANDS_LIMIT} are taken")
+            raise BadCommand(f"one task asks for {len(commands)} things, and at most {COMMANDS_LIMIT} are taken")
         return replay, commands
 
     def _complete(self, task: Task, events: List[dict], replay: Replay, commands: List[Command]) -> None:
@@ -155,14 +155,15 @@ class Worker:
             self._say_stuck(task, f"its commands are at fault: {cause}")
 
     def _fail(self, task: Task, events: List[dict], fault: BaseException) -> None:
-        """Fails a task: at once the first time, and then after a pause, or not before its time is over."""
+        """Fails a task: at once the first time, and then after a pause, or not before its time is over. That the
+        code asks for what the service would refuse is said once: no other worker is better off."""
         message = said_of(fault)
         self._say_stuck(task, message, fault)
         pause = pause_after(len(faults_of(events)))
         timeout = task_timeout(events)
         if not pause:
             self.service.fail_workflow_task(task, clipped(message))
-        elif pause < timeout:
+        elif pause < timeout and not isinstance(fault, BadCommand):
             self._later.put(self.clock.now + pause, lambda: self.service.fail_workflow_task(task, clipped(message)))
         else:
             self.clock.expect(self.clock.now + timeout)
