@@ -261,14 +261,15 @@ class Watched(unittest.TestCase):
             self.addCleanup(patch.stop)
         self.watch = Watch()
 
-    def block(self, seconds):
+    def block(self, seconds, until=lambda: False):
         late = time.monotonic() + seconds
-        while time.monotonic() < late:
+        while time.monotonic() < late and not until():
             pass
 
     def test_code_that_blocks_is_named_by_its_line(self):
-        with self.assertLogs("workflows", "ERROR") as logged, self.watch.of("order-17", 60_000):
-            self.block(0.6)
+        with self.assertLogs("workflows", "ERROR") as logged, self.watch.of("order-17", 600_000) as watched:
+            self.block(60, lambda: watched.named)
+            self.block(0.2)
         self.assertEqual(len(logged.output), 1)
         self.assertIn("order-17 has blocked its worker for", logged.output[0])
         self.assertRegex(logged.output[0], r'test_workflow_guard.py", line \d+, in block')
@@ -276,17 +277,16 @@ class Watched(unittest.TestCase):
     def test_code_that_blocks_for_most_of_its_tasks_time_is_interrupted(self):
         begun = time.monotonic()
         with self.assertLogs("workflows", "ERROR"), self.assertRaises(Blocked), self.watch.of("order-17", 1_000):
-            self.block(30)
+            self.block(60)
         took = time.monotonic() - begun
-        self.assertTrue(0.8 <= took < 15, took)
+        self.assertTrue(0.8 <= took < 30, took)
 
     def test_code_that_waits_in_time_is_left_alone(self):
-        logging.getLogger("workflows").setLevel(logging.NOTSET)
-        with self.assertLogs("workflows", "ERROR") as logged:
+        with mock.patch.object(watch, "NAMED_AFTER", 1.5), self.assertLogs("workflows", "ERROR") as logged:
             logging.getLogger("workflows").error("the first")
-            for _ in range(20):
-                with self.watch.of("order-17", 10_000):
-                    time.sleep(0.02)
+            for _ in range(60):
+                with self.watch.of("order-17", 100_000):
+                    time.sleep(0.03)
         self.assertEqual(len(logged.output), 1)
 
     def test_an_interruption_hits_nothing_after_the_code(self):

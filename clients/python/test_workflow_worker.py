@@ -412,13 +412,13 @@ class Local(unittest.TestCase):
 
 
 class Waiting(Calls):
-    """A service whose polls wait for a second, as a server's do."""
+    """A service whose polls wait for four seconds, as a server's do."""
 
     def __init__(self, service):
         self._service = service
 
     def call(self, op, **fields):
-        late = time.monotonic() + 1
+        late = time.monotonic() + 4
         while True:
             reply = self._service.call(op, **fields)
             if reply.get("ok") != "empty" or time.monotonic() > late:
@@ -456,7 +456,8 @@ class Running(unittest.TestCase):
         begun = time.monotonic()
         self.service.start("w", "five", request_id="w")
         while self.service.describe("w")["status"] == "Running":
-            self.assertLess(time.monotonic() - begun, 4)
+            # One after another they would take five waits.
+            self.assertLess(time.monotonic() - begun, 18)
             time.sleep(0.02)
 
     def test_a_queue_that_is_not_there_ends_the_worker(self):

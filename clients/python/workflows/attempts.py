@@ -9,6 +9,7 @@ from typing import Any, Callable, Dict, Optional
 from wfserve import Calls, Refused, Task
 
 from .activity import Attempt, called
+from .clocks import Clock
 from .errors import AttemptOver, Cancelled, NonRetryable, NotHere
 from .reports import Reports
 from .values import arguments_of, checked_text, clipped, text_of
@@ -23,7 +24,7 @@ class BadResult(NonRetryable):
 class Attempts:
     """The activities of a worker, by their types."""
 
-    def __init__(self, service: Calls, activities: Dict[str, Callable], clock, reports: Reports):
+    def __init__(self, service: Calls, activities: Dict[str, Callable], clock: Clock, reports: Reports):
         self._service = service
         self._activities = activities
         self._clock = clock

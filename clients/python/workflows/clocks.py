@@ -4,7 +4,7 @@ from __future__ import annotations
 
 import heapq
 import time
-from typing import List, Optional
+from typing import List, Optional, Union
 
 
 class Expecting:
@@ -62,3 +62,6 @@ class JumpingClock(Expecting):
         """Goes to the next expected moment, and where there is none on by `most`."""
         following = self._next(self.now)
         self.now = self.now + most if following is None else following
+
+
+Clock = Union[JumpingClock, WallClock]

@@ -13,6 +13,8 @@ from http_calls import pauses
 from line_log import LogFull
 from wfserve import Refused, Unavailable
 
+from .clocks import Clock
+
 LOG = logging.getLogger("workflows")
 # Seconds between a report and the same one again, while the service is away.
 FIRST_PAUSE, LONGEST_PAUSE = 0.2, 10.0
@@ -86,7 +88,7 @@ class Absence:
 class Later:
     """Reports that wait for their moments, by the clock that the worker has."""
 
-    def __init__(self, clock):
+    def __init__(self, clock: Clock):
         self._clock = clock
         self._numbers = itertools.count()
         self._waiting: List[Tuple[int, int, Callable[[], Any]]] = []

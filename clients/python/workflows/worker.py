@@ -5,14 +5,14 @@ from __future__ import annotations
 import logging
 import threading
 import traceback
-from typing import Callable, Dict, Iterable, List, Optional, Union
+from typing import Callable, Dict, Iterable, List, Optional, Tuple, Union
 
 from http_calls import POLLS
 from line_log import LogFull
 from wfserve import Calls, Refused, Task, Unavailable
 
 from .attempts import Attempts
-from .clocks import WallClock
+from .clocks import Clock, WallClock
 from .commands import Command
 from .definitions import activities_by_type, workflows_by_type
 from .driver import UNAVAILABLE_PAUSE
@@ -43,7 +43,7 @@ class Worker:
 
     def __init__(
         self, service: Calls, queue: str = "main", workflows: Iterable[Callable] = (),
-        activities: Iterable[Callable] = (), clock=None,
+        activities: Iterable[Callable] = (), clock: Optional[Clock] = None,
     ):
         self.service = service
         self.queue = queue
@@ -130,7 +130,7 @@ class Worker:
         else:
             self._complete(task, events, replay, commands)
 
-    def _replayed(self, task: Task, events: List[dict]):
+    def _replayed(self, task: Task, events: List[dict]) -> Tuple[Replay, List[Command]]:
         kind = events[0]["attrs"]["workflow_type"]
         if kind not in self._workflows:
             raise NotHere(f"this worker has no workflow {kind}")
