@@ -88,7 +88,7 @@ class HttpService(Calls):
         self._wait = wait
         self._timeout = timeout + wait / 1_000
         self._patience = patience
-        self._closed = threading.Event()
+        self._hopeless = threading.Event()
         self._own = threading.local()
         self._open = set()
 
@@ -113,7 +113,7 @@ class HttpService(Calls):
             try:
                 return self._served_once(body)
             except (CallLost, NotServed) as fault:
-                if not fault.passes or time.monotonic() + pause > late or self._closed.wait(pause):
+                if not fault.passes or time.monotonic() + pause > late or self._hopeless.wait(pause):
                     raise
 
     def _served_once(self, body: bytes) -> str:
@@ -140,8 +140,12 @@ class HttpService(Calls):
             self._open.add(self._own.connection)
         return self._own.connection
 
+    def give_up(self) -> None:
+        """From now on no call is made again: those that wait for that fail."""
+        self._hopeless.set()
+
     def close(self) -> None:
-        """Closes the connections of all threads. Calls that wait to be made again fail."""
-        self._closed.set()
+        """Closes the connections of all threads, and gives up what waits to be made again."""
+        self.give_up()
         while self._open:
             self._open.pop().close()

@@ -17,6 +17,23 @@ from served import HERE, Server
 from workflows.__main__ import main, value_of_word, workflow_named
 
 
+# A workflow whose activity is at work for a while.
+SLOW = """
+import pathlib, time
+from workflows import seconds, workflow
+
+def work():
+    pathlib.Path("begun").write_text("")
+    time.sleep(1)
+
+@workflow
+async def slow(ctx):
+    await ctx.activity(work, start_to_close=seconds(60))
+
+WORKFLOWS, ACTIVITIES = [slow], [work]
+"""
+
+
 def said(*words):
     """The status of a command, and what it prints and complains."""
     out, err = io.StringIO(), io.StringIO()
@@ -59,15 +76,18 @@ class WithAServer(unittest.TestCase):
     def setUp(self):
         folder = memory_folder()
         self.addCleanup(folder.cleanup)
-        self.server = Server(str(BUILT), pathlib.Path(folder.name) / "log")
+        self.folder = pathlib.Path(folder.name)
+        self.server = Server(str(BUILT), self.folder / "log")
         self.addCleanup(lambda: self.server.process.poll() is None and self.server.stop())
 
     def start(self, *arguments, workflow="examples.order:order"):
         return said("start", self.server.url, workflow, "order-17", *arguments)
 
-    def work(self, *words, url=None):
+    def work(self, *words, url=None, cwd=HERE):
         command = [sys.executable, "-m", "workflows", "work", url or self.server.url, *words]
-        worker = subprocess.Popen(command, cwd=HERE, stdout=subprocess.PIPE, stderr=subprocess.PIPE, text=True)
+        worker = subprocess.Popen(
+            command, cwd=cwd, env={**os.environ, "PYTHONPATH": str(HERE)}, stdout=subprocess.PIPE, stderr=subprocess.PIPE, text=True
+        )
         self.addCleanup(worker.stdout.close)
         self.addCleanup(worker.stderr.close)
         self.addCleanup(worker.wait)
@@ -126,6 +146,18 @@ class WithAServer(unittest.TestCase):
         _, err = worker.communicate(timeout=60)
         self.assertEqual(worker.returncode, 1)
         self.assertIn("JSONDecodeError", err)
+
+    def test_a_result_that_could_not_be_told_is_said_and_ends_with_1(self):
+        (self.folder / "slow.py").write_text(SLOW)
+        self.server.client().start("w", "slow", request_id="w")
+        worker = self.work("slow", "--threads", "1", cwd=self.folder)
+        while not (self.folder / "begun").exists():
+            time.sleep(0.05)
+        self.server.kill()
+        worker.terminate()
+        _, err = worker.communicate(timeout=100)
+        self.assertIn("w: attempt 1 of 1: its result could not be told, and is lost", err)
+        self.assertEqual(worker.returncode, 1)
 
     def test_a_worker_that_is_told_to_stop_ends_with_0(self):
         for number in (signal.SIGTERM, signal.SIGINT):

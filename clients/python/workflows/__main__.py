@@ -9,7 +9,8 @@ where the code agrees with all of them, 1 where it does not, 2 where there is no
 MODULE has its workflows in WORKFLOWS and its activities in ACTIVITIES.
 
 `work` ends with 0 where it was told to stop, once what it has in hand is done; with 2 where what it was given
-is wrong, as a queue that the service doesn't have; and with 1 where something else kept it from going on.
+is wrong, as a queue that the service doesn't have; and with 1 where something else kept it from going on, or
+the result of an activity could not be told.
 `start` says the run. Where the workflow was started before it says so, and ends with 1 if that was another
 type or another input. 2 where nothing was started.
 """
@@ -32,6 +33,7 @@ from wfserve import Refused, Unavailable
 from .definitions import type_of
 from .errors import NonDeterminism
 from .replay import check
+from .reports import GRACE
 from .values import input_of
 from .worker import Worker, run_together
 
@@ -93,8 +95,15 @@ def work(said: argparse.Namespace) -> int:
     workers = [
         Worker(service, said.queue, module.WORKFLOWS, module.ACTIVITIES) for _ in range(said.threads)
     ]
+
+    def end(*_: Any) -> None:
+        stop.set()
+        giving_up = threading.Timer(GRACE, service.give_up)
+        giving_up.daemon = True
+        giving_up.start()
+
     for number in (signal.SIGINT, signal.SIGTERM):
-        signal.signal(number, lambda *_: stop.set())
+        signal.signal(number, end)
     print(f"working on {said.queue} of {said.url}", flush=True)
     try:
         run_together([lambda worker=worker: worker.run(stop) for worker in workers], stop)
@@ -103,7 +112,7 @@ def work(said: argparse.Namespace) -> int:
     except Exception:
         traceback.print_exc()
         return 1
-    return 0
+    return 1 if any(worker.lost for worker in workers) else 0
 
 
 def start(said: argparse.Namespace) -> int:

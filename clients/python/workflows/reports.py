@@ -7,7 +7,7 @@ import itertools
 import logging
 import threading
 import time
-from typing import Any, Callable, List, Optional, Tuple
+from typing import Any, Callable, List, Optional, Tuple, Union
 
 from http_calls import pauses
 from line_log import LogFull
@@ -22,6 +22,26 @@ FIRST_PAUSE, LONGEST_PAUSE = 0.2, 10.0
 FIRST_LOOK, LAST_LOOK = 0.2, 5.0
 # For how many seconds a worker that was told to stop tries to tell what it has.
 GRACE = 10.0
+
+
+class ToldOrFailed:
+    """An event that is set where another one is, or where one of several loops has failed."""
+
+    def __init__(self, told: threading.Event):
+        self._told, self._failed = told, threading.Event()
+
+    def set(self) -> None:
+        self._failed.set()
+
+    def is_set(self) -> bool:
+        return self._told.is_set() or self._failed.is_set()
+
+    def wait(self, timeout: float) -> bool:
+        self._told.wait(timeout)
+        return self.is_set()
+
+
+Stop = Union[threading.Event, ToldOrFailed]
 
 
 class TaskOver:
@@ -41,27 +61,37 @@ class Reports:
     """Tells the results of activities: an effect that nobody hears of would be made again."""
 
     def __init__(self):
-        self.stop = threading.Event()
+        self.stop: Stop = threading.Event()
+        # How many could not be told.
+        self.lost = 0
+        # When it was seen first that the worker was told to stop.
+        self._stopped: Optional[float] = None
 
     def tell(self, about: str, report: Callable[[], Any]) -> Any:
         """Makes a report, and again with growing pauses while the service is away.
 
         The service says when the attempt's time is over. Only a worker that was told to stop gives up before.
         """
-        late: Optional[float] = None
         for pause in pauses(FIRST_PAUSE, LONGEST_PAUSE):
             try:
                 return report()
             except (Unavailable, LogFull) as fault:
-                if not getattr(fault, "passes", True):
+                if not getattr(fault, "passes", True) or self._gives_up():
+                    self.lost += 1
+                    LOG.error("%s: its result could not be told, and is lost: %s", about, fault)
                     raise
-                if self.stop.is_set():
-                    late = late or time.monotonic() + GRACE
-                    if time.monotonic() > late:
-                        LOG.error("%s: its result could not be told, and is lost: %s", about, fault)
-                        raise
                 LOG.warning("%s: the service is not there, its result is told later: %s", about, fault)
-                time.sleep(pause) if self.stop.is_set() else self.stop.wait(pause)
+            if self.stop.is_set():
+                time.sleep(pause)
+            else:
+                self.stop.wait(pause)
+
+    def _gives_up(self) -> bool:
+        """Whether the worker was told to stop some time ago."""
+        if not self.stop.is_set():
+            return False
+        self._stopped = self._stopped or time.monotonic()
+        return time.monotonic() > self._stopped + GRACE
 
 
 class Absence:

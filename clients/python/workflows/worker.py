@@ -5,7 +5,7 @@ from __future__ import annotations
 import logging
 import threading
 import traceback
-from typing import Callable, Dict, Iterable, List, Optional, Tuple, Union
+from typing import Callable, Dict, Iterable, List, Optional, Tuple
 
 from http_calls import POLLS
 from line_log import LogFull
@@ -20,7 +20,7 @@ from .errors import BadCommand, Blocked, NonDeterminism, NotHere
 from .history import NOTHING_WRONG, WORKERS_OWN, faults_of
 from .limits import COMMANDS_LIMIT, DURATIONS
 from .replay import Replay, replayed
-from .reports import Absence, Later, Reports, TaskOver
+from .reports import Absence, Later, Reports, Stop, TaskOver, ToldOrFailed
 from .signals import told_of
 from .values import clipped
 from .watch import WATCH
@@ -55,6 +55,11 @@ class Worker:
         self._attempts = Attempts(service, self._activities, self.clock, self._reports)
         # How many faults this worker has met in a run since its last completed task.
         self._stuck: Dict[str, int] = {}
+
+    @property
+    def lost(self) -> int:
+        """How many results of activities it could not tell before it had to stop."""
+        return self._reports.lost
 
     def work(self) -> int:
         """Does what waits in the queue. How many tasks that was."""
@@ -195,26 +200,6 @@ class Worker:
         with TaskOver():
             self._attempts.make(task)
         return True
-
-
-class ToldOrFailed:
-    """An event that is set where another one is, or where one of several loops has failed."""
-
-    def __init__(self, told: threading.Event):
-        self._told, self._failed = told, threading.Event()
-
-    def set(self) -> None:
-        self._failed.set()
-
-    def is_set(self) -> bool:
-        return self._told.is_set() or self._failed.is_set()
-
-    def wait(self, timeout: float) -> bool:
-        self._told.wait(timeout)
-        return self.is_set()
-
-
-Stop = Union[threading.Event, ToldOrFailed]
 
 
 def run_together(loops: List[Callable[[], None]], stop: Stop) -> None:
