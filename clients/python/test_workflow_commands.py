@@ -149,7 +149,8 @@ class WithAServer(unittest.TestCase):
 
     def test_a_result_that_could_not_be_told_is_said_and_ends_with_1(self):
         (self.folder / "slow.py").write_text(SLOW)
-        self.server.client().start("w", "slow", request_id="w")
+        with self.server.client() as client:
+            client.start("w", "slow", request_id="w")
         worker = self.work("slow", "--threads", "1", cwd=self.folder)
         while not (self.folder / "begun").exists():
             time.sleep(0.05)
