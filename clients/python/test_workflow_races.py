@@ -5,6 +5,7 @@ WFSERVE_SEED draws others, WFSERVE_DRAWN more of them.
 """
 
 import collections
+import contextlib
 import json
 import logging
 import os
@@ -17,9 +18,10 @@ from http_calls import CallLost
 from programs import BUILT, needs_program
 from wfserve import Calls, Refused, Service
 from workflows import (
-    Cancellation, Cancelled, Driver, JumpingClock, Retry, Worker, attempt, check, input_of, seconds, text_of, value_of,
-    workflow,
+    Cancellation, Cancelled, Driver, JumpingClock, NonDeterminism, Retry, Worker, attempt, check, input_of, seconds,
+    text_of, value_of, workflow,
 )
+from workflows.replay import Replay
 
 SEED = int(os.environ.get("WFSERVE_SEED", random.randrange(1 << 32)))
 DRAWN = int(os.environ.get("WFSERVE_DRAWN", 6)) * 25
@@ -95,7 +97,7 @@ async def paid_by(ctx, how, number, receipts):
     elif how == "two":
         await ctx.gather(noted(ctx, number, receipts), noted(ctx, number, receipts))
     elif how == "in time":
-        await ctx.first(noted(ctx, number, receipts), ctx.timer(1))
+        await in_time(ctx, number, receipts)
     elif how == "tried":
         await noted(ctx, number, receipts, Cancellation.TRY_CANCEL)
     elif how == "tried in time":
@@ -110,6 +112,16 @@ async def paid_by(ctx, how, number, receipts):
 
 async def noted(ctx, number, receipts, cancellation=Cancellation.WAIT_CANCELLATION_COMPLETED):
     receipts.append(await paying(ctx, number, cancellation))
+
+
+async def in_time(ctx, number, receipts):
+    """What was given up goes on until it ends; whether it paid is known then."""
+    paying_it = ctx.task(noted(ctx, number, receipts))
+    try:
+        await ctx.first(paying_it, ctx.timer(1))
+    finally:
+        with ctx.scope(shield=True), contextlib.suppress(Cancelled):
+            await paying_it
 
 
 async def ended(ctx, scope):
@@ -172,15 +184,29 @@ class Race:
 
     def played(self):
         """Plays it to its end. The result."""
-        plan = {"drains": self.draw.random() < 0.5, "waits anew": self.draw.random() < 0.3,
-                "a_run": self.draw.randint(1, 3), "by": self.by}
-        self.service.start("w", "raced", input=input_of([plan]), request_id="start")
+        self.service.start("w", "raced", input=input_of([self.plan()]), request_id="start")
         for _ in range(self.draw.randint(5, 200)):
             self.step()
         self.service.request_cancel("w", request_id="cancel")
         for _ in range(self.draw.randint(0, 5)):
             self.step()
         return self.ended()
+
+    def played_by_an_earlier_client_first(self):
+        """Plays it with workers of an earlier version, and then with those of this one."""
+        self.service.start("w", "raced", input=input_of([self.plan()]), request_id="start")
+        with mock.patch("workflows.worker.replayed", by_older_rules):
+            for _ in range(self.draw.randint(20, 100)):
+                self.step()
+            if self.draw.random() < 0.5:
+                self.service.request_cancel("w", request_id="cancel")
+                self.step()
+        for _ in range(100):
+            self.step()
+
+    def plan(self):
+        return {"drains": self.draw.random() < 0.5, "waits anew": self.draw.random() < 0.3,
+                "a_run": self.draw.randint(1, 3), "by": self.by}
 
     def step(self):
         self.draw.choices((self.signal, self.turn, self.turns, self.decide, self.work, self.wait), (3, 5, 5, 6, 6, 1))[0]()
@@ -224,6 +250,12 @@ class Race:
                 return self.service.history("w")[-1]
             self.clock.now += 100
         raise TimeoutError(f"it has not closed: {self.service.history('w')[-6:]}")
+
+
+def by_older_rules(function, events, run):
+    """What a worker of an earlier version of this client finds."""
+    replay = Replay(function, events, run, older=True)
+    return replay, replay.run()
 
 
 class Between(Calls):
@@ -274,6 +306,29 @@ class Races(unittest.TestCase):
         print(f"drawn races: {DRAWN} workflows, {dict(told)}", file=sys.stderr)
         for kind in ("signals", "runs", "lost replies", "receipts refunded", "tasks that knew too little", "children"):
             self.assertGreater(told[kind], 0, kind)
+
+    def test_runs_of_an_earlier_client_go_on(self):
+        told = collections.Counter()
+        for number in range(DRAWN):
+            with self.subTest(number=number):
+                race = Race(f"{SEED} earlier {number}")
+                self.addCleanup(race.service.close)
+                race.played_by_an_earlier_client_first()
+                self.look_at_rules(race, told)
+        print(f"drawn races of two versions: {dict(told)}", file=sys.stderr)
+        self.assertGreater(told["runs by older rules"], 0)
+
+    def look_at_rules(self, race, told):
+        """The code agrees with each run, by the rules of its time, and no task failed since it didn't."""
+        for run, events in self.histories(race):
+            messages = [event["attrs"].get("message", "") for event in events if event["type"] == "WorkflowTaskFailed"]
+            self.assertEqual([message for message in messages if message.startswith("event ")], [])
+            self.look_at_replays(raced, run, events)
+            told["runs"] += 1
+            try:
+                Replay(raced, events, run).run()
+            except NonDeterminism:
+                told["runs by older rules"] += 1
 
     def look(self, race, last, told):
         runs = self.histories(race)
