@@ -6,24 +6,40 @@
     service.start("order-17", "order", request_id="order-17-start")
 
 It may be called by many threads; each has a connection of its own.
+
+A call that can't count twice is made again where its reply was lost, or the server is away: one that reads,
+and one that bears a request id or a task's token. Where a report on a task is answered NotFound then,
+either the lost one was taken or the task's time was over.
 """
 
 from __future__ import annotations
 
 import http.client
 import json
+import random
 import threading
+import time
 import urllib.parse
-from typing import Optional
+from typing import Iterator, Optional, Tuple
 
 from wfserve import Calls, Unavailable, answered
 
 POLLS = ("poll_workflow_task", "poll_activity_task")
 READS = ("history", "describe")
+# What makes a call count once.
+MARKS = ("request_id", "token")
+# The server failed, or something in front of it; is busy; has no room on its disk.
+AWAY = (500, 502, 503, 504, 507)
+# Seconds between a call and the same call made again: twice as many each time, up to the longest.
+FIRST_PAUSE, LONGEST_PAUSE = 0.05, 2.0
+# For how many seconds a call is made again, and a heartbeat, for which an activity waits.
+PATIENCE, HEARTBEAT_PATIENCE = 60.0, 1.0
 
 
 class CallLost(Unavailable):
     """The connection was lost. The call may have taken effect."""
+
+    passes = True
 
 
 class NotServed(Unavailable):
@@ -33,11 +49,35 @@ class NotServed(Unavailable):
         super().__init__(f"status {status}: {said}")
         self.status = status
 
+    @property
+    def passes(self) -> bool:
+        """Whether the same call may be served later."""
+        return self.status in AWAY
+
+
+def pauses(first: float = FIRST_PAUSE, longest: float = LONGEST_PAUSE) -> Iterator[float]:
+    """Growing pauses in seconds, each drawn between a half and the whole: so that clients don't come all at once."""
+    pause = first
+    while True:
+        yield pause * (0.5 + random.random() / 2)
+        pause = min(2 * pause, longest)
+
+
+def counts_once(request: dict) -> bool:
+    """Whether a call may be made again without counting twice."""
+    return request["op"] in READS or any(mark in request for mark in MARKS)
+
 
 class HttpService(Calls):
-    """The calls of Service, over HTTP. The server's clock says when. A poll waits so many milliseconds."""
+    """The calls of Service, over HTTP. The server's clock says when.
 
-    def __init__(self, url: str, token: Optional[str] = None, wait: int = 0, timeout: float = 60):
+    A poll waits for `wait` milliseconds. A call that counts once is made again for `patience` seconds.
+    """
+
+    def __init__(
+        self, url: str, token: Optional[str] = None, wait: int = 0, timeout: float = 60,
+        patience: float = PATIENCE,
+    ):
         parts = urllib.parse.urlsplit(url)
         if parts.scheme != "http" or not parts.hostname:
             raise ValueError(f"{url} is no address as http://127.0.0.1:7233")
@@ -47,8 +87,10 @@ class HttpService(Calls):
             self._headers["Authorization"] = f"Bearer {token}"
         self._wait = wait
         self._timeout = timeout + wait / 1_000
+        self._patience = patience
+        self._hopeless = threading.Event()
         self._own = threading.local()
-        self._connections = []
+        self._open = set()
 
     def __enter__(self) -> "HttpService":
         return self
@@ -60,21 +102,27 @@ class HttpService(Calls):
         request = {"op": op, **{name: value for name, value in fields.items() if value is not None}}
         if op in POLLS and self._wait:
             request["wait"] = self._wait
-        status, text = self._answer(request, json.dumps(request).encode())
+        return answered(request, json.loads(self._served(request)))
+
+    def _served(self, request: dict) -> str:
+        """The reply's text. Makes a call again where it was not served, if that can't count twice."""
+        body = json.dumps(request).encode()
+        patience = min(self._patience, HEARTBEAT_PATIENCE) if request["op"] == "heartbeat" else self._patience
+        late = time.monotonic() + patience if counts_once(request) else 0.0
+        for pause in pauses():
+            try:
+                return self._served_once(body)
+            except (CallLost, NotServed) as fault:
+                if not fault.passes or time.monotonic() + pause > late or self._hopeless.wait(pause):
+                    raise
+
+    def _served_once(self, body: bytes) -> str:
+        status, text = self._post(body)
         if status != 200:
             raise NotServed(status, text)
-        return answered(request, json.loads(text))
+        return text
 
-    def _answer(self, request: dict, body: bytes) -> tuple[int, str]:
-        """Makes a call once more where its connection was lost, if that can't count twice."""
-        try:
-            return self._post(body)
-        except CallLost:
-            if "request_id" not in request and request["op"] not in READS:
-                raise
-            return self._post(body)
-
-    def _post(self, body: bytes) -> tuple[int, str]:
+    def _post(self, body: bytes) -> Tuple[int, str]:
         connection = self._connection()
         try:
             connection.request("POST", "/calls", body, self._headers)
@@ -82,16 +130,22 @@ class HttpService(Calls):
             return response.status, response.read().decode()
         except (OSError, http.client.HTTPException) as fault:
             self._own.connection = None
+            self._open.discard(connection)
             connection.close()
             raise CallLost(f"{type(fault).__name__}: {fault}") from fault
 
     def _connection(self) -> http.client.HTTPConnection:
         if getattr(self._own, "connection", None) is None:
             self._own.connection = http.client.HTTPConnection(self._host, self._port, timeout=self._timeout)
-            self._connections.append(self._own.connection)
+            self._open.add(self._own.connection)
         return self._own.connection
 
+    def give_up(self) -> None:
+        """From now on no call is made again: those that wait for that fail."""
+        self._hopeless.set()
+
     def close(self) -> None:
-        """Closes the connections of all threads."""
-        while self._connections:
-            self._connections.pop().close()
+        """Closes the connections of all threads, and gives up what waits to be made again."""
+        self.give_up()
+        while self._open:
+            self._open.pop().close()

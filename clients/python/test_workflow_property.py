@@ -1,18 +1,22 @@
-"""Workflows drawn from a seed, with and without crashes of workers and of the service: what they come to is the same.
+"""Workflows drawn from a seed, with and without crashes of workers and of the service, and with replies that are
+lost: what they come to is the same. And drawn races, of what comes while a workflow decides: nothing of it is lost.
 
 WFSERVE_SEED draws others, WFSERVE_DRAWN more of them.
 """
 
 import collections
 import json
+import logging
 import os
 import pathlib
 import random
 import sys
 import unittest
+from unittest import mock
 
 from durable import DurableService, Settings
 from examples.stage import Fragile, Stage, WorkerKilled
+from http_calls import CallLost
 from programs import BUILT, memory_folder, needs_program
 from wfserve import Calls, Ended, Refused
 from workflows import (
@@ -235,12 +239,20 @@ class Mortal(Fragile):
             self._crashing.crashes["worker"] += 1
             raise WorkerKilled()
         try:
-            return super().call(op, **fields)
+            reply = super().call(op, **fields)
         except Ended:
-            # The clock has to know of the timers of a completion that took effect.
-            for command in fields.get("commands", ()):
-                self._crashing.clock.expect(self._crashing.clock.now + command.get("duration", 0))
+            self._expect(fields)
             raise WorkerKilled() from None
+        if self._crashing.drawn(self._rate / 2):
+            self._crashing.crashes["reply"] += 1
+            self._expect(fields)
+            raise CallLost("the reply was lost")
+        return reply
+
+    def _expect(self, fields):
+        """The clock has to know of the timers of a completion that took effect."""
+        for command in fields.get("commands", ()):
+            self._crashing.clock.expect(self._crashing.clock.now + command.get("duration", 0))
 
 
 def played(plans, seed, rate):
@@ -308,6 +320,14 @@ def happened(events):
 
 @needs_program
 class Drawn(unittest.TestCase):
+    def setUp(self):
+        # What is told again is told at once.
+        patch = mock.patch("workflows.reports.FIRST_PAUSE", 0)
+        patch.start()
+        self.addCleanup(patch.stop)
+        logging.getLogger("workflows").setLevel(logging.CRITICAL)
+        self.addCleanup(logging.getLogger("workflows").setLevel, logging.NOTSET)
+
     def test_crashes_change_nothing_but_attempts(self):
         print(f"\ndrawn workflows: seed {SEED}", file=sys.stderr)
         crashes, kinds = collections.Counter(), collections.Counter()
@@ -322,7 +342,7 @@ class Drawn(unittest.TestCase):
                 crashes.update(had)
                 self.compare(calm, found, had, f"plans {number}, crashes {run}")
         print(f"drawn workflows: {dict(crashes)}; {sum(kinds.values())} events without crashes", file=sys.stderr)
-        self.assertEqual(len(crashes), 3)
+        self.assertEqual(len(crashes), 4)
 
     def compare(self, calm, found, had, told):
         self.assertEqual(set(calm), set(found), told)

@@ -1,6 +1,6 @@
 """A booking of three steps. Where a step fails, what was booked before is undone, the last first."""
 
-from workflows import ActivityFailed, Cancelled, NonRetryable, Retry, attempt, seconds, workflow
+from workflows import ActivityFailed, Cancellation, Cancelled, NonRetryable, Retry, attempt, seconds, workflow
 
 QUEUES = ("main",)
 
@@ -22,7 +22,11 @@ async def booking(ctx, trip):
     booked = []
     try:
         for what in ("flight", "hotel", "car"):
-            booked.append(await ctx.activity(book, what, trip, start_to_close=seconds(10), retry=Retry(attempts=4)))
+            # Where the booking is cancelled, what comes of this step has to be known, so that it is undone too.
+            booked.append(await ctx.activity(
+                book, what, trip, start_to_close=seconds(10), retry=Retry(attempts=4),
+                cancellation=Cancellation.WAIT_CANCELLATION_COMPLETED,
+            ))
     except (ActivityFailed, Cancelled) as fault:
         undone = []
         for done in reversed(booked):

@@ -4,7 +4,7 @@ from __future__ import annotations
 
 from typing import Callable, Optional, Sequence
 
-from wfserve import Calls
+from wfserve import Calls, Unavailable
 from workflows import Driver, JumpingClock, Worker, input_of, text_of
 from workflows.definitions import type_of
 
@@ -68,11 +68,14 @@ class Stage:
             return int(self._workers[i].work_once())
         except WorkerKilled:
             self._workers[i] = self._worker(self._workers[i].queue)
-            self._look_out()
-            return 1
+        except Unavailable:
+            # The worker goes on, and doesn't know what became of its call.
+            pass
+        self._look_out()
+        return 1
 
     def _look_out(self) -> None:
-        """A worker that was killed has left a task, whose time will be over within the next minute."""
+        """A task was left, whose time will be over within the next minute."""
         for later in range(10_000, 60_001, 10_000):
             self.clock.expect(self.clock.now + later)
 

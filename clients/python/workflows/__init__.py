@@ -25,13 +25,15 @@ from .errors import (
     NonRetryable, NoSuchWorkflow, WorkflowFailed,
 )
 from .local import run
+from .operations import Cancellation
 from .replay import check
+from .scopes import Scope
 from .values import Retry, days, hours, input_of, minutes, seconds, text_of, value_of
 from .worker import Worker
 
 __all__ = [
-    "ActivityFailed", "ActivityTimedOut", "AttemptOver", "Cancelled", "ChildFailed", "Context", "Driver",
-    "Failure", "JumpingClock", "NoSuchWorkflow", "NonDeterminism", "NonRetryable", "Retry", "WallClock",
+    "ActivityFailed", "ActivityTimedOut", "AttemptOver", "Cancellation", "Cancelled", "ChildFailed", "Context", "Driver",
+    "Failure", "JumpingClock", "NoSuchWorkflow", "NonDeterminism", "NonRetryable", "Retry", "Scope", "WallClock",
     "Worker", "WorkflowFailed", "attempt", "check", "days", "hours", "input_of", "minutes",
     "run", "run_until_closed", "run_until_idle", "seconds", "text_of", "value_of", "workflow",
 ]

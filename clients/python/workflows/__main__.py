@@ -7,14 +7,25 @@
 FILE has replies as wfserve prints them; each history of that workflow among them is replayed. Status 0
 where the code agrees with all of them, 1 where it does not, 2 where there is none or it can't be read.
 MODULE has its workflows in WORKFLOWS and its activities in ACTIVITIES.
+
+`work` ends with 0 where it was told to stop, once what it has in hand is done; with 2 where what it was given
+is wrong, as a queue that the service doesn't have; and with 1 where something else kept it from going on, or
+the result of an activity could not be told.
+`start` says the run. Where the workflow was started before it says so, and ends with 1 if that was another
+type or another input. 2 where nothing was started.
 """
 
 import argparse
 import importlib
+import inspect
 import json
+import logging
 import pathlib
+import signal
 import sys
 import threading
+import traceback
+from typing import Any, Callable, Iterable, Iterator, List, Optional
 
 from http_calls import HttpService
 from wfserve import Refused, Unavailable
@@ -22,14 +33,17 @@ from wfserve import Refused, Unavailable
 from .definitions import type_of
 from .errors import NonDeterminism
 from .replay import check
+from .reports import GRACE
 from .values import input_of
-from .worker import Worker
+from .worker import Worker, run_together
 
-# How many milliseconds a worker's poll waits for a task.
-WAIT = 10_000
+# How many milliseconds a worker's poll waits for a task. So long it may take to stop.
+WAIT = 5_000
+# For how many seconds a start is tried.
+START_PATIENCE = 3.0
 
 
-def histories(lines, workflow_type):
+def histories(lines: Iterable[str], workflow_type: str) -> Iterator[dict]:
     """The histories of a workflow type among replies."""
     for line in lines:
         reply = json.loads(line)
@@ -41,7 +55,7 @@ class CodeFails(Exception):
     """The code raised what no workflow may."""
 
 
-def replay_one(function, reply):
+def replay_one(function: Callable, reply: dict) -> None:
     try:
         check(function, reply["events"], reply["run"])
     except NonDeterminism:
@@ -50,10 +64,9 @@ def replay_one(function, reply):
         raise CodeFails(f"it raises {type(fault).__name__}: {fault}") from fault
 
 
-def replay(file, named):
+def replay(file: str, named: str) -> int:
     """How many histories agree. Raises NonDeterminism at the first that does not."""
-    module, _, name = named.partition(":")
-    function = getattr(importlib.import_module(module), name)
+    function = workflow_named(named)
     count = 0
     with open(file, encoding="utf-8") as lines:
         for reply in histories(lines, type_of(function)):
@@ -62,7 +75,7 @@ def replay(file, named):
     return count
 
 
-def checked(said):
+def checked(said: argparse.Namespace) -> int:
     """`replay`: says whether the code agrees. The status."""
     try:
         count = replay(said.file, said.workflow)
@@ -75,36 +88,79 @@ def checked(said):
     return 0
 
 
-def work(said):
-    """`work`: threads for workflow tasks and threads for activities, until the process is stopped."""
+def work(said: argparse.Namespace) -> int:
+    """`work`: workers for workflows and activities, until the process is told to stop. The status."""
     module = importlib.import_module(said.module)
     service, stop = HttpService(said.url, token_of(said), wait=WAIT), threading.Event()
-    workers = [Worker(service, said.queue, workflows=module.WORKFLOWS) for _ in range(said.threads)]
-    workers += [Worker(service, said.queue, activities=module.ACTIVITIES) for _ in range(said.threads)]
-    threads = [threading.Thread(target=worker.run, args=(stop,), daemon=True) for worker in workers]
-    for thread in threads:
-        thread.start()
+    workers = [
+        Worker(service, said.queue, module.WORKFLOWS, module.ACTIVITIES) for _ in range(said.threads)
+    ]
+
+    def end(*_: Any) -> None:
+        stop.set()
+        giving_up = threading.Timer(GRACE, service.give_up)
+        giving_up.daemon = True
+        giving_up.start()
+
+    for number in (signal.SIGINT, signal.SIGTERM):
+        signal.signal(number, end)
     print(f"working on {said.queue} of {said.url}", flush=True)
-    for thread in threads:
-        thread.join()
-    return 0
+    try:
+        run_together([lambda worker=worker: worker.run(stop) for worker in workers], stop)
+    except (Refused, Unavailable):
+        raise
+    except Exception:
+        traceback.print_exc()
+        return 1
+    return 1 if any(worker.lost for worker in workers) else 0
 
 
-def start(said):
-    """`start`: says the workflow's run."""
-    _, _, name = said.workflow.partition(":")
-    with HttpService(said.url, token_of(said)) as service:
-        arguments = [json.loads(argument) for argument in said.argument]
-        print(service.start(said.id, name, said.queue, input=input_of(arguments), request_id=said.id))
-    return 0
+def start(said: argparse.Namespace) -> int:
+    """`start`: says the workflow's run, and whether it was there. The status."""
+    name, text = type_of(workflow_named(said.workflow)), input_of([value_of_word(word) for word in said.argument])
+    with HttpService(said.url, token_of(said), patience=START_PATIENCE) as service:
+        reply = service.call(
+            "start", workflow_id=said.id, workflow_type=name, task_queue=said.queue, input=text, request_id=said.id
+        )
+        print(reply["run"])
+        if reply["ok"] != "existing":
+            return 0
+        return say_existing(said.id, name, text, service.history(said.id, reply["run"])[0]["attrs"])
 
 
-def token_of(said):
+def say_existing(workflow_id: str, name: str, text: str, began: dict) -> int:
+    """Says of a workflow that was there how it was started. 1 where that was in another way."""
+    as_asked = (began["workflow_type"], began["input"]) == (name, text)
+    how = "" if as_asked else f", as {began['workflow_type']} with the input {began['input'] or 'of none'}"
+    print(f"workflows: {workflow_id} was started before{how}: nothing was started now", file=sys.stderr)
+    return 0 if as_asked else 1
+
+
+def workflow_named(text: str) -> Callable:
+    """The workflow of MODULE:WORKFLOW."""
+    module, _, name = text.partition(":")
+    found = vars(importlib.import_module(module))
+    if not getattr(found.get(name), "is_workflow", False):
+        known = [it for it in found if inspect.isfunction(found[it]) and hasattr(found[it], "is_workflow")]
+        raise ValueError(f"{module} has no workflow {name}; it has {', '.join(known) or 'none'}")
+    return found[name]
+
+
+def value_of_word(word: str) -> Any:
+    """The value of an argument, which is JSON."""
+    try:
+        return json.loads(word)
+    except ValueError:
+        quoted = "'" + json.dumps(word) + "'"
+        raise ValueError(f"the argument {word} is no JSON; a text has quotes of its own: {quoted}") from None
+
+
+def token_of(said: argparse.Namespace) -> Optional[str]:
     """The token of --token-file, if one was given."""
     return pathlib.Path(said.token_file).read_text(encoding="utf-8").strip() if said.token_file else None
 
 
-def named(text):
+def named(text: str) -> str:
     """MODULE:WORKFLOW, as it was written."""
     module, _, name = text.partition(":")
     if not module or not name:
@@ -112,7 +168,14 @@ def named(text):
     return text
 
 
-def words_of(words):
+def threads_of(text: str) -> int:
+    """A number of threads."""
+    if not text.isdigit() or not 1 <= int(text) <= 1_000:
+        raise argparse.ArgumentTypeError(f"{text} is no number from 1 to 1,000")
+    return int(text)
+
+
+def words_of(words: List[str]) -> argparse.Namespace:
     parser = argparse.ArgumentParser(prog="python3 -m workflows")
     commands = parser.add_subparsers(required=True)
     checking = commands.add_parser("replay", help="check code against stored histories")
@@ -122,7 +185,7 @@ def words_of(words):
     working = commands.add_parser("work", help="work for a server")
     working.add_argument("url", help="the server's address, as http://127.0.0.1:7233")
     working.add_argument("module", help="a module with WORKFLOWS and ACTIVITIES")
-    working.add_argument("--threads", type=int, default=2, help="for workflow tasks, and as many for activities")
+    working.add_argument("--threads", type=threads_of, default=2, help="for workflow tasks, and as many for activities")
     working.set_defaults(does=work)
     starting = commands.add_parser("start", help="start a workflow")
     starting.add_argument("url", help="the server's address, as http://127.0.0.1:7233")
@@ -136,15 +199,16 @@ def words_of(words):
     return parser.parse_args(words)
 
 
-def main(words):
+def main(words: List[str]) -> int:
     said = words_of(words)
     sys.path.insert(0, "")
     try:
         return said.does(said)
-    except (OSError, ValueError, ImportError, AttributeError, KeyError, Refused, Unavailable) as fault:
+    except (OSError, ValueError, TypeError, ImportError, AttributeError, KeyError, Refused, Unavailable) as fault:
         print(f"workflows: {type(fault).__name__}: {fault}", file=sys.stderr)
         return 2
 
 
 if __name__ == "__main__":
+    logging.basicConfig(level=logging.WARNING, format="%(asctime)s %(message)s")
     sys.exit(main(sys.argv[1:]))

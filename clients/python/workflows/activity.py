@@ -3,20 +3,23 @@
 from __future__ import annotations
 
 import contextvars
-from typing import Any
+import logging
+from typing import Any, Callable, Optional, Sequence
 
-from wfserve import Refused
+from line_log import LogFull
+from wfserve import Calls, Refused, Task, Unavailable
 
 from .errors import AttemptOver, Cancelled
-from .values import text_of, value_of
+from .values import checked_text, text_of, value_of
 
+LOG = logging.getLogger("workflows")
 _current: contextvars.ContextVar = contextvars.ContextVar("attempt")
 
 
 class Attempt:
     """One attempt of an activity."""
 
-    def __init__(self, service, task):
+    def __init__(self, service: Calls, task: Task):
         self._service = service
         self._task = task
         self.number: int = task.attempt
@@ -25,18 +28,35 @@ class Attempt:
         self.activity_id: str = task.activity_id
         # What the last heartbeat of an earlier attempt told.
         self.details: Any = value_of(task.details or "")
+        # What the service was not there to hear.
+        self._untold: Optional[str] = None
+
+    @property
+    def key(self) -> str:
+        """The same for all attempts of this activity, and for no other one: what to make an effect once by."""
+        return f"{self.run}/{self.activity_id}"
 
     def heartbeat(self, details: Any = None) -> None:
         """Tells that the attempt goes on. Raises Cancelled where the workflow asked it to cancel, and
-        AttemptOver where the attempt was taken from it."""
+        AttemptOver where the attempt was taken from it. Where the service is away the activity goes on."""
+        text = checked_text(text_of(details), "the details of a heartbeat")
         try:
-            asked = self._service.heartbeat(self._task, text_of(details))
+            asked = self._service.heartbeat(self._task, text)
+        except (Unavailable, LogFull) as fault:
+            LOG.warning("%s: the service is not there to hear a heartbeat: %s", self.activity_id, fault)
+            self._untold = text
+            return
         except Refused as refused:
             if refused.name == "NotFound":
                 raise AttemptOver(f"attempt {self.number} of {self.activity_id} is over") from refused
             raise
+        self._untold = None
         if asked:
             raise Cancelled()
+
+    def details_left(self) -> Optional[str]:
+        """What the last heartbeat told, where the service has not heard it."""
+        return self._untold
 
 
 def attempt() -> Attempt:
@@ -44,9 +64,9 @@ def attempt() -> Attempt:
     return _current.get()
 
 
-def called(function, service, task, arguments) -> Any:
+def called(function: Callable, made: Attempt, arguments: Sequence[Any]) -> Any:
     """The function's value for these arguments, called by this attempt."""
-    mark = _current.set(Attempt(service, task))
+    mark = _current.set(made)
     try:
         return function(*arguments)
     finally:

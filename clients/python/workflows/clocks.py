@@ -4,7 +4,7 @@ from __future__ import annotations
 
 import heapq
 import time
-from typing import List, Optional
+from typing import List, Optional, Union
 
 
 class Expecting:
@@ -27,9 +27,22 @@ class Expecting:
 class WallClock(Expecting):
     """Milliseconds since 1970."""
 
+    def __init__(self):
+        super().__init__()
+        self._ahead = 0
+
     @property
     def now(self) -> int:
-        return time.time_ns() // 1_000_000
+        return time.time_ns() // 1_000_000 + self._ahead
+
+    def go_on_from(self, moment: int) -> None:
+        """Is no earlier than a moment at which something was done: the wall's clock may have been ahead then."""
+        self._ahead += max(moment - self.now, 0)
+
+    def expect(self, moment: int) -> None:
+        """Something may be due then. Nobody may ever jump, so what is over is forgotten here too."""
+        self._next(self.now)
+        super().expect(moment)
 
     def jump(self, most: int = 1_000) -> None:
         """Sleeps until the next expected moment, and at most so long."""
@@ -49,3 +62,6 @@ class JumpingClock(Expecting):
         """Goes to the next expected moment, and where there is none on by `most`."""
         following = self._next(self.now)
         self.now = self.now + most if following is None else following
+
+
+Clock = Union[JumpingClock, WallClock]

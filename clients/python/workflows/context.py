@@ -8,9 +8,12 @@ from typing import TYPE_CHECKING, Any, Callable, Coroutine, List, NoReturn, Opti
 
 from .commands import Command
 from .definitions import Named, type_of
-from .errors import ContinueAsNew, ReplayOver
-from .loop import FirstOf, Future, Gathered, Task
-from .operations import Activity, Child, Signal, Timer, Word
+from .errors import Cancelled, ContinueAsNew, ReplayOver
+from .loop import Future, Task
+from .operations import Activity, Cancellation, Child, Timer, Word
+from .scopes import Scope
+from .signals import Signal, Signals
+from .together import FirstOf, Gathered, Shielded
 from .values import Retry, input_of, retry_members, text_of, value_of
 
 if TYPE_CHECKING:
@@ -65,10 +68,12 @@ class Context:
         self, activity: Named, *arguments: Any, start_to_close: int = 0, schedule_to_close: int = 0,
         schedule_to_start: int = 0, heartbeat: int = 0, retry: Retry = Retry(),
         queue: Optional[str] = None, id: Optional[str] = None,
+        cancellation: Cancellation = Cancellation.TRY_CANCEL,
     ) -> Activity:
         """Has a worker call a function. Its value, or ActivityFailed, or ActivityTimedOut.
 
-        One of start_to_close and schedule_to_close has to be given."""
+        One of start_to_close and schedule_to_close has to be given. `cancellation` says whether the code
+        waits for its end where it is cancelled: it does for what moves money, to know whether it was moved."""
         number = self._counted("activity")
         members = {
             "activity_id": id or number, "activity_type": type_of(activity),
@@ -78,7 +83,7 @@ class Context:
             input=input_of(arguments), start_to_close=start_to_close, schedule_to_close=schedule_to_close,
             schedule_to_start=schedule_to_start, heartbeat=heartbeat, retry=retry_members(retry),
         ))
-        return Activity(self._asking(), Command("ScheduleActivityTask", members))
+        return Activity(self._asking(), Command("ScheduleActivityTask", members), cancellation)
 
     def timer(self, duration: int, id: Optional[str] = None) -> Timer:
         """Is done after so long; at once where that is 0 or less."""
@@ -90,19 +95,25 @@ class Context:
         """The value of the next signal of this name."""
         return self._asking().inbox.next(name)
 
+    def signals(self, name: str) -> Signals:
+        """The signals of this name that came and that nobody has taken: how many there are, and all of them."""
+        return Signals(self._asking().inbox, name)
+
     def child(
         self, workflow: Named, *arguments: Any, id: Optional[str] = None, queue: Optional[str] = None,
         parent_close: str = "Terminate", reuse: str = "AllowDuplicate", run_timeout: int = 0,
-        task_timeout: int = 0,
+        task_timeout: int = 0, cancellation: Optional[Cancellation] = None,
     ) -> Child:
-        """Starts another workflow, and waits for its end: its value, or ChildFailed."""
+        """Starts another workflow, and waits for its end: its value, or ChildFailed.
+
+        Where it is cancelled, the code waits for its end, unless another `cancellation` is given."""
         number = self._counted("child")
         members = {
             "workflow_id": id or f"{self.workflow_id}/{number}", "workflow_type": type_of(workflow),
             "task_queue": queue or self.task_queue, "parent_close": parent_close, "reuse": reuse,
         }
         members.update(given(input=input_of(arguments), run_timeout=run_timeout, task_timeout=task_timeout))
-        return Child(self._asking(), Command("StartChildWorkflowExecution", members))
+        return Child(self._asking(), Command("StartChildWorkflowExecution", members), cancellation)
 
     def signal_workflow(self, workflow_id: str, name: str, value: Any = None, run: Optional[str] = None) -> Word:
         """Signals another workflow. Done once it has the signal; NoSuchWorkflow where it isn't open."""
@@ -120,17 +131,29 @@ class Context:
         replay = self._asking()
         details = replay.recorded_marker(name)
         if details is None:
-            details = text_of(make())
+            details = text_of(replay.loop.guard.lifted(make))
         replay.ask(Command("RecordMarker", {"name": name, "details": details}))
         return value_of(details)
 
+    def unguarded(self, make: Callable[[], Any]) -> Any:
+        """A value of what a workflow's code may not do otherwise, made again in each replay: for what decides
+        nothing, as a measurement of the code itself."""
+        return self._asking().loop.guard.lifted(make)
+
     def continue_as_new(
         self, *arguments: Any, workflow: Optional[Named] = None, queue: Optional[str] = None,
+        with_signals: bool = False,
     ) -> NoReturn:
-        """Ends this run, and begins the next one of this workflow with a history of its own."""
-        raise ContinueAsNew(given(
-            input=input_of(arguments), task_queue=queue, workflow_type=type_of(workflow) if workflow else None,
-        ))
+        """Ends this run, and begins the next one of this workflow with a history of its own.
+
+        `with_signals` hands on the signals that nobody took; they and the arguments are one input, which
+        has its limit. Without it a worker's log says how many were left. Raises Cancelled in a run that was
+        asked to cancel, where the code has not learned of that yet: the next run would not be asked."""
+        if self._asking().learns_of_cancellation():
+            raise Cancelled()
+        raise ContinueAsNew(
+            arguments, given(task_queue=queue, workflow_type=type_of(workflow) if workflow else None), with_signals,
+        )
 
     # Several at once.
 
@@ -146,6 +169,14 @@ class Context:
         """The index and the value of the first that is done. The others are cancelled; a signal that
         nobody took stays for the next one who asks."""
         return FirstOf(self._asking().loop, self._futures(awaited))
+
+    def shield(self, awaited: Awaited) -> Shielded:
+        """Waits for it. Where the code that waits is cancelled, it gets Cancelled, and what it waited for goes on."""
+        return Shielded(self._asking().loop, self._futures([awaited])[0])
+
+    def scope(self, shield: bool = False) -> Scope:
+        """For `with`: a part of the code that can be cancelled by itself, or with a shield not from outside."""
+        return Scope(self._asking().loop, shield)
 
     def _futures(self, awaited) -> List[Future]:
         return [self.task(it) if inspect.iscoroutine(it) else it for it in awaited]

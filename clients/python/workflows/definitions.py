@@ -22,11 +22,26 @@ def type_of(named: Named) -> str:
 
 
 def workflows_by_type(functions: Iterable[Callable]) -> Dict[str, Callable]:
-    for function in functions:
+    found = by_type("workflows", functions)
+    for function in found.values():
         if not getattr(function, "is_workflow", False):
             raise TypeError(f"{function.__name__} is not marked by @workflow")
-    return {type_of(function): function for function in functions}
+    return found
 
 
 def activities_by_type(functions: Iterable[Callable]) -> Dict[str, Callable]:
-    return {type_of(function): function for function in functions}
+    found = by_type("activities", functions)
+    for name, function in found.items():
+        if inspect.iscoroutinefunction(function) or inspect.isasyncgenfunction(function):
+            raise TypeError(f"the activity {name} is an 'async def'; an activity is a plain function, which may block")
+    return found
+
+
+def by_type(kind: str, functions: Iterable[Callable]) -> Dict[str, Callable]:
+    """Functions by their types. Two of one type would leave one of them without work."""
+    found: Dict[str, Callable] = {}
+    for function in functions:
+        name = type_of(function)
+        if found.setdefault(name, function) is not function:
+            raise ValueError(f"two {kind} are named {name}")
+    return found

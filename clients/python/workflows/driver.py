@@ -5,14 +5,13 @@ from __future__ import annotations
 
 import logging
 import threading
-from typing import Callable, Iterable, Union
+from typing import Callable, Iterable
 
 from line_log import LogFull
 from wfserve import Calls, Unavailable, dispatched
 
-from .clocks import JumpingClock, WallClock
+from .clocks import Clock
 
-Clock = Union[JumpingClock, WallClock]
 LOG = logging.getLogger("workflows")
 # How many seconds until a service that isn't there is tried again.
 UNAVAILABLE_PAUSE = 1.0

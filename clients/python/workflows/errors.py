@@ -2,11 +2,13 @@
 
 from __future__ import annotations
 
-from typing import Optional
+from typing import Any, Optional, Sequence
 
 
 class Cancelled(BaseException):
-    """A workflow or an activity was asked to cancel. Raised where it waits, once."""
+    """A workflow or an activity was asked to cancel. Raised where it waits, once.
+
+    No `except Exception` catches it. Where an activity failed once it was asked to cancel, that is its cause."""
 
 
 class Failure(Exception):
@@ -71,10 +73,27 @@ class NonDeterminism(Exception):
 class ContinueAsNew(BaseException):
     """Ends a run, and begins the next one of its workflow. `Context.continue_as_new` raises it."""
 
-    def __init__(self, members: dict):
+    def __init__(self, arguments: Sequence[Any], members: dict, with_signals: bool):
         super().__init__("continue as new")
+        self.arguments = arguments
         self.members = members
+        self.with_signals = with_signals
 
 
 class ReplayOver(BaseException):
     """The replay in which some code waited has ended: nothing more can be asked there."""
+
+
+class BadCommand(Exception):
+    """A workflow's code asks for what the service would refuse."""
+
+
+class ForbiddenCall(Exception):
+    """A workflow's code called what isn't the same in its next replay."""
+
+
+class Blocked(BaseException):
+    """A workflow's code took nearly all of its task's time without waiting for anything. Raised in it."""
+
+    def __init__(self):
+        super().__init__("the code blocked its worker for most of its task's time")

@@ -49,6 +49,23 @@ def turns(events: List[dict]) -> Iterator[Turn]:
         yield Turn(news, started["at"])
 
 
+# A task that failed so says nothing of the code: the next one knows what came meanwhile.
+NOTHING_WRONG = "UnhandledCommand"
+# The cause of a task that its worker failed; other causes are faults that the service found in its commands.
+WORKERS_OWN = "WorkflowWorkerUnhandledFailure"
+
+
+def faults_of(events: List[dict]) -> List[dict]:
+    """The tasks that failed by a fault of the code since the last one that was completed."""
+    found: List[dict] = []
+    for event in reversed(events):
+        if event["type"] == "WorkflowTaskCompleted":
+            break
+        if event["type"] == "WorkflowTaskFailed" and event["attrs"]["cause"] != NOTHING_WRONG:
+            found.insert(0, event)
+    return found
+
+
 def same_history(events: List[dict]) -> List[dict]:
     """Events to compare by: a retry policy's growth is left out, which has two forms."""
     return [{**event, "attrs": comparable(event["attrs"])} for event in events]

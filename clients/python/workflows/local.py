@@ -21,6 +21,7 @@ def run(
     """The workflow's value, or Failure. Killed at any moment and run again with the same log, it goes on."""
     clock = WallClock()
     with DurableService(command, log, clock=clock) as service:
+        clock.go_on_from(service.last_moment)
         service.start(workflow_id, type_of(workflow), input=input_of(arguments), request_id=workflow_id)
         worker = Worker(service, workflows=[workflow], activities=activities, clock=clock)
         status = run_until_closed(Driver(service), [worker], clock, workflow_id)

@@ -2,7 +2,8 @@
 
 from __future__ import annotations
 
-from typing import TYPE_CHECKING, Any, Optional
+import enum
+from typing import TYPE_CHECKING, Optional
 
 from .commands import Command
 from .errors import (
@@ -15,18 +16,31 @@ if TYPE_CHECKING:
     from .replay import Replay
 
 
+class Cancellation(enum.Enum):
+    """What becomes of an activity or a child whose workflow gives it up, or is cancelled itself."""
+
+    # It is asked to cancel, and the code gets Cancelled at once.
+    TRY_CANCEL = "TryCancel"
+    # It is asked to cancel, and the code waits for its end, whatever that is. The run doesn't close before.
+    WAIT_CANCELLATION_COMPLETED = "WaitCancellationCompleted"
+    # It isn't asked, and the code gets Cancelled at once.
+    ABANDON = "Abandon"
+
+
 class Operation(Future):
     """A command, and what comes of it. It can be awaited, and cancelled."""
 
     # The key by which later events name the event that the command wrote.
     key = ""
 
-    def __init__(self, replay: "Replay", command: Command):
+    def __init__(self, replay: "Replay", command: Command, cancellation: Cancellation = Cancellation.TRY_CANCEL):
         super().__init__(replay.loop)
         self.replay = replay
         self.command = command
         command.operation = self
         self.event: Optional[int] = None
+        self.cancellation = cancellation
+        self._cancelling = False
         self._asked_to_cancel: Optional[Command] = None
         replay.ask(command)
 
@@ -40,21 +54,41 @@ class Operation(Future):
         return None
 
     def cancel(self) -> None:
-        if self.done:
+        if self.done or self._cancelling:
             return
         if self.event is None:
             self.replay.take_back(self.command)
+            self.set_fault(Cancelled())
+            return
+        end = self.replay.end_in_this_turn(self)
+        if end is not None:
+            self.ended(end)
+            return
+        self._cancelling = True
+        if self.cancellation is not Cancellation.ABANDON:
+            self._ask_to_cancel()
+        if self.cancellation is Cancellation.WAIT_CANCELLATION_COMPLETED:
+            self.replay.ending.add(self)
         else:
-            self._asked_to_cancel = self.cancel_command()
-            if self._asked_to_cancel is not None:
-                self.replay.ask(self._asked_to_cancel)
-        self.set_fault(Cancelled())
+            self.set_fault(Cancelled())
+
+    def _ask_to_cancel(self) -> None:
+        self._asked_to_cancel = self.cancel_command()
+        if self._asked_to_cancel is not None:
+            self.replay.ask(self._asked_to_cancel)
 
     def ended(self, event: dict) -> None:
         """An event ended it. A cancellation that the service did not hear of yet is taken back."""
         if self._asked_to_cancel is not None:
             self.replay.take_back(self._asked_to_cancel)
+        self.replay.ending.discard(self)
         self.settle(event["type"], event["attrs"])
+
+    def set_cancelled(self, fault: Exception) -> None:
+        """A fault that its cancellation led to: Cancelled, from that fault."""
+        cancelled = Cancelled(str(fault))
+        cancelled.__cause__ = fault
+        self.set_fault(cancelled)
 
     def settle(self, event_type: str, attrs: dict) -> None:
         """Its value or fault by the event that ended it."""
@@ -82,11 +116,18 @@ class Activity(Operation):
         if event_type == "ActivityTaskCompleted":
             self.set_value(value_of(attrs["result"]))
         elif event_type == "ActivityTaskFailed":
-            self.set_fault(ActivityFailed(attrs["message"], attrs.get("error_type"), attrs["retry"]))
+            self._fail(ActivityFailed(attrs["message"], attrs.get("error_type"), attrs["retry"]))
         elif event_type == "ActivityTaskTimedOut":
-            self.set_fault(ActivityTimedOut(attrs["timeout"], attrs["retry"]))
+            self._fail(ActivityTimedOut(attrs["timeout"], attrs["retry"]))
         elif event_type == "ActivityTaskCanceled":
-            self.set_fault(Cancelled())
+            self.set_fault(Cancelled(attrs.get("details", "")))
+
+    def _fail(self, fault: ActivityFailed) -> None:
+        """An attempt that failed, and wasn't made again since the activity was cancelled, is cancelled."""
+        if self._cancelling and fault.reason == "CancelRequested":
+            self.set_cancelled(fault)
+        else:
+            self.set_fault(fault)
 
 
 class Child(Operation):
@@ -101,8 +142,9 @@ class Child(Operation):
         "StartChildWorkflowExecutionFailed": "not started",
     }
 
-    def __init__(self, replay: "Replay", command: Command):
-        super().__init__(replay, command)
+    def __init__(self, replay: "Replay", command: Command, cancellation: Optional[Cancellation] = None):
+        default = Cancellation.TRY_CANCEL if replay.loop.older else Cancellation.WAIT_CANCELLATION_COMPLETED
+        super().__init__(replay, command, cancellation or default)
         self.workflow_id = command.members["workflow_id"]
         self.run: Optional[str] = None
 
@@ -115,79 +157,26 @@ class Child(Operation):
             return
         how = self.HOW[event_type]
         said = attrs.get("message") or attrs.get("details") or attrs.get("cause") or how
-        self.set_fault(ChildFailed(f"the child {self.workflow_id}: {said}", how))
+        fault = ChildFailed(f"the child {self.workflow_id}: {said}", how)
+        if self._cancelling and how == "canceled":
+            self.set_cancelled(fault)
+        else:
+            self.set_fault(fault)
 
 
 class Word(Operation):
-    """A signal or a request to cancel to another workflow. It can't be taken back."""
+    """A signal or a request to cancel to another workflow. Once it is sent it can't be taken back."""
 
     key = "initiated"
 
     def cancel(self) -> None:
-        self.set_fault(Cancelled())
+        if self.loop.older:
+            self.set_fault(Cancelled())
+        else:
+            super().cancel()
 
     def settle(self, event_type: str, attrs: dict) -> None:
         if event_type.endswith("Failed"):
             self.set_fault(NoSuchWorkflow(f"{self.command.members['workflow_id']} is not open"))
         else:
             self.set_value(None)
-
-
-class Signal(Future):
-    """The next signal of a name. Where nobody takes it, it waits for the next one who asks."""
-
-    def __init__(self, inbox: "Inbox", name: str):
-        super().__init__(inbox.loop)
-        self._inbox = inbox
-        self.name = name
-        self._taken = False
-
-    def result(self) -> Any:
-        self._taken = True
-        return super().result()
-
-    def cancel(self) -> None:
-        if not self.done:
-            self._inbox.forget(self)
-            self.set_fault(Cancelled())
-        elif not self._taken and self.fault is None:
-            self._taken = True
-            self._inbox.give_back(self.name, self.value)
-
-
-class Inbox:
-    """The signals of a run: each is taken once, in the order in which they came."""
-
-    def __init__(self, loop):
-        self.loop = loop
-        self._values = {}
-        self._waiting = {}
-
-    def next(self, name: str) -> Signal:
-        signal = Signal(self, name)
-        values = self._values.setdefault(name, [])
-        if values:
-            signal.set_value(values.pop(0))
-        else:
-            self._waiting.setdefault(name, []).append(signal)
-        return signal
-
-    def deliver(self, name: str, value: Any) -> None:
-        waiting = self._waiting.setdefault(name, [])
-        if waiting:
-            waiting.pop(0).set_value(value)
-        else:
-            self._values.setdefault(name, []).append(value)
-
-    def forget(self, signal: Signal) -> None:
-        waiting = self._waiting.get(signal.name, [])
-        if signal in waiting:
-            waiting.remove(signal)
-
-    def give_back(self, name: str, value: Any) -> None:
-        """A signal that was kept for someone who gave up: it is the next one again."""
-        waiting = self._waiting.setdefault(name, [])
-        if waiting:
-            waiting.pop(0).set_value(value)
-        else:
-            self._values.setdefault(name, []).insert(0, value)

@@ -4,15 +4,29 @@ from __future__ import annotations
 
 import json
 from dataclasses import dataclass
-from typing import Any, List, Sequence
+from typing import Any, List, Sequence, Tuple
 
 TEXT_LIMIT = 4_096
 
 
 def text_of(value: Any) -> str:
+    """A value as JSON: a tuple comes back as a list, and a key that is a number as a text."""
     if value is None:
         return ""
-    return json.dumps(value, separators=(",", ":"), ensure_ascii=False)
+    try:
+        return json.dumps(value, separators=(",", ":"), ensure_ascii=False)
+    except TypeError as fault:
+        raise TypeError(f"{fault}; of a dataclass, dataclasses.asdict gives what is") from None
+
+
+def checked_text(text: Any, about: str) -> str:
+    """The text, where it is one that a history can hold."""
+    if not isinstance(text, str):
+        raise TypeError(f"{about} is a text, and not {text!r}")
+    length = len(text.encode())
+    if length > TEXT_LIMIT:
+        raise ValueError(f"{about} has {length} bytes, and a text has at most {TEXT_LIMIT}: hand on where it lies")
+    return text
 
 
 def value_of(text: str) -> Any:
@@ -28,6 +42,23 @@ def value_of(text: str) -> Any:
 def input_of(arguments: Sequence[Any]) -> str:
     """Arguments as an input: their list, or the empty text where there is none."""
     return text_of(list(arguments)) if arguments else ""
+
+
+# The keys of an input that has signals with it: those that the run before left.
+ARGUMENTS, SIGNALS = "arguments", "signals that nobody took"
+
+
+def input_with_signals(arguments: Sequence[Any], signals: Sequence[Tuple[str, Any]]) -> str:
+    """The input of a run that goes on, with signals that the run before leaves it."""
+    return text_of({ARGUMENTS: list(arguments), SIGNALS: [list(signal) for signal in signals]})
+
+
+def parts_of_input(text: str) -> Tuple[List[Any], List[Tuple[str, Any]]]:
+    """The arguments of a run that goes on, and the signals that the run before left."""
+    value = value_of(text)
+    if isinstance(value, dict) and set(value) == {ARGUMENTS, SIGNALS}:
+        return value[ARGUMENTS], [(name, signal) for name, signal in value[SIGNALS]]
+    return arguments_of(text), []
 
 
 def arguments_of(text: str) -> List[Any]:
