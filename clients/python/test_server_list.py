@@ -183,7 +183,7 @@ class Lists(WithAServer):
         client.start("again", "child")
         client.terminate("again")
         client.start("again", "child")
-        self.work(client, lambda: len(self.rows(server, "status=Running")) == 6)
+        self.work(client, lambda: self.found(server) == self.ALL)
         return client
 
     ALL = [

@@ -38,12 +38,12 @@ pub(crate) fn commit_each<D: Disk>(
     journal: &mut Journal<D>,
     batches: &[(&[u8], &[u8])],
 ) -> usize {
-    let mut done = 0;
+    let mut done = 0usize;
     for batch in batches {
         let Some(Ok(())) = commit(alloc, journal, *batch) else {
             break;
         };
-        done += 1;
+        done = done.saturating_add(1);
     }
     done
 }

@@ -33,12 +33,12 @@ fn run(
     let file = CrashingFile::new(alloc, image, calls)?;
     let disk = FileDisk::new(alloc, file, Vec::new(alloc));
     let (disk, committed) = match open(alloc, disk) {
-        Ok((mut journal, _)) => {
+        Ok((mut journal, _bodies)) => {
             let rest = BATCHES.get(first..).unwrap_or_default();
             let done = commit_each(alloc, &mut journal, rest);
             (journal.into_disk(), done)
         }
-        Err((_, disk)) => (disk, 0),
+        Err((_fault, disk)) => (disk, 0),
     };
     let (file, told) = disk.into_parts();
     Ok(Left {
@@ -52,8 +52,8 @@ fn run(
 fn found(alloc: Global, image: &[u8]) -> Result<Option<usize>, AllocError> {
     let file = CrashingFile::new(alloc, image.to_vec(alloc)?, u64::MAX)?;
     match open(alloc, FileDisk::new(alloc, file, Vec::new(alloc))) {
-        Ok((_, bodies)) if are_first(&bodies) => Ok(Some(bodies.len())),
-        _ => Ok(None),
+        Ok((_journal, bodies)) => Ok(are_first(&bodies).then_some(bodies.len())),
+        Err((_fault, _disk)) => Ok(None),
     }
 }
 

@@ -31,7 +31,7 @@ fn begins(alloc: Global) -> Result<Vec<usize>, AllocError> {
 
 /// A file with all batches.
 fn whole(alloc: Global, end: usize) -> Result<Option<Vec<u8>>, AllocError> {
-    let Ok((mut journal, _)) = open(alloc, Memory::new(alloc, Vec::new(alloc))) else {
+    let Ok((mut journal, _bodies)) = open(alloc, Memory::new(alloc, Vec::new(alloc))) else {
         return Ok(None);
     };
     if commit_each(alloc, &mut journal, &BATCHES) != BATCHES.len() {
@@ -48,9 +48,9 @@ fn whole(alloc: Global, end: usize) -> Result<Option<Vec<u8>>, AllocError> {
 /// What a file is read as: so many first batches, or the place of its damage.
 fn reading(alloc: Global, bytes: Vec<u8>) -> Option<Result<usize, usize>> {
     match open(alloc, Memory::new(alloc, bytes)) {
-        Ok((_, bodies)) if are_first(&bodies) => Some(Ok(bodies.len())),
-        Err((RecoverFault::Damaged(at), _)) => Some(Err(at)),
-        _ => None,
+        Ok((_journal, bodies)) => are_first(&bodies).then_some(Ok(bodies.len())),
+        Err((RecoverFault::Damaged(at), _disk)) => Some(Err(at)),
+        Err((RecoverFault::Device(_cause), _disk)) => None,
     }
 }
 

@@ -75,8 +75,8 @@ fn a_file_that_is_not_written_is_a_fault(rt: HostRuntime) {
         panic!(rt; "no file")
     };
     let fault = match open(alloc, FileDisk::new(alloc, file, Vec::new(alloc))) {
-        Ok(_) => None,
-        Err((fault, _)) => Some(fault),
+        Ok((_journal, _bodies)) => None,
+        Err((fault, _disk)) => Some(fault),
     };
     assert!(rt; fault == Some(RecoverFault::Device(DiskError::Failed)));
     assert!(rt; fs::remove_file(&rt, READ_ONLY).is_ok());
