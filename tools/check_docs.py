@@ -5,8 +5,8 @@
 
 A name in back quotes is looked for word by word in all files that are no documents, and a file or a
 lemma in its crate. Names of the toolchain and of its libraries are listed in tools/known_names.txt. Each
-file of definitions says in its first line whether it is meaning or proof, and docs/ARCHITECTURE.md how much
-there is of the former, and where.
+file of definitions says in its first line whether it is meaning or proof. docs/ARCHITECTURE.md lists the former,
+and has the table that lines_to_believe.py prints: on how many lines each promise rests.
 
 Beside a rule of docs/PROFILE.md stand its definition, an example, a case and a wrong body, in the last four
 columns of its table or in a line below it. Each of these has to be there, under its name in its file. So have
@@ -24,6 +24,7 @@ import sys
 from pathlib import Path
 
 import docs_claims
+import lines_to_believe
 from docs_claims import QUOTED
 
 TOP = Path(__file__).resolve().parent.parent
@@ -181,25 +182,16 @@ def is_specification(file: Path) -> bool:
             and not crate.endswith(("_tests", "_bench")))
 
 
-def size_of(file: Path) -> int:
-    """Its lines without imports, comments and blank ones."""
-    lines = file.read_text().splitlines()
-    return sum(1 for line in lines if line.strip() and not line.lstrip().startswith(("--", "use ")))
-
-
 def wrong_markers(files: list[Path]) -> list[str]:
-    """Files of definitions that don't say what they are, or aren't listed, and a count that is out of date."""
+    """Files of definitions that don't say what they are, or aren't listed, and counts that are out of date."""
     specifications = [file for file in files if is_specification(file)]
     wrong = [f"{file.relative_to(TOP)}: its first line says neither MEANING nor PROOF"
              for file in specifications if not file.read_text().startswith(("-- MEANING", "-- PROOF"))]
     meaning = [file for file in specifications if file.read_text().startswith("-- MEANING")]
-    said = f"{len(meaning)} files, {sum(map(size_of, meaning)):,} lines"
     architecture = (TOP / "docs/ARCHITECTURE.md").read_text()
-    if said not in architecture:
-        wrong.append(f"docs/ARCHITECTURE.md: it doesn't say how much must be believed, which is {said}")
     names = [str(file.relative_to(TOP / "crates").with_suffix("")) for file in meaning]
-    return wrong + [f"docs/ARCHITECTURE.md: {fault}"
-                    for fault in docs_claims.not_to_be_believed(architecture, names)]
+    unsaid = docs_claims.not_to_be_believed(architecture, names) + lines_to_believe.faults(architecture)
+    return wrong + [f"docs/ARCHITECTURE.md: {fault}" for fault in unsaid]
 
 
 def kit_here() -> str:
