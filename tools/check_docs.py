@@ -3,8 +3,8 @@
 
     tools/check_docs.py        prints what isn't there, a line each, and fails if there is anything
 
-A name in back quotes is looked for word by word in all files that are no documents, and a file or a
-lemma in its crate. Names of the toolchain and of its libraries are listed in tools/known_names.txt. Each
+A name in back quotes, of a document or of a comment in a source of a crate, is looked for word by word in all
+files that are no documents, without such comments. A file or a lemma is looked up in its crate (docs_paths.py). Names of the toolchain and of its libraries are listed in tools/known_names.txt. Each
 file of definitions says in its first line whether it is meaning or proof. docs/ARCHITECTURE.md lists the former,
 and has the table that lines_to_believe.py prints: on how many lines each promise rests.
 
@@ -24,6 +24,7 @@ import sys
 from pathlib import Path
 
 import docs_claims
+import docs_paths
 import lines_to_believe
 from docs_claims import QUOTED
 
@@ -66,12 +67,12 @@ def left_of_merges(file: Path) -> list[str]:
 
 
 def words_of(files: list[Path]) -> set[str]:
-    """All words that stand in the files, and the parts of their paths."""
+    """All words that stand in the files, but for comments of sources, and the parts of their paths."""
     found: set[str] = set()
     for file in files:
         found.update(WORD.findall(str(file.relative_to(TOP))))
         try:
-            found.update(WORD.findall(file.read_text()))
+            found.update(WORD.findall(docs_paths.without_comments(file.read_text(), file.suffix)))
         except UnicodeDecodeError:
             pass
     return found
@@ -109,7 +110,15 @@ def missing_in(document: Path, words: set[str]) -> list[str]:
             missing.append(f"no such file: {link}")
     for quoted in QUOTED.findall(text):
         missing += missing_of(quoted, words)
-    return missing + docs_claims.wrong_lemmas(text, TOP)
+    return missing + docs_claims.wrong_lemmas(text, TOP) + docs_paths.faults_of_document(text, TOP)
+
+
+def missing_in_comments(source: Path, words: set[str]) -> list[str]:
+    """What the comments of a crate's source cite that isn't there."""
+    text = source.read_text()
+    quoted = QUOTED.findall(docs_paths.comments_of(text, source.suffix))
+    return [fault for name in quoted for fault in missing_of(name, words)] + docs_paths.faults_of_source(
+        text, source, TOP)
 
 
 def has_line(file: Path, pattern: str) -> bool:
@@ -232,6 +241,9 @@ def main() -> int:
                for fault in docs_claims.wrong_heads(file.read_text(), TOP)]
     faults += [f"{document.relative_to(TOP)}: {fault}"
                for document in documents for fault in missing_in(document, words)]
+    faults += [f"{file.relative_to(TOP)}: {fault}" for file in files
+               if file.suffix in docs_paths.COMMENT and TOP / "crates" in file.parents
+               for fault in missing_in_comments(file, words)]
     for note in other_kits(documents):
         print(f"note: {note}", file=sys.stderr)
     for fault in faults:
