@@ -100,7 +100,8 @@ class Run(unittest.TestCase):
 
     def test_each_quick_part_runs_behind_one_that_failed(self):
         out = io.StringIO()
-        parts = [(name, ".", ["sh", "-c", f"exit {status}"]) for name, status in (("a", 0), ("b", 1), ("c", 5), ("d", 0))]
+        statuses = {"a": 0, "b": 1, "c": 5, "d": 0}
+        parts = [(name, ".", ["sh", "-c", f"exit {status}"]) for name, status in statuses.items()]
         with contextlib.redirect_stdout(out), unittest.mock.patch.object(gate, "QUICK", parts):
             self.assertEqual(gate.quick(), 1)
         self.assertTrue(out.getvalue().endswith("gate: FAILED: b, c\n"), out.getvalue())

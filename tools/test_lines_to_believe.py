@@ -101,7 +101,8 @@ class LinesToBelieve(unittest.TestCase):
         self.assertIn(Name("high", "Calls", "Seen"), self.reached(Calls(("high",))))
 
     def test_a_root_that_is_gone_is_an_error(self):
-        for root in ("low/Words: move", "low/Word: moved", Calls(("high",), ("served",)), Calls(("high",), ("within",))):
+        calls = Calls(("high",), ("served",)), Calls(("high",), ("within",))
+        for root in ("low/Words: move", "low/Word: moved", *calls):
             with self.subTest(root=root), self.assertRaises(LookupError):
                 self.reached(root)
 
