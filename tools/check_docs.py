@@ -3,10 +3,10 @@
 
     tools/check_docs.py        prints what isn't there, a line each, and fails if there is anything
 
-A name in back quotes is looked for word by word in all files that are no documents, and a file or a
-lemma in its crate. Names of the toolchain and of its libraries are listed in tools/known_names.txt. Each
-file of definitions says in its first line whether it is meaning or proof, and docs/ARCHITECTURE.md how much
-there is of the former, and where.
+A name in back quotes, of a document or of a comment in a source of a crate, is looked for word by word in all
+files that are no documents, without such comments. A file or a lemma is looked up in its crate (docs_paths.py). Names of the toolchain and of its libraries are listed in tools/known_names.txt. Each
+file of definitions says in its first line whether it is meaning or proof. docs/ARCHITECTURE.md lists the former,
+and has the table that lines_to_believe.py prints: on how many lines each promise rests.
 
 Beside a rule of docs/PROFILE.md stand its definition, an example, a case and a wrong body, in the last four
 columns of its table or in a line below it. Each of these has to be there, under its name in its file. So have
@@ -24,6 +24,8 @@ import sys
 from pathlib import Path
 
 import docs_claims
+import docs_paths
+import lines_to_believe
 from docs_claims import QUOTED
 
 TOP = Path(__file__).resolve().parent.parent
@@ -65,12 +67,12 @@ def left_of_merges(file: Path) -> list[str]:
 
 
 def words_of(files: list[Path]) -> set[str]:
-    """All words that stand in the files, and the parts of their paths."""
+    """All words that stand in the files, but for comments of sources, and the parts of their paths."""
     found: set[str] = set()
     for file in files:
         found.update(WORD.findall(str(file.relative_to(TOP))))
         try:
-            found.update(WORD.findall(file.read_text()))
+            found.update(WORD.findall(docs_paths.without_comments(file.read_text(), file.suffix)))
         except UnicodeDecodeError:
             pass
     return found
@@ -108,7 +110,15 @@ def missing_in(document: Path, words: set[str]) -> list[str]:
             missing.append(f"no such file: {link}")
     for quoted in QUOTED.findall(text):
         missing += missing_of(quoted, words)
-    return missing + docs_claims.wrong_lemmas(text, TOP)
+    return missing + docs_claims.wrong_lemmas(text, TOP) + docs_paths.faults_of_document(text, TOP)
+
+
+def missing_in_comments(source: Path, words: set[str]) -> list[str]:
+    """What the comments of a crate's source cite that isn't there."""
+    text = source.read_text()
+    quoted = QUOTED.findall(docs_paths.comments_of(text, source.suffix))
+    return [fault for name in quoted for fault in missing_of(name, words)] + docs_paths.faults_of_source(
+        text, source, TOP)
 
 
 def has_line(file: Path, pattern: str) -> bool:
@@ -181,25 +191,16 @@ def is_specification(file: Path) -> bool:
             and not crate.endswith(("_tests", "_bench")))
 
 
-def size_of(file: Path) -> int:
-    """Its lines without imports, comments and blank ones."""
-    lines = file.read_text().splitlines()
-    return sum(1 for line in lines if line.strip() and not line.lstrip().startswith(("--", "use ")))
-
-
 def wrong_markers(files: list[Path]) -> list[str]:
-    """Files of definitions that don't say what they are, or aren't listed, and a count that is out of date."""
+    """Files of definitions that don't say what they are, or aren't listed, and counts that are out of date."""
     specifications = [file for file in files if is_specification(file)]
     wrong = [f"{file.relative_to(TOP)}: its first line says neither MEANING nor PROOF"
              for file in specifications if not file.read_text().startswith(("-- MEANING", "-- PROOF"))]
     meaning = [file for file in specifications if file.read_text().startswith("-- MEANING")]
-    said = f"{len(meaning)} files, {sum(map(size_of, meaning)):,} lines"
     architecture = (TOP / "docs/ARCHITECTURE.md").read_text()
-    if said not in architecture:
-        wrong.append(f"docs/ARCHITECTURE.md: it doesn't say how much must be believed, which is {said}")
     names = [str(file.relative_to(TOP / "crates").with_suffix("")) for file in meaning]
-    return wrong + [f"docs/ARCHITECTURE.md: {fault}"
-                    for fault in docs_claims.not_to_be_believed(architecture, names)]
+    unsaid = docs_claims.not_to_be_believed(architecture, names) + lines_to_believe.faults(architecture)
+    return wrong + [f"docs/ARCHITECTURE.md: {fault}" for fault in unsaid]
 
 
 def kit_here() -> str:
@@ -240,6 +241,9 @@ def main() -> int:
                for fault in docs_claims.wrong_heads(file.read_text(), TOP)]
     faults += [f"{document.relative_to(TOP)}: {fault}"
                for document in documents for fault in missing_in(document, words)]
+    faults += [f"{file.relative_to(TOP)}: {fault}" for file in files
+               if file.suffix in docs_paths.COMMENT and TOP / "crates" in file.parents
+               for fault in missing_in_comments(file, words)]
     for note in other_kits(documents):
         print(f"note: {note}", file=sys.stderr)
     for fault in faults:
