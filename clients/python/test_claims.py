@@ -48,8 +48,8 @@ class Claims(unittest.TestCase):
     def test_a_promise_that_no_clause_makes(self):
         look = docs_claims.wrong_promises
         wrong = {
-            "clauses of `meet` (`agree`, `hints`)": "clauses of `meet` (`agree`, `popped`)",
-            "clause of `close` (`queues`)": "clause of `closes` (`queues`)",
+            "clauses of `meet` (`agree`, `tickets`, `hints`)": "clauses of `meet` (`agree`, `tickets`, `popped`)",
+            "clauses of `close` (`queues`) and": "clauses of `closes` (`queues`) and",
             "clause (`Stepped`, `kept`)": "clause (`Stepped`, `keeps`)",
         }
         for old, new in wrong.items():
