@@ -1,7 +1,8 @@
 #!/usr/bin/env python3
 """What is tested of the built program alone, since no case says it: that it answers a line before it waits
 for the next one, scripts of as many lines as a service is asked for in a day, which records a script leaves
-and how another goes on from them, and that the steps of threads stand in order in one history.
+and how another goes on from them, also where the disk is full, and that the steps of threads stand in order in
+one history.
 
     tools/program_tests.py PROGRAM
 
@@ -13,7 +14,9 @@ import json
 import os
 import pathlib
 import queue
+import resource
 import shutil
+import signal as signals
 import struct
 import subprocess
 import sys
@@ -266,6 +269,38 @@ class Reopening(unittest.TestCase):
             with self.subTest(words):
                 done = ran([start("a"), start("c")], *words, "--load", saved)
                 self.assertEqual((done.returncode, done.stdout, done.stderr), (2, "", f"wfserve: {fault}\n"))
+
+
+class FullDisk(unittest.TestCase):
+    """Records that are saved where a file takes so many bytes, and then none."""
+
+    def saved(self, folder, most=None):
+        """What the program does that goes on from a folder's records, and saves them there with a start more."""
+        def limit():
+            if most is not None:
+                signals.signal(signals.SIGXFSZ, signals.SIG_IGN)
+                resource.setrlimit(resource.RLIMIT_FSIZE, (most, most))
+        return subprocess.run(
+            [PROGRAM, "--load", folder, "--save", folder], input=text([start("b")]), capture_output=True, text=True,
+            timeout=SECONDS, preexec_fn=limit,
+        )
+
+    def test_older_records_stay(self):
+        """At each byte the script ends with a fault once its line is answered, and the older file has its name."""
+        with tempfile.TemporaryDirectory() as folder:
+            record = pathlib.Path(folder, "shard-00.rec")
+            served([start("a")], "--save", folder)
+            older, whole = record.read_text(), self.saved(folder).stdout
+            newer = record.read_text()
+            record.write_text(older)
+            for most in range(len(newer)):
+                with self.subTest(bytes=most):
+                    done = self.saved(folder, most)
+                    self.assertEqual((done.returncode, done.stdout), (2, whole), done.stderr)
+                    self.assertIn("File too large", done.stderr)
+                    self.assertEqual(record.read_text(), older)
+            self.assertEqual(self.saved(folder, len(newer)).returncode, 0)
+            self.assertEqual(record.read_text(), newer)
 
 
 class OneHistory(unittest.TestCase):

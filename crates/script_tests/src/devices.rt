@@ -25,7 +25,7 @@ struct Row {
     output: &'static [u8],
 }
 
-const ROWS: [Row; 2] = [
+const ROWS: [Row; 3] = [
     Row {
         record: "",
         script: br#"{"op":"start","request_id":"r1","task_queue":"main","workflow_id":"a","workflow_type":"w"}
@@ -49,6 +49,23 @@ x
 {"error":"InvalidArgument","field":"json","line":2,"no":1}
 {"line":3,"ok":"signaled"}
 {"activities":0,"cancels":0,"children":0,"held":1,"length":3,"line":4,"ok":"described","run":"00000000-0001-8000-8000-000000000001","signals":0,"status":"Running","timers":0}
+"#,
+    },
+    // A signal is held back, so a completion that closes its run fails.
+    Row {
+        record: "",
+        script: br#"{"request_id": "r1", "task_queue": "main", "workflow_id": "a", "workflow_type": "w", "op": "start"}
+{"shard": 0, "op": "dispatch_turn"}
+{"task_queue": "main", "op": "poll_workflow_task", "at": 5}
+{"name": "s", "workflow_id": "a", "op": "signal", "at": 7}
+{"token": "AQEAAAAAAAAAAAABAAAAAAAAAAIAAAAB", "commands": [{"result": "", "type": "CompleteWorkflowExecution"}], "op": "complete_workflow_task", "at": 9}
+{"workflow_id": "a", "op": "history"}"#,
+        output: br#"{"line":1,"ok":"started","run":"00000000-0001-8000-8000-000000000001"}
+{"line":2,"number":1,"ok":"dispatched"}
+{"attempt":1,"line":3,"ok":"task","run":"00000000-0001-8000-8000-000000000001","started":3,"token":"AQEAAAAAAAAAAAABAAAAAAAAAAIAAAAB","workflow_id":"a"}
+{"line":4,"ok":"signaled"}
+{"cause":"UnhandledCommand","line":5,"ok":"task_failed"}
+{"events":[{"at":0,"attrs":{"input":"","run_timeout":0,"task_queue":"main","task_timeout":10000,"workflow_id":"a","workflow_type":"w"},"id":1,"type":"WorkflowExecutionStarted"},{"at":0,"attrs":{"attempt":1,"task_queue":"main"},"id":2,"type":"WorkflowTaskScheduled"},{"at":5,"attrs":{"scheduled":2},"id":3,"type":"WorkflowTaskStarted"},{"at":9,"attrs":{"cause":"UnhandledCommand","message":"","scheduled":2,"started":3},"id":4,"type":"WorkflowTaskFailed"},{"at":7,"attrs":{"input":"","name":"s"},"id":5,"type":"WorkflowExecutionSignaled"},{"at":9,"attrs":{"attempt":2,"task_queue":"main"},"id":6,"type":"WorkflowTaskScheduled"}],"line":6,"ok":"history","run":"00000000-0001-8000-8000-000000000001"}
 "#,
     },
 ];

@@ -17,7 +17,9 @@ use step_record::Record;
 use wire_counted::Counted;
 
 /// The settings of a service of so many shards and passes, with the queue `main`.
-pub(crate) fn settings<R: Abort + AllocGlobal>(rt: &R, shards: u64, passes: u64) -> Settings {
+pub(crate) fn settings<R: Abort + AllocGlobal>(rt: &R, shards: u64, passes: u64) -> Settings
+    ensures { result.passes ≡ passes }
+{
     match main_queue(rt.alloc()) {
         Ok(queues) => Settings {
             shards,

@@ -29,3 +29,5 @@ mod restoring;
 mod rows;
 #[cfg(test)]
 mod tests;
+#[cfg(test)]
+mod trace_devices;

@@ -4,7 +4,7 @@ use crate::devices::{
     readers_fail_at_each_byte, writers_fail_at_each_byte, writers_whose_flush_fails,
 };
 use crate::faults::each_fault;
-use crate::{lane_devices, lane_holding, lane_limits, lane_reopen, lane_trace};
+use crate::{lane_devices, lane_holding, lane_limits, lane_reopen, lane_trace, trace_devices};
 use workflow_service::Shard;
 
 #[test]
@@ -24,6 +24,12 @@ fn devices_of_lanes_that_fail(rt: HostRuntime) {
     lane_devices::readers_fail_at_each_byte::<Shard, HostRuntime>(&rt);
     lane_devices::writers_fail_at_each_byte::<Shard, HostRuntime>(&rt);
     lane_devices::writers_whose_flush_fails::<Shard, HostRuntime>(&rt);
+}
+
+#[test]
+fn devices_that_fail_where_steps_are_printed(rt: HostRuntime) {
+    trace_devices::writers_fail_at_each_byte::<Shard, HostRuntime>(&rt);
+    trace_devices::writers_whose_flush_fails::<Shard, HostRuntime>(&rt);
 }
 
 #[test]
