@@ -51,10 +51,11 @@ class Name(NamedTuple):
 
 
 class Calls(NamedTuple):
-    """The public calls of crates with which a promise begins: those of these names, or all of them."""
+    """The public calls of crates with which a promise begins: those of these names, or all but some."""
 
     crates: tuple[str, ...]
     names: tuple[str, ...] = ()
+    but: tuple[str, ...] = ()
 
 
 class Promise(NamedTuple):
@@ -64,20 +65,20 @@ class Promise(NamedTuple):
     roots: tuple[Calls | str, ...]
 
 
+HANDED_OUT = ("try_hand_out", "hand_out", "survey", "has_seen_all")
+LAWS_OF_SERVICE = ("histories_are_in_order",)
 HEADLINE = (
-    "gate/Passes: Stepped", "gate/Passes: Stamped", "gate/Passes: Agree", "gate/Passes: AgreeTickets",
-    "gate/AtClose: IsHistory", "gate/AtClose: HasDone", "service_model/Service: answer", "service_model/Service: after",
-    "service_model/Service: replay", "service_model/Growth: KeepsHistories", "service_model/Grounds: Grounds",
-    "service/Services: IsServedOn",
+    "service/Headline: LeavesARecord", "service/Headline: IsSequential", "service/Headline: MeetAndAgree",
 )
 LAWS = (
-    Calls(("service_model", "service_model_laws")),
+    Calls(("service_model", "service_model_laws")), Calls(("service",), LAWS_OF_SERVICE),
     "script/OpeningLaws: OpensEmpty", "script/RecordLaws: RecordsGrow", "script/RecordLaws: RecordsTellContents",
     "script/RecordLaws: RecordsTellSteps",
 )
 PROMISES = (
-    Promise("the headline: what a step, a meeting and the close say", HEADLINE),
-    Promise("the calls of a service", (Calls(("service",)),)),
+    Promise("the headline, sentence by sentence", HEADLINE),
+    Promise("the calls of a service", (Calls(("service",), but=HANDED_OUT + LAWS_OF_SERVICE),)),
+    Promise("records that are handed out, and one moment of all shards", (Calls(("service",), HANDED_OUT),)),
     Promise("a script of one lane", (Calls(("script",), ("run_one", "run_from", "print_trace")),)),
     Promise("a script of several lanes", (Calls(("lanes",)),)),
     Promise("records: their text, reading it, and the one history of several",
@@ -211,7 +212,7 @@ class Definitions:
         for root in promise.roots:
             if isinstance(root, Calls):
                 for crate in root.crates:
-                    yield from self.cited_by_calls(crate, root.names)
+                    yield from self.cited_by_calls(crate, root.names, root.but)
                 continue
             place, _, word = root.partition(": ")
             found = self.found(Name(*place.split("/"), word))
@@ -219,14 +220,15 @@ class Definitions:
                 raise LookupError(f"no such definition: {root}")
             yield found
 
-    def cited_by_calls(self, crate: str, names: tuple[str, ...]) -> Iterator[Name]:
-        """What the clauses of public calls name: of these, or of all with the crate's traits and models."""
-        missing = set(names)
+    def cited_by_calls(self, crate: str, names: tuple[str, ...], but: tuple[str, ...] = ()) -> Iterator[Name]:
+        """What the clauses of public calls name: of these, or of all but some with the crate's traits and models."""
+        missing = {*names, *but}
         for text in docs_claims.sources_of(crate, self.top):
             heads = [] if names else [found[0] for look in (TRAIT, MODEL) for found in look.finditer(text)]
             for head in docs_claims.HEAD.finditer(text):
-                if head[1] == "pub " and (not names or head[2] in names):
+                if head[1] == "pub ":
                     missing.discard(head[2])
+                if head[1] == "pub " and head[2] not in but and (not names or head[2] in names):
                     heads.append(docs_claims.head_of(text[head.start():]))
             yield from Scope(text).cited("\n".join(heads))
         if missing:

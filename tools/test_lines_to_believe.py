@@ -100,8 +100,12 @@ class LinesToBelieve(unittest.TestCase):
         self.assertNotIn(Name("high", "Calls", "Seen"), self.reached(Calls(("high",), ("serve",))))
         self.assertIn(Name("high", "Calls", "Seen"), self.reached(Calls(("high",))))
 
+    def test_calls_that_are_left_out_promise_nothing(self):
+        self.assertNotIn(Name("high", "Calls", "Seen"), self.reached(Calls(("high",), but=("look",))))
+        self.assertIn(Name("high", "Calls", "Answered"), self.reached(Calls(("high",), but=("look",))))
+
     def test_a_root_that_is_gone_is_an_error(self):
-        calls = Calls(("high",), ("served",)), Calls(("high",), ("within",))
+        calls = Calls(("high",), ("served",)), Calls(("high",), ("within",)), Calls(("high",), but=("looks",))
         for root in ("low/Words: move", "low/Word: moved", *calls):
             with self.subTest(root=root), self.assertRaises(LookupError):
                 self.reached(root)

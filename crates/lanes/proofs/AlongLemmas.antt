@@ -220,8 +220,8 @@ ran-along x logs K ps unread held unread' held' refused ends count seen_all ran 
     let t = ran.told in
     let back : BackServed (IsAlong x logs) (PassServed x) = λ p p' call r h q s l. begins-then (seen (known_by p) s) (seen (known_by p') s) (record_at logs s) (call-sees x p p' call r h.served s) (q s l) in
     let met : BackMet (IsAlong x logs) (PassesMet x) = λ a b a' b' h qa qb. (
-      λ s l. begins-then (seen (known_by a) s) (seen (known_by a') s) (record_at logs s) (met-sees (known_by a) (known_by b) (known_by a') (known_by b') s (h.agree s l)).0 (qa s l),
-      λ s l. begins-then (seen (known_by b) s) (seen (known_by b') s) (record_at logs s) (met-sees (known_by a) (known_by b) (known_by a') (known_by b') s (h.agree s l)).1 (qb s l),
+      λ s l. begins-then (seen (known_by a) s) (seen (known_by a') s) (record_at logs s) (met-sees (known_by a) (known_by b) (known_by a') (known_by b') s (h.met.agree s l)).0 (qa s l),
+      λ s l. begins-then (seen (known_by b) s) (seen (known_by b') s) (record_at logs s) (met-sees (known_by a) (known_by b) (known_by a') (known_by b') s (h.met.agree s l)).1 (qb s l),
     ) in
     let along : (p p' : Pass) (call : Call) (r : Reply) → PassServed x p p' call r → IsAlong x logs p' → ServedAlong x logs p p' call r = λ p p' call r h q. record { served = h; along = q } in
     let each = each-from (IsAlong x logs) ends (λ k p there s l. seen_all s (record_at logs s) k p (slice_get-get_or logs s [] (omega (arith, l, count))) there) in

@@ -72,7 +72,7 @@ past-own : (x : Service) (v w : View Request Content) (s : ℕ) (q : Request) (r
 past-own x v w s q r h done =
     let more = past (gate.base v s) (gate.seen w s) in
     let N : ℕ → Type 0 = λ n. FromGiven n more in
-    let given : FromGiven 1 more = subst N h.one done.step.given in
+    let given : FromGiven 1 more = subst N h.one done.given in
     sym (by-only more given) ∙ ap (λ n. by n more) (sym h.first) ∙ done.step.own
 
 -- the shard of the step: what the pass did there was put behind the record at the opening
@@ -83,8 +83,8 @@ based-own x v w s q r h done = split-past (gate.base v s) (gate.seen w s) done.s
 alone-after : (x : Service) (v w : View Request Content) (s : ℕ) (q : Request) (r : Reply) → KnowsAll v → IsServedOn x v w s q r → (k : ℕ) → gate.seen w k ≡ gate.base w k ++ gate.mine w k
 alone-after x v w s q r h done k = elim (same-or-apart k s) [
   | inl same ↦ let P : ℕ → Type 0 = λ n. gate.seen w n ≡ gate.base w n ++ gate.mine w n in
-      subst P (sym same) (based-own x v w s q r h done ∙ ap (λ b. b ++ gate.mine w s) (sym (base-same v w s done.step.same)))
-  | inr apart ↦ (done.step.others k apart).0 ∙ h.alone k ∙ ap (λ b. b ++ gate.mine v k) (sym (base-same v w k done.step.same)) ∙ ap (λ m. gate.base w k ++ m) (sym (done.step.others k apart).1)
+      subst P (sym same) (based-own x v w s q r h done ∙ ap (λ b. b ++ gate.mine w s) (sym (base-same v w s done.same)))
+  | inr apart ↦ (done.step.others k apart).0 ∙ h.alone k ∙ ap (λ b. b ++ gate.mine v k) (sym (base-same v w k done.same)) ∙ ap (λ m. gate.base w k ++ m) (sym (done.step.others k apart).1)
 ]
 
 -- each of its steps has its ticket
@@ -97,11 +97,11 @@ paired-after x v w s q r h done k = elim (same-or-apart k s) [
 
 knows-served : (x : Service) (v w : View Request Content) (s : ℕ) (q : Request) (r : Reply) → KnowsAll v → IsServedOn x v w s q r → KnowsAll w
 knows-served x v w s q r h done = record {
-  first = done.step.same.0 ∙ h.first;
-  one = ap (λ o. o.passes) done.step.same.1 ∙ h.one;
+  first = done.same.0 ∙ h.first;
+  one = ap (λ o. o.passes) done.same.1 ∙ h.one;
   alone = alone-after x v w s q r h done;
   paired = paired-after x v w s q r h done;
-  wide = ap (λ o. length o.starts) done.step.same.1 ∙ h.wide ∙ sym (ap (λ o. length o.bases) done.step.same.1);
+  wide = ap (λ o. length o.starts) done.same.1 ∙ h.wide ∙ sym (ap (λ o. length o.bases) done.same.1);
 }
 
 -- so it has after it did nothing
@@ -181,7 +181,7 @@ records-served x v w s q r h below done =
 
 -- the shard of a step is there
 served-within : (x : Service) (v w : View Request Content) (s : ℕ) (q : Request) (r : Reply) → KnowsAll v → IsServedOn x v w s q r → s < gate.width v
-served-within x v w s q r h done = let low = slice_get_within (gate.starts v) s done.step.start done.step.opened in omega (arith, low, h.wide)
+served-within x v w s q r h done = let low = slice_get_within (gate.starts v) s (opening (setup_of x.settings s)) done.opened in omega (arith, low, h.wide)
 
 -- the steps after a step: that one is the last
 steps-served : (x : Service) (v w : View Request Content) (s : ℕ) (q : Request) (r : Reply) → KnowsAll v → IsServedOn x v w s q r → steps_seen w ≡ steps_seen v ++ (s, entry_of q) ∷ []
@@ -190,7 +190,7 @@ steps-served x v w s q r h done =
     let pairs : length (gate.tickets w s) ≡ length (gate.mine w s) = paired-after x v w s q r h done s in
     let behind = ticket-behind (gate.tickets v s) stamp.front (gate.tickets w s) stamp.ticket (gate.mine v s) (gate.mine w s) (entry_by v q) stamp.extends stamp.last (h.paired s) done.step.adds pairs in
     let with_pass : ℕ → List (ℕ × Entry) = λ n. steps_seen v ++ (s, record { pass = n; request = q }) ∷ [] in
-    steps-more v w s stamp.ticket (entry_by v q) done.step.same (served-within x v w s q r h done) (h.paired s) done.step.adds behind
+    steps-more v w s stamp.ticket (entry_by v q) done.same (served-within x v w s q r h done) (h.paired s) done.step.adds behind
     (λ k ne. (done.step.others k ne).1) stamp.others stamp.above
     ∙ ap with_pass h.first
 
@@ -199,9 +199,8 @@ reply-served : (x : Service) (v w : View Request Content) (s : ℕ) (q : Request
     r ≡ answer (content_at x.settings (contents_seen x.settings v) s) q
 reply-served x v w s q r h below done =
     let K = x.settings in
-    let found : replay after done.step.start done.step.front ≡ content_seen K v s =
-    ap (λ c. replay after c done.step.front) done.start ∙ ap (replay after (opening (setup_of K s))) (front-is x v w s q r h done) in
-    done.step.reply ∙ ap (λ t. answer t q) (found ∙ sym (content-here K v s below))
+    let found : replay after (opening (setup_of K s)) done.step.front ≡ content_seen K v s = ap (replay after (opening (setup_of K s))) (front-is x v w s q r h done) in
+    done.answered.reply ∙ ap (λ t. answer t q) (found ∙ sym (content-here K v s below))
 
 -- what a call came to
 abbrev pub came : Reply → World → Came

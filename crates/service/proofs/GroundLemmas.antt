@@ -19,7 +19,7 @@ use Rattle.service.specs.ServiceViews.{Service}
 use Rattle.service.specs.CallRequests.{to_acknowledge, to_deliver, to_next_transfer}
 use Rattle.service.specs.Contents.{setup_of}
 use Rattle.shard_gate.specs.GateViews.{SeenGrounds}
-use Rattle.service.specs.Services.{IsServedAtLast}
+use Rattle.service.specs.Services.{IsServedAtLast, IsServedOn}
 use Rattle.service.specs.TransferTurns.{goes_on}
 
 content-at : (all : List Content) (logs : ℕ → List Entry) (j : ℕ) (S : Content) → slice_get all j ≡ Some S → slice_get (contents after all logs) j ≡ Some (replay after S (logs j))
@@ -62,10 +62,29 @@ delivered-there v w to at later reply t step setup opened some is =
     let wide : length S.accepted ≡ S.setup.shards = kept.1 ∙ (ap (λ (T : Content). length T.accepted) opened ∙ (length-zeros setup.shards ∙ sym (ap (λ (u : Setup). u.shards) (kept.0 ∙ ap (λ (T : Content). T.setup) opened)))) in
     (after S q, seen-behind v w to q reply step, (some, delivered-accepted S at t wide (ap is_delivered (sym step.reply) ∙ is)))
 
+-- a step of the service is one of the gate
+abbrev stepped : (x : Service) (v w : View Request Content) (shard : ℕ) (q : Request) (r : Reply) → IsServedOn x v w shard q r → Stepped after answer KeepsHistories v w shard q r
+stepped x v w shard q r done = record {
+  same = done.same;
+  front = done.step.front;
+  extends = done.step.extends;
+  last = done.step.last;
+  adds = done.step.adds;
+  based = done.step.based;
+  own = done.step.own;
+  given = done.given;
+  others = done.step.others;
+  turns = done.turns;
+  start = opening (setup_of x.settings shard);
+  opened = done.opened;
+  reply = done.answered.reply;
+  kept = done.answered.kept;
+}
+
 -- the transfer that was read may be delivered
 pub read-grounds : (x : Service) (v w : View Request Content) (from to at : ℕ) (next : Reply) (t : Transfer) → IsServedAtLast x v w from (to_next_transfer at to) next → transfer_of next ≡ Some t
     → (t.from ≡ from) × SeenGrounds w to (to_deliver at t)
-read-grounds x v w from to at next t done is = read-there done.met w from to at at next t done.served.step (setup_of x.settings from) done.served.start refl is
+read-grounds x v w from to at next t done is = read-there done.met w from to at at next t (stepped x done.met w from (to_next_transfer at to) next done.served) (setup_of x.settings from) refl refl is
 
 -- a turn goes on only where its transfer took effect
 went-on : (stop : Stop) (r : Reply) → goes_on stop r ≡ true → is_delivered r ≡ true
@@ -78,4 +97,4 @@ pub delivery-grounds : (x : Service) (v w : View Request Content) (from to at : 
     → SeenGrounds w from (to_acknowledge at to t.number)
 delivery-grounds x v w from to at stop r t done source grounded on =
     subst (λ (s : ℕ). SeenGrounds w s (to_acknowledge at to t.number)) source
-    (delivered-there done.met w to at at r t done.served.step (setup_of x.settings to) done.served.start grounded.2.0 (went-on stop r on))
+    (delivered-there done.met w to at at r t (stepped x done.met w to (to_deliver at t) r done.served) (setup_of x.settings to) refl grounded.2.0 (went-on stop r on))

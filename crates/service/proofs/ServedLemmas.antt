@@ -13,25 +13,32 @@ use Rattle.service_model_types.specs.declared.call.StepCall.TheVariants as call
 use Rattle.service_model_types.specs.declared.content.Content.{Content}
 use Rattle.service_model_types.specs.declared.request.Operation.{Operation}
 use Rattle.service_model_types.specs.declared.request.Operation.TheVariants as operation
+use Rattle.service_model_types.specs.declared.request.Operation.TheVariants.{Deliver}
+use Rattle.service_model_types.specs.declared.transfer.Transfer.{Transfer}
 use Rattle.service_model_types.specs.declared.request.Request.{Request}
 use Rattle.service_model_types.specs.declared.request.TakenTask.{TakenTask}
 use Rattle.service_model_types.specs.declared.settings.Settings.{Settings}
+use Rattle.service_model.specs.Deliveries.{accepted_from}
 use Rattle.service_model.specs.Grounds.{Grounds}
 use Rattle.service_model.specs.Growth.{KeepsHistories}
 use Rattle.service_model_types.specs.Clients.{is_clients}
 use Rattle.service_model_types.specs.Replies.{Reply}
 use Rattle.service_model_types.specs.Homes.{Home, Workflow, Token, Part, home}
 use Rattle.service_model_types.specs.Routing.{hash_of}
-use Rattle.service_model.specs.Service.{answer, after, opening}
+use Rattle.service_model.specs.Service.{Entry, answer, answer_to, after, after_asking, opening}
+use Rattle.service_model.specs.TransferLaws.{DeliversOnce, delivers}
+use Rattle.service_model.proofs.TakenLemmas.{accepts-exactly}
 use Rattle.gate.specs.declared.object.Refused.{Refused}
 use Rattle.gate.specs.declared.view.View.{View}
 use Rattle.gate.specs.Passes as gate
 use Rattle.gate.specs.SlotRule as rule
-use Rattle.gate.specs.Records.{Begins, past}
+use Rattle.gate.specs.Records.{Begins, past, replay}
 use Rattle.shard_gate.specs.GateViews as gates
+use Rattle.shard_gate.proofs.OpenLemmas.{replay-same}
 use Rattle.service.specs.ServiceViews.{Service}
 use Rattle.service.specs.ServiceViews.{Pass}
 use Rattle.service.specs.Contents.{setup_of, commands_refusal, ends_refusal, home_refusal, is_token, opening_contents, refusal_of, refusal_of_step, shard_at, shard_of, shard_refusal, slot_of_step}
+use Rattle.service.specs.Headline.{IsSequential, content_of}
 use Rattle.service.specs.Services.{known_by, Answered, IsPassOf, IsServedAtLast, IsServedOn, IsServedOnBy, IsTriedOn}
 
 get-range : {X : Type 0} (f : ℕ → X) (a n k : ℕ) → k < n → slice_get (map f (range_with_len a n)) k ≡ Some (f (a + k))
@@ -96,8 +103,53 @@ start-is p x shard start own below is =
     let starts : gate.starts (known_by p) ≡ opening_contents x.settings = ap (λ o. o.starts) own.own.1 ∙ own.opened.starts in
     opening-at x.settings (gate.starts (known_by p)) shard start starts below is
 
+-- what is delivered after a record takes effect once at most
+delivers-once : (x : Service) (shard : ℕ) (front : List Entry) (at : ℕ) (t : Transfer) → DeliversOnce (content_of x shard front) at t
+delivers-once x shard front at t =
+    subst (λ (S : Content). DeliversOnce S at t) (sym (replay-same (opening (setup_of x.settings shard)) front)) (accepts-exactly (setup_of x.settings shard) front at t)
+
+-- a request is what it asks, at its moment
+answer-asked : (S : Content) (q : Request) (t : Transfer) → q.operation ≡ Deliver t → answer S q ≡ answer S (delivers q.at t)
+unfolding answer
+answer-asked S q t is = ap (answer_to S q.at) is
+
+after-asked : (S : Content) (q : Request) (t : Transfer) → q.operation ≡ Deliver t → after S q ≡ after S (delivers q.at t)
+unfolding after
+after-asked S q t is = ap (after_asking S q.at) is
+
+-- a reply that is the sequential service's after a record says of transfers what that does
+sequential : (x : Service) (v w : View Request Content) (shard : ℕ) (front : List Entry) (q : Request) (r : Reply) → r ≡ answer (content_of x shard front) q
+    → KeepsHistories (content_of x shard (gate.seen v shard)) (content_of x shard (gate.seen w shard)) → IsSequential x v w shard front q r
+sequential x v w shard front q r reply kept = record {
+  reply = reply;
+  kept = kept;
+  once = λ t n is accepted.
+      let S = content_of x shard front in
+      let d = delivers-once x shard front q.at t in
+      let may = (d.only n (sym (answer-asked S q t is) ∙ sym reply ∙ accepted)).0 in
+      (may.next, ap (λ (T : Content). accepted_from T.accepted t.from) (after-asked S q t is) ∙ (d.taken may).counted);
+  only = λ t is other.
+      let S = content_of x shard front in
+      ap (λ (T : Content). T.runs) (after-asked S q t is ∙ (delivers-once x shard front q.at t).otherwise (λ e. other t.number (reply ∙ answer-asked S q t is ∙ e)));
+}
+
+-- a step of the gate, from the content with which the shard was opened, is one of the service
+step-served : (x : Service) (v w : View Request Content) (shard : ℕ) (q : Request) (r : Reply) (step : gate.Stepped after answer KeepsHistories v w shard q r)
+    → step.start ≡ opening (setup_of x.settings shard) → gate.Stamped v w shard → IsServedOn x v w shard q r
+step-served x v w shard q r step start stamp = record {
+  step = record { front = step.front; extends = step.extends; last = step.last; based = step.based; own = step.own; adds = step.adds; others = step.others };
+  answered = sequential x v w shard step.front q r
+      (step.reply ∙ ap (λ (c : Content). answer (replay after c step.front) q) start)
+      (subst (λ (c : Content). KeepsHistories (replay after c (gate.seen v shard)) (replay after c (gate.seen w shard))) start step.kept);
+  same = step.same;
+  given = step.given;
+  turns = step.turns;
+  opened = step.opened ∙ ap Some start;
+  ticket = stamp;
+}
+
 pub served : (p : Pass) (w : View Request Content) (x : Service) (shard : ℕ) (q : Request) (r : Reply) → IsPassOf p x → shard < x.settings.shards → gate.Stepped after answer KeepsHistories (known_by p) w shard q r → gate.Stamped (known_by p) w shard → IsServedOn x (known_by p) w shard q r
-served p w x shard q r own below step stamp = record { step = step; start = start-is p x shard step.start own below step.opened; ticket = stamp }
+served p w x shard q r own below step stamp = step-served x (known_by p) w shard q r step (start-is p x shard step.start own below step.opened) stamp
 
 -- a ticket is above all that the pass had seen before it was turned away
 stamped-behind : (v u w : View Request Content) (s : ℕ) → gate.SeenNothing v u → gate.Stamped v w s → gate.Stamped u w s
@@ -114,7 +166,7 @@ stamped-behind v u w s nothing t = record {
 pub served-at-last : (p : Pass) (w : View Request Content) (x : Service) (shard : ℕ) (q : Request) (r : Reply) → IsPassOf p x → shard < x.settings.shards → gate.SteppedAt after answer KeepsHistories (known_by p) w shard q r → gate.Stamped (known_by p) w shard → IsServedAtLast x (known_by p) w shard q r
 served-at-last p w x shard q r own below (met, waited, step) stamp =
     let same : slice_get (gate.starts (known_by p)) shard ≡ Some step.start = ap (λ o. slice_get o.starts shard) (sym waited.nothing.same.1) ∙ step.opened in
-    record { met = met; waited = waited; served = record { step = step; start = start-is p x shard step.start own below same; ticket = stamped-behind (known_by p) met w shard waited.nothing stamp } }
+    record { met = met; waited = waited; served = step-served x met w shard q r step (start-is p x shard step.start own below same) (stamped-behind (known_by p) met w shard waited.nothing stamp) }
 
 -- what a client may ask needs nothing in other shards
 pub needs-nothing : (contents : List Content) (shard : ℕ) (o : Operation) → is_clients o ≡ true → Grounds contents shard o

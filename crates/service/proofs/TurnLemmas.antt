@@ -13,7 +13,7 @@ use Rattle.service_model_types.specs.declared.content.Content.{Content}
 use Rattle.service_model_types.specs.declared.request.Hint.{Hint}
 use Rattle.service_model_types.specs.declared.request.Request.{Request}
 use Rattle.service_model_types.specs.Replies.{dispatch_of, Reply}
-use Rattle.service_model.specs.Service.{Entry, after}
+use Rattle.service_model.specs.Service.{Entry, after, opening}
 use Rattle.service_model.proofs.DispatchLemmas.{NamesShard, names-after, names-opening, next-named}
 use Rattle.gate.specs.declared.view.View.{View}
 use Rattle.gate.specs.Records.{replay}
@@ -22,6 +22,7 @@ use Rattle.matching.specs.declared.view.View.{View as HintView}
 use Rattle.matching.specs.Named.{Pops, Pushes, capacity_of}
 use Rattle.service.specs.CallRequests.{to_next_dispatch, to_start_task}
 use Rattle.service.specs.Contents.{setup_of}
+use Rattle.service.specs.Headline.{content_of}
 use Rattle.service.specs.Services.{Answered, IsServedAtLast}
 use Rattle.service.specs.Turns.{AfterDispatch, AfterNext, AnsweredOn, Polls, Turns, place_of}
 
@@ -35,10 +36,8 @@ next-below x shard at v w r done d is = by_test (nat_lt shard x.settings.shards)
   where
     served : nat_lt shard x.settings.shards ≡ true → IsServedAtLast x v w shard (to_next_dispatch at) r → d.dispatch.hint.shard < x.settings.shards
     served below h =
-        let step = h.served.step in
-        let P : Content → Type 0 = λ S. NamesShard shard S in
-        let start : NamesShard shard step.start = subst P (sym h.served.start) (names-opening (setup_of x.settings shard)) in
-        let named : d.dispatch.hint.shard ≡ shard = next-named shard (replay after step.start step.front) at d (names-replayed shard step.start step.front start) (ap dispatch_of (sym step.reply) ∙ is) in
+        let front = h.served.step.front in
+        let named : d.dispatch.hint.shard ≡ shard = next-named shard (content_of x shard front) at d (names-replayed shard (opening (setup_of x.settings shard)) front (names-opening (setup_of x.settings shard))) (ap dispatch_of (sym h.served.answered.reply) ∙ is) in
         grind (arith, nat_tests)
 
     by_test : (b : Bool) → nat_lt shard x.settings.shards ≡ b → Answered (if b then None else Some (InvalidArgument field.Shard)) (IsServedAtLast x v w shard (to_next_dispatch at) r) v w r → d.dispatch.hint.shard < x.settings.shards

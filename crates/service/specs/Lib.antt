@@ -3,6 +3,7 @@ pub mod CallRequests
 pub mod Calls
 pub mod Contents
 pub mod AtClose
+pub mod Headline
 pub mod HeldHints
 pub mod HeldPasses
 pub mod HistoryLaws

@@ -1,5 +1,5 @@
 -- MEANING: what a clause reads of a service and of its passes
-use Rattle.std.specs.Prelude.{◌≡◌, ℕ, ◌<◌, ◌≤◌, true, List, length, Option, None, Some, Err, Result, IfOk, IfErr}
+use Rattle.std.specs.Prelude.{◌≡◌, ℕ, ◌<◌, ◌≤◌, true, List, length, slice_get, Option, None, Some, Err, Result, IfOk, IfErr}
 use Rattle.wf_event_values.specs.Limits.{IsSpan}
 use Rattle.wf_event_values.specs.declared.refusal.Refusal.{Refusal}
 use Rattle.service_model_types.specs.declared.call.StepCall.{StepCall}
@@ -8,18 +8,19 @@ use Rattle.service_model_types.specs.declared.request.Request.{Request}
 use Rattle.service_model_types.specs.declared.settings.Settings.{Settings}
 use Rattle.service_model_types.specs.Calls.{request_of}
 use Rattle.service_model_types.specs.Limits.{most_capacity, most_passes, most_queues, most_shards, service_numbers}
-use Rattle.service_model.specs.Growth.{KeepsHistories}
 use Rattle.service_model_types.specs.Replies.{Reply}
-use Rattle.service_model.specs.Service.{answer, after, opening}
+use Rattle.service_model.specs.Service.{opening}
 use Rattle.gate.specs.declared.object.Refused.{Refused}
 use Rattle.gate.specs.declared.view.View.{View}
 use Rattle.gate.specs.Passes as gate
+use Rattle.gate.specs.Records.{FromGiven, past}
 use Rattle.shard_gate.specs.GateViews as gates
 use Rattle.service.specs.ServiceViews.{Service}
 use Rattle.service.specs.ServiceViews.{Pass}
 use Rattle.matching.specs.declared.view.View.{View as HintView}
 use Rattle.matching.specs.Named as matching
 use Rattle.service.specs.Ranges.{are_different}
+use Rattle.service.specs.Headline.{IsSequential, LeavesARecord}
 use Rattle.service.specs.Contents.{setup_of, opening_contents, refusal_of, slot_of, refusal_of_step, slot_of_step}
 
 abbrev pub settings_of : Service → Settings
@@ -68,12 +69,17 @@ pub record IsPassOf (p : Pass) (x : Service) : Type 0 where
   pub own : gates.IsPassOf p.inner x.gate
   pub hints : matching.IsPassOf p.hints x.queues
 
--- A request was served on a shard to a pass that knew v and then knows w: the record that it then has seen of that shard
--- is all that it had seen there, perhaps other entries, and this one, the reply is the sequential service's after the entries before,
--- and each history that was there begins with what it was; the step has a ticket of its own, above all that the pass had seen
+-- A request was served on a shard to a pass that knew v and then knows w, as the headline says
 pub record IsServedOn (x : Service) (v w : View Request Content) (shard : ℕ) (q : Request) (r : Reply) : Type 0 where
-  pub step : gate.Stepped after answer KeepsHistories v w shard q r
-  pub start : step.start ≡ opening (setup_of x.settings shard)
+  pub step : LeavesARecord v w shard q
+  pub answered : IsSequential x v w shard step.front q r
+  pub same : gate.IsSame v w
+  -- every entry since the opening is of a pass that the service gave
+  pub given : FromGiven (gate.passes v) (past (gate.base v shard) (gate.seen w shard))
+  -- no enter was turned away
+  pub turns : (k : ℕ) → gate.turned w k ≡ gate.turned v k
+  pub opened : slice_get (gate.starts v) shard ≡ Some (opening (setup_of x.settings shard))
+  -- the step has a ticket of its own, above all that the pass had seen
   pub ticket : gate.Stamped v w shard
 
 -- a request is served on its own shard
@@ -100,14 +106,6 @@ ServedOn x p p' refusal shard q r = Answered refusal (IsServedOn x (known_by p) 
 abbrev pub ServedOnAtLast : Service → Pass → Pass → Option Refusal → ℕ → Request → Reply → Type 0
 ServedOnAtLast x p p' refusal shard q r =
     Answered refusal (IsServedAtLast x (known_by p) (known_by p') shard q r) (known_by p) (known_by p') r
-
--- the request was answered on its own shard
-abbrev pub Served : Service → Pass → Pass → Request → Reply → Type 0
-Served x p p' q r = ServedOn x p p' (refusal_of x.settings q.operation) (shard_of_request x q) q r
-
--- the same, where it may have waited
-abbrev pub ServedAtLast : Service → Pass → Pass → Request → Reply → Type 0
-ServedAtLast x p p' q r = ServedOnAtLast x p p' (refusal_of x.settings q.operation) (shard_of_request x q) q r
 
 -- What a call that never waits made of a request for a shard: it was answered; or it comes back, nothing was seen or done,
 -- and another pass was found on that very shard, or a growth was refused

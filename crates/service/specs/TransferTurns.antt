@@ -2,7 +2,7 @@
 use Rattle.std.specs.Prelude.{◌≡◌, ◌⊎◌, ℕ, Bool, true, false, Option, None, Some, Ok}
 use Rattle.service_model_types.specs.declared.answer.Answer.TheVariants as answer
 use Rattle.service_model_types.specs.declared.call.Stop.{Stop}
-use Rattle.service_model_types.specs.declared.call.Stop.TheVariants.{AtEnd, AfterFirstPart, AfterSecondPart}
+use Rattle.service_model_types.specs.declared.call.Stop.TheVariants.{AtEnd, AfterFirstPart}
 use Rattle.service_model_types.specs.declared.call.TransferTurn.{TransferTurn}
 use Rattle.service_model_types.specs.declared.content.Content.{Content}
 use Rattle.service_model_types.specs.declared.request.Request.{Request}
@@ -23,8 +23,7 @@ pub record Acknowledges (x : Service) (q : TransferTurn) (number : ℕ) (v w : V
 -- whether a turn goes on behind the delivery: where the transfer took effect, now or before, and the turn isn't to end there
 abbrev pub goes_on : Stop → Reply → Bool
 goes_on AtEnd r = is_delivered r
-goes_on AfterFirstPart r = false
-goes_on AfterSecondPart r = false
+goes_on _ r = false
 
 abbrev pub AfterDelivery : Service → TransferTurn → ℕ → Bool → (v w : View Request Content) → Type 0
 AfterDelivery x q number true v w = Acknowledges x q number v w
@@ -38,9 +37,8 @@ pub record Delivers (x : Service) (q : TransferTurn) (t : Transfer) (v w : View 
 
 -- what follows the reading of a transfer
 abbrev pub AfterTransfer : Service → TransferTurn → Stop → Transfer → (v w : View Request Content) → Reply → Type 0
-AfterTransfer x q AtEnd t v w r = Delivers x q t v w r
 AfterTransfer x q AfterFirstPart t v w r = (r ≡ Ok (answer.Taken t.number)) × (w ≡ v)
-AfterTransfer x q AfterSecondPart t v w r = Delivers x q t v w r
+AfterTransfer x q _ t v w r = Delivers x q t v w r
 
 -- what follows the first part: without a transfer its reply is the turn's
 abbrev pub AfterReading : Service → TransferTurn → Reply → Option Transfer → (v w : View Request Content) → Reply → Type 0

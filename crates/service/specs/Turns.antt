@@ -72,9 +72,8 @@ pub record Pushing (x : Service) (shard at : ℕ) (stop : Stop) (d : NumberedDis
 
 abbrev pub AfterDispatch : Service → (shard at : ℕ) → Stop → NumberedDispatch → (v w : View Request Content) → (hs ws : List HintView)
     → Reply → Type 0
-AfterDispatch x shard at AtEnd d v w hs ws r = Pushing x shard at AtEnd d v w hs ws r
 AfterDispatch x shard at AfterFirstPart d v w hs ws r = (r ≡ Ok (answer.Taken d.number)) × (w ≡ v) × (ws ≡ hs)
-AfterDispatch x shard at AfterSecondPart d v w hs ws r = Pushing x shard at AfterSecondPart d v w hs ws r
+AfterDispatch x shard at stop d v w hs ws r = Pushing x shard at stop d v w hs ws r
 
 -- what follows the first part: without a dispatch its reply is the turn's
 abbrev pub AfterNext : Service → (shard at : ℕ) → Stop → Reply → Option NumberedDispatch → (v w : View Request Content)

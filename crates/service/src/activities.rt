@@ -1,7 +1,8 @@
 //! The calls on running activities: each makes the request of its arguments and serves it on the
 //! shard that its task token names.
 
-ghost use Rattle.service.specs.CallRequests.{to_complete_activity, to_fail_activity, to_cancel_activity, to_heartbeat};
+ghost use Rattle.service_model_types.specs.declared.request.Operation.TheVariants as to;
+ghost use Rattle.service.specs.CallRequests.{ask};
 
 use crate::calls::asked_by_client;
 use crate::service::{Pass, Service};
@@ -27,7 +28,7 @@ impl<S: ShardObject> Service<S> {
         at: Moment,
     ) -> Result<Reply, (Refused, Request)>
         requires { IsPassOf pass.old self.now }
-        ensures { IsTried self.now pass.old pass.new (to_complete_activity at asked) result }
+        ensures { IsTried self.now pass.old pass.new (ask at (to.CompleteActivity asked)) result }
     {
         self.try_serve(
             pass,
@@ -49,7 +50,8 @@ impl<S: ShardObject> Service<S> {
         at: Moment,
     ) -> Result<Reply, (AllocError, Request)>
         requires { IsPassOf pass.old self.now }
-        ensures { IsServedBy self.now pass.old pass.new (to_complete_activity at asked) result }
+        ensures { IsServedBy self.now pass.old pass.new
+            (ask at (to.CompleteActivity asked)) result }
     {
         self.serve(
             rt,
@@ -69,7 +71,7 @@ impl<S: ShardObject> Service<S> {
         at: Moment,
     ) -> Result<Reply, (Refused, Request)>
         requires { IsPassOf pass.old self.now }
-        ensures { IsTried self.now pass.old pass.new (to_fail_activity at asked) result }
+        ensures { IsTried self.now pass.old pass.new (ask at (to.FailActivity asked)) result }
     {
         self.try_serve(pass, asked_by_client(at, Operation::FailActivity(asked)))
     }
@@ -89,7 +91,7 @@ impl<S: ShardObject> Service<S> {
         at: Moment,
     ) -> Result<Reply, (AllocError, Request)>
         requires { IsPassOf pass.old self.now }
-        ensures { IsServedBy self.now pass.old pass.new (to_fail_activity at asked) result }
+        ensures { IsServedBy self.now pass.old pass.new (ask at (to.FailActivity asked)) result }
     {
         self.serve(
             rt,
@@ -109,7 +111,7 @@ impl<S: ShardObject> Service<S> {
         at: Moment,
     ) -> Result<Reply, (Refused, Request)>
         requires { IsPassOf pass.old self.now }
-        ensures { IsTried self.now pass.old pass.new (to_cancel_activity at asked) result }
+        ensures { IsTried self.now pass.old pass.new (ask at (to.CancelActivity asked)) result }
     {
         self.try_serve(pass, asked_by_client(at, Operation::CancelActivity(asked)))
     }
@@ -129,7 +131,7 @@ impl<S: ShardObject> Service<S> {
         at: Moment,
     ) -> Result<Reply, (AllocError, Request)>
         requires { IsPassOf pass.old self.now }
-        ensures { IsServedBy self.now pass.old pass.new (to_cancel_activity at asked) result }
+        ensures { IsServedBy self.now pass.old pass.new (ask at (to.CancelActivity asked)) result }
     {
         self.serve(
             rt,
@@ -149,7 +151,7 @@ impl<S: ShardObject> Service<S> {
         at: Moment,
     ) -> Result<Reply, (Refused, Request)>
         requires { IsPassOf pass.old self.now }
-        ensures { IsTried self.now pass.old pass.new (to_heartbeat at asked) result }
+        ensures { IsTried self.now pass.old pass.new (ask at (to.Heartbeat asked)) result }
     {
         self.try_serve(pass, asked_by_client(at, Operation::Heartbeat(asked)))
     }
@@ -169,7 +171,7 @@ impl<S: ShardObject> Service<S> {
         at: Moment,
     ) -> Result<Reply, (AllocError, Request)>
         requires { IsPassOf pass.old self.now }
-        ensures { IsServedBy self.now pass.old pass.new (to_heartbeat at asked) result }
+        ensures { IsServedBy self.now pass.old pass.new (ask at (to.Heartbeat asked)) result }
     {
         self.serve(rt, pass, asked_by_client(at, Operation::Heartbeat(asked)))
     }

@@ -2,7 +2,8 @@
 
 ghost use Rattle.std.specs.Prelude.{◌≡◌, true};
 ghost use Rattle.service_model_types.specs.Clients.{is_clients};
-ghost use Rattle.service.specs.CallRequests.{to_start, to_signal, to_show_history, to_describe};
+ghost use Rattle.service_model_types.specs.declared.request.Operation.TheVariants as to;
+ghost use Rattle.service.specs.CallRequests.{ask};
 
 use crate::service::{Pass, Service};
 use gate::Refused;
@@ -29,7 +30,7 @@ impl<S: ShardObject> Service<S> {
         at: Moment,
     ) -> Result<Reply, (Refused, Request)>
         requires { IsPassOf pass.old self.now }
-        ensures { IsTried self.now pass.old pass.new (to_start at asked) result }
+        ensures { IsTried self.now pass.old pass.new (ask at (to.Start asked)) result }
     {
         self.try_serve(pass, asked_by_client(at, Operation::Start(asked)))
     }
@@ -46,7 +47,7 @@ impl<S: ShardObject> Service<S> {
         at: Moment,
     ) -> Result<Reply, (AllocError, Request)>
         requires { IsPassOf pass.old self.now }
-        ensures { IsServedBy self.now pass.old pass.new (to_start at asked) result }
+        ensures { IsServedBy self.now pass.old pass.new (ask at (to.Start asked)) result }
     {
         self.serve(rt, pass, asked_by_client(at, Operation::Start(asked)))
     }
@@ -62,7 +63,7 @@ impl<S: ShardObject> Service<S> {
         at: Moment,
     ) -> Result<Reply, (Refused, Request)>
         requires { IsPassOf pass.old self.now }
-        ensures { IsTried self.now pass.old pass.new (to_signal at asked) result }
+        ensures { IsTried self.now pass.old pass.new (ask at (to.Signal asked)) result }
     {
         self.try_serve(pass, asked_by_client(at, Operation::Signal(asked)))
     }
@@ -79,7 +80,7 @@ impl<S: ShardObject> Service<S> {
         at: Moment,
     ) -> Result<Reply, (AllocError, Request)>
         requires { IsPassOf pass.old self.now }
-        ensures { IsServedBy self.now pass.old pass.new (to_signal at asked) result }
+        ensures { IsServedBy self.now pass.old pass.new (ask at (to.Signal asked)) result }
     {
         self.serve(rt, pass, asked_by_client(at, Operation::Signal(asked)))
     }
@@ -95,7 +96,7 @@ impl<S: ShardObject> Service<S> {
         at: Moment,
     ) -> Result<Reply, (Refused, Request)>
         requires { IsPassOf pass.old self.now }
-        ensures { IsTried self.now pass.old pass.new (to_show_history at asked) result }
+        ensures { IsTried self.now pass.old pass.new (ask at (to.History asked)) result }
     {
         self.try_serve(pass, asked_by_client(at, Operation::History(asked)))
     }
@@ -112,7 +113,7 @@ impl<S: ShardObject> Service<S> {
         at: Moment,
     ) -> Result<Reply, (AllocError, Request)>
         requires { IsPassOf pass.old self.now }
-        ensures { IsServedBy self.now pass.old pass.new (to_show_history at asked) result }
+        ensures { IsServedBy self.now pass.old pass.new (ask at (to.History asked)) result }
     {
         self.serve(rt, pass, asked_by_client(at, Operation::History(asked)))
     }
@@ -128,7 +129,7 @@ impl<S: ShardObject> Service<S> {
         at: Moment,
     ) -> Result<Reply, (Refused, Request)>
         requires { IsPassOf pass.old self.now }
-        ensures { IsTried self.now pass.old pass.new (to_describe at asked) result }
+        ensures { IsTried self.now pass.old pass.new (ask at (to.Describe asked)) result }
     {
         self.try_serve(pass, asked_by_client(at, Operation::Describe(asked)))
     }
@@ -147,7 +148,7 @@ impl<S: ShardObject> Service<S> {
         at: Moment,
     ) -> Result<Reply, (AllocError, Request)>
         requires { IsPassOf pass.old self.now }
-        ensures { IsServedBy self.now pass.old pass.new (to_describe at asked) result }
+        ensures { IsServedBy self.now pass.old pass.new (ask at (to.Describe asked)) result }
     {
         self.serve(rt, pass, asked_by_client(at, Operation::Describe(asked)))
     }

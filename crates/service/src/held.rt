@@ -2,7 +2,8 @@
 
 ghost use Rattle.std.specs.Prelude.{◌≡◌, IfOk, IfErr};
 ghost use Rattle.gate.specs.Passes.{Refuses};
-ghost use Rattle.service.specs.CallRequests.{to_start};
+ghost use Rattle.service_model_types.specs.declared.request.Operation.TheVariants as to;
+ghost use Rattle.service.specs.CallRequests.{ask};
 
 use crate::calls::request;
 use crate::service::{Pass, Service};
@@ -47,12 +48,12 @@ impl<S: ShardObject> Service<S> {
     ) -> Result<Held<'_, S>, (Refused, Pass<S>, Request)>
         requires { IsPassOf pass self.now }
         ensures own { IfOk result (λ h. IsHeldBy h self.entry.now) }
-        ensures ok { IfOk result (λ h. Enters self.entry.now pass h (to_start at asked)) }
+        ensures ok { IfOk result (λ h. Enters self.entry.now pass h (ask at (to.Start asked))) }
         ensures back { IfErr result (λ e.
-            IsPassOf e.1 self.entry.now × (e.2 ≡ to_start at asked)) }
+            IsPassOf e.1 self.entry.now × (e.2 ≡ ask at (to.Start asked))) }
         ensures err { IfErr result (λ e. Refuses
             e.0 (known_by pass) (known_by e.1)
-            (shard_of_request self.entry.now (to_start at asked))) }
+            (shard_of_request self.entry.now (ask at (to.Start asked)))) }
         ensures hints { IfOk result (λ h. hints_of h ≡ hints_by pass) }
         ensures back_hints { IfErr result (λ e. hints_by e.1 ≡ hints_by pass) }
     {

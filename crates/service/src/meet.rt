@@ -1,8 +1,9 @@
 //! How two passes tell each other what they have seen.
 
 ghost use Rattle.std.specs.Prelude.{◌≡◌, ℕ, ◌<◌};
-ghost use Rattle.gate.specs.Passes.{Agree, AgreeTickets, KeepsOwn};
+ghost use Rattle.gate.specs.Passes.{KeepsOwn};
 ghost use Rattle.matching.specs.Named.{Met};
+ghost use Rattle.service.specs.Headline.{MeetAndAgree};
 
 use crate::service::{Pass, Service};
 use shard_gate::ShardObject;
@@ -21,12 +22,9 @@ impl<S: ShardObject> Service<S> {
         ensures second_own { IsPassOf second.new self.now }
         ensures hints { Met (hints_by first.old) (hints_by second.old)
             (hints_by first.new) (hints_by second.new) }
-        ensures agree { (shard : ℕ) → shard < (settings_of self.now).shards
-            → Agree (known_by first.old) (known_by second.old)
-            (known_by first.new) (known_by second.new) shard }
-        ensures tickets { (shard : ℕ) → shard < (settings_of self.now).shards
-            → AgreeTickets (known_by first.old) (known_by second.old)
-            (known_by first.new) (known_by second.new) shard }
+        ensures met { MeetAndAgree (settings_of self.now).shards
+            (known_by first.old) (known_by second.old)
+            (known_by first.new) (known_by second.new) }
         ensures first { KeepsOwn (known_by first.old) (known_by first.new) }
         ensures second { KeepsOwn (known_by second.old) (known_by second.new) }
     {

@@ -1,7 +1,8 @@
 //! The calls on workflow tasks: each makes the request of its arguments and serves it on the shard
 //! that its hint or its task token names.
 
-ghost use Rattle.service.specs.CallRequests.{to_start_task, to_complete_workflow_task, to_fail_workflow_task};
+ghost use Rattle.service_model_types.specs.declared.request.Operation.TheVariants as to;
+ghost use Rattle.service.specs.CallRequests.{ask, to_start_task};
 ghost use Rattle.service.specs.Contents.{shard_refusal};
 
 use crate::calls::asked_by_client;
@@ -73,7 +74,8 @@ impl<S: ShardObject> Service<S> {
         at: Moment,
     ) -> Result<Reply, (Refused, Request)>
         requires { IsPassOf pass.old self.now }
-        ensures { IsTried self.now pass.old pass.new (to_complete_workflow_task at asked) result }
+        ensures { IsTried self.now pass.old pass.new
+            (ask at (to.CompleteWorkflowTask asked)) result }
     {
         self.try_serve(
             pass,
@@ -98,7 +100,7 @@ impl<S: ShardObject> Service<S> {
     ) -> Result<Reply, (AllocError, Request)>
         requires { IsPassOf pass.old self.now }
         ensures { IsServedBy self.now pass.old pass.new
-            (to_complete_workflow_task at asked) result }
+            (ask at (to.CompleteWorkflowTask asked)) result }
     {
         self.serve(
             rt,
@@ -118,7 +120,7 @@ impl<S: ShardObject> Service<S> {
         at: Moment,
     ) -> Result<Reply, (Refused, Request)>
         requires { IsPassOf pass.old self.now }
-        ensures { IsTried self.now pass.old pass.new (to_fail_workflow_task at asked) result }
+        ensures { IsTried self.now pass.old pass.new (ask at (to.FailWorkflowTask asked)) result }
     {
         self.try_serve(
             pass,
@@ -140,7 +142,8 @@ impl<S: ShardObject> Service<S> {
         at: Moment,
     ) -> Result<Reply, (AllocError, Request)>
         requires { IsPassOf pass.old self.now }
-        ensures { IsServedBy self.now pass.old pass.new (to_fail_workflow_task at asked) result }
+        ensures { IsServedBy self.now pass.old pass.new
+            (ask at (to.FailWorkflowTask asked)) result }
     {
         self.serve(
             rt,

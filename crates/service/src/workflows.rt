@@ -1,7 +1,8 @@
 //! The calls that signal a run or start it, ask it to cancel, and terminate it: each makes the request
 //! of its arguments and serves it.
 
-ghost use Rattle.service.specs.CallRequests.{to_signal_with_start, to_request_cancel, to_terminate};
+ghost use Rattle.service_model_types.specs.declared.request.Operation.TheVariants as to;
+ghost use Rattle.service.specs.CallRequests.{ask};
 
 use crate::calls::asked_by_client;
 use crate::service::{Pass, Service};
@@ -28,7 +29,7 @@ impl<S: ShardObject> Service<S> {
         at: Moment,
     ) -> Result<Reply, (Refused, Request)>
         requires { IsPassOf pass.old self.now }
-        ensures { IsTried self.now pass.old pass.new (to_signal_with_start at asked) result }
+        ensures { IsTried self.now pass.old pass.new (ask at (to.SignalWithStart asked)) result }
     {
         self.try_serve(pass, asked_by_client(at, Operation::SignalWithStart(asked)))
     }
@@ -46,7 +47,7 @@ impl<S: ShardObject> Service<S> {
         at: Moment,
     ) -> Result<Reply, (AllocError, Request)>
         requires { IsPassOf pass.old self.now }
-        ensures { IsServedBy self.now pass.old pass.new (to_signal_with_start at asked) result }
+        ensures { IsServedBy self.now pass.old pass.new (ask at (to.SignalWithStart asked)) result }
     {
         self.serve(
             rt,
@@ -66,7 +67,7 @@ impl<S: ShardObject> Service<S> {
         at: Moment,
     ) -> Result<Reply, (Refused, Request)>
         requires { IsPassOf pass.old self.now }
-        ensures { IsTried self.now pass.old pass.new (to_request_cancel at asked) result }
+        ensures { IsTried self.now pass.old pass.new (ask at (to.RequestCancel asked)) result }
     {
         self.try_serve(pass, asked_by_client(at, Operation::RequestCancel(asked)))
     }
@@ -84,7 +85,7 @@ impl<S: ShardObject> Service<S> {
         at: Moment,
     ) -> Result<Reply, (AllocError, Request)>
         requires { IsPassOf pass.old self.now }
-        ensures { IsServedBy self.now pass.old pass.new (to_request_cancel at asked) result }
+        ensures { IsServedBy self.now pass.old pass.new (ask at (to.RequestCancel asked)) result }
     {
         self.serve(
             rt,
@@ -104,7 +105,7 @@ impl<S: ShardObject> Service<S> {
         at: Moment,
     ) -> Result<Reply, (Refused, Request)>
         requires { IsPassOf pass.old self.now }
-        ensures { IsTried self.now pass.old pass.new (to_terminate at asked) result }
+        ensures { IsTried self.now pass.old pass.new (ask at (to.Terminate asked)) result }
     {
         self.try_serve(pass, asked_by_client(at, Operation::Terminate(asked)))
     }
@@ -122,7 +123,7 @@ impl<S: ShardObject> Service<S> {
         at: Moment,
     ) -> Result<Reply, (AllocError, Request)>
         requires { IsPassOf pass.old self.now }
-        ensures { IsServedBy self.now pass.old pass.new (to_terminate at asked) result }
+        ensures { IsServedBy self.now pass.old pass.new (ask at (to.Terminate asked)) result }
     {
         self.serve(rt, pass, asked_by_client(at, Operation::Terminate(asked)))
     }
