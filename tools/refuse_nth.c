@@ -1,6 +1,10 @@
 /* An allocator that refuses one allocation: the one whose number, from 1 on, REFUSED_ALLOCATION says.
  * Preloaded (LD_PRELOAD) it stands before the C library's. It counts the allocations that were asked for
  * in the file whose descriptor REFUSED_TOLD says, so that the number is there however the program ends.
+ *
+ * A program says by two allocations, of sizes that nothing else has, where it is to take no memory: between
+ * REFUSE_ALL and REFUSE_NONE every allocation is refused. How often that began, and how many were refused
+ * there, stand in the file behind the count. These two allocations are given, and not counted.
  */
 #define _GNU_SOURCE
 #include <errno.h>
@@ -13,9 +17,18 @@ extern void *__libc_calloc(size_t count, size_t size);
 extern void *__libc_realloc(void *block, size_t size);
 extern void *__libc_memalign(size_t alignment, size_t size);
 
-static atomic_long own_count;
-static atomic_long *asked = &own_count;
+enum { REFUSE_ALL = 1000003, REFUSE_NONE = 1000033 };
+
+struct told {
+    atomic_long asked;
+    atomic_long begun;
+    atomic_long refused_within;
+};
+
+static struct told own;
+static struct told *told = &own;
 static long refused = -1;
+static atomic_int refuses_all;
 
 __attribute__((constructor)) static void begin(void)
 {
@@ -24,17 +37,33 @@ __attribute__((constructor)) static void begin(void)
     if (number)
         refused = atol(number);
     if (descriptor) {
-        void *page = mmap(NULL, sizeof *asked, PROT_READ | PROT_WRITE, MAP_SHARED, atoi(descriptor), 0);
+        void *page = mmap(NULL, sizeof *told, PROT_READ | PROT_WRITE, MAP_SHARED, atoi(descriptor), 0);
         if (page == MAP_FAILED)
             abort();
-        asked = page;
+        told = page;
     }
-    atomic_store(asked, 0);
+    atomic_store(&told->asked, 0);
 }
 
-static int is_refused(void)
+/* Whether the size is one of the two that say what comes, which is noted then. */
+static int is_sign(size_t size)
 {
-    if (atomic_fetch_add(asked, 1) + 1 != refused)
+    if (size != REFUSE_ALL && size != REFUSE_NONE)
+        return 0;
+    if (size == REFUSE_ALL)
+        atomic_fetch_add(&told->begun, 1);
+    atomic_store(&refuses_all, size == REFUSE_ALL);
+    return 1;
+}
+
+static int is_refused(size_t size)
+{
+    if (is_sign(size))
+        return 0;
+    int is_within = atomic_load(&refuses_all);
+    if (is_within)
+        atomic_fetch_add(&told->refused_within, 1);
+    if (atomic_fetch_add(&told->asked, 1) + 1 != refused && !is_within)
         return 0;
     errno = ENOMEM;
     return 1;
@@ -42,31 +71,31 @@ static int is_refused(void)
 
 void *malloc(size_t size)
 {
-    return is_refused() ? NULL : __libc_malloc(size);
+    return is_refused(size) ? NULL : __libc_malloc(size);
 }
 
 void *calloc(size_t count, size_t size)
 {
-    return is_refused() ? NULL : __libc_calloc(count, size);
+    return is_refused(count * size) ? NULL : __libc_calloc(count, size);
 }
 
 void *realloc(void *block, size_t size)
 {
-    return is_refused() ? NULL : __libc_realloc(block, size);
+    return is_refused(size) ? NULL : __libc_realloc(block, size);
 }
 
 void *memalign(size_t alignment, size_t size)
 {
-    return is_refused() ? NULL : __libc_memalign(alignment, size);
+    return is_refused(size) ? NULL : __libc_memalign(alignment, size);
 }
 
 void *aligned_alloc(size_t alignment, size_t size)
 {
-    return is_refused() ? NULL : __libc_memalign(alignment, size);
+    return is_refused(size) ? NULL : __libc_memalign(alignment, size);
 }
 
 int posix_memalign(void **block, size_t alignment, size_t size)
 {
-    *block = is_refused() ? NULL : __libc_memalign(alignment, size);
+    *block = is_refused(size) ? NULL : __libc_memalign(alignment, size);
     return *block ? 0 : ENOMEM;
 }

@@ -27,4 +27,6 @@ mod threads;
 #[cfg(test)]
 mod values;
 #[cfg(test)]
+mod without_memory;
+#[cfg(test)]
 mod work;

@@ -30,10 +30,12 @@ fn name_of(answer: &Answer) -> &'static str {
     }
 }
 
-/// The answer's name or the refusal's, and of an invalid argument its field's.
+/// The answer's name or the refusal's, and of an invalid argument its field's. A workflow that is started
+/// already is told by its first run here, and any other run would be another answer.
 pub(crate) fn shown(reply: &Reply) -> &'static str {
     match reply {
         Ok(answer) => name_of(answer),
+        Err(Refusal::AlreadyStarted(run)) if run.ordinal() != 1 => "another run",
         Err(Refusal::InvalidArgument(field)) => field.name(),
         Err(refusal) => refusal.name(),
     }

@@ -1,6 +1,6 @@
 //! The tests, of shards that keep their runs by tables. What they do is written for any shard.
 
-use crate::{held, histories, limits, named, threads};
+use crate::{held, histories, limits, named, threads, without_memory};
 use workflow_service::Shard;
 
 #[test]
@@ -23,4 +23,9 @@ fn histories_and_limits(rt: HostRuntime) {
     histories::two_threads_deliver_signals::<Shard, HostRuntime>(&rt);
     limits::a_history_of_thousands_of_events::<Shard, HostRuntime>(&rt);
     limits::ten_thousand_timers_fire::<Shard, HostRuntime>(&rt);
+}
+
+#[test]
+fn what_takes_no_memory(rt: HostRuntime) {
+    without_memory::what_takes_no_memory::<Shard, HostRuntime>(&rt);
 }

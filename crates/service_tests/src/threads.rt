@@ -29,10 +29,14 @@ pub(crate) fn four_threads_signal_on_four_shards<
     assert!(rt; are_all(&records, &[3005, 3000, 3000, 3000]));
 }
 
-/// Of two starts at the same time one begins the workflow's first run, and the other finds it.
+/// Of two starts at the same time one begins the workflow's first run, and the other finds that very run:
+/// there is no second one.
 const ONE_WORKFLOW: &str =
     r##"1|1|started|AlreadyStarted|{"op":"start","request_id":"r1","task_queue":"main","workflow_id":"a","workflow_type":"w"}
 1|1|started|AlreadyStarted|{"op":"start","request_id":"r2","task_queue":"main","workflow_id":"a","workflow_type":"w"}
+= 1
+1|1|described||{"op":"describe","run":"00000000-0001-8000-8000-000000000001","workflow_id":"a"}
+1|0|described|NotFound|{"op":"describe","run":"00000000-0001-8000-8000-000000000002","workflow_id":"a"}
 = 1
 "##;
 
@@ -41,7 +45,7 @@ pub(crate) fn two_threads_start_one_workflow<
     R: Abort + AllocGlobal + Threads + Wait + Sync,
 >(rt: &R) {
     let records = records_of::<S, R>(rt, &settings(rt, 2, 2), &[ONE_WORKFLOW]);
-    assert!(rt; are_all(&records, &[1, 1]) && records.first().is_some_and(|it| it.len() == 2));
+    assert!(rt; are_all(&records, &[2, 2]) && records.first().is_some_and(|it| it.len() == 4));
 }
 
 /// Each task comes through a queue that is often full and often empty, and none comes twice.

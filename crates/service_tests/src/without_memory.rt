@@ -1,0 +1,161 @@
+//! What takes no memory, made while every allocation is refused: steps' second halves, leaving a shard, a meeting
+//! and the close.
+//!
+//! `tools/without_memory.py` runs this with an allocator that refuses all between two allocations of sizes that
+//! nothing else has. To any other allocator they are two allocations.
+
+ghost use Rattle.std.specs.Prelude.{◌≡◌, ◌<◌, length};
+ghost use Rattle.gate.specs.Passes.{number};
+ghost use Rattle.service.specs.Services.{IsPassOf, known_by, settings_of};
+ghost use Rattle.service_model_types.specs.declared.content.Content.{Content};
+ghost use Rattle.service_tests.specs.Passes.{ComesBack, InOrder};
+
+use crate::asked::settings;
+use crate::passes::{give_back, open, take_pass};
+use crate::values::{boxed, start};
+use crate::work::go_through;
+use gate::Object;
+use service::{KeepsShard, Pass, Service};
+use service_model_types::content::Setup;
+use service_model_types::request::Request;
+use service_model_types::settings::Settings;
+use std::alloc::AllocGlobal;
+use std::process::Abort;
+use std::sync::Wait;
+use std::thread::Threads;
+use step_record::Record;
+use wf_event_values::{Field, Moment, Span};
+
+/// The sizes by which the allocator is told, in bytes.
+const REFUSE_ALL: usize = 1_000_003;
+
+const REFUSE_NONE: usize = 1_000_033;
+
+/// How long a closed run is kept.
+const RETENTION: u64 = 5;
+
+/// A workflow with a timer, an activity that is tried twice, a child on the other shard and a signal to it, each
+/// of which goes through all of its steps, and at the end both runs are taken away.
+const WORKFLOWS: &str =
+    r##"1|4|dispatched|started,task,signaled,completed,accepted,activity task,heartbeat,activity failed,fired,another answer,activity completed,cancel requested,failed,history,terminated,described|{"op":"start","task_queue":"main","workflow_id":"a","workflow_type":"w","request_id":"r1","execution_timeout":100}&{"op":"dispatch_turn","shard":0}&{"op":"poll_workflow_task","task_queue":"main"}&{"op":"signal","workflow_id":"a","name":"s","request_id":"s1"}&{"op":"complete_workflow_task","token":"AQEAAAAAAAAAAAABAAAAAAAAAAIAAAAB","commands":[{"type":"StartTimer","timer_id":"t","duration":3},{"type":"RecordMarker","name":"m"},{"type":"ScheduleActivityTask","activity_id":"x","activity_type":"w","task_queue":"main","start_to_close":10,"retry":{"attempts":3,"coefficient":200,"initial":1,"maximum":0,"non_retryable":[]}},{"type":"StartChildWorkflowExecution","workflow_id":"b","task_queue":"main","workflow_type":"v"},{"type":"SignalExternalWorkflowExecution","workflow_id":"b","name":"s"}]}&{"op":"transfer_turn","from":0,"to":1}&{"op":"transfer_turn","from":0,"to":1}&{"op":"transfer_turn","from":1,"to":0}&{"op":"transfer_turn","from":1,"to":0}&{"op":"dispatch_turn","shard":0}&{"op":"dispatch_turn","shard":0}&{"op":"poll_activity_task","task_queue":"main"}&{"op":"heartbeat","token":"AQIAAAAAAAAAAAABAAAAAAAAAAcAAAAB","details":"d"}&{"op":"fail_activity","token":"AQIAAAAAAAAAAAABAAAAAAAAAAcAAAAB","message":"m"}&{"at":1,"op":"timer_turn","shard":0}&{"at":1,"op":"dispatch_turn","shard":0}&{"at":1,"op":"poll_activity_task","task_queue":"main"}&{"at":2,"op":"complete_activity","token":"AQIAAAAAAAAAAAABAAAAAAAAAAcAAAAC","result":"y"}&{"at":3,"op":"timer_turn","shard":0}&{"at":3,"op":"poll_workflow_task","task_queue":"main"}&{"at":3,"op":"request_cancel","workflow_id":"a"}&{"at":3,"op":"fail_workflow_task","token":"AQEAAAAAAAAAAAABAAAAAAAAAAsAAAAB","message":"no"}&{"at":3,"op":"history","workflow_id":"a"}&{"at":3,"op":"signal_with_start","task_queue":"main","workflow_id":"c","workflow_type":"w","name":"s"}&{"at":4,"op":"terminate","workflow_id":"a","reason":"r"}&{"at":4,"op":"transfer_turn","from":0,"to":1}&{"at":4,"op":"describe","workflow_id":"b"}&{"at":9,"op":"timer_turn","shard":0}&{"at":9,"op":"timer_turn","shard":1}
+= 4
+"##;
+
+/// Asks for so many bytes.
+fn ask_for<R: Abort + AllocGlobal>(rt: &R, bytes: usize) {
+    if Vec::<u8>::with_capacity(rt.alloc(), bytes).is_err() {
+        panic!(rt; "no memory")
+    }
+}
+
+/// Makes a request's step on a shard, its second half while memory is refused.
+fn step<S: KeepsShard, R: Abort + AllocGlobal>(rt: &R, shard: &mut S, request: &Request)
+    requires { (c : Content) × S.stands shard.old c }
+    ensures { (c : Content) → S.stands shard.old c → S.stands shard.new (S.after c request.now) }
+{
+    let Ok(plan) = Object::prepare(shard, request) else {
+        panic!(rt; "no memory")
+    };
+    ask_for(rt, REFUSE_ALL);
+    let reply = Object::commit(shard, plan);
+    ask_for(rt, REFUSE_NONE);
+    let _ = reply;
+}
+
+/// The setup of a shard.
+fn setup<R: Abort + AllocGlobal>(rt: &R, settings: &Settings, shard: u16) -> Setup
+    ensures service { result.service ≡ 1 }
+    ensures shard { result.shard ≡ shard }
+    ensures shards { result.shards ≡ 2 }
+{
+    let Ok(queues) = settings.copy_queues(rt.alloc()) else {
+        panic!(rt; "no memory")
+    };
+    let Ok(retention) = Span::new(Field::Retention, RETENTION) else {
+        panic!(rt; "no span")
+    };
+    Setup {
+        service: 1,
+        shard,
+        shards: 2,
+        queues,
+        retention,
+    }
+}
+
+/// Makes the steps of a record on a fresh shard.
+fn step_all<S: KeepsShard, R: Abort + AllocGlobal>(
+    rt: &R,
+    settings: &Settings,
+    number: u16,
+    record: &Record<Request>,
+)
+    requires { number < 64 }
+{
+    let Ok(mut shard) = S::open(rt.alloc(), setup(rt, settings, number)) else {
+        panic!(rt; "no memory")
+    };
+    for entry in record {
+        step(rt, &mut shard, &entry.request);
+    }
+}
+
+/// A pass starts a workflow and leaves its shard, and meets another one, each while memory is refused.
+fn leave_and_meet<S: KeepsShard, R: Abort + AllocGlobal>(
+    rt: &R,
+    service: &Service<S>,
+    first: Pass<S>,
+    mut second: Pass<S>,
+) -> (Pass<S>, Pass<S>)
+    requires { IsPassOf first service.now × IsPassOf second service.now }
+    ensures first { ComesBack service.now first result.0 }
+    ensures second { ComesBack service.now second result.1 }
+{
+    let asked = boxed(rt, start(rt, "d"));
+    let Ok(held) = service.try_enter_start(first, asked, Moment::zero()) else {
+        panic!(rt; "the shard was free")
+    };
+    ask_for(rt, REFUSE_ALL);
+    let (mut first, reply) = held.leave();
+    service.meet(&mut first, &mut second);
+    ask_for(rt, REFUSE_NONE);
+    assert!(rt; reply.is_ok());
+    (first, second)
+}
+
+/// Closes a service while memory is refused. Its records.
+fn close<S: KeepsShard, R: Abort + AllocGlobal>(
+    rt: &R,
+    service: Service<S>,
+    passes: Vec<Pass<S>>,
+) -> Vec<Record<Request>>
+    requires own { InOrder service passes.items }
+    requires count { length passes.items ≡ (settings_of service).passes }
+{
+    ask_for(rt, REFUSE_ALL);
+    let closed = service.close(passes);
+    ask_for(rt, REFUSE_NONE);
+    closed.records
+}
+
+pub(crate) fn what_takes_no_memory<
+    S: KeepsShard + Send + Sync,
+    R: Abort + AllocGlobal + Threads + Wait + Sync,
+>(rt: &R) {
+    let mut settings = settings(rt, 2, 2);
+    settings.retention = RETENTION;
+    let (service, mut passes) = open::<S, R>(rt, &settings);
+    go_through(rt, &service, &mut passes, WORKFLOWS);
+    let second = take_pass(&service, &mut passes);
+    let first = take_pass(&service, &mut passes);
+    let (first, second) = leave_and_meet(rt, &service, first, second);
+    give_back(rt, &service, &mut passes, first);
+    give_back(rt, &service, &mut passes, second);
+    let records = close(rt, service, passes);
+    let mut number = 0_u16;
+    for record in &records {
+        step_all::<S, R>(rt, &settings, number.min(1), record);
+        number = number.saturating_add(1);
+    }
+    assert!(rt; number == 2);
+}
