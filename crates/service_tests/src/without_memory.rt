@@ -95,7 +95,7 @@ fn step_all<S: KeepsShard, R: Abort + AllocGlobal>(
     let Ok(mut shard) = S::open(rt.alloc(), setup(rt, settings, number)) else {
         panic!(rt; "no memory")
     };
-    for entry in record {
+    for entry in record.as_slice() {
         step(rt, &mut shard, &entry.request);
     }
 }
