@@ -40,7 +40,7 @@ fn run(
         }
         Err((_fault, disk)) => (disk, 0),
     };
-    let (file, told) = disk.into_parts();
+    let (file, told, _) = disk.into_parts();
     Ok(Left {
         image: file.crash(seed)?,
         told,

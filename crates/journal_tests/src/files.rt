@@ -36,7 +36,7 @@ fn go_on<R: Files + AllocGlobal>(rt: &R, room: usize) -> Option<(usize, usize, V
     }
     let rest = BATCHES.get(bodies.len()..).unwrap_or_default();
     let done = commit_each(alloc, &mut journal, rest);
-    let (_, replies) = journal.into_disk().into_parts();
+    let (_, replies, _) = journal.into_disk().into_parts();
     Some((bodies.len(), done, replies.held))
 }
 

@@ -11,6 +11,8 @@ pub mod CallLemmas
 pub mod OpenLemmas
 mod CloseLemmas
 mod OpeningLaws
+mod JournaledLemmas
 mod KeptLemmas
 mod RecordLaws
 pub mod EndLemmas
+mod TakenLemmas

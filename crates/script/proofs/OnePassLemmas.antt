@@ -148,10 +148,10 @@ pub record-here : (K : Settings) (v : View Request Content) (s : ℕ) → s < K.
 record-here K v s below = get_or-map-range_with_len (gate.seen v) 0 K.shards s s [] below (omega arith)
 
 -- the contents and the records are as they were where nothing was seen
-contents-same : (K : Settings) (v w : View Request Content) → gate.SeenNothing v w → contents_seen K w ≡ contents_seen K v
+pub contents-same : (K : Settings) (v w : View Request Content) → gate.SeenNothing v w → contents_seen K w ≡ contents_seen K v
 contents-same K v w nothing = same-map (content_seen K v) (content_seen K w) 0 K.shards (λ k there. ap (replay after (opening (setup_of K k))) (nothing.sees k))
 
-records-same : (K : Settings) (v w : View Request Content) → gate.SeenNothing v w → records_seen K w ≡ records_seen K v
+pub records-same : (K : Settings) (v w : View Request Content) → gate.SeenNothing v w → records_seen K w ≡ records_seen K v
 records-same K v w nothing = same-map (gate.seen v) (gate.seen w) 0 K.shards (λ k there. nothing.sees k)
 
 -- the content of each shard after a step: that of the step is one request on

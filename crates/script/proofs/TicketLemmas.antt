@@ -1,5 +1,5 @@
 -- the steps of the only pass, in the order of their tickets
-use Rattle.std.proofs.Common.{◌≡◌, ◌≢◌, ℕ, ◌+◌, ◌<◌, List, [], ◌∷◌, ◌++◌, Some, refl, sym, ap, ◌∙◌, arith, length, length-append, append-nil, map}
+use Rattle.std.proofs.Common.{◌≡◌, ◌≢◌, ℕ, ◌<◌, List, [], ◌∷◌, ◌++◌, Some, refl, sym, ap, ◌∙◌, arith, length, length-append, append-nil, map}
 use Rattle.std.specs.Prelude.{slice_get}
 use Rattle.step_record.specs.declared.entry.Entry.{Entry}
 use Rattle.gate.specs.declared.view.View.{View}

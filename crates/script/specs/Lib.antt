@@ -14,3 +14,6 @@ pub mod Progress
 pub mod Endings
 pub mod ScriptCursor
 pub mod Status
+pub mod Taken
+pub mod Journaled
+pub mod Batched

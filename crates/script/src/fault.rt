@@ -1,6 +1,7 @@
 //! Why a script ends early.
 
 ghost use Rattle.std.specs.Prelude.{◌≡◌};
+ghost use Rattle.script.specs.declared.fault.JournaledFault.TheVariants.{Script};
 ghost use Rattle.script.specs.declared.fault.ScriptFault.TheVariants.{Memory};
 
 use std::alloc::{AllocError, AllocFailed};
@@ -40,5 +41,47 @@ impl<T: Drop> From<AllocFailed<T>> for ScriptFault {
 
     fn from(_error: AllocFailed<T>) -> ScriptFault {
         ScriptFault::Memory
+    }
+}
+
+/// Why a script with a journal ends early. Nothing more is answered then: of what a batch answered
+/// nothing is told before its steps are on the disk.
+#[derive(Debug, Drop, Error)]
+pub enum JournaledFault {
+    /// The opening, the reader, or memory.
+    #[error(transparent)]
+    Script(ScriptFault),
+    /// The journal's file, or the stream on which replies are told.
+    #[error("the journal or the replies could not be written")]
+    Device,
+    /// The journal's file would be longer than 2^64 bytes.
+    #[error("the journal is full")]
+    Full,
+    /// Steps of the shards' records were handed out to another caller.
+    #[error("steps were handed out elsewhere")]
+    HandedOut,
+}
+
+impl From<ScriptFault> for JournaledFault {
+    ghost from_gives = { λ e f. f ≡ Script e };
+
+    fn from(fault: ScriptFault) -> JournaledFault {
+        JournaledFault::Script(fault)
+    }
+}
+
+impl From<AllocError> for JournaledFault {
+    ghost from_gives = { λ _ f. f ≡ Script Memory };
+
+    fn from(_error: AllocError) -> JournaledFault {
+        JournaledFault::Script(ScriptFault::Memory)
+    }
+}
+
+impl<T: Drop> From<AllocFailed<T>> for JournaledFault {
+    ghost from_gives = { λ _ f. f ≡ Script Memory };
+
+    fn from(_error: AllocFailed<T>) -> JournaledFault {
+        JournaledFault::Script(ScriptFault::Memory)
     }
 }

@@ -8,6 +8,7 @@
 #![tactic(auto)]
 
 mod fault;
+mod journaled;
 pub mod laws;
 mod line;
 mod reading;
@@ -16,7 +17,8 @@ mod script;
 mod serving;
 mod trace;
 
-pub use fault::ScriptFault;
+pub use fault::{JournaledFault, ScriptFault};
+pub use journaled::{BATCH, Journaled, run_journaled};
 pub use line::{LINE_LIMIT, Line};
 pub use reading::asked;
 pub use run::{CHUNK, Outcome, run_from, run_one};

@@ -15,7 +15,7 @@ unfoldable pub flag_rule : Text → Rule
 flag_rule name = record (option_rule name) { action = Some SetTrue }
 
 -- wfserve [--shards N] [--passes P] [--service K] [--queues NAMES] [--capacity C] [--retention MS] [--load DIR]
--- [--save DIR] [--trace] [FILE]
+-- [--save DIR] [--journal DIR] [--trace] [FILE]
 unfoldable pub wfserve : App
 wfserve =
     let command = new_app (codes "wfserve") in
@@ -27,6 +27,7 @@ wfserve =
     let command = with_rule command (option_rule (codes "retention")) in
     let command = with_rule command (option_rule (codes "load")) in
     let command = with_rule command (option_rule (codes "save")) in
+    let command = with_rule command (option_rule (codes "journal")) in
     let command = with_rule command (flag_rule (codes "trace")) in
     with_rule command (new_rule (codes "FILE"))
 

@@ -1,16 +1,21 @@
 -- MEANING: What the words of a command line set.
-use Rattle.std.specs.Prelude.{◌≡◌, ◌≢◌, List, [], true, codes, Option, None, option_map}
+use Rattle.std.specs.Prelude.{◌≡◌, ◌≢◌, ◌⊎◌, List, [], Bool, true, false, codes, Option, None, Some, option_map}
 use Rattle.std.specs.Borrow.{Bor}
 use Rattle.clap.specs.Words.{HasKind, Row, Text, first_of}
 use Rattle.script_settings.specs.CommandLine.{HasNoNumber, IsSetTo, faults_in, is_set, matches_in}
 use Rattle.script_settings.specs.Queues.{AreSetTo, HasNoNames}
 use Rattle.script_settings.specs.declared.command_line.CommandLine.{CommandLine}
 use Rattle.script_settings.specs.declared.fault.Fault.{Fault}
-use Rattle.script_settings.specs.declared.fault.Fault.TheVariants.{Words, Number, Queues, Trace}
+use Rattle.script_settings.specs.declared.fault.Fault.TheVariants.{Words, Number, Queues, Trace, Journal}
 
 -- the text that was borrowed, if one was
 abbrev pub text_of : Option (Bor Text) → Option Text
 text_of o = option_map (λ text. text.now) o
+
+-- where a journal was given, no folder to load from or to save in was, and no history is asked for
+abbrev pub IsAlone : Option (Bor Text) → Option (Bor Text) → Option (Bor Text) → Bool → Type 0
+IsAlone None load save trace = Unit {0}
+IsAlone (Some journal) load save trace = (load ≡ None) × (save ≡ None) × (trace ≡ false)
 
 -- clap takes the words; each setting is the value of its option among the matches, or its default; the file and the
 -- folders are the texts that were given
@@ -25,7 +30,9 @@ pub record Sets (words : List Text) (c : CommandLine) : Type 0 where
   pub file : text_of c.file ≡ first_of (codes "FILE") (matches_in words)
   pub load : text_of c.load ≡ first_of (codes "load") (matches_in words)
   pub save : text_of c.save ≡ first_of (codes "save") (matches_in words)
+  pub journal : text_of c.journal ≡ first_of (codes "journal") (matches_in words)
   pub trace : c.trace ≡ is_set (codes "trace") (matches_in words)
+  pub alone : IsAlone c.journal c.load c.save c.trace
 
 -- the option's text writes no number
 abbrev pub IsFaultOf : Text → List Row → Fault → Type 0
@@ -33,6 +40,7 @@ IsFaultOf name rows (Words e) = ⊥
 IsFaultOf name rows (Number option) = (option.now ≡ name) × HasNoNumber name rows
 IsFaultOf name rows Queues = ⊥
 IsFaultOf name rows Trace = ⊥
+IsFaultOf name rows (Journal option) = ⊥
 
 -- the text of the queues has a part that is no name, or memory ran out
 abbrev pub IsQueuesFault : List Row → Fault → Type 0
@@ -40,10 +48,24 @@ IsQueuesFault rows (Words e) = HasKind [] e
 IsQueuesFault rows (Number option) = ⊥
 IsQueuesFault rows Queues = HasNoNames rows
 IsQueuesFault rows Trace = ⊥
+IsQueuesFault rows (Journal option) = ⊥
 
 -- the history was asked for, and a folder to open the service from was named
 abbrev pub HasTraceBesideLoad : List Row → Type 0
 HasTraceBesideLoad rows = (is_set (codes "trace") rows ≡ true) × (first_of (codes "load") rows ≢ None)
+
+-- a journal was given, and this option beside it
+abbrev pub HasBesideJournal : Text → List Row → Type 0
+HasBesideJournal option rows = (first_of (codes "journal") rows ≢ None) × (first_of option rows ≢ None)
+
+-- as what was given: a journal, and beside it the folder to load from, the one to save in, or the wish for the history
+abbrev pub IsBeside : Option (Bor Text) → Option (Bor Text) → Option (Bor Text) → Bool → Fault → Type 0
+IsBeside journal load save trace (Journal option) =
+    (journal ≢ None) × (((option.now ≡ codes "load") × (load ≢ None)) ⊎ ((option.now ≡ codes "save") × (save ≢ None)) ⊎ ((option.now ≡ codes "trace") × (trace ≡ true)))
+IsBeside journal load save trace (Words e) = ⊥
+IsBeside journal load save trace (Number option) = ⊥
+IsBeside journal load save trace Queues = ⊥
+IsBeside journal load save trace Trace = ⊥
 
 -- clap finds this fault in the words, memory aside, or it takes them and an option's text writes no number, or has a
 -- part that is no name, or two options don't go together
@@ -52,3 +74,4 @@ IsFaultIn words (Words e) = HasKind (faults_in words) e
 IsFaultIn words (Number option) = (faults_in words ≡ []) × HasNoNumber option.now (matches_in words)
 IsFaultIn words Queues = (faults_in words ≡ []) × HasNoNames (matches_in words)
 IsFaultIn words Trace = (faults_in words ≡ []) × HasTraceBesideLoad (matches_in words)
+IsFaultIn words (Journal option) = (faults_in words ≡ []) × HasBesideJournal option.now (matches_in words)

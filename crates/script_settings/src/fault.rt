@@ -18,4 +18,7 @@ pub enum Fault {
     /// Both `--trace` and `--load` were given.
     #[error("--trace prints a history from its first step on, so it takes no --load")]
     Trace,
+    /// `--journal` was given, and this option beside it.
+    #[error("--journal keeps all records in its folder, so it takes no --{0}")]
+    Journal(&'static str),
 }

@@ -1,9 +1,9 @@
 //! The command line, by clap.
 
-ghost use Rattle.std.specs.Prelude.{◌≡◌, IfOk, IfErr, map};
+ghost use Rattle.std.specs.Prelude.{◌≡◌, IfOk, IfErr, OnOk, map};
 ghost use Rattle.clap.specs.Words.{found_of, rows_of, app_of, with_rule, FailsBy};
 ghost use Rattle.script_settings.specs.CommandLine.{flag_rule, option_rule, matches_in, faults_in, is_set, IsSetTo};
-ghost use Rattle.script_settings.specs.Settings.{Sets, IsFaultIn, IsFaultOf};
+ghost use Rattle.script_settings.specs.Settings.{Sets, IsAlone, IsBeside, IsFaultIn, IsFaultOf};
 
 use crate::command_line::CommandLine;
 use crate::fault::Fault;
@@ -32,6 +32,9 @@ const RETENTION: &str =
 const LOAD: &str = "The folder whose records are opened from: shard-00.rec, shard-01.rec and so on";
 
 const SAVE: &str = "The folder that the records are saved in at the end; it may be the one loaded";
+
+const JOURNAL: &str =
+    "The folder of the journal: opened from, and synced before each batch of replies";
 
 const TRACE: &str =
     "Prints all steps of all shards in one order behind the last reply; without --load";
@@ -82,6 +85,7 @@ fn matched<'a>(alloc: Global, words: &'a [&'a str]) -> Result<ArgMatches<'a>, Er
     let command = with_option(alloc, command, "retention", RETENTION)?;
     let command = with_option(alloc, command, "load", LOAD)?;
     let command = with_option(alloc, command, "save", SAVE)?;
+    let command = with_option(alloc, command, "journal", JOURNAL)?;
     let command = with_flag(alloc, command, "trace", TRACE)?;
     let command = command.arg(Arg::new(alloc, "FILE").help(FILE))?;
     command.try_get_matches_from(words)
@@ -109,6 +113,31 @@ fn flag(matches: &ArgMatches<'_>, name: &'static str) -> bool
         Some(text) => text == "true",
         None => false,
     }
+}
+
+/// Beside a journal no records are loaded or saved, and no history is printed.
+fn check_beside(
+    journal: Option<&str>,
+    load: Option<&str>,
+    save: Option<&str>,
+    trace: bool,
+) -> Result<(), Fault>
+    ensures alone { OnOk result (IsAlone journal.entry load.entry save.entry trace) }
+    ensures fault { IfErr result (IsBeside journal.entry load.entry save.entry trace) }
+{
+    if journal.is_none() {
+        return Ok(());
+    }
+    if load.is_some() {
+        return Err(Fault::Journal("load"));
+    }
+    if save.is_some() {
+        return Err(Fault::Journal("save"));
+    }
+    if trace {
+        return Err(Fault::Journal("trace"));
+    }
+    Ok(())
 }
 
 /// What the words give; the first of them is the program's name.
@@ -141,11 +170,15 @@ pub fn settings_of<'a>(alloc: Global, words: &'a [&'a str]) -> Result<CommandLin
     if trace && load.is_some() {
         return Err(Fault::Trace);
     }
+    let save = matches.get_str("save");
+    let journal = matches.get_str("journal");
+    check_beside(journal, load, save, trace)?;
     Ok(CommandLine {
         settings,
         file: matches.get_str("FILE"),
         load,
-        save: matches.get_str("save"),
+        save,
+        journal,
         trace,
     })
 }

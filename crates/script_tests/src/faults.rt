@@ -1,11 +1,11 @@
 //! The texts of the faults that no case shows, and their exit status.
 
-use script::{Outcome, ScriptFault};
+use script::ScriptFault;
 use service::KeepsShard;
 use std::alloc::AllocError;
 use std::io::{Error, ErrorKind};
 use std::process::Abort;
-use wfserve_run::{Fault, status};
+use wfserve_run::{Fault, Served, status};
 
 /// Whether a fault has this text, and the program ends by it with status 2.
 fn ends_with<S: KeepsShard, R: AllocGlobal>(rt: &R, fault: Fault, expected: &str) -> bool {
@@ -13,8 +13,8 @@ fn ends_with<S: KeepsShard, R: AllocGlobal>(rt: &R, fault: Fault, expected: &str
         Ok(text) => text.as_str() == expected,
         Err(_) => false,
     };
-    let outcome: Result<Outcome<S>, Fault> = Err(fault);
-    is_said && status(&outcome) == 2
+    let served: Result<Served<S>, Fault> = Err(fault);
+    is_said && status(&served) == 2
 }
 
 pub(crate) fn each_fault<S: KeepsShard, R: Abort + AllocGlobal>(rt: &R) {

@@ -1,10 +1,16 @@
 -- MEANING: The exit status of the program.
-use Rattle.std.specs.Prelude.{ℕ, Result, Ok, Err}
-use Rattle.script.specs.declared.run.Outcome.{Outcome}
+use Rattle.std.specs.Prelude.{ℕ, Result, Ok, Err, if◌then◌else◌}
 use Rattle.script.specs.Status as script
 use Rattle.wfserve_run.specs.declared.fault.Fault.{Fault}
+use Rattle.wfserve_run.specs.declared.served.Served.{Served}
+use Rattle.wfserve_run.specs.declared.served.Served.TheVariants.{Script, Journaled}
 
--- that of the script, 0 or 1, or 2 for a fault
-abbrev pub status_of : {Keeper Plan : Type 0} → Result (Outcome Keeper Plan) Fault → ℕ
-status_of (Ok o) = script.status_of o
+-- 0, or 1 where a reply was a refusal
+abbrev pub served_status : {Keeper Plan : Type 0} → Served Keeper Plan → ℕ
+served_status (Script o) = script.status_of o
+served_status (Journaled j) = if j.refused then 1 else 0
+
+-- that of what was served, or 2 for a fault
+abbrev pub status_of : {Keeper Plan : Type 0} → Result (Served Keeper Plan) Fault → ℕ
+status_of (Ok s) = served_status s
 status_of (Err _) = 2

@@ -26,4 +26,28 @@ pub enum Fault {
     Output(io::Error),
     #[error(transparent)]
     Script(ScriptFault),
+    /// A journal serves the lines of one pass.
+    #[error("--journal serves one lane, so it takes no --passes above 1")]
+    JournalPasses,
+    /// Another process has this journal open.
+    #[error("{path}: another process has this journal open")]
+    InUse { path: String },
+    /// No crash leaves such a journal: what stands at this byte is nothing that was written.
+    #[error("{path}: damaged at byte {at}")]
+    Damaged { path: String, at: usize },
+    /// The journal was begun with another value of this setting.
+    #[error("{path}: the journal is of another --{setting}")]
+    OtherSettings { path: String, setting: &'static str },
+    /// The journal begins with no settings, or in a form of another version.
+    #[error("{path}: no journal of this version")]
+    OtherForm { path: String },
+    /// This batch of the journal's steps has a line that is no step.
+    #[error("{path}: batch {batch} has a line that is no step")]
+    BadBatch { path: String, batch: usize },
+    /// The journal's file is as long as a file can be.
+    #[error("{path}: the journal is full")]
+    Full { path: String },
+    /// Steps of the records were handed out to another caller than the journal.
+    #[error("steps were handed out elsewhere")]
+    HandedOut,
 }

@@ -1,21 +1,28 @@
 //! The program `wfserve [--shards N] [--passes P] [--service K] [--queues NAMES] [--capacity C]
-//! [--retention MS] [--load DIR] [--save DIR] [--trace] [FILE]`, over whatever gives it its
+//! [--retention MS] [--load DIR] [--save DIR] [--journal DIR] [--trace] [FILE]`, over whatever gives it its
 //! arguments and takes what it writes.
 //!
 //! It serves each line of FILE, or of standard input, and prints one reply line for each but the
 //! barriers: one after another with one pass, in a lane for each pass where there are more. With
 //! `--load` it goes on from the records in that folder, one file of each shard, and with `--save` it
-//! writes them there at the end. With `--trace` it prints, behind the last reply, a line for each step
-//! of any shard, in the order of their tickets. Its exit status is 0, or 1 where a reply was a
-//! refusal, or 2 for a fault, whose text goes to standard error. Faults are looked for in this
-//! order: the command line, the file, the folder to save in, the records, the settings' ranges, the
-//! opening, and then reading, writing and memory, and last what is saved.
+//! writes them there at the end. With `--journal` it goes on from the journal in that folder, and
+//! prints the replies to what one read gave once their steps are on the disk. With `--trace` it
+//! prints, behind the last reply, a line for each step of any shard, in the order of their tickets.
+//! Its exit status is 0, or 1 where a reply was a refusal, or 2 for a fault, whose text goes to
+//! standard error. Faults are looked for in this order: the command line, the file, the folder to
+//! save in or the journal, the records, the settings' ranges, the opening, and then reading, writing
+//! and memory, and last what is saved.
 #![tactic(auto)]
 
 mod fault;
+mod journal;
 mod paths;
 mod program;
 mod records;
+mod restored;
+mod served;
 
 pub use fault::Fault;
+pub use journal::Locks;
 pub use program::{run, status};
+pub use served::Served;

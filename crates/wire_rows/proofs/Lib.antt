@@ -1,5 +1,5 @@
 pub mod Again
 pub mod RowLemmas
 pub mod RowTexts
-pub mod NoFeed
+pub mod NoControl
 pub mod Utf8Texts

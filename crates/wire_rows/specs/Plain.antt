@@ -1,7 +1,7 @@
 -- PROOF: a JSON value whose compact text reads as the value: it nests at most so deep, its numbers are whole and
 -- below 2^64, and its keys rise
 use Rattle.std.specs.List.{list_any}
-use Rattle.std.specs.Prelude.{Bool, IsUtf8, ◌==◌, ◌≡◌, ℕ, zero, suc, ◌<◌, ◌^◌, List, [], ◌∷◌, Option, Some, None, ⊤}
+use Rattle.std.specs.Prelude.{Bool, IsUtf8, nat_lt, ◌==◌, ◌≡◌, ℕ, zero, suc, ◌<◌, ◌^◌, List, [], ◌∷◌, Option, Some, None, ⊤}
 use Rattle.std.specs.Cmp.Lexicographic.{slice_cmp}
 use Rattle.std.specs.Ordering.{nat_cmp}
 use Rattle.std.specs.declared.cmp.Ordering.TheVariants.{Less}
@@ -46,6 +46,10 @@ IfPlain n (Some d) = IsPlain n d
 abbrev pub RowsPlain : ℕ → List Row → Type 0
 RowsPlain n [] = ⊤
 RowsPlain n (row ∷ rows) = IfPlain n row.1 × RowsPlain n rows
+
+-- whether a control character stands in a text
+abbrev pub has_control : List ℕ → Bool
+has_control text = list_any (λ b. nat_lt b 32) text
 
 -- whether a line feed stands in a text
 abbrev pub has_feed : List ℕ → Bool
