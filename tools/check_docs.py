@@ -41,7 +41,8 @@ BRACED = re.compile(r"[A-Za-z_][\w.:/-]*\{[\w, .-]*\}[\w.-]*")
 IN_CRATE = re.compile(r"(\w+)/((?:src|data|must-fail)/[\w./-]+)")
 WORD = re.compile(r"[A-Za-z_][\w-]*")
 LINK = re.compile(r"\]\(([^)#\s]+)[^)]*\)")
-READABLE = ("CHANGELOG.md", "CONTRIBUTING.md", "OPERATING.md", "PROFILE.md", "README.md", "TRACE.md")
+READABLE = ("CHANGELOG.md", "COMPATIBILITY.md", "CONTRIBUTING.md", "OPERATING.md", "PROFILE.md", "README.md",
+            "TOUR.md", "TRACE.md")
 MERGE = re.compile(r"^(?:<{7} .*|\|{7} .*|={7}|>{7} .*)$")
 
 

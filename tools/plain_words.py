@@ -43,14 +43,14 @@ PLACE = (r"behind(?! (?:(?:a|an|the|one|its|their|each|that) )?"
          r"(?:gates?\b|box(?:es)?\b|`Mutex`|mutex\b|locks?\b|proxy\b|flag\b))")
 WORDS = (
     word(PLACE, "after"),
-    word(r"(?:tak(?:e|es|ing|en)|took) (?:it |them |him )?away", "delete (a run), remove (anything else)"),
+    word(r"(?:tak(?:e|es|ing|en)|took) (?:\w+ ){0,4}away", "delete (a run), remove (anything else)"),
     word(r"(?:for|in) want of memory", "out of memory", "out of memory"),
     word(r"want of memory", "out of memory"),
-    word(r"h(?:old|olds|olding|eld) back", "buffer, buffered"),
+    word(r"h(?:old|olds|olding|eld) (?:\w+ ){0,2}back", "buffer, buffered"),
     word(r"(?:say|says|said|saying) of", "report on, say about"),
     word(r"by the machine", "depending on the machine"),
-    word(r"(?:left|leave|leaves|leaving) away", "drop, leave out"),
-    word(r"call(?:s|ed|ing)? (?:it |them )?off", "cancel"),
+    word(r"(?:left|leave|leaves|leaving) (?:\w+ ){0,2}away", "drop, leave out"),
+    word(r"call(?:s|ed|ing)? (?:\w+ ){0,2}off", "cancel"),
 )
 
 

@@ -9,7 +9,7 @@ sys.path.insert(0, str(Path(__file__).resolve().parent))
 import plain_words
 
 LEFT_ALONE = (
-    "many shards behind one gate", "behind a `Mutex` that nobody takes", "it lies behind boxes", "left and away",
+    "many shards behind one gate", "behind a `Mutex` that nobody takes", "it lies behind boxes", "left, and gone away",
     "`signals: a signal that is held back`", "[here](#what-is-held-back)", "    what is held back\n", "hold it, back off",
     "```\nbehind it\n```\n", "what a machine says. Of these two are left",
 )
