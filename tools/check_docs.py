@@ -41,8 +41,6 @@ BRACED = re.compile(r"[A-Za-z_][\w.:/-]*\{[\w, .-]*\}[\w.-]*")
 IN_CRATE = re.compile(r"(\w+)/((?:src|data|must-fail)/[\w./-]+)")
 WORD = re.compile(r"[A-Za-z_][\w-]*")
 LINK = re.compile(r"\]\(([^)#\s]+)[^)]*\)")
-READABLE = ("CHANGELOG.md", "COMPATIBILITY.md", "CONTRIBUTING.md", "OPERATING.md", "PROFILE.md", "README.md",
-            "TOUR.md", "TRACE.md")
 MERGE = re.compile(r"^(?:<{7} .*|\|{7} .*|={7}|>{7} .*)$")
 
 
@@ -182,7 +180,7 @@ def main() -> int:
     words = words_of([file for file in files if file.suffix != ".md" and file.name != "rules.ini"]).union(known)
     faults = [f"{file.relative_to(TOP)}: {fault}" for file in files for fault in left_of_merges(file)]
     faults += wrong_markers(files) + docs_rules.faults() + faults_of_claims()
-    faults += [f"{document.relative_to(TOP)}: {fault}" for document in plain_words.documents() if document.name in READABLE
+    faults += [f"{document.relative_to(TOP)}: {fault}" for document in readability.documents()
                for fault in hard_to_read(document)]
     faults += [f"{file.relative_to(TOP)}: {fault}" for file in files if file.suffix == ".rt"
                for fault in docs_claims.wrong_heads(file.read_text(), TOP)]

@@ -21,7 +21,6 @@ from typing import Callable, Iterator, NamedTuple
 import docs_paths
 import readability
 
-TOP = Path(__file__).resolve().parent.parent
 
 
 class Word(NamedTuple):
@@ -112,11 +111,6 @@ def comments_by_line(text: str, suffix: str) -> str:
     return "\n".join(found[1].strip() if found else "" for found in matches)
 
 
-def documents() -> list[Path]:
-    """The documents that are held to the list: all Markdown files but those below crates/."""
-    return [file for file in readability.documents() if TOP / "crates" not in file.parents]
-
-
 def sources(paths: list[Path]) -> list[Path]:
     """The sources of crates at or below these paths, and the documents beside them, without what builds left there."""
     found = [path for given in paths for path in ([given] if given.is_file() else sorted(given.rglob("*")))]
@@ -131,7 +125,7 @@ def main(words: list[str]) -> int:
     options.add_argument("--write", action="store_true")
     asked = options.parse_args(words)
     counts: collections.Counter[str] = collections.Counter()
-    for file in sources(asked.comments) if asked.comments else documents():
+    for file in sources(asked.comments) if asked.comments else readability.documents():
         text, is_source = file.read_text(encoding="utf-8"), file.suffix in docs_paths.COMMENT
         change: Callable[[str], str] = (
             (lambda old, end=file.suffix: replaced_in_comments(old, end)) if is_source else replaced)

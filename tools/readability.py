@@ -3,7 +3,7 @@
 
     tools/readability.py [FILE..] [--over WORDS]    a line for each document, and each sentence of more words (40)
 
-Without a file it looks at all Markdown files of the repository. A sentence ends at a full stop, a question mark or an
+Without a file it looks at all Markdown files of the repository but those below crates/. A sentence ends at a full stop, a question mark or an
 exclamation mark, and with its paragraph, its item of a list or its cell of a table. A text in back quotes counts as
 one word, and so does a link's text as its words, without its address. Headings, pictures and code are no sentences.
 The status is 1 where a sentence is longer than the limit.
@@ -80,10 +80,12 @@ def too_long(text: str, most: int = MOST_WORDS) -> list[Sentence]:
 
 
 def documents() -> list[Path]:
-    """All Markdown files that git knows or would add."""
+    """The documents that are held to the limit: all Markdown files that git knows or would add, but those below
+    crates/, which are sources' own."""
     listed = subprocess.run(["git", "ls-files", "--cached", "--others", "--exclude-standard", "*.md"],
                             cwd=TOP, capture_output=True, text=True, check=True)
-    return [TOP / name for name in listed.stdout.splitlines() if (TOP / name).is_file()]
+    return [TOP / name for name in listed.stdout.splitlines()
+            if (TOP / name).is_file() and not name.startswith("crates/")]
 
 
 def main(words: list[str]) -> int:
