@@ -52,7 +52,7 @@ def steps_of(name: str) -> list[tuple[str, list[str], Path]]:
 
 def verdicts(names: list[str]) -> int:
     """Runs all of it for each crate, also after one that failed. 0 where all passed, and else 1."""
-    print("gate: this toolchain's rt ci takes no names: verdict, tests and wrong bodies are made of a copy in out/crates")
+    print("gate: rt ci of this toolchain takes no names: verdict, tests and wrong bodies are those of a copy in out/crates")
     copy(names)
     failed = []
     for name in names:

@@ -24,7 +24,7 @@ import readability
 
 
 class Word(NamedTuple):
-    """A word to avoid: what finds it, what to write, and the one text that always fits in its place, if there is one."""
+    """A word to avoid: what finds it, what to write, and the one text that always fits, if there is one."""
 
     pattern: re.Pattern[str]
     better: str

@@ -3,9 +3,9 @@
 
     tools/readability.py [FILE..] [--over WORDS]    a line for each document, and each sentence of more words (40)
 
-Without a file it looks at all Markdown files of the repository but those below crates/. A sentence ends at a full stop, a question mark or an
-exclamation mark, and with its paragraph, its item of a list or its cell of a table. A text in back quotes counts as
-one word, and so does a link's text as its words, without its address. Headings, pictures and code are no sentences.
+Without a file it looks at all Markdown files of the repository but those below crates/. A sentence ends at a full
+stop, a question mark or an exclamation mark, and with its paragraph, its item of a list or its cell of a table. A text
+in back quotes counts as one word, and a link as the words of its text. Headings, pictures and code are no sentences.
 The status is 1 where a sentence is longer than the limit.
 """
 from __future__ import annotations

@@ -43,7 +43,8 @@ class Left(unittest.TestCase):
         self.assertEqual(Expected({}).left(["a"], 5.0), 0.0)
 
     def test_parts_that_ended_at_one_moment(self):
-        self.assertEqual(expected_of([("a", 5.0), ("b", 5.0), ("c", 4.0)], 5.0), Expected({"a": 5.0, "b": 0.0, "c": 0.0}))
+        at_once = expected_of([("a", 5.0), ("b", 5.0), ("c", 4.0)], 5.0)
+        self.assertEqual(at_once, Expected({"a": 5.0, "b": 0.0, "c": 0.0}))
 
 
 class Kept(unittest.TestCase):
