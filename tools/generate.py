@@ -7,8 +7,9 @@
 
 A part is a run of lines without an empty line between: a struct, its destructor, a record of limits, the rows of a
 record's line, the function that writes them, the one that shows that they are within their limits. It is found in its
-file by its first line, and stands there as a programmer would write it: nothing marks it. tools/fields.toml has a row
-for each field, and says how each kind of field is written in each kind of part. `tools/gate quick` compares.
+file by its first line, and stands there as a programmer would write it: nothing marks it. The files of tools/fields
+have a row for each field, and tools/fields.toml says how each kind of field is written in each kind of part.
+`tools/gate quick` compares.
 
 It needs Python 3.11, which reads TOML.
 """
@@ -26,6 +27,7 @@ except ModuleNotFoundError:
 
 TOP = Path(__file__).resolve().parent.parent
 TABLE = "tools/fields.toml"
+TYPES = "tools/fields"
 # Rust's formatter breaks a line that is longer, and a pattern's fields that are.
 WIDTH = 100
 PATTERN_WIDTH = 18
@@ -34,7 +36,7 @@ ROW_WIDTH = 120
 # What a part of a type is called where the table says nothing else: by its stem, in words or in one capitalized word.
 NAMES = {
     "limits": "Is{camel}", "rows": "{stem}_rows", "put": "put_{stem}", "known": "known_{stem}",
-    "members": "{stem}_members", "event": "put_{stem}",
+    "members": "{stem}_members", "event": "put_{stem}", "fields_of": "{stem}_of", "reader": "{stem}",
 }
 
 
@@ -47,32 +49,34 @@ class Part(NamedTuple):
 
 
 class Field(NamedTuple):
-    """A field of a type: its name, its kind, its key in a line, and the name of the local that reads it."""
+    """A field of a type: its name, its kind, its key in a line, the name of the local that reads it, and whether it may
+    be missing in a line and then has its kind's default."""
 
     name: str
     kind: str
     key: str
     local: str
+    has_default: bool
 
 
 Table = dict[str, Any]
 
 
 def fields_of(kind: Table) -> list[Field]:
-    """The fields of a type, in their order in the struct: `name kind`, with `key=` and `local=` where these differ."""
+    """The fields of a type, in their order in the struct: `name kind`, `default` where the field may be missing in a
+    line, and `key=` and `local=` where these differ from the name."""
     fields = []
     for row in kind["fields"]:
         name, which, *others = row.split()
-        other = dict(one.split("=") for one in others)
-        fields.append(Field(name, which, other.get("key", name), other.get("local", name)))
+        other = dict(one.split("=") for one in others if "=" in one)
+        fields.append(Field(name, which, other.get("key", name), other.get("local", name), "default" in others))
     return fields
 
 
 def said_of(kind: Table, part: str, table: Table) -> Table:
     """What the table says about a part of a type: what holds in its group, but for what the type says itself."""
     stem = kind.get("stem", "")
-    camel = "".join(word.capitalize() for word in stem.split("_"))
-    said = {"name": NAMES[part].format(stem=stem, camel=camel), **table["group"][kind["group"]][part]}
+    said = {"name": NAMES[part].format(stem=stem, camel=camel(stem)), **table["group"][kind["group"]][part]}
     said |= kind.get(part, {})
     return {key: said_word(value, kind, said) for key, value in said.items()}
 
@@ -167,9 +171,51 @@ def event_writer(kind: Table, table: Table) -> Part:
     return Part(said["file"], call[0], "\n".join([*call, *ensures, "{", *body, "}"]))
 
 
-def signature(name: str, takes: list[str]) -> list[str]:
-    """The head of a function that may run out of memory, broken as Rust's formatter does."""
-    end = ") -> Result<(), AllocError>"
+def line_fields(kind: Table, table: Table) -> Part:
+    """What a line's fields are read as, as a definition: their faults are looked for in the order of the struct."""
+    said, fields = said_of(kind, "fields_of", table), fields_of(kind)
+    head = f"unfoldable pub {said['name']} : Data → Result {said['as']} Refusal"
+    body = [f"  {field.name} ← {taken(field, table['kind'][field.kind])} field.{camel(field.key)} {said['of']}"
+            for field in fields]
+    whole = f"  Ok (record {{ {'; '.join(f'{field.name} = {field.name}' for field in fields)} }})"
+    ends = ["  Ok (record {", *(f"    {field.name} = {field.name};" for field in fields), "  })"]
+    end = [whole] if len(whole) <= ROW_WIDTH else ends
+    return Part(said["file"], head, "\n".join([head, f"{said['name']} {said['of']} = do", *body, *end]))
+
+
+def taken(field: Field, kind: Table) -> str:
+    """How the definitions take a field from a line."""
+    if field.has_default:
+        return f"or_default {kind['of']} {kind['empty']}"
+    return f"{'optional' if field.kind.startswith('if_') else 'required'} {kind['of']}"
+
+
+def camel(words: str) -> str:
+    return "".join(word.capitalize() for word in words.split("_"))
+
+
+def line_reader(kind: Table, table: Table) -> Part:
+    """The function that reads a line's fields."""
+    said, defined, fields = said_of(kind, "reader", table), said_of(kind, "fields_of", table), fields_of(kind)
+    module, value = Path(defined["file"]).stem, defined["of"]
+    head = f"#[tactic(auto, unfolding(crate::specs::{module}::{defined['name']}))]"
+    call = signature(f"pub fn {said['name']}<V: Tree>", ["alloc: Global", f"{value}: &V"],
+                     f"Result<{kind['name']}, Refusal>")
+    body = []
+    for field in fields:
+        empty = f", {table['kind'][field.kind]['empty_value']}" if field.has_default else ""
+        how = taken(field, table["kind"][field.kind]).split()[0]
+        body.append(f"    let {field.name} = {how}(alloc, {value}, Field::{camel(field.key)}{empty})?;")
+    names = [field.name for field in fields]
+    made = [f"    Ok({kind['name']} {{ {', '.join(names)} }})"] if len(", ".join(names)) <= PATTERN_WIDTH else [
+        f"    Ok({kind['name']} {{", *(f"        {name}," for name in names), "    })"]
+    ensures = f"    ensures {{ Gives result ({defined['name']} (V.stands_for {value}.now)) }}"
+    return Part(said["file"], head, "\n".join([head, *call, ensures, "{", *body, *made, "}"]))
+
+
+def signature(name: str, takes: list[str], gives: str = "Result<(), AllocError>") -> list[str]:
+    """The head of a function that may refuse or run out of memory, broken as Rust's formatter does."""
+    end = f") -> {gives}"
     whole = f"{name}({', '.join(takes)}{end}"
     return [whole] if len(whole) <= WIDTH else [f"{name}(", *(f"    {one}," for one in takes), end]
 
@@ -275,6 +321,22 @@ def kind_names(listed: Table) -> Part:
         "        }", "    }", "}"]))
 
 
+def names(listed: Table) -> Iterator[Part]:
+    """A list of names: the enum, its names on the wire, and what the definitions say these are."""
+    every, name = [row.split() for row in listed["variants"]], listed["name"]
+    head = f"pub enum {name} {{"
+    yield Part(listed["file"], head, "\n".join([head, *(f"    {variant}," for variant, _ in every), "}"]))
+    head = f"impl {name} {{"
+    arms = [line for variant, word in every for line in arm(f"{name}::{variant}", f'"{word}"')]
+    yield Part(listed["file"], head, "\n".join([
+        head, f"    /// {listed['said']}", "    pub fn name(self) -> &'static str",
+        f"        ensures {{ result.now ≡ {listed['function']} self }}", "    {", "        match self {", *arms,
+        "        }", "    }", "}"]))
+    head = f"abbrev pub {listed['function']} : {name} → List ℕ"
+    yield Part(listed["definition"], head, "\n".join([head, *(
+        f'{listed["function"]} {listed["prefix"]}.{variant} = codes "{word}"' for variant, word in every)]))
+
+
 def kind_calls(listed: Table) -> Part:
     head = f"impl {listed['name']} {{"
     arms = [line for name, carried in variants_of(listed)
@@ -297,6 +359,7 @@ def kind_definitions(listed: Table) -> Iterator[Part]:
 
 MAKERS: dict[str, Callable[[Table, Table], Part]] = {
     "limits": limits, "rows": rows, "put": writer, "known": known, "members": event_members, "event": event_writer,
+    "fields_of": line_fields, "reader": line_reader,
 }
 
 
@@ -315,6 +378,8 @@ def parts_of(table: Table) -> Iterator[Part]:
         if "kinds" in listed:
             yield from (kinds_enum(listed), kind_names(listed), kind_calls(listed))
             yield from kind_definitions(listed)
+    for listed in table["names"]:
+        yield from names(listed)
 
 
 def place_of(text: str, head: str) -> tuple[int, int] | None:
@@ -343,7 +408,12 @@ def look(table: Table, top: Path, writes: bool) -> list[str]:
 
 
 def read_table(top: Path = TOP) -> Table:
-    return tomllib.loads((top / TABLE).read_text(encoding="utf-8"))
+    """The whole table: kinds and groups of tools/fields.toml, and the lists of each file of tools/fields."""
+    table = tomllib.loads((top / TABLE).read_text(encoding="utf-8"))
+    for file in sorted((top / TYPES).glob("*.toml")):
+        for key, listed in tomllib.loads(file.read_text(encoding="utf-8")).items():
+            table.setdefault(key, []).extend(listed)
+    return table
 
 
 def main(words: list[str]) -> int:

@@ -83,6 +83,14 @@ class Generated(unittest.TestCase):
             "wire_steps/specs/Limits.antt": ["  pub identity : IfSome q.identity IsText"],
             "wire_steps/src/put_starts.rt": ['    put_if_text(page, "identity", &signal.identity)?;'],
             "wire_steps/src/known.rt": ["    known_if_text(&asked.identity);"],
+            "wire_requests/specs/Operations.antt": [
+                "  identity ← optional text_of field.Identity line", "  Ok (record {",
+                "    workflow_id = workflow_id;", "    run = run;", "    name = name;", "    input = input;",
+                "    request_id = request_id;", "    identity = identity;", "  })",
+            ],
+            "wire_requests/src/operations.rt": [
+                "    let identity = optional(alloc, line, Field::Identity)?;", "        identity,",
+            ],
             "wire_steps/specs/Trees.antt": [
                 '    count (codes "at") at ∷ if_text (codes "identity") q.identity ∷ text (codes "input") q.input',
                 '    ∷ text (codes "name") q.name ∷ text (codes "op") (codes "signal") ∷ '
@@ -117,6 +125,25 @@ class Generated(unittest.TestCase):
                 "            Attributes::WorkflowPaused(_) => Kind::WorkflowPaused,"],
             "wf_event/specs/Kinds.antt": ["kind_of (event.WorkflowPaused a) = kind.WorkflowPaused",
                                           'kind_name kind.WorkflowPaused = codes "WorkflowPaused"'],
+        })
+
+    def test_a_field_that_may_be_missing_has_its_default(self):
+        def change(table: dict) -> None:
+            self.type_named(table, "Terminate")["fields"].append("grace span default")
+
+        written = self.written_with(change)
+        self.assertIn("  grace ← or_default span_of 0 field.Grace line",
+                      written["wire_requests/specs/CancelFields.antt"])
+        self.assertIn("    let grace = or_default(alloc, line, Field::Grace, Span::none())?;",
+                      written["wire_requests/src/ends.rt"])
+
+    def test_a_new_name_is_one_row(self):
+        def change(table: dict) -> None:
+            next(one for one in table["names"] if one["name"] == "Field")["variants"].append("Identity identity")
+
+        self.assertEqual(self.written_with(change), {
+            "wf_event_values/src/field.rt": ["    Identity,", '            Field::Identity => "identity",'],
+            "wf_event_values/specs/Names.antt": ['field_name field.Identity = codes "identity"'],
         })
 
     def test_the_status_says_whether_anything_differs(self):
