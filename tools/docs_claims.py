@@ -36,8 +36,8 @@ def expanded(quoted: str) -> list[str]:
     braced = re.fullmatch(r"([^{}]*)\{([^{}]*)\}([^{}]*)", quoted)
     if not braced:
         return [quoted]
-    before, names, behind = braced.groups()
-    return [f"{before}{name}{behind}" for name in parts_of(names)]
+    before, names, after = braced.groups()
+    return [f"{before}{name}{after}" for name in parts_of(names)]
 
 
 def tables_of(text: str) -> list[list[list[str]]]:
@@ -167,7 +167,7 @@ def calls_named(cell: str, calls: list[Call], types: set[str]) -> tuple[list[Cal
 
 
 def faults_of_clauses(cell: str, named: list[Call], records: dict[str, set[str]]) -> list[str]:
-    """What a cell says of the clauses of these calls and isn't so."""
+    """What a cell says about the clauses of these calls and isn't so."""
     if cell == "the only one":
         return [f"not the only clause: of {call.name}" for call in named
                 if call.is_public and len(call.clauses) + call.unnamed > 1]
@@ -222,7 +222,7 @@ def wrong_waits(text: str, top: Path) -> list[str]:
     """The calls of which a text says that they may wait are those that have that leave."""
     said = re.search(r"the calls that may wait \((.*?)\)", text)
     if not said:
-        return ["it says of no calls that they may wait"]
+        return ["it names no calls that may wait"]
     listed = {name.split("::")[-1] for quoted in QUOTED.findall(said[1]) for name in expanded(quoted)}
     waiting = [call for crate in WAITING_CRATES for call in calls_of(crate, top) if call.may_wait]
     unsaid = {call.name for call in waiting if call.is_public} - listed

@@ -21,7 +21,7 @@ A_MINUTE = 60.0
 SAID = re.compile(r"rt: (\w+)(?:(: its tests are)|(: trying its must-fail edits \((\d+)\)))? ?"
                   r"(proved|is kept: |NOT PROVED)?")
 LAST = re.compile(r"(\d+) passed, (\d+) failed$")
-# With less than this share of a run behind it, its own speed says little.
+# Before this share of a run is done, its own speed says little.
 LEAST_SHARE = 0.02
 
 
