@@ -4,6 +4,8 @@
     tools/docs_rules.py             what docs/rules.ini says that isn't so, a line each
     tools/docs_rules.py RULE..      where these rules stand, as `tools/docs_rules.py H3`
     tools/docs_rules.py --write     writes docs/TRACE.md, the same for all rules, in tables
+    tools/docs_rules.py --heads     lists the source files whose head names a part of PROFILE, with the numbers of
+                                    the rules that they are code of; with --write these stand in the heads then
 
 docs/rules.ini is written by hand: a section for each rule, under its number, with a line for each reference. It has
 the rules of PROFILE in their order, and each reference has to be there. docs/TRACE.md is written from it and from the
@@ -32,6 +34,8 @@ REFERENCES = re.compile(r"`[^`]+`(, `[^`]+`)*")
 CODE = re.compile(r"(\w+)/([\w/]+\.rt)")
 PART = re.compile(r"## (.+?)(?: \(.*)?$")
 ROW = re.compile(r"\| ([A-Z]\d+) \| (.*) \|$")
+# The lines of a source's head that name its part of PROFILE, and what stands beside that.
+HEAD_OF_PART = re.compile(r"(?<=//! )(.*)\bRule: PROFILE, .*\n(?://! .*\n)*")
 PARAGRAPH = re.compile(r"(?:- )?\*\*([A-Z]\d+)\*\* (.*)")
 # How many words of a rule TRACE shows at most.
 SHOWN_WORDS = 10
@@ -205,6 +209,35 @@ def trace(profile: str, ini: str) -> str:
     return "\n".join(lines).replace("\n\n\n", "\n\n") + "\n"
 
 
+def rules_of_files(ini: str) -> dict[str, list[str]]:
+    """For each file of code, as `crate/file.rt`, the rules that it is code of, in their order."""
+    found: dict[str, list[str]] = {}
+    for number, references in references_in(ini).items():
+        for file in references.get("code", []):
+            found.setdefault(file, []).append(number)
+    return found
+
+
+def with_numbers(source: str, numbers: list[str]) -> str:
+    """A source whose head names its rules by their numbers, in the place of its part of PROFILE and all beside it."""
+    return HEAD_OF_PART.sub(rf"\g<1>Rules: {', '.join(numbers)}.\n", source, count=1)
+
+
+def heads(ini: str, top: Path, writes: bool) -> list[str]:
+    """The source files whose head names a part of PROFILE, each with its rules. They get the numbers where asked."""
+    known, lines = rules_of_files(ini), []
+    for file in sorted((top / "crates").glob("*/src/**/*.rt")):
+        text = file.read_text(encoding="utf-8")
+        if not HEAD_OF_PART.search(text):
+            continue
+        crate, _, *rest = file.relative_to(top / "crates").parts
+        numbers = known.get("/".join([crate, *rest]), [])
+        lines.append(f"{file.relative_to(top)}: {', '.join(numbers) or 'no rule has it as its code'}")
+        if writes and numbers:
+            file.write_text(with_numbers(text, numbers), encoding="utf-8")
+    return lines
+
+
 def faults(top: Path = TOP) -> list[str]:
     """What is wrong with docs/rules.ini and docs/TRACE.md."""
     profile, ini = ((top / "docs" / name).read_text(encoding="utf-8") for name in ("PROFILE.md", "rules.ini"))
@@ -230,10 +263,14 @@ def main(words: list[str]) -> int:
         prog="tools/docs_rules.py", description=__doc__, formatter_class=argparse.RawDescriptionHelpFormatter)
     options.add_argument("rules", nargs="*", metavar="RULE")
     options.add_argument("--write", action="store_true")
+    options.add_argument("--heads", action="store_true")
     asked = options.parse_args(words)
     profile, ini = ((TOP / "docs" / name).read_text(encoding="utf-8") for name in ("PROFILE.md", "rules.ini"))
     if asked.rules:
         print("\n".join(shown(number, profile, ini) for number in asked.rules))
+        return 0
+    if asked.heads:
+        print("\n".join(heads(ini, TOP, asked.write)))
         return 0
     if asked.write:
         (TOP / "docs/TRACE.md").write_text(trace(profile, ini), encoding="utf-8")

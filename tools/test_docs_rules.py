@@ -1,6 +1,7 @@
 """docs/rules.ini, docs/PROFILE.md and docs/TRACE.md say the same, and what is made untrue in one of them is found."""
 
 import sys
+import tempfile
 import unittest
 from pathlib import Path
 
@@ -99,6 +100,27 @@ class Rules(unittest.TestCase):
         self.assertEqual(docs_claims.wrong_heads("//! A file. Rules: H3, W2.\n", top), [])
         self.assertEqual(docs_claims.wrong_heads("//! A file. Rules: H3,\n//! W99.\n", top),
                          ["no such rule of PROFILE: W99"])
+
+    def test_heads_get_the_numbers_of_their_rules(self):
+        head = ("//! Signals.\n//!\n//! Rule: PROFILE, Histories. Definition: Signals,\n//! Role. Rows: TaskRows. "
+                "Cases: signals,\n//! starts.\n\nuse a::b;\n")
+        with tempfile.TemporaryDirectory() as folder:
+            file = Path(folder, "crates/shard/src/signals.rt")
+            file.parent.mkdir(parents=True)
+            file.write_text(head)
+            other = Path(folder, "crates/shard/src/more/other.rt")
+            other.parent.mkdir()
+            other.write_text(head)
+            lines = docs_rules.heads(INI, Path(folder), writes=True)
+            self.assertEqual(lines, ["crates/shard/src/more/other.rt: no rule has it as its code",
+                                     "crates/shard/src/signals.rt: H1"])
+            self.assertEqual(file.read_text(), "//! Signals.\n//!\n//! Rules: H1.\n\nuse a::b;\n")
+            self.assertEqual(other.read_text(), head)
+
+    def test_each_head_that_names_a_part_has_rules(self):
+        ini = (docs_rules.TOP / "docs/rules.ini").read_text(encoding="utf-8")
+        lines = docs_rules.heads(ini, docs_rules.TOP, writes=False)
+        self.assertEqual([line for line in lines if "no rule" in line], [])
 
     def test_the_documents_agree(self):
         self.assertEqual(docs_rules.faults(), [])
