@@ -7,7 +7,8 @@
 
 A part is a run of lines without an empty line between: a struct, its destructor, a record of limits, the rows of a
 record's line, the function that writes them, the one that shows that they are within their limits. It is found in its
-file by its first line, and stands there as a programmer would write it: nothing marks it. The files of tools/fields
+file by its first line, and stands there as a programmer would write it: nothing marks it. Of lemmas that have a line
+for each request, such a line is a part of its own. The files of tools/fields
 have a row for each field, and tools/fields.toml says how each kind of field is written in each kind of part.
 `tools/gate quick` compares.
 
@@ -16,6 +17,7 @@ It needs Python 3.11, which reads TOML.
 from __future__ import annotations
 
 import argparse
+import re
 import sys
 from pathlib import Path
 from typing import Any, Callable, Iterator, NamedTuple
@@ -37,15 +39,18 @@ ROW_WIDTH = 120
 NAMES = {
     "limits": "Is{camel}", "rows": "{stem}_rows", "put": "put_{stem}", "known": "known_{stem}",
     "members": "{stem}_members", "event": "put_{stem}", "fields_of": "{stem}_of", "reader": "{stem}",
+    "back": "{stem}_back",
 }
 
 
 class Part(NamedTuple):
-    """A part of a file of crates/: which file, the line with which it begins, and its text without a last line feed."""
+    """A part of a file of crates/: which file, the line with which it begins, and its text without a last line feed.
+    A part of one line is found by how that line begins."""
 
     file: str
     head: str
     text: str
+    is_line: bool = False
 
 
 class Field(NamedTuple):
@@ -181,6 +186,59 @@ def line_fields(kind: Table, table: Table) -> Part:
     ends = ["  Ok (record {", *(f"    {field.name} = {field.name};" for field in fields), "  })"]
     end = [whole] if len(whole) <= ROW_WIDTH else ends
     return Part(said["file"], head, "\n".join([head, f"{said['name']} {said['of']} = do", *body, *end]))
+
+
+def text_lines(kind: Table, table: Table) -> Iterator[Part]:
+    """The lines of the lemma that the texts of a record's line are UTF-8: one for each request of this type."""
+    said = table["group"][kind["group"]]["utf8"]
+    every = {field.key: filled(table["kind"][field.kind]["utf8"], field.name, f"{said['of']}.{field.name}")
+             for field in fields_of(kind) if "utf8" in table["kind"][field.kind]}
+    every |= {key: table["kind"][which]["utf8"] for key, which, _ in kind.get("also", [])}
+    members_of = [every[key] for key in sorted(every)]
+    nested = "tt" if not members_of else "".join(f"({member}, " for member in members_of) + "tt" + ")" * len(members_of)
+    for variant in kind["lemmas"]:
+        head = said["head"].replace("VARIANT", variant)
+        yield Part(said["file"], head, f"{head} {nested}", is_line=True)
+
+
+def plain_lines(kind: Table, table: Table) -> Iterator[Part]:
+    """The lines of the lemma that a record's line is one of plain values: what may be missing is named before."""
+    said = table["group"][kind["group"]]["plain"]
+    named = [(field, table["kind"][field.kind]["plain"]) for field in fields_of(kind)
+             if "plain" in table["kind"][field.kind]]
+    lets = "".join(f"let {field.name} = {filled(template, field.name, said['of'] + '.' + field.name)} in "
+                   for field, template in named)
+    facts = [said["fact"], *(field.name for field, _ in named)]
+    facts += [how["also_plain"] for how in (table["kind"][field.kind] for field, _ in named) if "also_plain" in how]
+    for variant in kind["lemmas"]:
+        head = said["head"].replace("VARIANT", variant)
+        yield Part(said["file"], head, f"{head} {lets}search ({', '.join(facts)})", is_line=True)
+
+
+def read_back(kind: Table, table: Table) -> Part:
+    """The lemma that what was written as a record's line is read as it was: field by field, in the reader's order."""
+    said, defined = said_of(kind, "back", table), said_of(kind, "rows", table)["name"]
+    reads, limit = said_of(kind, "fields_of", table)["name"], said_of(kind, "limits", table)["name"]
+    words = {"LIMIT": limit, "READS": reads, "ROWS": defined}
+    claim = re.sub("|".join(words), lambda found: words[found[0]], said["claim"])
+    head = f"{said['seen']}{said['name']} : {claim}"
+    steps = [back_step(field, table["kind"][field.kind], said["of"]) for field in fields_of(kind)]
+    body = [f"    {'(' if place else ''}then _ ({step})" for place, step in enumerate(steps)]
+    return Part(said["file"], head, "\n".join([
+        head, f"unfolding {reads} {defined}", f"{said['name']} {said['with']} =",
+        f"    let rows = {defined} {said['given']} in", *body, f"    refl{')' * (len(steps) - 1)}"]))
+
+
+def back_step(field: Field, kind: Table, of: str) -> str:
+    """How a lemma says that one field is read as it was written."""
+    value, name = f"{of}.{field.name}", f"field.{camel(field.key)}"
+    back = filled(kind["back"], field.name, value).replace("FIELD", name)
+    if "left_out" in kind:
+        return f"left_out_is {kind['of']} {kind['empty']} {name} rows _ {value} refl refl ({back})"
+    if not field.kind.startswith("if_"):
+        how = f"default_is {kind['of']} {kind['empty']}" if field.has_default else f"required_is {kind['of']}"
+        return f"{how} {name} rows _ {value} refl refl ({back})"
+    return f"optional_is {kind['of']} {kind['data']} {name} rows {value} refl refl ({back}) h.{field.name}"
 
 
 def taken(field: Field, kind: Table) -> str:
@@ -359,7 +417,7 @@ def kind_definitions(listed: Table) -> Iterator[Part]:
 
 MAKERS: dict[str, Callable[[Table, Table], Part]] = {
     "limits": limits, "rows": rows, "put": writer, "known": known, "members": event_members, "event": event_writer,
-    "fields_of": line_fields, "reader": line_reader,
+    "fields_of": line_fields, "reader": line_reader, "back": read_back,
 }
 
 
@@ -370,6 +428,8 @@ def parts_of(table: Table) -> Iterator[Part]:
         if kind.get("drop", table["group"][kind["group"]].get("drop", False)):
             yield destructor(kind, table)
         yield from (MAKERS[part](kind, table) for part in kind.get("parts", []))
+        if "lemmas" in kind:
+            yield from (*text_lines(kind, table), *plain_lines(kind, table))
     for listed in table["enum"]:
         yield variants(listed)
         yield drops(listed)
@@ -382,12 +442,14 @@ def parts_of(table: Table) -> Iterator[Part]:
         yield from names(listed)
 
 
-def place_of(text: str, head: str) -> tuple[int, int] | None:
-    """Where a part stands in a file: from its first line to the next empty line. None where it isn't there once."""
-    begin = 0 if text.startswith(head + "\n") else text.find(f"\n{head}\n") + 1
-    if (not begin and not text.startswith(head + "\n")) or f"\n{head}\n" in text[begin + len(head):]:
+def place_of(text: str, part: Part) -> tuple[int, int] | None:
+    """Where a part stands in a file: from its first line to the next empty line, or the end of its one line. None
+    where it isn't there once."""
+    begins = part.head + (" " if part.is_line else "\n")
+    begin = 0 if text.startswith(begins) else text.find(f"\n{begins}") + 1
+    if (not begin and not text.startswith(begins)) or f"\n{begins}" in text[begin + len(part.head):]:
         return None
-    end = text.find("\n\n", begin)
+    end = text.find("\n" if part.is_line else "\n\n", begin)
     return begin, end if end >= 0 else len(text.rstrip("\n"))
 
 
@@ -397,7 +459,7 @@ def look(table: Table, top: Path, writes: bool) -> list[str]:
     for part in parts_of(table):
         path = top / "crates" / part.file
         text = path.read_text(encoding="utf-8") if path.is_file() else ""
-        place = place_of(text, part.head)
+        place = place_of(text, part)
         if not place:
             faults.append(f"crates/{part.file}: there is not one part that begins: {part.head}")
         elif text[place[0]:place[1]] != part.text:

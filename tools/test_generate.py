@@ -80,6 +80,21 @@ class Generated(unittest.TestCase):
 
         self.assertEqual(self.written_with(change), {
             "service_model_types/src/request.rt": ["    pub identity: Option<Text>,", "            identity: _,"],
+            "wire_steps/proofs/OperationsBack.antt": [
+                "    (then _ (optional_is text_of IsText string field.Identity rows q.identity refl refl "
+                "(text_back field.Identity) h.identity)", "    refl)))))",
+            ],
+            "wire_steps/proofs/RequestsBack.antt": [
+                "operation_plain at (operation.Signal q) m h = let run = if_plain IsRun (λ r. string (run_text r)) 4 "
+                "(λ x l. tt) q.run h.run in let request_id = if_plain IsId string 4 (λ x l. tt) q.request_id "
+                "h.request_id in let identity = if_plain IsText string 4 (λ x l. tt) q.identity h.identity in "
+                "search (moment_plain at m, run, request_id, identity)",
+            ],
+            "wire_steps/proofs/TextsUtf8.antt": [
+                "operation_utf8 at (operation.Signal q) h = (tt, (if_utf8 IsText (λ t l. l.1) q.identity h.identity, "
+                "(h.input.1, (h.name.1, (literal _ refl, (if_utf8 IsId (λ t l. l.1) q.request_id h.request_id, "
+                "(if_run_utf8 q.run, (h.workflow_id.1, tt))))))))",
+            ],
             "wire_steps/specs/Limits.antt": ["  pub identity : IfSome q.identity IsText"],
             "wire_steps/src/put_starts.rt": ['    put_if_text(page, "identity", &signal.identity)?;'],
             "wire_steps/src/known.rt": ["    known_if_text(&asked.identity);"],
