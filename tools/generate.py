@@ -428,8 +428,9 @@ def parts_of(table: Table) -> Iterator[Part]:
         if kind.get("drop", table["group"][kind["group"]].get("drop", False)):
             yield destructor(kind, table)
         yield from (MAKERS[part](kind, table) for part in kind.get("parts", []))
-        if "lemmas" in kind:
-            yield from (*text_lines(kind, table), *plain_lines(kind, table))
+        for lemma, lines in (("utf8", text_lines), ("plain", plain_lines)):
+            if "lemmas" in kind and lemma in table["group"][kind["group"]]:
+                yield from lines(kind, table)
     for listed in table["enum"]:
         yield variants(listed)
         yield drops(listed)
