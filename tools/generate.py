@@ -35,6 +35,8 @@ WIDTH = 100
 PATTERN_WIDTH = 18
 # A line of definitions is filled up to here, where the table doesn't say how many rows stand in each.
 ROW_WIDTH = 120
+# A record of definitions stands on one line up to here.
+RECORD_WIDTH = 126
 # What a part of a type is called where the table says nothing else: by its stem, in words or in one capitalized word.
 NAMES = {
     "limits": "Is{camel}", "rows": "{stem}_rows", "put": "put_{stem}", "known": "known_{stem}",
@@ -54,14 +56,15 @@ class Part(NamedTuple):
 
 
 class Field(NamedTuple):
-    """A field of a type: its name, its kind, its key in a line, the name of the local that reads it, and whether it may
-    be missing in a line and then has its kind's default."""
+    """A field of a type: its name, its kind, its key in a line, the name of the local that reads it, whether it may be
+    missing in a line and then has its kind's default, and whether its key is no name of a field (`Field`)."""
 
     name: str
     kind: str
     key: str
     local: str
     has_default: bool
+    is_keyed: bool
 
 
 Table = dict[str, Any]
@@ -69,12 +72,13 @@ Table = dict[str, Any]
 
 def fields_of(kind: Table) -> list[Field]:
     """The fields of a type, in their order in the struct: `name kind`, `default` where the field may be missing in a
-    line, and `key=` and `local=` where these differ from the name."""
+    line, `keyed` where its key is no name of a field, and `key=` and `local=` where these differ from the name."""
     fields = []
     for row in kind["fields"]:
         name, which, *others = row.split()
         other = dict(one.split("=") for one in others if "=" in one)
-        fields.append(Field(name, which, other.get("key", name), other.get("local", name), "default" in others))
+        fields.append(Field(name, which, other.get("key", name), other.get("local", name), "default" in others,
+                            "keyed" in others))
     return fields
 
 
@@ -180,11 +184,11 @@ def line_fields(kind: Table, table: Table) -> Part:
     """What a line's fields are read as, as a definition: their faults are looked for in the order of the struct."""
     said, fields = said_of(kind, "fields_of", table), fields_of(kind)
     head = f"unfoldable pub {said['name']} : Data → Result {said['as']} Refusal"
-    body = [f"  {field.name} ← {taken(field, table['kind'][field.kind])} field.{camel(field.key)} {said['of']}"
-            for field in fields]
+    body = [f"  {field.name} ← {taken(field, table['kind'][field.kind])} {place_in(field)} {said['of']}"
+            for field in read_order(kind, said)]
     whole = f"  Ok (record {{ {'; '.join(f'{field.name} = {field.name}' for field in fields)} }})"
     ends = ["  Ok (record {", *(f"    {field.name} = {field.name};" for field in fields), "  })"]
-    end = [whole] if len(whole) <= ROW_WIDTH else ends
+    end = [whole] if len(whole) <= RECORD_WIDTH else ends
     return Part(said["file"], head, "\n".join([head, f"{said['name']} {said['of']} = do", *body, *end]))
 
 
@@ -222,7 +226,8 @@ def read_back(kind: Table, table: Table) -> Part:
     words = {"LIMIT": limit, "READS": reads, "ROWS": defined}
     claim = re.sub("|".join(words), lambda found: words[found[0]], said["claim"])
     head = f"{said['seen']}{said['name']} : {claim}"
-    steps = [back_step(field, table["kind"][field.kind], said["of"]) for field in fields_of(kind)]
+    order = read_order(kind, said_of(kind, "fields_of", table))
+    steps = [back_step(field, table["kind"][field.kind], said["of"]) for field in order]
     body = [f"    {'(' if place else ''}then _ ({step})" for place, step in enumerate(steps)]
     return Part(said["file"], head, "\n".join([
         head, f"unfolding {reads} {defined}", f"{said['name']} {said['with']} =",
@@ -231,8 +236,10 @@ def read_back(kind: Table, table: Table) -> Part:
 
 def back_step(field: Field, kind: Table, of: str) -> str:
     """How a lemma says that one field is read as it was written."""
-    value, name = f"{of}.{field.name}", f"field.{camel(field.key)}"
-    back = filled(kind["back"], field.name, value).replace("FIELD", name)
+    value, name = f"{of}.{field.name}", place_in(field)
+    back = filled(kind["back"], field.name, value).replace("FIELD", "field.Line" if field.is_keyed else name)
+    if field.is_keyed:
+        return f"keyed_is {kind['of']} {name} rows _ {value} refl refl {back if back == 'refl' else f'({back})'}"
     if "left_out" in kind:
         return f"left_out_is {kind['of']} {kind['empty']} {name} rows _ {value} refl refl ({back})"
     if not field.kind.startswith("if_"):
@@ -241,8 +248,20 @@ def back_step(field: Field, kind: Table, of: str) -> str:
     return f"optional_is {kind['of']} {kind['data']} {name} rows {value} refl refl ({back}) h.{field.name}"
 
 
+def read_order(kind: Table, said: Table) -> list[Field]:
+    """The fields in the order in which they are read: that of the struct, or of the keys where the table says so."""
+    return sorted(fields_of(kind), key=lambda field: field.key) if said.get("by_keys") else fields_of(kind)
+
+
+def place_in(field: Field) -> str:
+    """What the definitions call the place of a field in a line."""
+    return f'(codes "{field.key}")' if field.is_keyed else f"field.{camel(field.key)}"
+
+
 def taken(field: Field, kind: Table) -> str:
     """How the definitions take a field from a line."""
+    if field.is_keyed:
+        return f"keyed {kind['of']}"
     if field.has_default:
         return f"or_default {kind['of']} {kind['empty']}"
     return f"{'optional' if field.kind.startswith('if_') else 'required'} {kind['of']}"
