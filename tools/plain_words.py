@@ -43,11 +43,13 @@ PLACE = (r"behind(?! (?:(?:a|an|the|one|its|their|each|that) )?"
 WORDS = (
     word(PLACE, "after"),
     word(r"(?:tak(?:e|es|ing|en)|took) (?:\w+ ){0,4}away", "delete (a run), remove (anything else)"),
-    word(r"(?:for|in) want of memory", "out of memory", "out of memory"),
+    word(r"for want of memory", "out of memory, when memory runs out", "when memory runs out"),
     word(r"want of memory", "out of memory"),
+    word(r"held back", "buffered", "buffered"),
     word(r"h(?:old|olds|olding|eld) (?:\w+ ){0,2}back", "buffer, buffered"),
     word(r"(?:say|says|said|saying) of", "report on, say about"),
     word(r"by the machine", "depending on the machine"),
+    word(r"left away", "dropped, left out", "dropped"),
     word(r"(?:left|leave|leaves|leaving) (?:\w+ ){0,2}away", "drop, leave out"),
     word(r"call(?:s|ed|ing)? (?:\w+ ){0,2}off", "cancel"),
 )

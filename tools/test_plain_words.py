@@ -44,13 +44,14 @@ class Words(unittest.TestCase):
         self.assertEqual(found, [(1, "held back"), (4, "behind")])
 
     def test_only_what_always_fits_is_replaced(self):
-        text = "refused for want of memory, `for want of memory`, held back\n"
-        self.assertEqual(plain_words.replaced(text), "refused out of memory, `for want of memory`, held back\n")
+        text = "refused for want of memory, `for want of memory`, held back, taken away\n"
+        replaced = "refused when memory runs out, `for want of memory`, buffered, taken away\n"
+        self.assertEqual(plain_words.replaced(text), replaced)
 
     def test_of_a_source_only_comments_are_looked_at_and_changed(self):
         source = '/// Refused for want of memory.\nlet said = "for want of memory"; // it\n'
         self.assertEqual(plain_words.replaced_in_comments(source, ".rt"),
-                         '/// Refused out of memory.\nlet said = "for want of memory"; // it\n')
+                         '/// Refused when memory runs out.\nlet said = "for want of memory"; // it\n')
         found = plain_words.found_in(plain_words.comments_by_line(source, ".rt"))
         self.assertEqual([(one.line, one.text) for one in found], [(1, "for want of memory")])
 
