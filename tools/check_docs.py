@@ -41,6 +41,8 @@ BRACED = re.compile(r"[A-Za-z_][\w.:/-]*\{[\w, .-]*\}[\w.-]*")
 IN_CRATE = re.compile(r"(\w+)/((?:src|data|must-fail)/[\w./-]+)")
 WORD = re.compile(r"[A-Za-z_][\w-]*")
 LINK = re.compile(r"\]\(([^)#\s]+)[^)]*\)")
+ANCHOR = re.compile(r"\]\(([^)#\s]*)#([^)\s]+)\)")
+HEADING = re.compile(r"^#+ (.+?)\s*$", re.MULTILINE)
 MERGE = re.compile(r"^(?:<{7} .*|\|{7} .*|={7}|>{7} .*)$")
 
 
@@ -98,10 +100,26 @@ def missing_of(quoted: str, words: set[str]) -> list[str]:
     ]
 
 
+def slug(heading: str) -> str:
+    """How a link names a heading: in small letters, a hyphen for each blank, and no other marks."""
+    return re.sub(r"[^\w -]", "", heading.lower()).replace(" ", "-")
+
+
+def wrong_anchors(document: Path, text: str) -> list[str]:
+    """The links to headings, of this document or of another one, that aren't there."""
+    faults = []
+    for name, anchor in ANCHOR.findall(text):
+        file = document.parent / name if name else document
+        if not name.startswith("http") and file.suffix == ".md" and file.is_file():
+            headings = {slug(heading) for heading in HEADING.findall(file.read_text(encoding="utf-8"))}
+            faults += [] if anchor in headings else [f"no such heading: {name}#{anchor}"]
+    return faults
+
+
 def missing_in(document: Path, words: set[str]) -> list[str]:
     """What a document cites that isn't there."""
     text = re.sub(r"(?ms)^(```|    ).*?$", "", document.read_text())
-    missing = []
+    missing = wrong_anchors(document, text)
     for link in LINK.findall(text):
         if "://" not in link and not (document.parent / link).exists():
             missing.append(f"no such file: {link}")
