@@ -2,16 +2,14 @@
 
 import contextlib
 import io
-import os
 import sys
-import tempfile
 import unittest
-import unittest.mock
 from pathlib import Path
 
 sys.path.insert(0, str(Path(__file__).resolve().parent))
 import build_program
 import gate_progress
+from scratch import Scratch
 
 RT = """#!/bin/sh
 echo "== low"
@@ -21,26 +19,20 @@ exit "$STATUS"
 """
 
 
-class Building(unittest.TestCase):
+class Building(Scratch):
+    RT = RT
+    FILES = {
+        "crates/low/src/lib.rt": "1\n", "crates/high/src/lib.rt": "1\n2\n", "crates/high/proofs/A.antt": "3\n",
+        "crates/high/must-fail/a.edit": "4\n", "build/crates/low/src/lib.rt": "1\n",
+    }
+
     def setUp(self):
-        folder = tempfile.TemporaryDirectory()
-        self.addCleanup(folder.cleanup)
-        self.top = Path(folder.name)
+        super().setUp()
         self.kept = self.top / "times/build-high.json"
-        for name, text in {"bin/rt": RT, "crates/low/src/lib.rt": "1\n", "crates/high/src/lib.rt": "1\n2\n",
-                           "crates/high/proofs/A.antt": "3\n", "crates/high/must-fail/a.edit": "4\n",
-                           "build/crates/low/src/lib.rt": "1\n"}.items():
-            (self.top / name).parent.mkdir(parents=True, exist_ok=True)
-            (self.top / name).write_text(text, encoding="utf-8")
-        (self.top / "bin/rt").chmod(0o755)
-        for name, value in {"ROOT": self.top, "BUILD": self.top / "build"}.items():
-            patch = unittest.mock.patch.object(build_program, name, value)
-            patch.start()
-            self.addCleanup(patch.stop)
+        self.replace(build_program, ROOT=self.top, BUILD=self.top / "build")
 
     def prove(self, status: int = 0) -> tuple:
-        path = f"{self.top / 'bin'}:{os.environ['PATH']}"
-        with unittest.mock.patch.dict(os.environ, PATH=path, STATUS=str(status)):
+        with self.with_toolchain(STATUS=str(status)):
             with contextlib.redirect_stderr(io.StringIO()) as error:
                 failure = build_program.prove(["low", "high"], self.kept)
         return failure, error.getvalue().splitlines()

@@ -2,16 +2,14 @@
 
 import contextlib
 import io
-import os
 import sys
-import tempfile
 import unittest
-import unittest.mock
 from pathlib import Path
 
 sys.path.insert(0, str(Path(__file__).resolve().parent))
 import build_program
 import gate_crate
+from scratch import Scratch
 
 RT = """#!/bin/sh
 if [ "$1" = --help ]; then echo "  rt ci                   the merge gate"; exit 0; fi
@@ -29,27 +27,18 @@ FILES = {
 }
 
 
-class Crates(unittest.TestCase):
+class Crates(Scratch):
+    FILES, RT = FILES, RT
+
     def setUp(self):
-        folder = tempfile.TemporaryDirectory()
-        self.addCleanup(folder.cleanup)
-        self.top = Path(folder.name)
-        for name, text in {**FILES, "bin/rt": RT}.items():
-            (self.top / name).parent.mkdir(parents=True, exist_ok=True)
-            (self.top / name).write_text(text, encoding="utf-8")
-        (self.top / "bin/rt").chmod(0o755)
-        places = {"TOP": self.top, "COPY": self.top / "out/crates"}
-        for module, names in ((gate_crate, places), (build_program, {"ROOT": self.top})):
-            for name, value in names.items():
-                patch = unittest.mock.patch.object(module, name, value)
-                patch.start()
-                self.addCleanup(patch.stop)
+        super().setUp()
+        self.replace(gate_crate, TOP=self.top, COPY=self.top / "out/crates")
+        self.replace(build_program, ROOT=self.top)
 
     def verdicts(self, *names: str, fails: str = "") -> tuple:
         asked = self.top / "asked"
         asked.write_text("")
-        path = f"{self.top / 'bin'}:{os.environ['PATH']}"
-        with unittest.mock.patch.dict(os.environ, PATH=path, ASKED=str(asked), FAILS=fails):
+        with self.with_toolchain(ASKED=str(asked), FAILS=fails):
             self.assertFalse(gate_crate.takes_names())
             with contextlib.redirect_stdout(io.StringIO()) as out:
                 status = gate_crate.verdicts(list(names))

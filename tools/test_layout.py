@@ -2,16 +2,14 @@
 
 import contextlib
 import io
-import os
 import sys
-import tempfile
 import unittest
-import unittest.mock
 from pathlib import Path
 
 sys.path.insert(0, str(Path(__file__).resolve().parent))
 import build_program
 import layout
+from scratch import Scratch
 
 # It takes blanks at the ends of lines for another layout, and can't read `broken`.
 RT = """#!/bin/sh
@@ -29,23 +27,16 @@ FILES = {
 }
 
 
-class Layout(unittest.TestCase):
-    def setUp(self):
-        folder = tempfile.TemporaryDirectory()
-        self.addCleanup(folder.cleanup)
-        self.top = Path(folder.name)
-        for name, text in {**FILES, "bin/rt": RT}.items():
-            (self.top / name).parent.mkdir(parents=True, exist_ok=True)
-            (self.top / name).write_text(text, encoding="utf-8")
-        (self.top / "bin/rt").chmod(0o755)
-        for module, name in ((layout, "TOP"), (build_program, "ROOT")):
-            patch = unittest.mock.patch.object(module, name, self.top)
-            patch.start()
-            self.addCleanup(patch.stop)
+class Layout(Scratch):
+    FILES, RT = FILES, RT
 
-    def looked(self, *words: str, path: str = "") -> tuple:
-        path = path or f"{self.top / 'bin'}:{os.environ['PATH']}"
-        with unittest.mock.patch.dict(os.environ, PATH=path), contextlib.redirect_stdout(io.StringIO()) as out, \
+    def setUp(self):
+        super().setUp()
+        self.replace(layout, TOP=self.top)
+        self.replace(build_program, ROOT=self.top)
+
+    def looked(self, *words: str, **variables: str) -> tuple:
+        with self.with_toolchain(**variables), contextlib.redirect_stdout(io.StringIO()) as out, \
                 contextlib.redirect_stderr(out):
             status = layout.main(list(words))
         return status, out.getvalue().splitlines()
@@ -61,7 +52,7 @@ class Layout(unittest.TestCase):
 
     def test_what_can_not_be_looked_at_is_said(self):
         self.assertEqual(self.looked("hgh"), (2, ["layout: crates.txt has no crate hgh"]))
-        status, said = self.looked("low", path=str(self.top / "none"))
+        status, said = self.looked("low", PATH=str(self.top / "none"))
         self.assertEqual((status, len(said)), (0, 1))
 
 

@@ -2,15 +2,13 @@
 
 import contextlib
 import io
-import os
 import sys
-import tempfile
 import unittest
-import unittest.mock
 from pathlib import Path
 
 sys.path.insert(0, str(Path(__file__).resolve().parent))
 import try_cases
+from scratch import Scratch
 
 RT = """#!/bin/sh
 echo "$*" > "$ASKED"
@@ -21,24 +19,19 @@ STDOUT = "starts.cases: a start: ok\nstarts.cases: a second: ok\nlines.cases: a 
 PASSED = "starts.cases: a start: ok\nstarts.cases: a second: ok\n2 cases, 0 failed\n"
 
 
-class Cases(unittest.TestCase):
+class Cases(Scratch):
+    RT = RT
+    FILES = {
+        "cases/stdout": STDOUT, "cases/args": "starts.cases\nlines.cases\n",
+        "cases/data/starts.cases": "## a start\n", "cases/data/one/shard-00.rec": "",
+    }
+
     def setUp(self):
-        folder = tempfile.TemporaryDirectory()
-        self.addCleanup(folder.cleanup)
-        self.top = Path(folder.name)
-        for name, text in {"bin/rt": RT, "cases/stdout": STDOUT, "cases/args": "starts.cases\nlines.cases\n",
-                           "cases/data/starts.cases": "## a start\n", "cases/data/one/shard-00.rec": ""}.items():
-            (self.top / name).parent.mkdir(parents=True, exist_ok=True)
-            (self.top / name).write_text(text, encoding="utf-8")
-        (self.top / "bin/rt").chmod(0o755)
-        patch = unittest.mock.patch.object(try_cases, "CASES", self.top / "cases")
-        patch.start()
-        self.addCleanup(patch.stop)
+        super().setUp()
+        self.replace(try_cases, CASES=self.top / "cases")
 
     def ran(self, *words: str, prints: str = PASSED, status: int = 0) -> tuple:
-        path = f"{self.top / 'bin'}:{os.environ['PATH']}"
-        with unittest.mock.patch.dict(os.environ, PATH=path, PRINTS=prints, STATUS=str(status),
-                                      ASKED=str(self.top / "asked")):
+        with self.with_toolchain(PRINTS=prints, STATUS=str(status), ASKED=str(self.top / "asked")):
             with contextlib.redirect_stdout(io.StringIO()) as out, contextlib.redirect_stderr(io.StringIO()):
                 status = try_cases.main(list(words))
         return status, out.getvalue().splitlines()
