@@ -201,7 +201,7 @@ def main() -> int:
     faults += [f"{document.relative_to(TOP)}: {fault}" for document in readability.documents()
                for fault in hard_to_read(document)]
     faults += [f"{file.relative_to(TOP)}: {fault}" for file in files if file.suffix == ".rt"
-               for fault in docs_claims.wrong_heads(file.read_text(), TOP)]
+               for fault in docs_claims.wrong_heads(file.read_text(), TOP, docs_rules.code_name(file))]
     faults += [f"{document.relative_to(TOP)}: {fault}"
                for document in documents for fault in missing_in(document, words)]
     faults += [f"{file.relative_to(TOP)}: {fault}" for file in files

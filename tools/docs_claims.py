@@ -337,19 +337,29 @@ def parts_of_profile(top: Path) -> set[str]:
     return set(re.findall(r"^## (.+?)(?: \(.*)?$", profile_of(top), re.MULTILINE))
 
 
-def wrong_numbers(numbers: list[str], top: Path) -> list[str]:
-    """Which of these numbers are no rules of PROFILE."""
+@functools.lru_cache(maxsize=None)
+def rules_of_files(top: Path) -> dict[str, list[str]]:
+    return docs_rules.rules_of_files((top / "docs/rules.ini").read_text(encoding="utf-8"))
+
+
+def wrong_numbers(numbers: list[str], top: Path, file: str) -> list[str]:
+    """Which of these numbers, of the head of a file as `crate/file.rt`, are no rules of PROFILE, or not those that
+    docs/rules.ini has for the file."""
     known = {rule.number for rule in docs_rules.rules_in(profile_of(top))}
-    return [f"no such rule of PROFILE: {number}" for number in numbers if number not in known]
+    faults = [f"no such rule of PROFILE: {number}" for number in numbers if number not in known]
+    listed = rules_of_files(top).get(file, [])
+    if not faults and file and numbers != listed:
+        faults.append(f"its head has the rules {', '.join(numbers)}, and docs/rules.ini {', '.join(listed) or 'none'}")
+    return faults
 
 
-def wrong_heads(text: str, top: Path) -> list[str]:
+def wrong_heads(text: str, top: Path, file: str = "") -> list[str]:
     """What a source's head says about its rules and isn't so. It names them by their numbers, as `Rules: H3, W2.`, or
     by their part of PROFILE with definitions, rows and cases. A definition without a crate is one of service_model."""
     head = " ".join(line[4:] for line in text.splitlines() if line.startswith("//! "))
     numbers = RULES_OF_HEAD.search(head)
     if numbers:
-        return wrong_numbers(parts_of(numbers[1]), top)
+        return wrong_numbers(parts_of(numbers[1]), top, file)
     if "Rule:" not in head:
         return []
     said = HEAD_OF_RULES.search(head)

@@ -209,6 +209,12 @@ def trace(profile: str, ini: str) -> str:
     return "\n".join(lines).replace("\n\n\n", "\n\n") + "\n"
 
 
+def code_name(file: Path) -> str:
+    """How a file of code is named in docs/rules.ini: `shard/signals.rt` is crates/shard/src/signals.rt."""
+    crate, _, rest = str(file).rpartition("crates/")[2].partition("/src/")
+    return f"{crate}/{rest}"
+
+
 def rules_of_files(ini: str) -> dict[str, list[str]]:
     """For each file of code, as `crate/file.rt`, the rules that it is code of, in their order."""
     found: dict[str, list[str]] = {}
@@ -230,8 +236,7 @@ def heads(ini: str, top: Path, writes: bool) -> list[str]:
         text = file.read_text(encoding="utf-8")
         if not HEAD_OF_PART.search(text):
             continue
-        crate, _, *rest = file.relative_to(top / "crates").parts
-        numbers = known.get("/".join([crate, *rest]), [])
+        numbers = known.get(code_name(file), [])
         lines.append(f"{file.relative_to(top)}: {', '.join(numbers) or 'no rule has it as its code'}")
         if writes and numbers:
             file.write_text(with_numbers(text, numbers), encoding="utf-8")

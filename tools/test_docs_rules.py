@@ -100,6 +100,10 @@ class Rules(unittest.TestCase):
         self.assertEqual(docs_claims.wrong_heads("//! A file. Rules: H3, W2.\n", top), [])
         self.assertEqual(docs_claims.wrong_heads("//! A file. Rules: H3,\n//! W99.\n", top),
                          ["no such rule of PROFILE: W99"])
+        self.assertEqual(docs_claims.wrong_heads("//! Rules: H3.\n", top, "shard/signals.rt"), [])
+        self.assertEqual(docs_claims.wrong_heads("//! Rules: H4.\n", top, "shard/signals.rt"),
+                         ["its head has the rules H4, and docs/rules.ini H3"])
+        self.assertEqual(len(docs_claims.wrong_heads("//! Rules: H3.\n", top, "shard/reads.rs")), 1)
 
     def test_heads_get_the_numbers_of_their_rules(self):
         head = ("//! Signals.\n//!\n//! Rule: PROFILE, Histories. Definition: Signals,\n//! Role. Rows: TaskRows. "
