@@ -5,7 +5,7 @@ lines at the limit of a line's length and above it, and empty ones.
 Usage: bench/hostile.py
 
 Each kind is sent twice, the second time four times as many lines. All are refused before any shard is
-asked, so no line leaves a step behind: what the program holds more after the second time is memory
+asked, so no line leaves a step: what the program holds more after the second time is memory
 that was not given back. Where that is above 256 KiB, it is sent a third time, and the script
 ends with status 1 if the program then holds as much more again: what a system gives out at once, as
 large pages, doesn't come twice. Times are processor times of the program. `rt run` in crates/wfserve

@@ -5,7 +5,7 @@ Usage: bench/instructions.py [--parts N]
 
 Each case runs at two sizes, and a line's instructions are those by which the sum grows from one size
 to the next: they don't depend on the machine's load, and what is done once falls away. Polls and
-completions come behind the starts and dispatch turns of 1,024 workflows, and completions behind their
+completions come after the starts and dispatch turns of 1,024 workflows, and completions after their
 polls as well. An activity's four lines hand it to its queue, take it, say a heartbeat and complete it. A
 read is counted by the events that it writes. `--parts N` prints the N functions that take most of a
 line, with what they call. Valgrind has to be there; `rt run` in crates/wfserve and crates/line_floor builds

@@ -4,7 +4,7 @@
 Usage: bench/records.py [STEPS..]   (default: 50000 200000)
 
 Each tenth step starts a workflow, and the others signal it; all of their tasks wait. They are served as lines, then served and saved,
-then loaded with no line behind them, and loaded and saved again, which has to give the same bytes.
+then loaded with no line after them, and loaded and saved again, which has to give the same bytes.
 Times are processor times, in and under the kernel, the shortest of three runs. Where crates/wfserve
 has no built program, tools/build_program.py builds one.
 """
@@ -70,7 +70,7 @@ def measure(wfserve, steps, folder):
         sys.exit("records: what was loaded is saved otherwise")
     each = 1e6 / steps
     print(f"{steps} steps: {len(record) / steps:.0f} bytes a step; served {served * each:.2f} us a step, "
-          f"saved behind that {(saved - served) * each:.2f}, loaded {loaded * each:.2f}, loaded and saved "
+          f"saved after that {(saved - served) * each:.2f}, loaded {loaded * each:.2f}, loaded and saved "
           f"{both * each:.2f}; loading goes {served / loaded:.2f} times as fast as serving", flush=True)
 
 

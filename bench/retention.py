@@ -85,7 +85,7 @@ class Program:
 
 
 def take(lines, count, options):
-    """The memory behind so many runs, in bytes, and the seconds of a run."""
+    """The memory after so many runs, in bytes, and the seconds of a run."""
     program = Program(*options)
     begun = time.monotonic()
     program.answer(lines(count), sum(1 for _ in lines(1)) * count)
@@ -116,7 +116,7 @@ def main():
     if not os.access(first_path.PROGRAM, os.X_OK):
         sys.exit(f"retention: {first_path.PROGRAM} is not built; run `rt run` in its folder")
     print(f"load {os.getloadavg()[0]:.2f} on {os.cpu_count()} processors", flush=True)
-    for name, lines, options in (("kept", come_and_go, []), ("taken away", come_and_go, ["--retention", "1"]),
+    for name, lines, options in (("kept", come_and_go, []), ("deleted", come_and_go, ["--retention", "1"]),
                                  ("their record alone", refused, [])):
         before = None
         for count in sizes:

@@ -227,8 +227,8 @@ def main():
         if read != read_again:
             sys.exit("soak: opened from the records, another history is answered")
         # Reads are steps: the second time each shard's record has those of this reading more.
-        for before, behind in zip(saved, kept(again)):
-            if not behind.startswith(before):
+        for before, after in zip(saved, kept(again)):
+            if not after.startswith(before):
                 sys.exit("soak: opened from the records, others are saved")
         print("the same histories and records, once opened again")
 

@@ -35,9 +35,9 @@ def main():
         begun = starts(workflows) + taken(workflows)
         started = begun + completed(workflows, timers(each))
         fired = started + turns(workflows * each)
-        before, between, behind = (seconds(it) for it in (begun, started, fired))
+        before, between, after = (seconds(it) for it in (begun, started, fired))
         print(f"{workflows} workflows with {each} timers each: a completion takes "
-              f"{(between - before) / workflows * 1e3:.3f} ms, a turn {(behind - between) / (workflows * each) * 1e6:.2f} us", flush=True)
+              f"{(between - before) / workflows * 1e3:.3f} ms, a turn {(after - between) / (workflows * each) * 1e6:.2f} us", flush=True)
 
 
 if __name__ == "__main__":

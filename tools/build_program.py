@@ -4,19 +4,25 @@
     tools/build_program.py NAME
 
 The program and the crates below it are copied to out/build, where crates that don't stand on each
-other are proved side by side. The program then is out/build/crates/NAME/out/NAME.
+other are proved side by side. The program then is out/build/crates/NAME/out/NAME. How many minutes
+are left is said by the times of the last build, and before there was one by the sizes of the crates.
 """
 import os
 import pathlib
 import shutil
 import subprocess
 import sys
+import time
+
+import gate_progress
 
 ROOT = pathlib.Path(__file__).resolve().parent.parent
 BUILD = ROOT / "out" / "build"
 PARTS = ("src", "specs", "proofs")
 # A proof takes up to this much memory.
 BYTES_FOR_A_PROOF = 4 << 30
+# What a first build takes on four quiet cores.
+FIRST_SECONDS = 2400
 
 
 def lines_of_crates():
@@ -76,9 +82,25 @@ def at_once():
     return max(1, min(len(os.sched_getaffinity(0)), memory // BYTES_FOR_A_PROOF))
 
 
-def prove(names):
-    """Proves the crates, and prints a line for each that is through. Returns the last lines if one fails."""
-    said, done = [], 0
+def by_sizes(names):
+    """Returns how long each crate is expected to take where no build was measured: by its lines."""
+    lines = {}
+    for name in names:
+        files = [file for part in PARTS for file in (ROOT / "crates" / name / part).rglob("*") if file.is_file()]
+        lines[name] = sum(file.read_bytes().count(b"\n") for file in files)
+    whole = sum(lines.values()) or 1
+    return gate_progress.Expected({name: FIRST_SECONDS * count / whole for name, count in lines.items()})
+
+
+def prove(names, kept):
+    """Proves the crates, and prints a line for each that is through. Returns the last lines if one fails.
+
+    What it took is kept in a file for the next build. A build that finds work of an earlier one takes less
+    than a first one, and what it took says nothing about that: it is not kept.
+    """
+    said, course, began = [], [], time.monotonic()
+    is_first = not any((BUILD / "crates" / name / "out").is_dir() for name in names)
+    expected = gate_progress.read_times(kept) or by_sizes(names)
     call = ["rt", "all", "check", "--jobs", str(at_once())]
     with subprocess.Popen(
         call, cwd=BUILD / "crates", stdout=subprocess.PIPE, stderr=subprocess.STDOUT, text=True
@@ -86,9 +108,18 @@ def prove(names):
         for line in run.stdout:
             said.append(line)
             if line.startswith("== ") and line[3:].strip() in names:
-                done += 1
-                print(f"build: {done} of {len(names)}: {line[3:].strip()}", file=sys.stderr)
+                course.append((line[3:].strip(), time.monotonic() - began))
+                print(f"build: {how_far(course, names, expected)}", file=sys.stderr, flush=True)
+    if is_first and not run.returncode:
+        gate_progress.write_times(kept, course, time.monotonic() - began)
     return "".join(said[-30:]) if run.returncode else None
+
+
+def how_far(course, names, expected):
+    """Says which crate is through, how many are, and how many minutes are left."""
+    name, elapsed = course[-1]
+    left = expected.left([part for part, _ in course], elapsed)
+    return f"{len(course)} of {len(names)}: {name}, {gate_progress.in_minutes(left)}"
 
 
 def link(name):
@@ -129,7 +160,7 @@ def main(words):
         " the first time that takes some 140 minutes of processor time, 40 on four quiet cores",
         file=sys.stderr,
     )
-    failure = prove(names) or link(name)
+    failure = prove(names, gate_progress.KEPT / f"build-{name}.json") or link(name)
     if failure:
         print(failure, end="", file=sys.stderr)
         print("build: the build failed", file=sys.stderr)

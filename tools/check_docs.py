@@ -4,16 +4,18 @@
     tools/check_docs.py        prints what isn't there, a line each, and fails if there is anything
 
 A name in back quotes, of a document or of a comment in a source of a crate, is looked for word by word in all
-files that are no documents, without such comments. A file or a lemma is looked up in its crate (docs_paths.py). Names of the toolchain and of its libraries are listed in tools/known_names.txt. Each
-file of definitions says in its first line whether it is meaning or proof. docs/ARCHITECTURE.md lists the former,
-and has the table that lines_to_believe.py prints: on how many lines each promise rests.
+files that are no documents, without such comments. A file or a lemma is looked up in its crate (docs_paths.py).
+Names of the toolchain and of its libraries are listed in tools/known_names.txt. Each file of definitions says in its
+first line whether it is meaning or proof. docs/ARCHITECTURE.md lists the former, and has the table that
+lines_to_believe.py prints: on how many lines each promise rests.
 
-Beside a rule of docs/PROFILE.md stand its definition, an example, a case and a wrong body, in the last four
-columns of its table or in a line below it. Each of these has to be there, under its name in its file. So have
-the part of PROFILE, the definitions, examples and cases that the head of a source file of rules names. What
-else the documents claim of crates, calls, clauses and options is looked up by docs_claims.py. A note says
-where they name another toolchain than the one that is here. No text of the tree may hold what a merge
-leaves where two sides differ.
+docs/rules.ini says where each rule of docs/PROFILE.md stands, and docs/TRACE.md is written from it (docs_rules.py).
+Each of these places has to be there. So have the rules that the head of a source file names. What else the documents
+claim about crates, calls, clauses and options is looked up by docs_claims.py. A note says where they name another
+toolchain than the one that is here. No text of the tree may hold what a merge leaves where two sides differ.
+
+No sentence of a document has more than 40 words (readability.py), and none has a word that a stranger stumbles over
+(plain_words.py). Documents below crates/ are held to neither yet.
 """
 from __future__ import annotations
 
@@ -25,8 +27,12 @@ from pathlib import Path
 
 import docs_claims
 import docs_paths
+import docs_rules
 import lines_to_believe
+import plain_words
+import readability
 from docs_claims import QUOTED
+from docs_rules import KINDS, missing_beside_rules  # noqa: F401 (tests of the documents read KINDS here)
 
 TOP = Path(__file__).resolve().parent.parent
 ROOTS = ("bench/", "clients/", "crates/", "docs/", "examples/", "tools/")
@@ -35,16 +41,9 @@ BRACED = re.compile(r"[A-Za-z_][\w.:/-]*\{[\w, .-]*\}[\w.-]*")
 IN_CRATE = re.compile(r"(\w+)/((?:src|data|must-fail)/[\w./-]+)")
 WORD = re.compile(r"[A-Za-z_][\w-]*")
 LINK = re.compile(r"\]\(([^)#\s]+)[^)]*\)")
+ANCHOR = re.compile(r"\]\(([^)#\s]*)#([^)\s]+)\)")
+HEADING = re.compile(r"^#+ (.+?)\s*$", re.MULTILINE)
 MERGE = re.compile(r"^(?:<{7} .*|\|{7} .*|={7}|>{7} .*)$")
-KINDS = ("Definition", "Example", "Case", "Wrong body")
-PLACES = {
-    "Definition": "crates/{}/specs/{}.antt",
-    "Example": "crates/service_model/proofs/{}.antt",
-    "Case": "crates/cases/data/{}.cases",
-    "Wrong body": "crates/{}/must-fail/{}.edit",
-}
-BESIDE = re.compile("\\. ".join(f"{kind}: (.+?)" for kind in KINDS) + "\\.")
-REFERENCES = re.compile(r"`[^`]+`(, `[^`]+`)*")
 
 
 def tracked() -> list[Path]:
@@ -101,10 +100,26 @@ def missing_of(quoted: str, words: set[str]) -> list[str]:
     ]
 
 
+def slug(heading: str) -> str:
+    """How a link names a heading: in small letters, a hyphen for each blank, and no other marks."""
+    return re.sub(r"[^\w -]", "", heading.lower()).replace(" ", "-")
+
+
+def wrong_anchors(document: Path, text: str) -> list[str]:
+    """The links to headings, of this document or of another one, that aren't there."""
+    faults = []
+    for name, anchor in ANCHOR.findall(text):
+        file = document.parent / name if name else document
+        if not name.startswith("http") and file.suffix == ".md" and file.is_file():
+            headings = {slug(heading) for heading in HEADING.findall(file.read_text(encoding="utf-8"))}
+            faults += [] if anchor in headings else [f"no such heading: {name}#{anchor}"]
+    return faults
+
+
 def missing_in(document: Path, words: set[str]) -> list[str]:
     """What a document cites that isn't there."""
     text = re.sub(r"(?ms)^(```|    ).*?$", "", document.read_text())
-    missing = []
+    missing = wrong_anchors(document, text)
     for link in LINK.findall(text):
         if "://" not in link and not (document.parent / link).exists():
             missing.append(f"no such file: {link}")
@@ -119,69 +134,6 @@ def missing_in_comments(source: Path, words: set[str]) -> list[str]:
     quoted = QUOTED.findall(docs_paths.comments_of(text, source.suffix))
     return [fault for name in quoted for fault in missing_of(name, words)] + docs_paths.faults_of_source(
         text, source, TOP)
-
-
-def has_line(file: Path, pattern: str) -> bool:
-    return re.search(pattern, file.read_text(), re.MULTILINE) is not None
-
-
-def fault_of_reference(kind: str, reference: str, top: Path) -> str | None:
-    """What is wrong with `place: name`, the reference of this kind that a rule has."""
-    place, colon, name = reference.partition(": ")
-    parts = place.split("/")
-    if not colon or len(parts) != (2 if kind == "Definition" else 1):
-        return f"no reference to a {kind.lower()}: {reference}"
-    file = PLACES[kind].format(*parts, name)
-    if not (top / file).is_file():
-        return f"no such {kind.lower()}: {reference} ({file})"
-    word = re.escape(name)
-    pattern = {
-        "Definition": rf"^ *((abbrev|unfoldable) pub|pub (data|record)) {word}(?![\w'])",
-        "Example": rf"^pub {word}(?![\w'])",
-        "Case": rf"^## {word}$",
-        "Wrong body": r"^new: ",
-    }[kind]
-    return None if has_line(top / file, pattern) else f"no such {kind.lower()}: {reference} (in {file})"
-
-
-def faults_of_cells(cells: list[str], top: Path) -> list[str]:
-    """What is wrong with the four cells of a rule: of each, references with commas between them, or `-`."""
-    faults = []
-    for kind, cell in zip(KINDS, cells):
-        if cell == "-":
-            continue
-        if not REFERENCES.fullmatch(cell):
-            faults.append(f"neither references nor -, as a {kind.lower()}: {cell}")
-            continue
-        found = [fault_of_reference(kind, reference, top) for reference in QUOTED.findall(cell)]
-        faults += [fault for fault in found if fault]
-    return faults
-
-
-def cells_of(line: str) -> list[str]:
-    return [cell.strip() for cell in line.strip().strip("|").split("|")]
-
-
-def missing_beside_rules(text: str, top: Path = TOP) -> list[str]:
-    """What the rules of a text have beside them that isn't there."""
-    faults = []
-    width = 0
-    for line in text.splitlines():
-        if line.startswith("|"):
-            cells = cells_of(line)
-            if tuple(cells[-4:]) == KINDS:
-                width = len(cells)
-            elif width and not set(line) <= set("|-: "):
-                if len(cells) != width:
-                    faults.append(f"{len(cells)} cells where there are {width}: {line[:60]}")
-                else:
-                    faults += faults_of_cells(cells[-4:], top)
-            continue
-        width = 0
-        if line.lstrip().startswith("Definition:"):
-            below = BESIDE.fullmatch(line.strip())
-            faults += faults_of_cells(list(below.groups()), top) if below else [f"no line below a rule: {line[:60]}"]
-    return faults
 
 
 def is_specification(file: Path) -> bool:
@@ -203,6 +155,14 @@ def wrong_markers(files: list[Path]) -> list[str]:
     return wrong + [f"docs/ARCHITECTURE.md: {fault}" for fault in unsaid]
 
 
+def hard_to_read(document: Path) -> list[str]:
+    """What of a document is hard to read: its long sentences, and words that the field says in another way."""
+    text = document.read_text(encoding="utf-8")
+    long = [f"line {one.line}: a sentence of {one.words} words, more than {readability.MOST_WORDS}: {one.text[:60]}"
+            for one in readability.too_long(text)]
+    return long + [f"line {one.line}: {one.text}: write {one.better}" for one in plain_words.found_in(text)]
+
+
 def kit_here() -> str:
     """What the toolchain says that it is, or nothing where it isn't there."""
     if not shutil.which("rt"):
@@ -216,7 +176,8 @@ def faults_of_claims() -> list[str]:
         "README.md": [docs_claims.wrong_promises],
         "docs/ARCHITECTURE.md": [docs_claims.crates_without_a_row],
         "docs/PROVED.md": [docs_claims.wrong_contracts, docs_claims.wrong_waits],
-        "docs/PROFILE.md": [missing_beside_rules, docs_claims.unnamed],
+        "docs/PROFILE.md": [docs_claims.unnamed],
+        "docs/TRACE.md": [missing_beside_rules],
     }
     return [f"{name}: {fault}" for name, looks in claims.items() for look in looks
             for fault in look((TOP / name).read_text(), TOP)]
@@ -234,11 +195,13 @@ def main() -> int:
     files = tracked()
     documents = [file for file in files if file.suffix == ".md"]
     known = (TOP / "tools/known_names.txt").read_text().split()
-    words = words_of([file for file in files if file.suffix != ".md"]).union(known)
+    words = words_of([file for file in files if file.suffix != ".md" and file.name != "rules.ini"]).union(known)
     faults = [f"{file.relative_to(TOP)}: {fault}" for file in files for fault in left_of_merges(file)]
-    faults += wrong_markers(files) + faults_of_claims()
+    faults += wrong_markers(files) + docs_rules.faults() + faults_of_claims()
+    faults += [f"{document.relative_to(TOP)}: {fault}" for document in readability.documents()
+               for fault in hard_to_read(document)]
     faults += [f"{file.relative_to(TOP)}: {fault}" for file in files if file.suffix == ".rt"
-               for fault in docs_claims.wrong_heads(file.read_text(), TOP)]
+               for fault in docs_claims.wrong_heads(file.read_text(), TOP, docs_rules.code_name(file))]
     faults += [f"{document.relative_to(TOP)}: {fault}"
                for document in documents for fault in missing_in(document, words)]
     faults += [f"{file.relative_to(TOP)}: {fault}" for file in files

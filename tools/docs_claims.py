@@ -9,6 +9,8 @@ import functools
 import re
 from pathlib import Path
 
+import docs_rules
+
 QUOTED = re.compile(r"`([^`\n]+)`")
 HEAD = re.compile(r"^ *(pub(?:\([a-z]+\))? )?(?:ghost )?(?:unsafe )?fn (\w+)", re.MULTILINE)
 TYPE = re.compile(r"^ *pub (?:struct|enum|trait) (\w+)", re.MULTILINE)
@@ -34,8 +36,8 @@ def expanded(quoted: str) -> list[str]:
     braced = re.fullmatch(r"([^{}]*)\{([^{}]*)\}([^{}]*)", quoted)
     if not braced:
         return [quoted]
-    before, names, behind = braced.groups()
-    return [f"{before}{name}{behind}" for name in parts_of(names)]
+    before, names, after = braced.groups()
+    return [f"{before}{name}{after}" for name in parts_of(names)]
 
 
 def tables_of(text: str) -> list[list[list[str]]]:
@@ -165,7 +167,7 @@ def calls_named(cell: str, calls: list[Call], types: set[str]) -> tuple[list[Cal
 
 
 def faults_of_clauses(cell: str, named: list[Call], records: dict[str, set[str]]) -> list[str]:
-    """What a cell says of the clauses of these calls and isn't so."""
+    """What a cell says about the clauses of these calls and isn't so."""
     if cell == "the only one":
         return [f"not the only clause: of {call.name}" for call in named
                 if call.is_public and len(call.clauses) + call.unnamed > 1]
@@ -203,7 +205,10 @@ def wrong_promises(text: str, top: Path) -> list[str]:
     pattern = re.compile(r"clauses? of ((?:`\w+`(?:, | and )?)+) \(((?:`\w+`(?:, )?)+)\)")
     calls = [call for crate in crates_of(top) for call in calls_of(crate, top)]
     records, faults = records_of(top), []
-    for row in table_with(text, ["", "Where it is said"]):
+    tables = [table for table in tables_of(text) if table[0] == ["", "Where it is said"]]
+    if not tables:
+        return ["no table says where promises stand"]
+    for row in (row for table in tables for row in table[1:]):
         for names, clauses in pattern.findall(row[1]):
             named, missing = calls_named(names, calls, set())
             faults += missing + [f"{names}: {fault}" for fault in faults_of_clauses(clauses, named, records)]
@@ -217,7 +222,7 @@ def wrong_waits(text: str, top: Path) -> list[str]:
     """The calls of which a text says that they may wait are those that have that leave."""
     said = re.search(r"the calls that may wait \((.*?)\)", text)
     if not said:
-        return ["it says of no calls that they may wait"]
+        return ["it names no calls that may wait"]
     listed = {name.split("::")[-1] for quoted in QUOTED.findall(said[1]) for name in expanded(quoted)}
     waiting = [call for crate in WAITING_CRATES for call in calls_of(crate, top) if call.may_wait]
     unsaid = {call.name for call in waiting if call.is_public} - listed
@@ -317,21 +322,52 @@ STANDS_IN = {
 }
 
 
+RULES_OF_HEAD = re.compile(r"Rules: ([A-Z]\d+(?:, [A-Z]\d+)*)\.")
+# What a part of PROFILE was called when heads of sources were written that cite it.
+EARLIER_PARTS = {"Runs that are taken away": "Deleted runs"}
+
+
 @functools.lru_cache(maxsize=None)
-def rules_of(top: Path) -> set[str]:
-    """The parts of PROFILE, without what stands behind their names in brackets."""
-    return set(re.findall(r"^## (.+?)(?: \(.*)?$", (top / "docs/PROFILE.md").read_text(), re.MULTILINE))
+def profile_of(top: Path) -> str:
+    return (top / "docs/PROFILE.md").read_text(encoding="utf-8")
 
 
-def wrong_heads(text: str, top: Path) -> list[str]:
-    """What a source's head says of its rule, and isn't there. A definition without a crate is one of service_model."""
+def parts_of_profile(top: Path) -> set[str]:
+    """The parts of PROFILE, without what stands after their names in brackets."""
+    return set(re.findall(r"^## (.+?)(?: \(.*)?$", profile_of(top), re.MULTILINE))
+
+
+@functools.lru_cache(maxsize=None)
+def rules_of_files(top: Path) -> dict[str, list[str]]:
+    return docs_rules.rules_of_files((top / "docs/rules.ini").read_text(encoding="utf-8"))
+
+
+def wrong_numbers(numbers: list[str], top: Path, file: str) -> list[str]:
+    """Which of these numbers, of the head of a file as `crate/file.rt`, are no rules of PROFILE, or not those that
+    docs/rules.ini has for the file."""
+    known = {rule.number for rule in docs_rules.rules_in(profile_of(top))}
+    faults = [f"no such rule of PROFILE: {number}" for number in numbers if number not in known]
+    listed = rules_of_files(top).get(file, [])
+    if not faults and file and numbers != listed:
+        faults.append(f"its head has the rules {', '.join(numbers)}, and docs/rules.ini {', '.join(listed) or 'none'}")
+    return faults
+
+
+def wrong_heads(text: str, top: Path, file: str = "") -> list[str]:
+    """What a source's head says about its rules and isn't so. It names them by their numbers, as `Rules: H3, W2.`, or
+    by their part of PROFILE with definitions, rows and cases. A definition without a crate is one of service_model."""
     head = " ".join(line[4:] for line in text.splitlines() if line.startswith("//! "))
+    numbers = RULES_OF_HEAD.search(head)
+    if numbers:
+        return wrong_numbers(parts_of(numbers[1]), top, file)
     if "Rule:" not in head:
         return []
     said = HEAD_OF_RULES.search(head)
     if not said:
         return ["its head names no rule, definition, rows and cases"]
-    faults = [f"no such part of PROFILE: {rule}" for rule in parts_of(said[1]) if rule not in rules_of(top)]
+    parts = parts_of_profile(top)
+    faults = [f"no such part of PROFILE: {part}" for part in parts_of(said[1])
+              if EARLIER_PARTS.get(part, part) not in parts]
     for kind, names in zip(STANDS_IN, said.groups()[1:]):
         for name in parts_of(names) if names != "-" else []:
             place = ("service_model/" + name).split("/")[-2:] if kind == "definition" else [name]

@@ -126,7 +126,7 @@ class ManyLines(unittest.TestCase):
         self.assertEqual(replies[-1]["ok"], "none")
 
     def test_five_thousand_runs_come_and_go(self):
-        """They time out and are taken away, and then each workflow begins anew."""
+        """They time out and are deleted, and then each workflow begins anew."""
         again = [start(f"w{number}", reuse="RejectDuplicate") for number in range(self.RUNS)]
         lines = self.timing_out() + self.turns(2000) + self.turns(3000) + again
         replies = served(lines, "--retention", "1000")
@@ -246,14 +246,14 @@ class Reopening(unittest.TestCase):
             self.assertEqual(self.records(again), row.records)
 
     def test_scripts_go_on_from_records(self):
-        """What they are answered is the row's, and what they do comes behind what was done."""
+        """What they are answered is the row's, and what they do comes after what was done."""
         for row, words in self.each_row():
             saved, again = self.left_by(row), self.fresh("again")
             done = ran(row.after, *words, "--load", saved, "--save", again)
             self.assertEqual((done.returncode, done.stdout), (int('"error"' in row.replies), row.replies))
             self.assertEqual(len(self.records(again)), len(row.records))
-            for behind, before in zip(self.records(again), row.records):
-                self.assertTrue(behind.startswith(before))
+            for after, before in zip(self.records(again), row.records):
+                self.assertTrue(after.startswith(before))
 
     def test_records_that_do_not_fit_are_refused(self):
         """Of two tasks that wait on one shard. That there is one record of each shard is looked for in the folder."""
@@ -343,7 +343,7 @@ class OneHistory(unittest.TestCase):
         return [{}, *({"LD_PRELOAD": str(allocator), "YIELD_SEED": str(seed)} for seed in range(self.SCHEDULES))]
 
     def test_transfers_stand_in_order(self):
-        """Every delivery stands behind the step that issued its transfer, and every acknowledgement behind the
+        """Every delivery stands after the step that issued its transfer, and every acknowledgement after the
         step that accepted it; at the end all transfers have come to where they were sent."""
         for environment in self.schedules():
             with self.subTest(environment):

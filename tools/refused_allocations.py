@@ -11,7 +11,7 @@ that the number D of a day gives: so K days on end refuse all of them.
 
 CALLS ends with status 2 where memory was refused outside of the service, as of its own texts. Else a call
 that was refused leaves each run's history and description as they were, or as the parts of a turn that were
-done leave them; made again it is answered as if nothing had been refused, and so is each call behind it. Two
+done leave them; made again it is answered as if nothing had been refused, and so is each call after it. Two
 passes make the calls in turn. At the end all is read as if nothing had been refused, and so it is of a service
 that is opened from the records of the same lines.
 
@@ -135,7 +135,7 @@ class Calls(Subject):
         return status, [line[2:] for line in output.decode().splitlines() if line[:2] == "< "], errors, count
 
     def read_behind(self, steps):
-        """What is read behind these steps where nothing is refused."""
+        """What is read after these steps where nothing is refused."""
         key = "\n".join(steps)
         if key not in self.known:
             told = self.told(None, steps)[1]
@@ -143,7 +143,7 @@ class Calls(Subject):
         return self.known[key]
 
     def may_leave(self, place):
-        """What may be read behind the call at a place that was refused."""
+        """What may be read after the call at a place that was refused."""
         yield self.read_behind(self.steps[:place])
         if self.op(place) == "transfer_turn":
             turn = {**json.loads(self.steps[place][2:]), "stop": 2}
@@ -189,7 +189,7 @@ class Calls(Subject):
                 if left not in self.may_leave(at):
                     return None, f"what a refused call left, line {at + 1}: {left}"
             elif line == reply or (refused, line) == ("transfer_turn", reply.replace("accepted", "already")):
-                # A delivery whose turn was refused behind it is answered as done before.
+                # A delivery whose turn was refused after it is answered as done before.
                 wanted.popleft()
             elif (refused, line) != ("dispatch_turn", f'{{"line":{at + 1},"ok":"stale"}}'):
                 # Behind a dispatch turn that was refused a hint may wait twice, and the poll is made again.

@@ -84,7 +84,7 @@ def texts(lines):
 
 
 def served(program, words, lines, allocator=None, seed=0):
-    """The replies to the lines, without their numbers, and the steps that are printed behind them."""
+    """The replies to the lines, without their numbers, and the steps that are printed after them."""
     environment = {"LD_PRELOAD": str(allocator), "YIELD_SEED": str(seed)} if allocator else {}
     done = subprocess.run(
         [str(program), *SETTINGS, *words],
@@ -159,7 +159,7 @@ def attempt(program, allocator, seed):
                 return "opened from the records it answers otherwise", None
         except (ValueError, subprocess.TimeoutExpired) as fault:
             return str(fault), None
-    turns = sum(before["pass"] != behind["pass"] for entries in records for before, behind in zip(entries, entries[1:]))
+    turns = sum(before["pass"] != after["pass"] for entries in records for before, after in zip(entries, entries[1:]))
     return None, turns
 
 

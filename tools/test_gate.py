@@ -31,6 +31,7 @@ rt: wide NOT PROVED: its library high failed
 """
 # What it is called with comes first, so that what it prints last is what the caller has to end with.
 RT = """#!/bin/sh
+if [ "$1" = --help ]; then echo "       $HELP"; exit 0; fi
 echo "asked: $*"
 printf '%s' "$SAID"
 exit 3
@@ -62,6 +63,8 @@ class Followed(unittest.TestCase):
 
 
 class Run(unittest.TestCase):
+    """The gate as a program, with a toolchain that takes names."""
+
     def setUp(self):
         folder = tempfile.TemporaryDirectory()
         self.addCleanup(folder.cleanup)
@@ -71,7 +74,8 @@ class Run(unittest.TestCase):
         toolchain.chmod(0o755)
 
     def ran(self, *words, path=None, text=""):
-        where = {"PATH": f"{self.folder}:{os.environ['PATH']}" if path is None else path, "SAID": SAID}
+        where = {"PATH": f"{self.folder}:{os.environ['PATH']}" if path is None else path, "SAID": SAID,
+                 "HELP": "rt ci [NAME..]   the merge gate"}
         return subprocess.run([sys.executable, str(TOOLS / "gate"), *words], input=text, capture_output=True, text=True,
                               env={**os.environ, **where}, timeout=120)
 
@@ -87,6 +91,13 @@ class Run(unittest.TestCase):
         ran = self.ran("follow", text=SAID)
         self.assertEqual((ran.returncode, ran.stdout), (0, SAID))
 
+    def test_a_row_of_the_table_counts_what_was_tried(self):
+        said = SAID.replace("high: trying", "shard: trying")
+        ran = self.ran("row", "12", "34", text=said)
+        self.assertEqual(ran.returncode, 0)
+        self.assertRegex(ran.stdout, r"^\| [\w.-]+ \| not measured \| 12 \| 34 \| 2 \| 1 of 3 \|\n$")
+        self.assertRegex(self.ran("row", "1", "2", text="rt: stopped\n").stdout, r"\| 0 \| ended early \|\n$")
+
     def test_what_can_not_be_run_is_said(self):
         for words, path, said in [
             (["crate", "shrd"], None, "crates.txt has no crate shrd"),
@@ -98,7 +109,7 @@ class Run(unittest.TestCase):
                 self.assertEqual((ran.returncode, ran.stdout), (2, ""))
                 self.assertIn(said, ran.stderr)
 
-    def test_each_quick_part_runs_behind_one_that_failed(self):
+    def test_each_quick_part_runs_after_one_that_failed(self):
         out = io.StringIO()
         statuses = {"a": 0, "b": 1, "c": 5, "d": 0}
         parts = [(name, ".", ["sh", "-c", f"exit {status}"]) for name, status in statuses.items()]

@@ -10,7 +10,7 @@ the steps in the order of their tickets, and transfers as arrows.
 
 Workflow tasks, activities, timers and children are bars from the event that opened them to the one
 that ended them: light while they wait, dark while a worker has them. A ring marks an event that was
-held back while a workflow task was started: it stands behind events that were made later.
+buffered while a workflow task was started: it stands after events that were made later.
 The page needs nothing beside itself. This script only reads replies; no proof covers it.
 """
 import json
@@ -241,7 +241,7 @@ def page(history):
     return (
         f"<!doctype html><html lang=en><meta charset=utf-8><title>{title}</title><style>{STYLE}</style>"
         f"<h1>Run {title}</h1><p>{legend} &mdash; light: waits, dark: a worker has it, "
-        f'<span style="color:#e03131">&#9711;</span> was held back</p>{picture(history["events"])}</html>\n'
+        f'<span style="color:#e03131">&#9711;</span> was buffered</p>{picture(history["events"])}</html>\n'
     )
 
 

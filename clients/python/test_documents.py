@@ -49,8 +49,8 @@ class RulesAndWhatStandsBeside(unittest.TestCase):
         self.assertEqual(table, below)
         return table
 
-    def test_the_profile_has_rules_and_nothing_is_missing(self):
-        text = text_of("docs/PROFILE.md")
+    def test_each_rule_says_where_it_stands_and_nothing_is_missing(self):
+        text = text_of("docs/TRACE.md")
         self.assertGreater(text.count("| Definition | Example | Case | Wrong body |"), 5)
         self.assertEqual(check_docs.missing_beside_rules(text), [])
 

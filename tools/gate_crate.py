@@ -1,0 +1,64 @@
+"""The gate of single crates, for a toolchain whose `rt ci` takes no names.
+
+It makes the same of them on a copy in out/crates: a verdict, which proves a crate, its tests and all below it from
+nothing; then its tests; then its wrong bodies. `rt ci` also runs programs outside the repository, and compares what
+two compilers make of them: that is left to it.
+"""
+from __future__ import annotations
+
+import re
+import shutil
+import subprocess
+import sys
+from pathlib import Path
+
+import build_program
+
+TOP = build_program.ROOT
+COPY = TOP / "out" / "crates"
+TAKES_NAMES = re.compile(r"^\s*rt ci \[?NAME", re.MULTILINE)
+
+
+def takes_names() -> bool:
+    """Whether `rt ci` of the toolchain that is here takes crates' names."""
+    said = subprocess.run(["rt", "--help"], capture_output=True, text=True, errors="replace")
+    return bool(TAKES_NAMES.search(said.stdout + said.stderr))
+
+
+def copy(names: list[str]) -> None:
+    """Makes the copy anew, of these crates and of all that they stand on, without what builds left."""
+    lines, below = build_program.lines_of_crates()
+    listed: list[str] = []
+    for name in names:
+        if name not in listed:
+            build_program.needed(name, below, listed)
+    shutil.rmtree(COPY, ignore_errors=True)
+    for name in listed:
+        shutil.copytree(TOP / "crates" / name, COPY / "crates" / name, ignore=shutil.ignore_patterns("out"))
+    (COPY / "crates.txt").write_text("".join(f"{lines[name]}\n" for name in listed), encoding="utf-8")
+    shutil.copy(TOP / "HANDLES", COPY / "HANDLES")
+
+
+def steps_of(name: str) -> list[tuple[str, list[str], Path]]:
+    """What is made of a crate: what it is called, the command, and the folder in which it runs."""
+    folder = COPY / "crates" / name
+    steps = [("verdict", ["rt", "verdict"], folder)]
+    if any("#[test]" in source.read_text(encoding="utf-8") for source in (folder / "src").rglob("*.rt")):
+        steps.append(("tests", ["rt", "test"], folder))
+    if any((folder / "must-fail").glob("*.edit")):
+        steps.append(("wrong bodies", ["rt", "must-fail", name], COPY))
+    return steps
+
+
+def verdicts(names: list[str]) -> int:
+    """Runs all of it for each crate, also after one that failed. 0 where all passed, and else 1."""
+    print("gate: rt ci of this toolchain takes no names: verdict, tests and wrong bodies are those of a copy in out/crates")
+    copy(names)
+    failed = []
+    for name in names:
+        for title, command, folder in steps_of(name):
+            print(f"== {name}: {title}", flush=True)
+            if subprocess.run(command, cwd=folder, stdin=subprocess.DEVNULL).returncode:
+                failed.append(f"{name} ({title})")
+    print(f"gate: FAILED: {', '.join(failed)}" if failed else f"gate: passed: {', '.join(names)}", file=sys.stdout)
+    return 1 if failed else 0

@@ -1,0 +1,519 @@
+#!/usr/bin/env python3
+"""Writes what follows mechanically from the fields of requests, commands, transfers and events.
+
+    tools/generate.py            says which parts of crates/ are not what tools/fields.toml gives; 1 if there are any
+    tools/generate.py --write    writes these parts anew
+    tools/generate.py --parts    lists all parts that are generated, a line each
+
+A part is a run of lines without an empty line between: a struct, its destructor, a record of limits, the rows of a
+record's line, the function that writes them, the one that shows that they are within their limits. It is found in its
+file by its first line, and stands there as a programmer would write it: nothing marks it. Of lemmas that have a line
+for each request, such a line is a part of its own. The files of tools/fields
+have a row for each field, and tools/fields.toml says how each kind of field is written in each kind of part.
+`tools/gate quick` compares.
+
+It needs Python 3.11, which reads TOML.
+"""
+from __future__ import annotations
+
+import argparse
+import re
+import sys
+from pathlib import Path
+from typing import Any, Callable, Iterator, NamedTuple
+
+try:
+    import tomllib
+except ModuleNotFoundError:
+    sys.exit("generate: this wants Python 3.11 or later, which reads TOML")
+
+TOP = Path(__file__).resolve().parent.parent
+TABLE = "tools/fields.toml"
+TYPES = "tools/fields"
+# Rust's formatter breaks a line that is longer, and a pattern's fields that are.
+WIDTH = 100
+PATTERN_WIDTH = 18
+# A line of definitions is filled up to here, where the table doesn't say how many rows stand in each.
+ROW_WIDTH = 120
+# A record of definitions stands on one line up to here.
+RECORD_WIDTH = 126
+# What a part of a type is called where the table says nothing else: by its stem, in words or in one capitalized word.
+NAMES = {
+    "limits": "Is{camel}", "rows": "{stem}_rows", "put": "put_{stem}", "known": "known_{stem}",
+    "members": "{stem}_members", "event": "put_{stem}", "fields_of": "{stem}_of", "reader": "{stem}",
+    "back": "{stem}_back",
+}
+
+
+class Part(NamedTuple):
+    """A part of a file of crates/: which file, the line with which it begins, and its text without a last line feed.
+    A part of one line is found by how that line begins."""
+
+    file: str
+    head: str
+    text: str
+    is_line: bool = False
+
+
+class Field(NamedTuple):
+    """A field of a type: its name, its kind, its key in a line, the name of the local that reads it, whether it may be
+    missing in a line and then has its kind's default, and whether its key is no name of a field (`Field`)."""
+
+    name: str
+    kind: str
+    key: str
+    local: str
+    has_default: bool
+    is_keyed: bool
+
+
+Table = dict[str, Any]
+
+
+def fields_of(kind: Table) -> list[Field]:
+    """The fields of a type, in their order in the struct: `name kind`, `default` where the field may be missing in a
+    line, `keyed` where its key is no name of a field, and `key=` and `local=` where these differ from the name."""
+    fields = []
+    for row in kind["fields"]:
+        name, which, *others = row.split()
+        other = dict(one.split("=") for one in others if "=" in one)
+        fields.append(Field(name, which, other.get("key", name), other.get("local", name), "default" in others,
+                            "keyed" in others))
+    return fields
+
+
+def said_of(kind: Table, part: str, table: Table) -> Table:
+    """What the table says about a part of a type: what holds in its group, but for what the type says itself."""
+    stem = kind.get("stem", "")
+    said = {"name": NAMES[part].format(stem=stem, camel=camel(stem)), **table["group"][kind["group"]][part]}
+    said |= kind.get(part, {})
+    return {key: said_word(value, kind, said) for key, value in said.items()}
+
+
+def said_word(value: Any, kind: Table, said: Table) -> Any:
+    """A text of the table with the names of the type and of its value in it; a list of texts, each so."""
+    if isinstance(value, list):
+        return [said_word(one, kind, said) for one in value]
+    return value.replace("TYPE", kind["name"]).replace("OF", said.get("of", "")) if isinstance(value, str) else value
+
+
+def filled(template: str, key: str, value: str, local: str = "") -> str:
+    return template.replace("KEY", key).replace("VALUE", value).replace("LOCAL", local)
+
+
+def file_of(kind: Table, table: Table) -> str:
+    """The file of a type's struct."""
+    return kind.get("file", table["group"][kind["group"]]["file"])
+
+
+def struct(kind: Table, table: Table) -> Part:
+    head = f"pub struct {kind['name']} {{"
+    lines = []
+    for field in fields_of(kind):
+        lines += [f"    /// {line}" for line in kind.get("comments", {}).get(field.name, [])]
+        lines.append(f"    pub {field.name}: {table['kind'][field.kind]['rust']},")
+    return Part(file_of(kind, table), head, "\n".join([head, *lines, "}"]))
+
+
+def destructor(kind: Table, table: Table) -> Part:
+    """The written `Drop` of a struct, which is proved once and not in each crate that drops one."""
+    name = kind["name"]
+    patterns = [f"{field.name}: _" for field in fields_of(kind)]
+    head = f"impl Drop for {name} {{"
+    if len(", ".join(patterns)) <= PATTERN_WIDTH:
+        taken = [f"        let {name} {{ {', '.join(patterns)} }} = self;"]
+    else:
+        taken = [f"        let {name} {{", *(f"            {pattern}," for pattern in patterns), "        } = self;"]
+    return Part(file_of(kind, table), head, "\n".join([head, "    fn drop(self) {", *taken, "    }", "}"]))
+
+
+def limits(kind: Table, table: Table) -> Part:
+    """The record that says that a value is within the limits of its fields' types."""
+    said, kinds = said_of(kind, "limits", table), table["kind"]
+    head = f"pub record {said['name']} ({said['of']} : {kind['name']}) : Type 0 where"
+    lines = [f"  pub {field.name} : {filled(kinds[field.kind]['limit'], field.name, said['of'] + '.' + field.name)}"
+             for field in fields_of(kind) if "limit" in kinds[field.kind]]
+    return Part(said["file"], head, "\n".join([head, *lines]))
+
+
+def members(kind: Table, of: str, part: str, kinds: Table) -> list[str]:
+    """How each member of a record's line is written in such a part, in the order of the keys' bytes."""
+    every = {field.key: (kinds[field.kind][part], f"{of}.{field.name}") for field in fields_of(kind)
+             if part in kinds[field.kind]}
+    every |= {key: (kinds[which][part], value) for key, which, value in kind.get("also", [])}
+    return [filled(template, key, value).replace("OF", of) for key, (template, value) in sorted(every.items())]
+
+
+def broken(written: list[str], counts: list[int]) -> list[list[str]]:
+    """Rows by lines: so many in each as the table says, and where it doesn't fit any more, as many as fit."""
+    if sum(counts) == len(written):
+        ends = [sum(counts[:place + 1]) for place in range(len(counts))]
+        return [written[end - count:end] for end, count in zip(ends, counts)]
+    lines: list[list[str]] = [[]]
+    for row in written:
+        if lines[-1] and len("    ∷ " + " ∷ ".join([*lines[-1], row])) > ROW_WIDTH:
+            lines.append([])
+        lines[-1].append(row)
+    return lines
+
+
+def event_members(kind: Table, table: Table) -> Part:
+    """The members of an event's attributes, as a definition, in the order of the struct."""
+    said = said_of(kind, "members", table)
+    head = f"unfoldable pub {said['name']} : {kind['name']} → Members → Members"
+    written = [filled(table["kind"][field.kind]["member"], field.key, f"a.{field.name}") for field in fields_of(kind)]
+    lines = [" ▸ ".join(line) for line in broken(written, kind.get("lines", []))]
+    body = [f"    ms ▸ {lines[0]}", *(f"    ▸ {line}" for line in lines[1:])]
+    return Part(said["file"], head, "\n".join([head, f"{said['name']} a ms =", *body]))
+
+
+def event_writer(kind: Table, table: Table) -> Part:
+    """The function that writes the members of an event's attributes, in the order of the keys' bytes."""
+    said, defined = said_of(kind, "event", table), said_of(kind, "members", table)["name"]
+    is_copied = kind.get("copied", False)
+    call = signature(f"{said['seen']}fn {said['name']}", ["page: &mut Page", f"attributes: {'' if is_copied else '&'}"
+                                                           f"{kind['name']}"])
+    ensures = ["    ensures { OnOk result (sheet_of page.new", f"        ≡ add_members ({defined} "
+               f"attributes{'' if is_copied else '.now'} no_members) (sheet_of page.old)) }}"]
+    written = members(kind, "attributes", "event", table["kind"])
+    body = [f"    {line}?;" for line in written[:-1]] + [f"    {written[-1]}"]
+    return Part(said["file"], call[0], "\n".join([*call, *ensures, "{", *body, "}"]))
+
+
+def line_fields(kind: Table, table: Table) -> Part:
+    """What a line's fields are read as, as a definition: their faults are looked for in the order of the struct."""
+    said, fields = said_of(kind, "fields_of", table), fields_of(kind)
+    head = f"unfoldable pub {said['name']} : Data → Result {said['as']} Refusal"
+    body = [f"  {field.name} ← {taken(field, table['kind'][field.kind])} {place_in(field)} {said['of']}"
+            for field in read_order(kind, said)]
+    whole = f"  Ok (record {{ {'; '.join(f'{field.name} = {field.name}' for field in fields)} }})"
+    ends = ["  Ok (record {", *(f"    {field.name} = {field.name};" for field in fields), "  })"]
+    end = [whole] if len(whole) <= RECORD_WIDTH else ends
+    return Part(said["file"], head, "\n".join([head, f"{said['name']} {said['of']} = do", *body, *end]))
+
+
+def text_lines(kind: Table, table: Table) -> Iterator[Part]:
+    """The lines of the lemma that the texts of a record's line are UTF-8: one for each request of this type."""
+    said = table["group"][kind["group"]]["utf8"]
+    every = {field.key: filled(table["kind"][field.kind]["utf8"], field.name, f"{said['of']}.{field.name}")
+             for field in fields_of(kind) if "utf8" in table["kind"][field.kind]}
+    every |= {key: table["kind"][which]["utf8"] for key, which, _ in kind.get("also", [])}
+    members_of = [every[key] for key in sorted(every)]
+    nested = "tt" if not members_of else "".join(f"({member}, " for member in members_of) + "tt" + ")" * len(members_of)
+    for variant in kind["lemmas"]:
+        head = said["head"].replace("VARIANT", variant)
+        yield Part(said["file"], head, f"{head} {nested}", is_line=True)
+
+
+def plain_lines(kind: Table, table: Table) -> Iterator[Part]:
+    """The lines of the lemma that a record's line is one of plain values: what may be missing is named before."""
+    said = table["group"][kind["group"]]["plain"]
+    named = [(field, table["kind"][field.kind]["plain"]) for field in fields_of(kind)
+             if "plain" in table["kind"][field.kind]]
+    lets = "".join(f"let {field.name} = {filled(template, field.name, said['of'] + '.' + field.name)} in "
+                   for field, template in named)
+    facts = [said["fact"], *(field.name for field, _ in named)]
+    facts += [how["also_plain"] for how in (table["kind"][field.kind] for field, _ in named) if "also_plain" in how]
+    for variant in kind["lemmas"]:
+        head = said["head"].replace("VARIANT", variant)
+        yield Part(said["file"], head, f"{head} {lets}search ({', '.join(facts)})", is_line=True)
+
+
+def read_back(kind: Table, table: Table) -> Part:
+    """The lemma that what was written as a record's line is read as it was: field by field, in the reader's order."""
+    said, defined = said_of(kind, "back", table), said_of(kind, "rows", table)["name"]
+    reads, limit = said_of(kind, "fields_of", table)["name"], said_of(kind, "limits", table)["name"]
+    words = {"LIMIT": limit, "READS": reads, "ROWS": defined}
+    claim = re.sub("|".join(words), lambda found: words[found[0]], said["claim"])
+    head = f"{said['seen']}{said['name']} : {claim}"
+    order = read_order(kind, said_of(kind, "fields_of", table))
+    steps = [back_step(field, table["kind"][field.kind], said["of"]) for field in order]
+    body = [f"    {'(' if place else ''}then _ ({step})" for place, step in enumerate(steps)]
+    return Part(said["file"], head, "\n".join([
+        head, f"unfolding {reads} {defined}", f"{said['name']} {said['with']} =",
+        f"    let rows = {defined} {said['given']} in", *body, f"    refl{')' * (len(steps) - 1)}"]))
+
+
+def back_step(field: Field, kind: Table, of: str) -> str:
+    """How a lemma says that one field is read as it was written."""
+    value, name = f"{of}.{field.name}", place_in(field)
+    back = filled(kind["back"], field.name, value).replace("FIELD", "field.Line" if field.is_keyed else name)
+    if field.is_keyed:
+        return f"keyed_is {kind['of']} {name} rows _ {value} refl refl {back if back == 'refl' else f'({back})'}"
+    if "left_out" in kind:
+        return f"left_out_is {kind['of']} {kind['empty']} {name} rows _ {value} refl refl ({back})"
+    if not field.kind.startswith("if_"):
+        how = f"default_is {kind['of']} {kind['empty']}" if field.has_default else f"required_is {kind['of']}"
+        return f"{how} {name} rows _ {value} refl refl ({back})"
+    return f"optional_is {kind['of']} {kind['data']} {name} rows {value} refl refl ({back}) h.{field.name}"
+
+
+def read_order(kind: Table, said: Table) -> list[Field]:
+    """The fields in the order in which they are read: that of the struct, or of the keys where the table says so."""
+    return sorted(fields_of(kind), key=lambda field: field.key) if said.get("by_keys") else fields_of(kind)
+
+
+def place_in(field: Field) -> str:
+    """What the definitions call the place of a field in a line."""
+    return f'(codes "{field.key}")' if field.is_keyed else f"field.{camel(field.key)}"
+
+
+def taken(field: Field, kind: Table) -> str:
+    """How the definitions take a field from a line."""
+    if field.is_keyed:
+        return f"keyed {kind['of']}"
+    if field.has_default:
+        return f"or_default {kind['of']} {kind['empty']}"
+    return f"{'optional' if field.kind.startswith('if_') else 'required'} {kind['of']}"
+
+
+def camel(words: str) -> str:
+    return "".join(word.capitalize() for word in words.split("_"))
+
+
+def line_reader(kind: Table, table: Table) -> Part:
+    """The function that reads a line's fields."""
+    said, defined, fields = said_of(kind, "reader", table), said_of(kind, "fields_of", table), fields_of(kind)
+    module, value = Path(defined["file"]).stem, defined["of"]
+    head = f"#[tactic(auto, unfolding(crate::specs::{module}::{defined['name']}))]"
+    call = signature(f"pub fn {said['name']}<V: Tree>", ["alloc: Global", f"{value}: &V"],
+                     f"Result<{kind['name']}, Refusal>")
+    body = []
+    for field in fields:
+        empty = f", {table['kind'][field.kind]['empty_value']}" if field.has_default else ""
+        how = taken(field, table["kind"][field.kind]).split()[0]
+        body.append(f"    let {field.name} = {how}(alloc, {value}, Field::{camel(field.key)}{empty})?;")
+    names = [field.name for field in fields]
+    made = [f"    Ok({kind['name']} {{ {', '.join(names)} }})"] if len(", ".join(names)) <= PATTERN_WIDTH else [
+        f"    Ok({kind['name']} {{", *(f"        {name}," for name in names), "    })"]
+    ensures = f"    ensures {{ Gives result ({defined['name']} (V.stands_for {value}.now)) }}"
+    return Part(said["file"], head, "\n".join([head, *call, ensures, "{", *body, *made, "}"]))
+
+
+def signature(name: str, takes: list[str], gives: str = "Result<(), AllocError>") -> list[str]:
+    """The head of a function that may refuse or run out of memory, broken as Rust's formatter does."""
+    end = f") -> {gives}"
+    whole = f"{name}({', '.join(takes)}{end}"
+    return [whole] if len(whole) <= WIDTH else [f"{name}(", *(f"    {one}," for one in takes), end]
+
+
+def rows(kind: Table, table: Table) -> Part:
+    """The rows of a record's line, as a definition."""
+    said = said_of(kind, "rows", table)
+    head = f"unfoldable pub {said['name']} : {said['takes']}"
+    written = [*members(kind, said["of"], "row", table["kind"]), "[]"]
+    lines = [" ∷ ".join(line) for line in broken(written, kind.get("lines", []))]
+    body = [f"    {lines[0]}", *(f"    ∷ {line}" for line in lines[1:])]
+    return Part(said["file"], head, "\n".join([head, f"{said['name']} {said['given']} =", *body]))
+
+
+def writer(kind: Table, table: Table) -> Part:
+    """The function that writes the rows of a record's line."""
+    said, defined = said_of(kind, "put", table), said_of(kind, "rows", table)["name"]
+    head = ("#[tactic(auto, unfolding(wire_rows::specs::Rows::add_row, wire_rows::specs::Rows::add_rows, "
+            f"crate::specs::Trees::{defined}))]")
+    call = signature(f"{said['seen']}fn {said['name']}", said["takes"])
+    ensures = ["    ensures { OnOk result (sheet_of page.new",
+               f"        ≡ add_rows ({defined} {said['given']}) (sheet_of page.old)) }}"]
+    written = members(kind, said["of"], "put", table["kind"])
+    body = [f"    {line}?;" for line in written[:-1]] + [f"    {written[-1]}"]
+    return Part(said["file"], head, "\n".join([head, *call, *ensures, "{", *body, "}"]))
+
+
+def known(kind: Table, table: Table) -> Part:
+    """The function that shows that a value that there is, is within the limits of its type."""
+    said, kinds = said_of(kind, "known", table), table["kind"]
+    value, is_copied = said["of"], kind.get("copied", False)
+    head = f"fn {said['name']}({value}: {'' if is_copied else '&'}{kind['name']})"
+    limit = said_of(kind, "limits", table)["name"]
+    ensures = f"    ensures {{ {limit} {value}{'' if is_copied else '.now'} }}"
+    body = [f"    {filled(kinds[field.kind]['known'], field.name, value + '.' + field.name, field.local)};"
+            for field in fields_of(kind) if "known" in kinds[field.kind]]
+    return Part(said["file"], head, "\n".join([head, ensures, "{", *body, "}"]))
+
+
+def arm(left: str, right: str) -> list[str]:
+    """An arm of a match in a method, broken as Rust's formatter does."""
+    whole = f"            {left} => {right},"
+    return [whole] if len(whole) <= WIDTH else [f"            {left} =>", f"                {right},"]
+
+
+def variants_of(listed: Table) -> list[tuple[str, str]]:
+    """The variants of an enum, each with what it carries: nothing, or a type."""
+    return [(name, carried.strip()) for name, _, carried in (row.partition(" ") for row in listed["variants"])]
+
+
+def drops(listed: Table) -> Part:
+    head, name = f"impl Drop for {listed['name']} {{", listed["name"]
+    arms = [line for variant, carried in variants_of(listed)
+            for line in [f"            {name}::{variant}{'(_)' if carried else ''} => {{}}"]]
+    return Part(listed["file"], head, "\n".join(
+        [head, "    fn drop(self) {", "        match self {", *arms, "        }", "    }", "}"]))
+
+
+def variants(listed: Table) -> Part:
+    """The enum itself."""
+    head = f"pub enum {listed['name']} {{"
+    lines = []
+    for variant, carried in variants_of(listed):
+        lines += [f"    /// {line}" for line in listed.get("comments", {}).get(variant, [])]
+        whole = f"    {variant}{f'({carried})' if carried else ''},"
+        lines += [whole] if len(whole) <= WIDTH else [f"    {variant}(", f"        {carried},", "    ),"]
+    return Part(listed["file"], head, "\n".join([head, *lines, "}"]))
+
+
+def clone_arm(name: str, variant: str, carried: str, is_copied: bool) -> list[str]:
+    """An arm that copies a variant, broken as Rust's formatter does: the inner call first, and then the outer one."""
+    left, made = f"            {name}::{variant}", f"{name}::{variant}"
+    if not carried:
+        return [f"{left} => Ok({made}),"]
+    value = "*a" if is_copied else "a.clone()?"
+    if len(whole := f"{left}(a) => Ok({made}({value})),") <= WIDTH:
+        return [whole]
+    if not is_copied and len(begin := f"{left}(a) => Ok({made}(") <= WIDTH:
+        return [begin, f"                {value},", "            )),"]
+    return [f"{left}(a) => Ok(", f"                {made}({value}),", "            ),"]
+
+
+def clones(listed: Table) -> Part:
+    """How a value of an enum is copied. What a variant carries is copied as it lies where the table says so."""
+    name, copied = listed["name"], listed["copied"]
+    head = "    fn clone(&self) -> Result<Self, AllocError> {"
+    arms = [line for variant, carried in variants_of(listed)
+            for line in clone_arm(name, variant, carried, carried in copied)]
+    return Part(listed["file"], head, "\n".join([head, "        match self {", *arms, "        }", "    }", "}"]))
+
+
+def kinds_enum(listed: Table) -> Part:
+    head = "pub enum Kind {"
+    return Part(listed["kinds"], head, "\n".join([head, *(f"    {name}," for name, _ in variants_of(listed)), "}"]))
+
+
+def kind_names(listed: Table) -> Part:
+    head = "impl Kind {"
+    arms = [line for name, _ in variants_of(listed) for line in arm(f"Kind::{name}", f'"{name}"')]
+    return Part(listed["kinds"], head, "\n".join([
+        head, "    /// The kind's name on the wire.", "    pub fn name(self) -> &'static str",
+        "        ensures { result.now ≡ kind_name self }", "    {", "        match self {", *arms,
+        "        }", "    }", "}"]))
+
+
+def names(listed: Table) -> Iterator[Part]:
+    """A list of names: the enum, its names on the wire, and what the definitions say these are."""
+    every, name = [row.split() for row in listed["variants"]], listed["name"]
+    head = f"pub enum {name} {{"
+    yield Part(listed["file"], head, "\n".join([head, *(f"    {variant}," for variant, _ in every), "}"]))
+    head = f"impl {name} {{"
+    arms = [line for variant, word in every for line in arm(f"{name}::{variant}", f'"{word}"')]
+    yield Part(listed["file"], head, "\n".join([
+        head, f"    /// {listed['said']}", "    pub fn name(self) -> &'static str",
+        f"        ensures {{ result.now ≡ {listed['function']} self }}", "    {", "        match self {", *arms,
+        "        }", "    }", "}"]))
+    head = f"abbrev pub {listed['function']} : {name} → List ℕ"
+    yield Part(listed["definition"], head, "\n".join([head, *(
+        f'{listed["function"]} {listed["prefix"]}.{variant} = codes "{word}"' for variant, word in every)]))
+
+
+def kind_calls(listed: Table) -> Part:
+    head = f"impl {listed['name']} {{"
+    arms = [line for name, carried in variants_of(listed)
+            for line in arm(f"{listed['name']}::{name}{'(_)' if carried else ''}", f"Kind::{name}")]
+    return Part(listed["kinds"], head, "\n".join([
+        head, "    /// The kind of the event that carries this.", "    pub fn kind(&self) -> Kind",
+        "        ensures { result ≡ kind_of self.now }", "    {", "        match self {", *arms,
+        "        }", "    }", "}"]))
+
+
+def kind_definitions(listed: Table) -> Iterator[Part]:
+    """What the definitions say is the kind of each variant, and the name of each kind."""
+    file, every = listed["kind_definitions"], variants_of(listed)
+    head = f"abbrev pub kind_of : {listed['name']} → Kind"
+    yield Part(file, head, "\n".join([head, *(
+        f"kind_of {f'(event.{name} a)' if carried else f'event.{name}'} = kind.{name}" for name, carried in every)]))
+    head = "abbrev pub kind_name : Kind → List ℕ"
+    yield Part(file, head, "\n".join([head, *(f'kind_name kind.{name} = codes "{name}"' for name, _ in every)]))
+
+
+MAKERS: dict[str, Callable[[Table, Table], Part]] = {
+    "limits": limits, "rows": rows, "put": writer, "known": known, "members": event_members, "event": event_writer,
+    "fields_of": line_fields, "reader": line_reader, "back": read_back,
+}
+
+
+def parts_of(table: Table) -> Iterator[Part]:
+    """All parts that the table gives."""
+    for kind in table["type"]:
+        yield struct(kind, table)
+        if kind.get("drop", table["group"][kind["group"]].get("drop", False)):
+            yield destructor(kind, table)
+        yield from (MAKERS[part](kind, table) for part in kind.get("parts", []))
+        for lemma, lines in (("utf8", text_lines), ("plain", plain_lines)):
+            if "lemmas" in kind and lemma in table["group"][kind["group"]]:
+                yield from lines(kind, table)
+    for listed in table["enum"]:
+        yield variants(listed)
+        yield drops(listed)
+        if "copied" in listed:
+            yield clones(listed)
+        if "kinds" in listed:
+            yield from (kinds_enum(listed), kind_names(listed), kind_calls(listed))
+            yield from kind_definitions(listed)
+    for listed in table["names"]:
+        yield from names(listed)
+
+
+def place_of(text: str, part: Part) -> tuple[int, int] | None:
+    """Where a part stands in a file: from its first line to the next empty line, or the end of its one line. None
+    where it isn't there once."""
+    begins = part.head + (" " if part.is_line else "\n")
+    begin = 0 if text.startswith(begins) else text.find(f"\n{begins}") + 1
+    if (not begin and not text.startswith(begins)) or f"\n{begins}" in text[begin + len(part.head):]:
+        return None
+    end = text.find("\n" if part.is_line else "\n\n", begin)
+    return begin, end if end >= 0 else len(text.rstrip("\n"))
+
+
+def look(table: Table, top: Path, writes: bool) -> list[str]:
+    """The parts that stand in the files in another way than the table gives. They are written where that is asked."""
+    faults = []
+    for part in parts_of(table):
+        path = top / "crates" / part.file
+        text = path.read_text(encoding="utf-8") if path.is_file() else ""
+        place = place_of(text, part)
+        if not place:
+            faults.append(f"crates/{part.file}: there is not one part that begins: {part.head}")
+        elif text[place[0]:place[1]] != part.text:
+            faults.append(f"crates/{part.file}: not what {TABLE} gives: {part.head}")
+            if writes:
+                path.write_text(text[:place[0]] + part.text + text[place[1]:], encoding="utf-8")
+    return faults
+
+
+def read_table(top: Path = TOP) -> Table:
+    """The whole table: kinds and groups of tools/fields.toml, and the lists of each file of tools/fields."""
+    table = tomllib.loads((top / TABLE).read_text(encoding="utf-8"))
+    for file in sorted((top / TYPES).glob("*.toml")):
+        for key, listed in tomllib.loads(file.read_text(encoding="utf-8")).items():
+            table.setdefault(key, []).extend(listed)
+    return table
+
+
+def main(words: list[str]) -> int:
+    options = argparse.ArgumentParser(
+        prog="tools/generate.py", description=__doc__, formatter_class=argparse.RawDescriptionHelpFormatter)
+    options.add_argument("--write", action="store_true")
+    options.add_argument("--parts", action="store_true")
+    asked = options.parse_args(words)
+    table = read_table()
+    if asked.parts:
+        parts = list(parts_of(table))
+        print("\n".join(f"crates/{part.file}: {part.head} ({part.text.count(chr(10)) + 1} lines)" for part in parts))
+        print(f"{len(parts)} parts, {sum(part.text.count(chr(10)) + 1 for part in parts):,} lines", file=sys.stderr)
+        return 0
+    faults = look(table, TOP, asked.write)
+    print("\n".join(faults), end="\n" if faults else "")
+    return 1 if faults and not asked.write else 0
+
+
+if __name__ == "__main__":
+    sys.exit(main(sys.argv[1:]))

@@ -1,0 +1,64 @@
+"""The gate of single crates with a toolchain whose `rt ci` takes no names, which here only says what it was asked."""
+
+import contextlib
+import io
+import sys
+import unittest
+from pathlib import Path
+
+sys.path.insert(0, str(Path(__file__).resolve().parent))
+import build_program
+import gate_crate
+from scratch import Scratch
+
+RT = """#!/bin/sh
+if [ "$1" = --help ]; then echo "  rt ci                   the merge gate"; exit 0; fi
+echo "$(basename "$PWD"): $*" >> "$ASKED"
+[ "$1" != "$FAILS" ]
+"""
+FILES = {
+    "crates.txt": "low:\nhigh: low std_io\nwide: high\n",
+    "HANDLES": "Handles allowed: none.\n",
+    "crates/low/src/lib.rt": "fn f() {}\n",
+    "crates/low/out/kept": "old",
+    "crates/high/src/lib.rt": "#[test]\nfn t() {}\n",
+    "crates/high/must-fail/a.edit": "new: 1\n",
+    "crates/wide/src/lib.rt": "fn g() {}\n",
+}
+
+
+class Crates(Scratch):
+    FILES, RT = FILES, RT
+
+    def setUp(self):
+        super().setUp()
+        self.replace(gate_crate, TOP=self.top, COPY=self.top / "out/crates")
+        self.replace(build_program, ROOT=self.top)
+
+    def verdicts(self, *names: str, fails: str = "") -> tuple:
+        asked = self.top / "asked"
+        asked.write_text("")
+        with self.with_toolchain(ASKED=str(asked), FAILS=fails):
+            self.assertFalse(gate_crate.takes_names())
+            with contextlib.redirect_stdout(io.StringIO()) as out:
+                status = gate_crate.verdicts(list(names))
+        return status, asked.read_text().splitlines(), out.getvalue().splitlines()[-1]
+
+    def test_each_crate_gets_its_verdict_its_tests_and_its_wrong_bodies(self):
+        self.assertEqual(self.verdicts("high", "low"), (
+            0, ["high: verdict", "high: test", "crates: must-fail high", "low: verdict"], "gate: passed: high, low"))
+
+    def test_the_copy_has_what_is_below_and_nothing_that_builds_left(self):
+        self.verdicts("high")
+        self.assertEqual((self.top / "out/crates/crates.txt").read_text(), "low:\nhigh: low std_io\n")
+        self.assertEqual(sorted(path.name for path in (self.top / "out/crates/crates").iterdir()), ["high", "low"])
+        self.assertFalse((self.top / "out/crates/crates/low/out").exists())
+
+    def test_all_is_run_also_after_what_failed_and_the_status_says_so(self):
+        status, asked, last = self.verdicts("high", "low", fails="verdict")
+        self.assertEqual((status, len(asked), last), (1, 4, "gate: FAILED: high (verdict), low (verdict)"))
+        self.assertEqual(self.verdicts("high", fails="must-fail")[::2], (1, "gate: FAILED: high (wrong bodies)"))
+
+
+if __name__ == "__main__":
+    unittest.main()

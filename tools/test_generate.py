@@ -1,0 +1,176 @@
+"""What is generated is what stands in crates/, and a table that is changed changes each place and no other line."""
+
+import contextlib
+import copy
+import io
+import shutil
+import sys
+import tempfile
+import unittest
+import unittest.mock
+from pathlib import Path
+
+sys.path.insert(0, str(Path(__file__).resolve().parent))
+try:
+    import generate
+except SystemExit as unable:
+    raise unittest.SkipTest(str(unable)) from None
+
+
+class Generated(unittest.TestCase):
+    def setUp(self):
+        folder = tempfile.TemporaryDirectory()
+        self.addCleanup(folder.cleanup)
+        self.top = Path(folder.name)
+        self.table = generate.read_table()
+        self.parts = list(generate.parts_of(self.table))
+        for file in {part.file for part in self.parts}:
+            (self.top / "crates" / file).parent.mkdir(parents=True, exist_ok=True)
+            shutil.copy(generate.TOP / "crates" / file, self.top / "crates" / file)
+
+    def text(self, file: str) -> str:
+        return (self.top / "crates" / file).read_text(encoding="utf-8")
+
+    def type_named(self, table: dict, name: str) -> dict:
+        return next(kind for kind in table["type"] if kind["name"] == name)
+
+    def added(self, old: dict[str, str]) -> dict[str, list[str]]:
+        """The lines of each file that weren't there, after a new table was written."""
+        return {file: [line for line in self.text(file).splitlines() if line not in text.splitlines()]
+                for file, text in old.items() if self.text(file) != text}
+
+    def written_with(self, change) -> dict[str, list[str]]:
+        """What a changed table adds to each file. Afterwards nothing differs."""
+        table = copy.deepcopy(self.table)
+        change(table)
+        old = {part.file: self.text(part.file) for part in self.parts}
+        self.assertNotEqual(generate.look(table, self.top, writes=True), [])
+        self.assertEqual(generate.look(table, self.top, writes=False), [])
+        return self.added(old)
+
+    def test_what_stands_in_the_crates_is_what_the_table_gives(self):
+        self.assertEqual(generate.look(self.table, generate.TOP, writes=False), [])
+        self.assertGreater(len(self.parts), 250)
+        heads = [(part.file, part.head) for part in self.parts]
+        self.assertEqual(len(heads), len(set(heads)))
+
+    def test_each_line_that_is_changed_by_hand_is_found_and_written_back(self):
+        for part in self.parts[::12]:
+            with self.subTest(head=part.head):
+                path, lines = self.top / "crates" / part.file, part.text.split("\n")
+                text = path.read_text(encoding="utf-8")
+                path.write_text(text.replace(part.text, "\n".join([*lines[:-1], lines[-1] + " "])), encoding="utf-8")
+                faults = generate.look(self.table, self.top, writes=True)
+                self.assertEqual(faults, [f"crates/{part.file}: not what {generate.TABLE} gives: {part.head}"])
+                self.assertEqual(path.read_text(encoding="utf-8"), text)
+
+    def test_a_part_that_is_not_there_or_there_twice_is_a_fault(self):
+        head = "pub record IsStart (q : Start) : Type 0 where"
+        path = self.top / "crates/wire_steps/specs/Limits.antt"
+        text = path.read_text(encoding="utf-8")
+        for other in (text.replace(head, "-- " + head), f"{text}\n{head}\n  pub x : IsId q.x\n"):
+            path.write_text(other, encoding="utf-8")
+            self.assertEqual(generate.look(self.table, self.top, writes=True),
+                             [f"crates/wire_steps/specs/Limits.antt: there is not one part that begins: {head}"])
+            self.assertEqual(path.read_text(encoding="utf-8"), other)
+
+    def test_a_new_field_of_a_request_is_one_row(self):
+        def change(table: dict) -> None:
+            self.type_named(table, "Signal")["fields"].append("identity if_text")
+
+        self.assertEqual(self.written_with(change), {
+            "service_model_types/src/request.rt": ["    pub identity: Option<Text>,", "            identity: _,"],
+            "wire_steps/proofs/OperationsBack.antt": [
+                "    (then _ (optional_is text_of IsText string field.Identity rows q.identity refl refl "
+                "(text_back field.Identity) h.identity)", "    refl)))))",
+            ],
+            "wire_steps/proofs/RequestsBack.antt": [
+                "operation_plain at (operation.Signal q) m h = let run = if_plain IsRun (λ r. string (run_text r)) 4 "
+                "(λ x l. tt) q.run h.run in let request_id = if_plain IsId string 4 (λ x l. tt) q.request_id "
+                "h.request_id in let identity = if_plain IsText string 4 (λ x l. tt) q.identity h.identity in "
+                "search (moment_plain at m, run, request_id, identity)",
+            ],
+            "wire_steps/proofs/TextsUtf8.antt": [
+                "operation_utf8 at (operation.Signal q) h = (tt, (if_utf8 IsText (λ t l. l.1) q.identity h.identity, "
+                "(h.input.1, (h.name.1, (literal _ refl, (if_utf8 IsId (λ t l. l.1) q.request_id h.request_id, "
+                "(if_run_utf8 q.run, (h.workflow_id.1, tt))))))))",
+            ],
+            "wire_steps/specs/Limits.antt": ["  pub identity : IfSome q.identity IsText"],
+            "wire_steps/src/put_starts.rt": ['    put_if_text(page, "identity", &signal.identity)?;'],
+            "wire_steps/src/known.rt": ["    known_if_text(&asked.identity);"],
+            "wire_requests/specs/Operations.antt": [
+                "  identity ← optional text_of field.Identity line", "  Ok (record {",
+                "    workflow_id = workflow_id;", "    run = run;", "    name = name;", "    input = input;",
+                "    request_id = request_id;", "    identity = identity;", "  })",
+            ],
+            "wire_requests/src/operations.rt": [
+                "    let identity = optional(alloc, line, Field::Identity)?;", "        identity,",
+            ],
+            "wire_steps/specs/Trees.antt": [
+                '    count (codes "at") at ∷ if_text (codes "identity") q.identity ∷ text (codes "input") q.input',
+                '    ∷ text (codes "name") q.name ∷ text (codes "op") (codes "signal") ∷ '
+                'if_text (codes "request_id") q.request_id',
+                '    ∷ if_run (codes "run") q.run ∷ text (codes "workflow_id") q.workflow_id ∷ []',
+            ],
+        })
+
+    def test_a_new_field_of_an_event_is_one_row(self):
+        def change(table: dict) -> None:
+            self.type_named(table, "MarkerRecorded")["fields"].append("at_moment moment key=when")
+
+        self.assertEqual(self.written_with(change), {
+            "wf_event/src/payloads.rt": ["    pub at_moment: Moment,"],
+            "wire_events/specs/Activities.antt": ['    ▸ number_member (codes "when") a.at_moment'],
+            "wire_events/src/activities.rt": [
+                '    page.text("name", attributes.name.as_str())?;',
+                '    page.number("when", attributes.at_moment.millis())',
+            ],
+        })
+
+    def test_a_new_kind_of_event_is_one_row(self):
+        def change(table: dict) -> None:
+            next(one for one in table["enum"] if one["name"] == "Attributes")["variants"].append("WorkflowPaused Text")
+
+        self.assertEqual(self.written_with(change), {
+            "wf_event/src/attributes.rt": [
+                "    WorkflowPaused(Text),", "            Attributes::WorkflowPaused(_) => {}",
+                "            Attributes::WorkflowPaused(a) => Ok(Attributes::WorkflowPaused(a.clone()?)),"],
+            "wf_event/src/kind.rt": [
+                "    WorkflowPaused,", '            Kind::WorkflowPaused => "WorkflowPaused",',
+                "            Attributes::WorkflowPaused(_) => Kind::WorkflowPaused,"],
+            "wf_event/specs/Kinds.antt": ["kind_of (event.WorkflowPaused a) = kind.WorkflowPaused",
+                                          'kind_name kind.WorkflowPaused = codes "WorkflowPaused"'],
+        })
+
+    def test_a_field_that_may_be_missing_has_its_default(self):
+        def change(table: dict) -> None:
+            self.type_named(table, "Terminate")["fields"].append("grace span default")
+
+        written = self.written_with(change)
+        self.assertIn("  grace ← or_default span_of 0 field.Grace line",
+                      written["wire_requests/specs/CancelFields.antt"])
+        self.assertIn("    let grace = or_default(alloc, line, Field::Grace, Span::none())?;",
+                      written["wire_requests/src/ends.rt"])
+
+    def test_a_new_name_is_one_row(self):
+        def change(table: dict) -> None:
+            next(one for one in table["names"] if one["name"] == "Field")["variants"].append("Identity identity")
+
+        self.assertEqual(self.written_with(change), {
+            "wf_event_values/src/field.rt": ["    Identity,", '            Field::Identity => "identity",'],
+            "wf_event_values/specs/Names.antt": ['field_name field.Identity = codes "identity"'],
+        })
+
+    def test_the_status_says_whether_anything_differs(self):
+        with contextlib.redirect_stdout(io.StringIO()) as out:
+            self.assertEqual(generate.main([]), 0)
+            with unittest.mock.patch.object(generate, "TOP", self.top), \
+                    unittest.mock.patch.object(generate, "read_table", return_value={**self.table, "enum": []}):
+                self.assertEqual(generate.main([]), 0)
+                (self.top / "crates/wire_steps/src/known.rt").write_text("")
+                self.assertEqual(generate.main([]), 1)
+        self.assertIn("known.rt: there is not one part that begins: fn known_start", out.getvalue())
+
+
+if __name__ == "__main__":
+    unittest.main()
