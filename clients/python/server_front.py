@@ -12,7 +12,7 @@ import json
 import logging
 import time
 from collections import deque
-from typing import Callable, Deque, Dict, Optional, Set
+from typing import Callable, Deque, Dict, Optional, Set, Tuple
 
 import httptools
 
@@ -117,6 +117,8 @@ class Connection(asyncio.Protocol):
         self._serving: Optional[Request] = None
         self._since = time.monotonic()
         self._was_asked = False
+        # The headers by which a request of this connection was let through last.
+        self._let_in: Optional[Tuple[Optional[bytes], Optional[bytes]]] = None
 
     # The socket.
 
@@ -192,11 +194,19 @@ class Connection(asyncio.Protocol):
         if (
             self._parser.get_method() != b"POST" or reading.headers[b":path"] != b"/calls"
             or reading.headers.get(b"content-type") != b"application/json"
-            or not length.isdigit() or int(length) > BODY_LIMIT
-            or not self._front.guard.takes(reading.header(b"host") or "", reading.header(b"authorization") or "")
+            or not length.isdigit() or int(length) > BODY_LIMIT or not self._is_let_in(reading)
         ):
             raise HandOn
         self._is_whole = True
+
+    def _is_let_in(self, request: Request) -> bool:
+        said = request.headers.get(b"host"), request.headers.get(b"authorization")
+        if said == self._let_in:
+            return True
+        if not self._front.guard.takes(request.header(b"host") or "", request.header(b"authorization") or ""):
+            return False
+        self._let_in = said
+        return True
 
     def on_body(self, body: bytes) -> None:
         self._reading.body += body

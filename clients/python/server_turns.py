@@ -18,10 +18,10 @@ from server_ledger import shard_of_request
 SECOND = 1_000
 # Seconds from one sweep to the next, where something was called since: twice as many after one that found nothing.
 FIRST_SWEEP, LONGEST_SWEEP = 1.0, 10.0
-DURATIONS = (
+DURATIONS = {
     "duration", "schedule_to_start", "start_to_close", "schedule_to_close", "heartbeat", "run_timeout", "task_timeout",
     "execution_timeout",
-)
+}
 
 
 class Deadlines:
@@ -44,8 +44,8 @@ class Deadlines:
                 self._expect(request, members)
 
     def _expect(self, request: dict, members: dict) -> None:
-        for name in DURATIONS:
-            duration = members.get(name)
+        for name in DURATIONS & members.keys():
+            duration = members[name]
             if isinstance(duration, int) and duration > 0:
                 self._push(request.get("at", 0) + duration, request)
 
