@@ -16,6 +16,7 @@ from wfserve import Ended
 # dispatch turn only reads.
 CHANGES_NOTHING = b'{"op":"dispatch_turn","shard":0,"stop":1}'
 LINES_KEPT = 5
+PIPE_BYTES = 1 << 20
 
 
 # A text has its quotes escaped, so only a key looks so; and no event has such a key.
@@ -117,7 +118,9 @@ class Program:
         self.wait()
 
     def wait(self) -> int:
-        """Its status, once it has ended."""
+        """Its status, once it has ended. Replies that nobody took are let be: it waits until they are read."""
+        while self._process.stdout.read(PIPE_BYTES):
+            pass
         status = self._process.wait()
         self._listener.join()
         self._process.stdout.close()

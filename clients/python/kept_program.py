@@ -186,6 +186,7 @@ class KeptProgram:
 
     def start_again(self, lines: int) -> Program:
         """A new program in the place of one that has ended, once it has served so many lines of the log."""
+        self.program.kill()
         program = self._started()
         self._replay(program, self._lines(lines), None)
         self.program = program

@@ -300,8 +300,11 @@ class Core:
         if said == "stale" and not self.closing and not call.is_gone():
             self._asked.appendleft(call)
             return True
+        left = self.polls.left_for(call.request) if said == "empty" else None
+        if left is not None:
+            call.take(left.text, left.reply)
         now = time.monotonic()
-        if said != "empty" or self.closing or call.late <= now:
+        if said != "empty" or left is not None or self.closing or call.late <= now:
             return False
         if len(self.polls) >= self._limit:
             self._fail(call, Busy(f"{len(self.polls)} polls wait already"))

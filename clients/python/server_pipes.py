@@ -10,11 +10,11 @@ import threading
 import time
 from typing import Callable, List, Optional, Tuple
 
-from co_process import Program
+from co_process import PIPE_BYTES, Program
 from line_log import LineLog, LogFault
 
 # How many bytes a pipe holds: Linux gives 64 KiB without being asked.
-SET_PIPE_SIZE, PIPE_BYTES = 1031, 1 << 20
+SET_PIPE_SIZE = 1031
 
 
 class Pipes:
