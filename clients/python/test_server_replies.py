@@ -9,12 +9,14 @@ import json
 import os
 import pathlib
 import random
+import resource
 import signal
 import socket
 import sys
 import threading
 import time
 import unittest
+from collections import Counter
 from concurrent.futures import ThreadPoolExecutor
 
 from core_fixture import Served
@@ -138,7 +140,7 @@ class Client:
                 status, text = self._asked(key, body)
                 if status == 200:
                     return json.loads(text), text
-                if status not in (500, 503):
+                if status not in (500, 503, 507):
                     raise AssertionError(f"{status}: {text}")
             except (OSError, http.client.HTTPException):
                 pass
@@ -162,7 +164,7 @@ class Client:
 @needs_server
 @needs_program
 class Disturbed(WithAServer):
-    """Server and program are killed at drawn points, and clients hang up; each call by key is answered once."""
+    """Server and program are killed and hang at drawn points, and clients hang up; each call by key is answered once."""
 
     def workflows(self, server, number, stop):
         """Starts workflows, takes tasks and completes them until it is told to stop. Its replies by their keys."""
@@ -184,28 +186,42 @@ class Disturbed(WithAServer):
         return had, client.again
 
     def disturb(self, server, draw, stop):
+        """Kills the server or its program, takes the disk away from it, or has one of them hang for a while."""
+        counts = Counter()
         for _ in range(KILLS):
             time.sleep(0.05 + draw.random() / 5)
-            if draw.random() < 0.5:
+            kind = draw.choice(["server", "server", "program", "program", "disk", "hang"])
+            counts[kind] += 1
+            if kind == "server":
                 server.kill()
                 server.start()
+            elif kind == "program":
+                tell(child_of(server.process.pid), draw.choice([signal.SIGKILL, signal.SIGTERM]))
+            elif kind == "disk":
+                full = (self.log.stat().st_size + draw.randrange(2_000), resource.RLIM_INFINITY)
+                resource.prlimit(server.process.pid, resource.RLIMIT_FSIZE, full)
+                time.sleep(draw.random() / 5)
+                everything = (resource.RLIM_INFINITY, resource.RLIM_INFINITY)
+                resource.prlimit(server.process.pid, resource.RLIMIT_FSIZE, everything)
             else:
-                killed = child_of(server.process.pid)
-                if killed:
-                    os.kill(killed, draw.choice([signal.SIGKILL, signal.SIGTERM]))
+                hung = draw.choice([server.process.pid, child_of(server.process.pid)])
+                tell(hung, signal.SIGSTOP)
+                time.sleep(draw.random() / 5)
+                tell(hung, signal.SIGCONT)
         time.sleep(0.5)
         stop.set()
+        return ", ".join(f"{count} of {kind}" for kind, count in sorted(counts.items()))
 
     def test_each_call_by_key_is_answered_once(self):
         print(f"\ndisturbed servers: seed {SEED}", file=sys.stderr)
         server, stop = self.serve("--shards", "2"), threading.Event()
         with ThreadPoolExecutor(CLIENTS + 1) as pool:
             working = [pool.submit(self.workflows, server, number, stop) for number in range(CLIENTS)]
-            self.disturb(server, random.Random(SEED), stop)
+            disturbances = self.disturb(server, random.Random(SEED), stop)
             found = [it.result() for it in working]
         had = {key: text for replies, _ in found for key, text in replies.items()}
         again = sum(count for _, count in found)
-        print(f"disturbed servers: {KILLS} kills, {len(had)} calls, {again} made again", file=sys.stderr)
+        print(f"disturbed servers: {disturbances}; {len(had)} calls, {again} made again", file=sys.stderr)
         self.assertGreater(again, KILLS)
         started = [json.loads(text) for key, text in had.items() if key.startswith("start")]
         self.assertEqual({reply["ok"] for reply in started}, {"started"})
@@ -231,6 +247,14 @@ class Disturbed(WithAServer):
         request = json.loads(line.split(b" ", 2)[2])
         body = json.dumps({name: value for name, value in request.items() if name not in ("call", "at")})
         return server.asked("POST", "/calls", body, {"Idempotency-Key": key})[2].encode()
+
+
+def tell(pid, number):
+    """Sends a signal to a process that may be gone by now."""
+    try:
+        os.kill(pid, number)
+    except (ProcessLookupError, TypeError):
+        pass
 
 
 def child_of(pid):
