@@ -89,10 +89,10 @@ class Core:
         """Why no call is taken now, in one word; empty where they are."""
         if self.closing:
             return "draining"
-        if self.over.done():
-            return "ended"
         log = self.kept.log
-        return "broken" if log.broken else "full" if log.full else "restarting" if self._held_by == "restarting" else ""
+        if log.broken or self.over.done():
+            return "broken" if log.broken else "ended"
+        return "full" if log.full else "restarting" if self._held_by == "restarting" else ""
 
     @property
     def compacting(self) -> bool:
