@@ -189,8 +189,8 @@ def words_of(words: Optional[List[str]]) -> argparse.Namespace:
 
 def main(words: Optional[List[str]] = None) -> int:
     said = words_of(words)
-    print(f"| {said.kind}, {said.shards} shards, {said.seconds:g} s each; load {os.getloadavg()[0]:.1f} | calls a second "
-          "| p50, ms | p99, ms | server's processor time a call, us | lines of the log a call |")
+    print(f"| {said.kind}, {said.shards} shards, {said.seconds:g} s each; load {os.getloadavg()[0]:.1f} | "
+          "calls a second | p50, ms | p99, ms | server's processor time a call, us | lines of the log a call |")
     print("|---|---|---|---|---|---|")
     for clients in said.clients.split(","):
         it = measured(said, int(clients))

@@ -119,7 +119,7 @@ class Program:
 
     def wait(self) -> int:
         """Its status, once it has ended. Replies that nobody took are let be: it waits until they are read."""
-        while self._process.stdout.read(PIPE_BYTES):
+        while not self._process.stdout.closed and self._process.stdout.read(PIPE_BYTES):
             pass
         status = self._process.wait()
         self._listener.join()

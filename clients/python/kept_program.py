@@ -66,7 +66,9 @@ def for_read(request: dict) -> bytes:
 class KeptProgram:
     """A program that has served the lines of a log, and the log. One caller at a time."""
 
-    def __init__(self, command: Sequence[str], log: str, wanted: Optional[Settings], replayed: Optional[Replayed] = None):
+    def __init__(
+        self, command: Sequence[str], log: str, wanted: Optional[Settings], replayed: Optional[Replayed] = None,
+    ):
         self.command = list(command)
         self.last_moment = 0
         self.log = LineLog(log)

@@ -11,8 +11,8 @@
     GET  /health/ready  200 where calls are taken, else 503 and why
     GET  /metrics       counts and times, as text for Prometheus
 
-It needs aiohttp (setup.sh), and is faster where httptools and uvloop are there. It listens on 127.0.0.1 alone, unless --host says otherwise, and then every
-request has to bear a token. No proof covers it.
+It needs aiohttp (setup.sh), and is faster where httptools and uvloop are there. It listens on 127.0.0.1 alone,
+unless --host says otherwise, and then every request has to bear a token. No proof covers it.
 """
 
 from __future__ import annotations
@@ -81,7 +81,9 @@ class Opened:
         self.replies.replayed(number, request, line, reply)
 
 
-def application(said: argparse.Namespace, core: Core, workflows: Workflows, connections: Connections) -> web.Application:
+def application(
+    said: argparse.Namespace, core: Core, workflows: Workflows, connections: Connections
+) -> web.Application:
     middlewares = [connections.note, answer_faults, guard_of(said).check]
     app = web.Application(middlewares=middlewares, client_max_size=BODY_LIMIT)
     for part in (Calls(core, said.read_timeout), Health(core), Pages(core, workflows)):

@@ -37,6 +37,8 @@ MOST_LINES, MOST_BYTES = 4_096, 1 << 20
 MOST_WAITING_BYTES = 64 << 20
 # How many seconds the calls on their way may take once the server is told to stop.
 DRAIN_SECONDS = 10.0
+# So often the program is started, where it ends before it has come to the line at which it ended.
+MOST_STARTS = 3
 # For how many seconds no turns are made where the disk was full.
 REST_SECONDS = 1.0
 
@@ -382,12 +384,21 @@ class Core:
         asked = f" ({self._sent[0].named()})" if self._sent else ""
         LOG.warning("%s%s: it is started again, and given the log's lines", fault, asked)
         self.metrics.restarts += 1
-        starting = self._loop.run_in_executor(None, self.kept.start_again, self._answered)
-        starting.add_done_callback(self._was_started)
+        self._start_again(1)
 
-    def _was_started(self, done: "asyncio.Future") -> None:
-        if done.exception() is not None:
-            self._end(done.exception())
+    def _start_again(self, tried: int) -> None:
+        starting = self._loop.run_in_executor(None, self.kept.start_again, self._answered)
+        starting.add_done_callback(lambda done: self._was_started(done, tried))
+
+    def _was_started(self, done: "asyncio.Future", tried: int) -> None:
+        fault = done.exception()
+        if isinstance(fault, Ended) and tried < MOST_STARTS:
+            # It had served these lines before, so they are not why.
+            LOG.warning("%s: it is started once more", fault)
+            self._start_again(tried + 1)
+            return
+        if fault is not None:
+            self._end(fault)
             return
         self._speak()
         self._pipes.feed(b"".join(call.line + b"\n" for call in self._sent))

@@ -28,9 +28,12 @@ IDLE_SECONDS = 75.0
 LOOK_SECONDS = 1.0
 MOST_CONNECTIONS = 10_000
 REASONS = {
-    200: "OK", 400: "Bad Request", 408: "Request Timeout", 422: "Unprocessable Entity", 500: "Internal Server Error",
-    503: "Service Unavailable", 507: "Insufficient Storage",
+    200: b"OK", 400: b"Bad Request", 408: b"Request Timeout", 422: b"Unprocessable Entity",
+    500: b"Internal Server Error", 503: b"Service Unavailable", 507: b"Insufficient Storage",
 }
+HEAD = (
+    b"HTTP/1.1 %d %s\r\nContent-Type: application/json; charset=utf-8\r\nContent-Length: %d\r\nDate: %s\r\n%s\r\n"
+)
 # Headers that a call may have without being handed on, beside those that say nothing here.
 KNOWN = {b"host", b"content-type", b"content-length", b"authorization", b"idempotency-key"}
 HANDED_ON = {b"transfer-encoding", b"expect", b"upgrade", b"content-encoding", b"cookie"}
@@ -251,10 +254,7 @@ class Connection(asyncio.Protocol):
             return
         more = b"" if request.keeps else b"Connection: close\r\n"
         more += b"Retry-After: %d\r\n" % RETRY_SECONDS if status == 503 else b""
-        self._transport.write(
-            b"HTTP/1.1 %d %s\r\nContent-Type: application/json; charset=utf-8\r\nContent-Length: %d\r\nDate: %s\r\n%s\r\n%s"
-            % (status, REASONS[status].encode(), len(text), self._front.date, more, text)
-        )
+        self._transport.write(HEAD % (status, REASONS[status], len(text), self._front.date, more) + text)
         self._serving, self._since = None, time.monotonic()
         if not request.keeps:
             self.close()

@@ -60,12 +60,14 @@ class Batches(OverALog):
     def test_all_that_waits_is_one_write_and_one_sync(self):
         async def called():
             async with self.served(COUNTING) as served:
-                with mock.patch("os.pwrite", wraps=os.pwrite) as written, mock.patch("os.fdatasync", wraps=os.fdatasync) as synced:
+                syncing = mock.patch("os.fdatasync", wraps=os.fdatasync)
+                with mock.patch("os.pwrite", wraps=os.pwrite) as written, syncing as synced:
                     asked = [served.submit(op="signal", workflow_id="w", name=f"{number}") for number in range(50)]
                     replies = [json.loads(text) for text in await asyncio.gather(*asked)]
                 self.assertEqual((written.call_count, synced.call_count), (1, 1))
                 self.assertEqual([reply["line"] for reply in replies], list(range(1, 51)))
-                self.assertEqual([json.loads(reply["said"])["name"] for reply in replies], [str(it) for it in range(50)])
+                names = [json.loads(reply["said"])["name"] for reply in replies]
+                self.assertEqual(names, [str(number) for number in range(50)])
                 self.assertEqual(len({json.loads(line)["at"] for line in served.lines()}), 1)
 
         asyncio.run(called())
@@ -277,10 +279,9 @@ class Dies(OverALog):
 
     def test_a_program_that_is_killed_is_started_again_and_nobody_notices(self):
         print(f"\nkilled programs: seed {SEED}", file=sys.stderr)
-        draw = random.Random(SEED)
 
         async def killed(served, done):
-            count = 0
+            draw, count = random.Random(SEED), 0
             while not done.is_set():
                 await asyncio.sleep(draw.random() / 20)
                 os.kill(served.kept.program.pid, signal.SIGKILL)
@@ -317,6 +318,28 @@ class Dies(OverALog):
 
         with self.assertLogs("wfserve.server", "WARNING"):
             asyncio.run(all_called())
+
+    def test_a_program_that_is_killed_while_it_is_given_the_log_is_started_once_more(self):
+        async def called():
+            async with self.served() as served:
+                await served.call(op="start", workflow_id="w", workflow_type="T", task_queue="main")
+                started, tried = served.kept._started, []
+
+                def killed():
+                    program = started()
+                    tried.append(program)
+                    if len(tried) < 3:
+                        os.kill(program.pid, signal.SIGKILL)
+                    return program
+
+                with mock.patch.object(served.kept, "_started", killed):
+                    os.kill(served.kept.program.pid, signal.SIGKILL)
+                    reply = await served.call(op="signal", workflow_id="w", name="s")
+                self.assertEqual((reply["ok"], len(tried)), ("signaled", 3))
+
+        with self.assertLogs("wfserve.server", "WARNING") as said:
+            asyncio.run(called())
+        self.assertEqual(["once more" in line for line in said.output], [False, True, True])
 
     def test_a_line_at_which_it_dies_once_is_answered(self):
         async def called():

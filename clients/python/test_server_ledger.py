@@ -57,7 +57,8 @@ class Noted(unittest.TestCase):
             self.assertEqual(self.turns({"op": "complete_workflow_task", "token": token}), [], token)
 
     def test_a_command_to_another_workflow_has_the_transfer_turn_of_just_these_shards(self):
-        token, child = "AQEAAgAAAAAAAAABAAAAAAAAAAIAAAAB", {"type": "StartChildWorkflowExecution", "workflow_id": IDS[1]}
+        token = "AQEAAgAAAAAAAAABAAAAAAAAAAIAAAAB"
+        child = {"type": "StartChildWorkflowExecution", "workflow_id": IDS[1]}
         self.assertEqual(
             self.turns({"op": "complete_workflow_task", "token": token, "commands": [child, [], {"type": []}]}),
             [{"op": "transfer_turn", "from": 2, "to": shard_of(IDS[1], SHARDS)}, {"op": "dispatch_turn", "shard": 2}],
@@ -97,8 +98,9 @@ class Noted(unittest.TestCase):
 
 def drawn_command(draw):
     kind = draw.choice([
-        "ScheduleActivityTask", "StartChildWorkflowExecution", "StartChildWorkflowExecution", "CompleteWorkflowExecution",
-        "SignalExternalWorkflowExecution", "RequestCancelExternalWorkflowExecution", "ContinueAsNewWorkflowExecution",
+        "ScheduleActivityTask", "StartChildWorkflowExecution", "StartChildWorkflowExecution",
+        "CompleteWorkflowExecution", "SignalExternalWorkflowExecution", "RequestCancelExternalWorkflowExecution",
+        "ContinueAsNewWorkflowExecution",
     ])
     named = {"workflow_id": draw.choice(IDS)} if "Child" in kind or "External" in kind else {}
     if kind == "ScheduleActivityTask":

@@ -111,7 +111,8 @@ class Again(OverALog):
         self.assertEqual(counts[0], counts[1])
         for key, (first, second) in had.items():
             self.assertEqual(first, second, key)
-        self.assertEqual([json.loads(had[key][0]).get("ok") for key in had], ["started", "task", None, "signaled", "completed"])
+        said = [json.loads(had[key][0]).get("ok") for key in had]
+        self.assertEqual(said, ["started", "task", None, "signaled", "completed"])
 
     def test_a_poll_that_found_nothing_is_made_anew(self):
         async def called():
@@ -164,7 +165,7 @@ class Client:
 @needs_server
 @needs_program
 class Disturbed(WithAServer):
-    """Server and program are killed and hang at drawn points, and clients hang up; each call by key is answered once."""
+    """Server and program are killed and hang at drawn points, and clients hang up: each call by key counts once."""
 
     def workflows(self, server, number, stop):
         """Starts workflows, takes tasks and completes them until it is told to stop. Its replies by their keys."""
@@ -233,7 +234,8 @@ class Disturbed(WithAServer):
                 self.assertEqual(json.loads(text).get("ok"), "completed", key)
         # The log itself says the same, by the keys that its lines bear, once for each call but for polls.
         server.stop()
-        kept = [line for line in self.log.read_bytes().splitlines() if b'"call":"start' in line or b'"call":"done' in line]
+        lines = self.log.read_bytes().splitlines()
+        kept = [line for line in lines if b'"call":"start' in line or b'"call":"done' in line]
         self.assertEqual(len(kept), len({line.rpartition(b'"call":')[2].partition(b",")[0] for line in kept}))
         server.start()
         for key, text in random.Random(SEED).sample(sorted(had.items()), 50):
@@ -272,8 +274,8 @@ class Sockets(WithAServer):
 
     def request(self, name, key="k"):
         body = json.dumps({"op": "signal", "name": name}).encode()
-        head = f"POST /calls HTTP/1.1\r\nHost: 127.0.0.1\r\nIdempotency-Key: {key}\r\nContent-Type: application/json\r\n"
-        return f"{head}Content-Length: {len(body)}\r\n\r\n".encode() + body
+        head = f"POST /calls HTTP/1.1\r\nHost: 127.0.0.1\r\nIdempotency-Key: {key}\r\n"
+        return f"{head}Content-Type: application/json\r\nContent-Length: {len(body)}\r\n\r\n".encode() + body
 
     def answered(self, connection):
         """The status and the text of one answer."""
@@ -338,7 +340,10 @@ class Sockets(WithAServer):
 
     def test_keys_over_http(self):
         server = self.serve(program=self.double())
-        asked = lambda name, key: server.asked("POST", "/calls", f'{{"op":"signal","name":"{name}"}}', {"Idempotency-Key": key})
+
+        def asked(name, key):
+            return server.asked("POST", "/calls", f'{{"op":"signal","name":"{name}"}}', {"Idempotency-Key": key})
+
         first = asked("a", "k")
         self.assertEqual((first[0], asked("a", "k")[2]), (200, first[2]))
         self.assertEqual([asked("b", "k")[0], json.loads(asked("b", "k")[2])["error"]], [422, "KeyReused"])
