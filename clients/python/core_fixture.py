@@ -25,7 +25,7 @@ class Served:
         self._moments = moments
 
     async def __aenter__(self):
-        observe = Observers(self.ledger, self).observe
+        observe = Observers(self).observe
         moments = self._moments or Moments(self.kept.last_moment)
         self.core = Core(self.kept, self._limit, observe, moments, self.ledger, self.replies)
         return self

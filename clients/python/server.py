@@ -20,6 +20,7 @@ from __future__ import annotations
 import argparse
 import asyncio
 import dataclasses
+import gc
 import json
 import logging
 import pathlib
@@ -59,6 +60,8 @@ BODY_LIMIT = 1_048_576
 LOCAL = "127.0.0.1"
 SHORTEST_TOKEN = 16
 SHUTDOWN_SECONDS = 2.0
+# After so many objects garbage is looked for. A call makes some ten, and leaves no circles.
+GARBAGE_AT = 20_000
 
 
 class Opened:
@@ -68,7 +71,7 @@ class Opened:
         settings = settings_of(said, log)
         self.workflows, self.deadlines = Workflows(), Deadlines(settings.shards)
         self.ledger, self.replies = Ledger(settings.shards), Replies()
-        self.observe = Observers(self.workflows, self.deadlines, self.ledger).observe
+        self.observe = Observers(self.workflows, self.deadlines).observe
         self.kept = KeptProgram([said.program], log, settings, self._replayed)
         try:
             Recorded(self.kept, self.workflows).add_all()
@@ -77,7 +80,9 @@ class Opened:
             raise
 
     def _replayed(self, number: int, request: dict, line: bytes, reply: bytes) -> None:
-        self.observe(request, json.loads(reply))
+        said = json.loads(reply)
+        self.observe(request, said)
+        self.ledger.observe(request, said)
         self.replies.replayed(number, request, line, reply)
 
 
@@ -217,6 +222,10 @@ def compact(said: argparse.Namespace, log: str) -> int:
 def serve_log(said: argparse.Namespace, log: str) -> int:
     """Opens a log and serves it."""
     opened = Opened(said, log)
+    # What was opened stays: it needn't be looked through again and again for what is garbage.
+    gc.collect()
+    gc.freeze()
+    gc.set_threshold(GARBAGE_AT)
     if uvloop is not None:
         uvloop.install()
     try:

@@ -201,7 +201,7 @@ class Ledger:
         self._partners[to].add(source)
 
     def observe(self, request: dict, reply: dict) -> None:
-        """Notes what a line of the log came to, when a log is opened."""
+        """Notes what a line of a log came to that is opened."""
         if request.get("op") == "transfer_turn" and reply.get("ok") == "accepted":
             self.met(request["from"], request["to"])
 

@@ -34,7 +34,7 @@ class Deadlines:
         self.sooner: Optional[Callable[[], None]] = None
 
     def observe(self, request: dict, reply: dict) -> None:
-        if "error" in reply:
+        if "error" in reply or (DURATIONS.isdisjoint(request) and "commands" not in request and "ready" not in reply):
             return
         if "ready" in reply:
             self._push(reply["ready"], request)
