@@ -15,7 +15,7 @@ import json
 import logging
 import time
 from collections import deque
-from typing import Callable, Deque, Dict, Iterable, List, Optional
+from typing import Callable, Deque, Dict, Iterable, List, Optional, Set
 
 from co_process import numbered
 from kept_program import KeptProgram
@@ -75,7 +75,7 @@ class Core:
         self._answered = self._synced = kept.lines
         # Why no batch is written now: a sync is under way; a compaction, or a program that is started.
         self._is_syncing = False
-        self._held_by = ""
+        self._held_by: Set[str] = set()
         self._planned = False
         # Whether a poll that was woken could not be asked.
         self._missed = False
@@ -94,12 +94,12 @@ class Core:
         log = self.kept.log
         if log.broken or self.over.done():
             return "broken" if log.broken else "ended"
-        return "full" if log.full else "restarting" if self._held_by == "restarting" else ""
+        return "full" if log.full else "restarting" if "restarting" in self._held_by else ""
 
     @property
     def compacting(self) -> bool:
         """Whether calls wait until the log is compacted."""
-        return self._held_by == "compacting"
+        return "compacting" in self._held_by
 
     @property
     def waiting(self) -> int:
@@ -227,6 +227,8 @@ class Core:
 
     def _refuse(self, calls: List[Call], fault: LogFault) -> None:
         """Fails calls that could not be logged. Turns rest meanwhile, and are made up for by a sweep."""
+        if time.monotonic() >= self.resting:
+            LOG.warning("%s (%d calls, the first: %s)", fault, len(calls), calls[0].named())
         self.resting = time.monotonic() + REST_SECONDS
         self.called = True
         if self.kept.log.broken:
@@ -348,7 +350,7 @@ class Core:
         answer = "ok"
         if call.text.startswith(b'{"error"'):
             answer = str(json.loads(call.text)["error"])
-        self.metrics.calls[str(call.request.get("op"))[:40], answer] += 1
+        self.metrics.calls[call.op, answer] += 1
         self.metrics.latency.add(time.monotonic() - call.since)
 
     def _forget(self, call: Call) -> None:
@@ -380,7 +382,8 @@ class Core:
         if self.kept.log.broken or self._died_at == number:
             self._end(fault)
             return
-        self._died_at, self._held_by = number, "restarting"
+        self._died_at = number
+        self._held_by.add("restarting")
         asked = f" ({self._sent[0].named()})" if self._sent else ""
         LOG.warning("%s%s: it is started again, and given the log's lines", fault, asked)
         self.metrics.restarts += 1
@@ -402,7 +405,7 @@ class Core:
             return
         self._speak()
         self._pipes.feed(b"".join(call.line + b"\n" for call in self._sent))
-        self._held_by = ""
+        self._held_by.discard("restarting")
         self.plan()
 
     def _speak(self) -> None:
@@ -427,7 +430,6 @@ class Core:
     async def compact(self, capacity: int) -> None:
         """Puts the records in the place of the log's lines, with that much room in the queues. Calls wait meanwhile."""
         await self._quiet()
-        self._held_by = "compacting"
         self._pipes.close()
         try:
             former = await self._loop.run_in_executor(None, self.kept.next_generation, capacity)
@@ -436,14 +438,19 @@ class Core:
             self._died_at = -1
         finally:
             self._speak()
-            self._held_by, self.called = "", True
+            self._held_by.discard("compacting")
+            self.called = True
             # Each task that waits is in its queue again.
             self._wake(self.polls.wake_all())
 
     async def _quiet(self) -> None:
-        """Waits until all that was written is synced and answered."""
-        while self._held_by or self._is_syncing or self._sent:
+        """Has nothing more written, and waits until all that was is synced and answered."""
+        while "compacting" in self._held_by:
+            await asyncio.sleep(0.001)
+        self._held_by.add("compacting")
+        while self._is_syncing or self._sent or "restarting" in self._held_by:
             if self.over.done():
+                self._held_by.discard("compacting")
                 raise self.over.result()
             await asyncio.sleep(0.001)
 
@@ -458,6 +465,6 @@ class Core:
 
     def close(self) -> None:
         """Leaves the program and the log to who closes them."""
-        self._held_by = "closed"
+        self._held_by.add("closed")
         self._pipes.close()
         self._syncer.close()

@@ -12,7 +12,7 @@ import binascii
 from collections import defaultdict
 from typing import Any, Dict, Iterable, List, Optional, Set, Tuple
 
-from operations import POLLS, READS
+from operations import KEYS, POLLS, READS
 
 # Calls that issue no task, send nothing to another shard and close no run.
 QUIET = (*POLLS, *READS, "heartbeat")
@@ -108,7 +108,7 @@ class Ledger:
     def note(self, request: dict, needed: Needed) -> None:
         """Adds what a call makes necessary."""
         op = request.get("op")
-        if op in QUIET or op in TURNS:
+        if op not in KEYS or op in QUIET or op in TURNS:
             return
         shard = shard_of_request(request, self.shards)
         if shard is None:

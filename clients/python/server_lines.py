@@ -7,7 +7,7 @@ import json
 import time
 from typing import Any, List, Optional
 
-from operations import POLLS, READS
+from operations import KEYS, POLLS, READS
 from server_ledger import Turn
 
 
@@ -80,6 +80,12 @@ class Call:
     def take(self, text: bytes, reply: dict) -> None:
         """Takes the program's reply."""
         self.text, self.reply = text, reply
+
+    @property
+    def op(self) -> str:
+        """Its operation, by a name that is known."""
+        op = self.request.get("op")
+        return op if op in KEYS else "unknown"
 
     @property
     def has_task(self) -> bool:

@@ -11,11 +11,12 @@ import random
 import signal
 import subprocess
 import sys
+import time
 import unittest
 from unittest import mock
 
 from core_fixture import Served
-from durable import Settings
+from durable import NotCompacted, Settings
 from line_log import LogBroken, LogFull
 from programs import BUILT, COUNTING, memory_folder, needs_program, program_file
 from server_calls import BadCall, Busy, call_of
@@ -111,10 +112,13 @@ class Batches(OverALog):
     def test_a_full_disk_takes_nothing_and_leaves_reads(self):
         async def called():
             async with self.served(COUNTING) as served:
-                with mock.patch("os.pwrite", side_effect=OSError(28, "No space left on device")):
-                    asked, read = served.submit(op="signal", name="a"), served.submit(op="describe", workflow_id="w")
+                full = mock.patch("os.pwrite", side_effect=OSError(28, "No space left on device"))
+                with full, self.assertLogs("wfserve.server", "WARNING") as said:
+                    asked = served.submit("k", op="signal", workflow_id="w", name="a")
+                    read = served.submit(op="describe", workflow_id="w")
                     with self.assertRaises(LogFull):
                         await asked
+                    self.assertRegex(said.output[0], "No space left.*nothing of this call.*signal, workflow_id 'w', key 'k'")
                     self.assertEqual((json.loads(await read)["line"], served.core.wrong), (0, "full"))
                 self.assertEqual((await served.call(op="signal", name="b"))["line"], 1)
                 self.assertEqual(served.core.wrong, "")
@@ -265,6 +269,61 @@ class Polled(OverALog):
                     self.assertEqual(reply["ok"], "completed")
 
         asyncio.run(called())
+
+
+@needs_program
+class CompactedUnderLoad(OverALog):
+    def test_calls_that_keep_coming_hold_no_compaction_up(self):
+        whole = os.fdatasync
+
+        def slow_sync(file):
+            time.sleep(0.005)
+            whole(file)
+
+        async def called(served, caller, done):
+            count = 0
+            while not done.is_set():
+                await served.call(
+                    op="signal_with_start", workflow_id=f"w{caller}", workflow_type="T", task_queue="main", name=f"{count}",
+                )
+                count += 1
+            return count
+
+        async def compacted():
+            async with self.served() as served:
+                done = asyncio.Event()
+                calling = asyncio.gather(*[called(served, caller, done) for caller in range(8)])
+                poll = served.submit(op="poll_activity_task", task_queue="main", wait=60_000)
+                await asyncio.sleep(0.1)
+                with mock.patch("os.fdatasync", slow_sync):
+                    for _ in range(3):
+                        await asyncio.wait_for(served.core.compact(0), 60)
+                        await asyncio.sleep(0.05)
+                done.set()
+                counts = await calling
+                served.core.closing = True
+                served.core.end_polls()
+                self.assertEqual(json.loads(await poll)["ok"], "empty")
+                served.core.closing = False
+                for caller, count in enumerate(counts):
+                    events = (await served.call(op="history", workflow_id=f"w{caller}"))["events"]
+                    names = [it["attrs"]["name"] for it in events if it["type"] == "WorkflowExecutionSignaled"]
+                    self.assertEqual(names, [str(number) for number in range(count)])
+
+        asyncio.run(compacted())
+
+    def test_a_compaction_that_fails_leaves_all_as_it_was(self):
+        async def compacted():
+            async with self.served() as served:
+                await served.call(op="start", workflow_id="w", workflow_type="T", task_queue="main")
+                with mock.patch("os.link", side_effect=OSError(1, "Operation not permitted")):
+                    with self.assertRaisesRegex(NotCompacted, "Operation not permitted"):
+                        await served.core.compact(0)
+                self.assertEqual((await served.call(op="signal", workflow_id="w", name="s"))["ok"], "signaled")
+                await served.core.compact(0)
+                self.assertEqual((await served.call(op="signal", workflow_id="w", name="s"))["line"], 1)
+
+        asyncio.run(compacted())
 
 
 @needs_program

@@ -369,16 +369,19 @@ class Sockets(WithAServer):
             client.signal("w", "s")
         server.asked("POST", "/calls", b'{"op":"signal","name":"a"}', {"Idempotency-Key": "k"})
         server.asked("POST", "/calls", b'{"op":"signal","name":"a"}', {"Idempotency-Key": "k"})
+        for op in (7, 'a"} 1'):
+            server.asked("POST", "/calls", json.dumps({"op": op}))
         status, headers, text = server.asked("GET", "/metrics")
         self.assertEqual((status, headers["Content-Type"].split(";")[0]), (200, "text/plain"))
         said = dict(line.rsplit(" ", 1) for line in text.splitlines() if not line.startswith("#"))
         self.assertEqual(said['wfserve_calls_total{op="signal",answer="ok"}'], "4")
-        self.assertEqual((said["wfserve_replies_again_total"], said["wfserve_call_seconds_count"]), ("1", "4"))
+        self.assertEqual(said['wfserve_calls_total{op="unknown",answer="ok"}'], "2")
+        self.assertEqual((said["wfserve_replies_again_total"], said["wfserve_call_seconds_count"]), ("1", "6"))
         self.assertEqual((said["wfserve_ready"], said["wfserve_calls_waiting"]), ("1", "0"))
         self.assertGreaterEqual(float(said["wfserve_log_lines"]), 4)
         self.assertGreater(float(said["wfserve_program_bytes"]), 100_000)
         buckets = [int(value) for name, value in said.items() if name.startswith("wfserve_call_seconds_bucket")]
-        self.assertEqual((buckets, buckets[-1]), (sorted(buckets), 4))
+        self.assertEqual((buckets, buckets[-1]), (sorted(buckets), 6))
 
 
 if __name__ == "__main__":
