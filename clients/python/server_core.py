@@ -37,6 +37,8 @@ MOST_LINES, MOST_BYTES = 4_096, 1 << 20
 MOST_WAITING_BYTES = 64 << 20
 # How many seconds the calls on their way may take once the server is told to stop.
 DRAIN_SECONDS = 10.0
+# Polls that wait are looked through so often at most.
+TICK_SECONDS = 0.02
 # So often the program is started, where it ends before it has come to the line at which it ended.
 MOST_STARTS = 3
 # For how many seconds no turns are made where the disk was full.
@@ -54,7 +56,7 @@ class Core:
         self.moments = moments
         self.ledger = ledger
         self.metrics = Metrics()
-        self.polls = Polls()
+        self.polls = Polls(self._forget_key)
         self.closing = False
         # Set where nothing is served any more, to why.
         self.over: "asyncio.Future[Exception]" = asyncio.get_running_loop().create_future()
@@ -80,6 +82,8 @@ class Core:
         # Whether a poll that was woken could not be asked.
         self._missed = False
         self._died_at = -1
+        # When polls are looked through, in ticks.
+        self._ticks: Set[int] = set()
         self._loop = asyncio.get_running_loop()
         self._syncer = Syncer(self._loop, self._was_synced)
         self._speak()
@@ -133,6 +137,7 @@ class Core:
                     raise KeyReused(f"another call is being made with the key {call.key}")
                 former.receivers.append(receiver)
                 former.late = max(former.late, call.late)
+                self._end_polls_at(former.late)
                 return True
         left = self.polls.left_for(call.request) if call.is_poll else None
         if left is not None:
@@ -316,7 +321,7 @@ class Core:
         self._count -= 1
         self._bytes -= len(call.begin)
         self.polls.wait(call)
-        self._loop.call_later(call.late - now + 0.001, self.end_polls)
+        self._end_polls_at(call.late)
         return True
 
     def _wake(self, calls: Iterable[Call]) -> None:
@@ -337,7 +342,7 @@ class Core:
         # A task that was taken for a client that is gone is another one's, and needn't time out.
         other = self.polls.leave(call)
         if other is not None:
-            self._by_key.pop(other.key, None)
+            self._forget_key(other)
             other.take(call.text, call.reply)
             self._remember(other)
             other.answer()
@@ -356,6 +361,9 @@ class Core:
     def _forget(self, call: Call) -> None:
         self._count -= 1
         self._bytes -= len(call.begin)
+        self._forget_key(call)
+
+    def _forget_key(self, call: Call) -> None:
         if call.key is not None and self._by_key.get(call.key) is call:
             del self._by_key[call.key]
 
@@ -365,10 +373,21 @@ class Core:
             self.metrics.refused[type(fault).__name__] += 1
             call.fail(fault)
 
+    def _end_polls_at(self, late: float) -> None:
+        """Has polls looked through once this moment is over, together with those of about the same one."""
+        tick = int(late / TICK_SECONDS) + 1
+        if tick not in self._ticks:
+            self._ticks.add(tick)
+            self._loop.call_later(tick * TICK_SECONDS - time.monotonic(), self._end_polls_of, tick)
+
+    def _end_polls_of(self, tick: int) -> None:
+        self._ticks.discard(tick)
+        self.end_polls()
+
     def end_polls(self) -> None:
         """Answers the polls that waited long enough."""
         for call in self.polls.over(float("inf") if self.closing else time.monotonic()):
-            self._by_key.pop(call.key, None)
+            self._forget_key(call)
             self._note(call)
             call.answer()
 
@@ -379,7 +398,8 @@ class Core:
         self._pipes.close()
         number = self._answered + 1
         fault = self.kept.program.ended(number)
-        if self.kept.log.broken or self._died_at == number:
+        is_done = self.closing and not self._count
+        if self.kept.log.broken or self._died_at == number or is_done:
             self._end(fault)
             return
         self._died_at = number

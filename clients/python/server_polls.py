@@ -7,7 +7,7 @@ from __future__ import annotations
 
 import time
 from collections import defaultdict, deque
-from typing import Deque, Dict, Iterator, List, Optional, Tuple
+from typing import Callable, Deque, Dict, Iterator, List, Optional, Tuple
 
 from server_lines import Call
 
@@ -22,9 +22,10 @@ def queue_of(request: dict) -> Queue:
 
 
 class Polls:
-    """Polls that wait, and tasks whose clients have hung up."""
+    """Polls that wait, and tasks whose clients have hung up. `dropped` is told each poll that waits for nobody."""
 
-    def __init__(self):
+    def __init__(self, dropped: Callable[[Call], None]):
+        self._dropped = dropped
         self._waiting: Dict[Queue, Deque[Call]] = defaultdict(deque)
         self._count = 0
         self._left: Dict[Queue, Deque[Tuple[float, Call]]] = defaultdict(deque)
@@ -46,31 +47,39 @@ class Polls:
         """The first polls of each queue, which are asked again: so many tasks were handed over, nobody knows where."""
         for waiting in self._waiting.values():
             woken = 0
-            while waiting and woken < count:
-                call = self._popped(waiting)
-                if not call.is_gone():
-                    woken += 1
-                    yield call
+            while woken < count and (call := self._first(waiting)) is not None:
+                woken += 1
+                yield call
 
     def wake_all(self) -> Iterator[Call]:
         """All polls that wait."""
         return self.wake(self._count)
 
-    def _popped(self, waiting: Deque[Call]) -> Call:
-        self._count -= 1
-        call = waiting.popleft()
-        call.was_woken = True
-        return call
+    def _first(self, waiting: Deque[Call]) -> Optional[Call]:
+        """The first poll whose client is there. It waits no more."""
+        while waiting:
+            self._count -= 1
+            call = waiting.popleft()
+            call.was_woken = True
+            if not call.is_gone():
+                return call
+            self._dropped(call)
+        return None
 
     def over(self, now: float) -> List[Call]:
         """The polls that waited long enough, and those whose clients have hung up. They wait no more."""
         found: List[Call] = []
         for queue, waiting in list(self._waiting.items()):
-            left = deque(call for call in waiting if call.late > now and not call.is_gone())
-            if len(left) < len(waiting):
-                found += [call for call in waiting if call.late <= now and not call.is_gone()]
-                self._count -= len(waiting) - len(left)
-                self._waiting[queue] = left
+            left: Deque[Call] = deque()
+            for call in waiting:
+                if call.is_gone():
+                    self._dropped(call)
+                elif call.late <= now:
+                    found.append(call)
+                else:
+                    left.append(call)
+            self._count -= len(waiting) - len(left)
+            self._waiting[queue] = left
             if not left:
                 del self._waiting[queue]
         return found
@@ -80,13 +89,10 @@ class Polls:
     def leave(self, taken: Call) -> Optional[Call]:
         """Leaves a task to the next who polls its queue: to one that waits, or to one who comes."""
         queue = queue_of(taken.request)
-        waiting = self._waiting.get(queue)
-        while waiting:
-            call = self._popped(waiting)
-            if not call.is_gone():
-                return call
-        self._left[queue].append((time.monotonic() + GIVEN_ON_SECONDS, taken))
-        return None
+        call = self._first(self._waiting[queue])
+        if call is None:
+            self._left[queue].append((time.monotonic() + GIVEN_ON_SECONDS, taken))
+        return call
 
     def left_for(self, request: dict) -> Optional[Call]:
         """A call that took a task for nobody, whose time is hardly over."""

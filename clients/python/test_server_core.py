@@ -118,7 +118,7 @@ class Batches(OverALog):
                     read = served.submit(op="describe", workflow_id="w")
                     with self.assertRaises(LogFull):
                         await asked
-                    self.assertRegex(said.output[0], "No space left.*nothing of this call.*signal, workflow_id 'w', key 'k'")
+                    self.assertRegex(said.output[0], "No space left.*signal, workflow_id 'w', key 'k'")
                     self.assertEqual((json.loads(await read)["line"], served.core.wrong), (0, "full"))
                 self.assertEqual((await served.call(op="signal", name="b"))["line"], 1)
                 self.assertEqual(served.core.wrong, "")
@@ -284,7 +284,8 @@ class CompactedUnderLoad(OverALog):
             count = 0
             while not done.is_set():
                 await served.call(
-                    op="signal_with_start", workflow_id=f"w{caller}", workflow_type="T", task_queue="main", name=f"{count}",
+                    op="signal_with_start", workflow_id=f"w{caller}", workflow_type="T", task_queue="main",
+                    name=f"{count}",
                 )
                 count += 1
             return count

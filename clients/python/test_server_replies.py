@@ -114,6 +114,32 @@ class Again(OverALog):
         said = [json.loads(had[key][0]).get("ok") for key in had]
         self.assertEqual(said, ["started", "task", None, "signaled", "completed"])
 
+    def test_a_poll_that_waits_is_joined_by_its_key_or_made_anew(self):
+        async def called():
+            async with Served([str(BUILT)], self.log) as served:
+                poll = {"op": "poll_workflow_task", "task_queue": "main", "wait": 1_000}
+                for key, looked_at in (("a", False), ("b", True)):
+                    hung_up = []
+                    gone = served.submit(key, is_gone=lambda: bool(hung_up), **poll)
+                    await served.idle()
+                    hung_up.append(True)
+                    if looked_at:
+                        served.core.end_polls()
+                        self.assertEqual(len(served.core.polls), 0)
+                    again = served.submit(key, **poll)
+                    await served.idle()
+                    await served.call(op="start", workflow_id=key, workflow_type="T", task_queue="main")
+                    task = json.loads(await asyncio.wait_for(again, 10))
+                    self.assertEqual((task["workflow_id"], gone.done()), (key, False))
+                gone = served.submit("c", **poll)
+                await asyncio.sleep(0.5)
+                joined = served.submit("c", **poll)
+                self.assertEqual(json.loads(await asyncio.wait_for(joined, 10))["ok"], "empty")
+                self.assertEqual(gone.result(), joined.result())
+                self.assertEqual(served.core._by_key, {})
+
+        asyncio.run(called())
+
     def test_a_poll_that_found_nothing_is_made_anew(self):
         async def called():
             async with Served([str(BUILT)], self.log) as served:
