@@ -37,6 +37,8 @@ MOST_LINES, MOST_BYTES = 4_096, 1 << 20
 MOST_WAITING_BYTES = 64 << 20
 # How many seconds the calls on their way may take once the server is told to stop.
 DRAIN_SECONDS = 10.0
+# So long after its end the program is started again.
+PAUSE_SECONDS = 0.02
 # Polls that wait are looked through so often at most.
 TICK_SECONDS = 0.02
 # So often the program is started, where it ends before it has come to the line at which it ended.
@@ -394,8 +396,13 @@ class Core:
     # The program.
 
     def _program_ended(self) -> None:
-        """Starts the program again, once for a line, and gives it what it has not answered."""
+        """Nothing is written now. Ctrl-C in a terminal ends both, and the server learns of it a little later."""
         self._pipes.close()
+        self._held_by.add("restarting")
+        self._loop.call_later(PAUSE_SECONDS, self._go_on_without)
+
+    def _go_on_without(self) -> None:
+        """Starts the program again, once for a line, and gives it what it has not answered."""
         number = self._answered + 1
         fault = self.kept.program.ended(number)
         is_done = self.closing and not self._count
@@ -403,7 +410,6 @@ class Core:
             self._end(fault)
             return
         self._died_at = number
-        self._held_by.add("restarting")
         asked = f" ({self._sent[0].named()})" if self._sent else ""
         LOG.warning("%s%s: it is started again, and given the log's lines", fault, asked)
         self.metrics.restarts += 1
