@@ -27,7 +27,7 @@ def numbered(text: bytes, expected: int, line: int) -> bytes:
     """A reply's text with its line's number in the log, in the place of the number that the program expects."""
     found = LINE.search(text)
     if found is None or int(found[1]) != expected:
-        raise Ended(f"line {line}: the reply is to another line: {text[:200]!r}")
+        raise Ended(f"the reply to line {line} is to another line: {text[:200]!r}")
     return text if line == expected else b"%s%d%s" % (text[:found.start(1)], line, text[found.end(1):])
 
 

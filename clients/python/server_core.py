@@ -271,12 +271,12 @@ class Core:
             call = self._sent.popleft()
             try:
                 text = numbered(text, self._pipes.next_reply(), call.number)
-            except Ended as ended:
+                call.take(text, json.loads(text) if call.is_logged else {})
+            except (Ended, ValueError) as wrong:
                 self._sent.appendleft(call)
-                self._end(ended)
+                self._end(Ended(f"line {call.number}: {wrong}"))
                 return
             self._answered = call.number
-            call.take(text, json.loads(text) if call.is_logged else {})
             handed += self._go_on(call)
         if handed:
             self._wake(self.polls.wake(handed))
@@ -358,7 +358,8 @@ class Core:
         if call.text.startswith(b'{"error"'):
             answer = str(json.loads(call.text)["error"])
         self.metrics.calls[call.op, answer] += 1
-        self.metrics.latency.add(time.monotonic() - call.since)
+        if not call.is_poll:
+            self.metrics.latency.add(time.monotonic() - call.since)
 
     def _forget(self, call: Call) -> None:
         self._count -= 1

@@ -68,7 +68,7 @@ class Metrics:
         self._count(lines, "replies_again", "Replies that were given again, by their keys.", (), {(): self.again})
         self._count(lines, "program_restarts", "How often the program was started again.", (), {(): self.restarts})
         for name, said, histogram in (
-            ("call_seconds", "From a call's arrival to its answer.", self.latency),
+            ("call_seconds", "From the arrival of a call that is no poll to its answer.", self.latency),
             ("sync_seconds", "What a sync of the log took.", self.syncs),
             ("batch_lines", "Lines of one write and one sync.", self.batches),
         ):

@@ -7,6 +7,7 @@ from __future__ import annotations
 
 import time
 from collections import defaultdict, deque
+from itertools import takewhile
 from typing import Callable, Deque, Dict, Iterator, List, Optional, Tuple
 
 from server_lines import Call
@@ -35,10 +36,10 @@ class Polls:
         return self._count
 
     def wait(self, call: Call) -> None:
-        """Has a poll wait. One that was woken and found nothing is the first one again."""
+        """Has a poll wait. One that was woken and found nothing has its place again."""
         waiting = self._waiting[queue_of(call.request)]
         if call.was_woken:
-            waiting.appendleft(call)
+            waiting.insert(sum(1 for _ in takewhile(lambda it: it.since <= call.since, waiting)), call)
         else:
             waiting.append(call)
         self._count += 1

@@ -228,6 +228,39 @@ class Polled(OverALog):
 
         asyncio.run(called())
 
+    def test_polls_that_were_woken_for_nothing_have_their_places_again(self):
+        async def called():
+            async with self.served() as served:
+                polls = [
+                    served.submit(op="poll_activity_task", task_queue="main", wait=20_000)
+                    for _ in range(5)
+                ]
+                await served.idle()
+                # Tasks of the other kind, one after another and several at once.
+                for names in (["a"], ["b", "c", "d"]):
+                    await asyncio.gather(*[self.started(served, name) for name in names])
+                    await served.idle()
+                waiting = served.core.polls._waiting["poll_activity_task", "main"]
+                self.assertEqual([call.receivers[0].future for call in waiting], polls)
+                served.core.closing = True
+                served.core.end_polls()
+                self.assertEqual({json.loads(text)["ok"] for text in await asyncio.gather(*polls)}, {"empty"})
+
+        asyncio.run(called())
+
+    def test_a_reply_that_is_none_ends_all(self):
+        for number, said in enumerate(("no reply", '{"line":9,"ok":"signaled"}', '{"line":1,"ok":')):
+            program = program_file(self.folder, f"#!{sys.executable} -S\nfor line in open(0): print({said!r}, flush=True)\n")
+            self.log = self.folder / f"{number}.log"
+
+            async def called():
+                async with self.served([program]) as served:
+                    with self.assertRaises(Ended):
+                        await served.call(op="signal", name="a")
+                    self.assertEqual(served.core.wrong, "ended")
+
+            asyncio.run(called())
+
     def test_many_tasks_of_one_batch_wake_as_many_polls(self):
         async def called():
             async with self.served() as served:
