@@ -3,14 +3,30 @@
 import asyncio
 import json
 import pathlib
+import unittest
 
 from kept_program import KeptProgram
+from programs import BUILT, memory_folder
 from server_calls import Observers, call_of
 from server_core import Core
 from server_ledger import Ledger
 from server_lines import Waiter
 from server_moments import Moments
 from server_replies import Replies
+
+
+class OverALog(unittest.TestCase):
+    """Has a folder, and a log in it."""
+
+    def setUp(self):
+        folder = memory_folder()
+        self.addCleanup(folder.cleanup)
+        self.folder = pathlib.Path(folder.name)
+        self.log = self.folder / "a.log"
+
+    def served(self, command=(str(BUILT),), settings=None, **more):
+        """A core over the log."""
+        return Served(list(command), self.log, settings, **more)
 
 
 class Served:

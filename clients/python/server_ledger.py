@@ -73,14 +73,14 @@ class Needed:
 class Turn:
     """A turn of the server's own. After the last of several dispatch turns it is asked whether there is more."""
 
-    __slots__ = ("request", "at_once", "is_last", "is_closing", "is_net")
+    __slots__ = ("request", "at_once", "is_last", "closing", "is_net")
 
-    def __init__(self, request: dict, at_once: int = 1, is_last: bool = True, is_closing: bool = False):
+    def __init__(self, request: dict, at_once: int = 1, is_last: bool = True, closing: int = 0):
         self.request = request
         self.at_once = at_once
         self.is_last = is_last
-        # Whether the end of a run may be told by it, and whether it is one of a sweep.
-        self.is_closing = is_closing
+        # Where the end of a run may be told by it, its number among such turns; and whether it is one of a sweep.
+        self.closing = closing
         self.is_net = False
 
 
@@ -98,8 +98,9 @@ class Ledger:
         self.full: Set[int] = set()
         # Between which shards a transfer was ever accepted, both ways: a parent and its child are among these.
         self._partners: Dict[int, Set[int]] = defaultdict(set)
-        # Pairs over which the end of a run may be told, until a turn finds nothing there.
-        self._closing: Set[Tuple[int, int]] = set()
+        # Pairs over which the end of a run may be told, until the last turn that was made for it finds nothing.
+        self._closing: Dict[Tuple[int, int], int] = {}
+        self._closings = 0
         # How often a turn of a sweep found something.
         self.missed = 0
 
@@ -145,13 +146,15 @@ class Ledger:
         return found
 
     def _transfer(self, source: int, to: int, is_closing: bool = False) -> Turn:
-        return Turn({"op": "transfer_turn", "from": source, "to": to}, is_closing=is_closing)
+        turn = Turn({"op": "transfer_turn", "from": source, "to": to})
+        if is_closing:
+            self._closings += 1
+            turn.closing = self._closing[source, to] = self._closings
+        return turn
 
     def _told_of(self, shard: int) -> List[Turn]:
         """The turns to all shards that may have a parent or a child of a run of this one, which may have closed."""
-        pairs = [(shard, other) for other in sorted(self._partners.get(shard, ()))]
-        self._closing.update(pairs)
-        return [self._transfer(source, to, is_closing=True) for source, to in pairs]
+        return [self._transfer(shard, other, is_closing=True) for other in sorted(self._partners.get(shard, ()))]
 
     # After a reply.
 
@@ -180,8 +183,9 @@ class Ledger:
 
     def _after_transfer(self, request: dict, said: Optional[str], turn: Optional[Turn]) -> List[Turn]:
         if said not in ("accepted", "already"):
-            if said == "none" and turn is not None and turn.is_closing:
-                self._closing.discard((request["from"], request["to"]))
+            pair = request.get("from"), request.get("to")
+            if said == "none" and turn is not None and turn.closing and self._closing.get(pair) == turn.closing:
+                del self._closing[pair]
             return []
         source, to = request["from"], request["to"]
         self.met(source, to)

@@ -6,7 +6,6 @@ WFSERVE_SEED draws other calls.
 import asyncio
 import json
 import os
-import pathlib
 import random
 import signal
 import subprocess
@@ -15,10 +14,10 @@ import time
 import unittest
 from unittest import mock
 
-from core_fixture import Served
+from core_fixture import OverALog
 from durable import NotCompacted, Settings
 from line_log import LogBroken, LogFull
-from programs import BUILT, COUNTING, memory_folder, needs_program, program_file
+from programs import BUILT, COUNTING, needs_program, program_file
 from server_calls import BadCall, Busy, call_of
 from server_moments import Moments
 from test_server_ledger import drawn_call, worked
@@ -44,17 +43,6 @@ served.stdin.close()
 sys.exit(served.wait())
 ' "$@"
 """
-
-
-class OverALog(unittest.TestCase):
-    def setUp(self):
-        folder = memory_folder()
-        self.addCleanup(folder.cleanup)
-        self.folder = pathlib.Path(folder.name)
-        self.log = self.folder / "a.log"
-
-    def served(self, command=(str(BUILT),), settings=None, **more):
-        return Served(list(command), self.log, settings, **more)
 
 
 class Batches(OverALog):
@@ -250,7 +238,8 @@ class Polled(OverALog):
 
     def test_a_reply_that_is_none_ends_all(self):
         for number, said in enumerate(("no reply", '{"line":9,"ok":"signaled"}', '{"line":1,"ok":')):
-            program = program_file(self.folder, f"#!{sys.executable} -S\nfor line in open(0): print({said!r}, flush=True)\n")
+            answers = f"for line in open(0): print({said!r}, flush=True)"
+            program = program_file(self.folder, f"#!{sys.executable} -S\n{answers}\n")
             self.log = self.folder / f"{number}.log"
 
             async def called():
@@ -401,9 +390,8 @@ class Dies(OverALog):
                 killing = asyncio.create_task(killed(served, done))
                 await asyncio.gather(*[called(served, caller) for caller in range(8)])
                 done.set()
-                self.assertGreater(await killing, 2)
+                self.assertGreater(min(await killing, served.core.metrics.restarts), 2)
                 await served.idle()
-                self.assertGreater(served.core.metrics.restarts, 2)
                 for caller in range(8):
                     events = (await served.call(op="history", workflow_id=f"w{caller}"))["events"]
                     names = [it["attrs"]["name"] for it in events if it["type"] == "WorkflowExecutionSignaled"]

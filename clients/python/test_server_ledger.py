@@ -5,15 +5,14 @@ WFSERVE_SEED draws other calls.
 
 import asyncio
 import os
-import pathlib
 import random
 import sys
 import unittest
 from collections import Counter
 
-from core_fixture import Served
+from core_fixture import OverALog
 from durable import Settings
-from programs import BUILT, memory_folder, needs_program
+from programs import needs_program
 from server_ledger import Ledger, Needed, Turn, shard_of, shard_of_request, shard_of_token
 
 SEED = int(os.environ.get("WFSERVE_SEED", random.randrange(1 << 32)))
@@ -39,6 +38,11 @@ class Noted(unittest.TestCase):
 
     def accept(self, source, to):
         return asked(self.ledger.follow({"op": "transfer_turn", "from": source, "to": to}, {"ok": "accepted"}, None))
+
+    def closing_turn(self, request):
+        needed = Needed()
+        self.ledger.note(request, needed)
+        return self.ledger.turns(needed)[0]
 
     def test_each_start_has_its_dispatch_turn(self):
         start = {"op": "start", "workflow_id": IDS[0]}
@@ -74,10 +78,14 @@ class Noted(unittest.TestCase):
         self.assertEqual(self.turns(terminate)[0], {"op": "transfer_turn", "from": shard, "to": other})
         # What was ended there may have children elsewhere.
         self.assertIn({"op": "transfer_turn", "from": other, "to": third}, self.accept(shard, other))
-        # Once nothing more is told, transfers are ordinary ones again.
-        told = Turn({"op": "transfer_turn", "from": shard, "to": other}, is_closing=True)
-        self.assertEqual(self.ledger.follow(told.request, {"ok": "none"}, told), [])
-        self.assertNotIn({"op": "transfer_turn", "from": other, "to": third}, self.accept(shard, other))
+        # Once nothing more is told, transfers are ordinary ones again; an earlier turn that found nothing says nothing.
+        further = {"op": "transfer_turn", "from": other, "to": third}
+        first, _ = [self.closing_turn(terminate) for _ in range(2)]
+        self.assertEqual(self.ledger.follow(first.request, {"ok": "none"}, first), [])
+        self.assertIn(further, self.accept(shard, other))
+        last = self.closing_turn(terminate)
+        self.assertEqual(self.ledger.follow(last.request, {"ok": "none"}, last), [])
+        self.assertNotIn(further, self.accept(shard, other))
 
     def test_dispatch_turns_double_while_they_find_tasks(self):
         turns, counts = [Turn({"op": "dispatch_turn", "shard": 1})], []
@@ -139,15 +147,10 @@ async def worked(served, draw):
 
 
 @needs_program
-class Exact(unittest.TestCase):
-    def setUp(self):
-        folder = memory_folder()
-        self.addCleanup(folder.cleanup)
-        self.log = pathlib.Path(folder.name) / "a.log"
-
+class Exact(OverALog):
     def test_shards_are_those_of_the_service(self):
         async def started():
-            async with Served([str(BUILT)], self.log, Settings(shards=SHARDS)) as served:
+            async with self.served(settings=Settings(shards=SHARDS)) as served:
                 for workflow_id in [*IDS, "ü\u20ac", "\U0001f600"]:
                     reply = await served.call(op="start", workflow_id=workflow_id, workflow_type="T", task_queue="main")
                     self.assertEqual(int(reply["run"][15:18], 16), shard_of(workflow_id, SHARDS), workflow_id)
@@ -171,7 +174,7 @@ class Exact(unittest.TestCase):
 
         async def drawn():
             draw = random.Random(SEED)
-            async with Served([str(BUILT)], self.log, Settings(shards=SHARDS, capacity=4)) as served:
+            async with self.served(settings=Settings(shards=SHARDS, capacity=4)) as served:
                 for number in range(ROUNDS):
                     await asyncio.gather(*[called(served, draw) for _ in range(draw.randrange(1, 4))])
                     await served.idle()

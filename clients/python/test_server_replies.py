@@ -19,9 +19,9 @@ import unittest
 from collections import Counter
 from concurrent.futures import ThreadPoolExecutor
 
-from core_fixture import Served
+from core_fixture import OverALog
 from durable import Settings
-from programs import BUILT, COUNTING, memory_folder, needs_program, needs_server
+from programs import COUNTING, needs_program, needs_server
 from server_calls import BadCall, KeyReused, key_of
 from server_replies import Replies, ended_line
 from test_server import WithAServer
@@ -29,6 +29,8 @@ from test_server import WithAServer
 SEED = int(os.environ.get("WFSERVE_SEED", random.randrange(1 << 32)))
 KILLS = int(os.environ.get("WFSERVE_KILLS", 12))
 CLIENTS = 8
+# No task's time is over, however long a server that is killed takes to be back.
+HOUR = 3_600_000
 JSON = {"Content-Type": "application/json"}
 
 
@@ -63,17 +65,10 @@ class Kept(unittest.TestCase):
                 key_of(wrong)
 
 
-class OverALog(unittest.TestCase):
-    def setUp(self):
-        folder = memory_folder()
-        self.addCleanup(folder.cleanup)
-        self.log = pathlib.Path(folder.name) / "a.log"
-
-
 class Joined(OverALog):
     def test_a_call_on_its_way_is_made_once_and_answered_twice(self):
         async def called():
-            async with Served(COUNTING, self.log) as served:
+            async with self.served(COUNTING) as served:
                 asked = [served.submit("k", op="signal", name="slow") for _ in range(3)]
                 self.assertEqual(len(set(await asyncio.gather(*asked))), 1)
                 self.assertEqual(await served.submit("k", op="signal", name="slow"), asked[0].result())
@@ -98,7 +93,7 @@ class Again(OverALog):
         }
 
         async def called(had):
-            async with Served([str(BUILT)], self.log, Settings(shards=2)) as served:
+            async with self.served(settings=Settings(shards=2)) as served:
                 for key, call in calls.items():
                     had.setdefault(key, []).append(await served.submit(key, **call))
                 task = json.loads(had["poll"][0])
@@ -116,7 +111,7 @@ class Again(OverALog):
 
     def test_a_poll_that_waits_is_joined_by_its_key_or_made_anew(self):
         async def called():
-            async with Served([str(BUILT)], self.log) as served:
+            async with self.served() as served:
                 poll = {"op": "poll_workflow_task", "task_queue": "main", "wait": 1_000}
                 for key, looked_at in (("a", False), ("b", True)):
                     hung_up = []
@@ -142,7 +137,7 @@ class Again(OverALog):
 
     def test_a_poll_that_found_nothing_is_made_anew(self):
         async def called():
-            async with Served([str(BUILT)], self.log) as served:
+            async with self.served() as served:
                 poll = {"op": "poll_workflow_task", "task_queue": "main", "wait": 0}
                 self.assertEqual((await served.call("p", **poll))["ok"], "empty")
                 await served.call(op="start", workflow_id="w", workflow_type="T", task_queue="main")
@@ -205,7 +200,7 @@ class Disturbed(WithAServer):
         while not stop.is_set():
             count += 1
             name = f"{number}-{count}"
-            call(f"start {name}".replace(" ", "-"), op="start", workflow_id=name, workflow_type="T", task_queue="main")
+            call(f"start-{name}", op="start", workflow_id=name, workflow_type="T", task_queue="main", task_timeout=HOUR)
             task = call(f"poll-{name}", op="poll_workflow_task", task_queue="main", wait=10_000)
             if task["ok"] == "task":
                 done = {"type": "CompleteWorkflowExecution", "result": name}
@@ -257,7 +252,7 @@ class Disturbed(WithAServer):
         self.assertEqual(len(set(tokens)), len(tokens))
         for key, text in had.items():
             if key.startswith("done"):
-                self.assertEqual(json.loads(text).get("ok"), "completed", key)
+                self.assertEqual(json.loads(text).get("ok"), "completed", (key, text))
         # The log itself says the same, by the keys that its lines bear, once for each call but for polls.
         server.stop()
         lines = self.log.read_bytes().splitlines()
