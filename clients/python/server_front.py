@@ -218,7 +218,7 @@ class Connection(asyncio.Protocol):
         reading, self._reading, self._is_whole, self._raw = self._reading, None, False, b""
         reading.keeps = self._parser.should_keep_alive()
         self._was_asked = True
-        if self._serving is None:
+        if self._serving is None and not self._asked:
             self._serve(reading)
         else:
             self._asked.append(reading)
@@ -259,6 +259,11 @@ class Connection(asyncio.Protocol):
         if not request.keeps:
             self.close()
         elif self._asked:
+            asyncio.get_running_loop().call_soon(self._serve_next)
+
+    def _serve_next(self) -> None:
+        """Serves what came while another call was on its way."""
+        if self._serving is None and self._asked and not self.is_gone():
             request = self._asked.popleft()
             if not self._asked:
                 self._transport.resume_reading()

@@ -341,6 +341,19 @@ class Sockets(WithAServer):
                     said = json.loads(json.loads(answers.read(int(head[b"content-length"])))["said"])
                     self.assertEqual(said["name"], f"number {number}")
 
+    def test_many_bad_calls_at_once_are_each_refused(self):
+        server, count = self.serve(program=self.double()), 3_000
+        bad = b"POST /calls HTTP/1.1\r\nHost: 127.0.0.1\r\nContent-Type: application/json\r\nContent-Length: 1\r\n\r\n{"
+        with socket.create_connection((server.host, server.port), timeout=30) as connection:
+            sending = threading.Thread(target=connection.sendall, args=(bad * count + self.request("last"),))
+            sending.start()
+            data = b""
+            while b"signaled" not in data:
+                data += connection.recv(1 << 16)
+            sending.join()
+        self.assertEqual((data.count(b"HTTP/1.1 400"), data.count(b"HTTP/1.1 200")), (count, 1))
+        self.assertEqual((server.stop(), server.said.read_text()), (0, ""))
+
     def test_what_is_no_plain_call_is_answered_on_the_same_connection(self):
         server = self.serve(program=self.double())
         with socket.create_connection((server.host, server.port), timeout=20) as connection:
