@@ -32,6 +32,7 @@ from server_replies import Replies, ended_line
 from wfserve import Ended
 
 LOG = logging.getLogger("wfserve.server")
+REPLIES = json.JSONDecoder()
 MOST_LINES, MOST_BYTES = 4_096, 1 << 20
 # So many bytes of calls may wait.
 MOST_WAITING_BYTES = 64 << 20
@@ -271,7 +272,7 @@ class Core:
             call = self._sent.popleft()
             try:
                 text = numbered(text, self._pipes.next_reply(), call.number)
-                call.take(text, json.loads(text) if call.is_logged else {})
+                call.take(text, REPLIES.decode(text.decode()) if call.is_logged else {})
             except (Ended, ValueError) as wrong:
                 self._sent.appendleft(call)
                 self._end(Ended(f"line {call.number}: {wrong}"))
