@@ -3,8 +3,8 @@
 A shard's moment never goes back. After a call that was made while the clock was ahead, as by a day, the wall
 clock's moments would all count as that one, and no timer would fire until the clock is there again. And where
 a clock is set ahead, all timers would fire early, for good. So time goes on by a steady clock from the moment
-at which the server was started, and is drawn to a wall clock that
-is ahead of it by a tenth of the time that passes.
+at which the server was started, and is drawn to a wall clock that is ahead of it by a tenth of the time that
+passes.
 """
 
 from __future__ import annotations
