@@ -4,10 +4,11 @@ from __future__ import annotations
 
 import json
 import os
+import re
 import subprocess
 import threading
 from collections import deque
-from typing import Deque, Sequence
+from typing import Deque, Sequence, Tuple
 
 from wfserve import Ended
 
@@ -15,6 +16,19 @@ from wfserve import Ended
 # dispatch turn only reads.
 CHANGES_NOTHING = b'{"op":"dispatch_turn","shard":0,"stop":1}'
 LINES_KEPT = 5
+PIPE_BYTES = 1 << 20
+
+
+# A text has its quotes escaped, so only a key looks so; and no event has such a key.
+LINE = re.compile(rb'"line": ?([0-9]+)')
+
+
+def numbered(text: bytes, expected: int, line: int) -> bytes:
+    """A reply's text with its line's number in the log, in the place of the number that the program expects."""
+    found = LINE.search(text)
+    if found is None or int(found[1]) != expected:
+        raise Ended(f"the reply to line {line} is to another line: {text[:200]!r}")
+    return text if line == expected else b"%s%d%s" % (text[:found.start(1)], line, text[found.end(1):])
 
 
 def hand_on(line: bytes) -> None:
@@ -34,7 +48,8 @@ class Program:
         )
         self._unsaid = unsaid
         self._said: Deque[str] = deque(maxlen=LINES_KEPT)
-        self._replies = 0
+        # How many replies were read.
+        self.replies = 0
         self._listener = threading.Thread(target=self._listen, daemon=True)
         self._listener.start()
 
@@ -60,25 +75,30 @@ class Program:
 
     def reply(self, line: int) -> dict:
         """The next reply, under the number that its line has in the log."""
-        text = self._reply_text(line)
-        reply = json.loads(text)
-        if reply.get("line") != self._replies:
-            raise Ended(f"line {line}: the reply is to another line: {text[:200]!r}")
-        reply["line"] = line
-        return reply
+        return {**json.loads(self.reply_text(line)), "line": line}
 
-    def skip_reply(self, line: int) -> None:
-        """Reads over the next reply."""
-        self._reply_text(line)
-
-    def _reply_text(self, line: int) -> bytes:
+    def reply_text(self, line: int) -> bytes:
+        """The next reply's text, under the number that its line has in the log."""
         text = self._process.stdout.readline()
         if not text.endswith(b"\n"):
-            status = self._process.wait()
-            said = self.said()
-            raise Ended(f"line {line}: the program ended with status {status}" + (f": {said}" if said else ""))
-        self._replies += 1
-        return text
+            raise self.ended(line)
+        self.replies += 1
+        return numbered(text[:-1], self.replies, line)
+
+    def ended(self, line: int) -> Ended:
+        """How it ended, which it has to have done; this line was not answered."""
+        status = self._process.wait()
+        said = self.said()
+        return Ended(f"line {line}: the program ended with status {status}" + (f": {said}" if said else ""))
+
+    def pipes(self) -> Tuple[int, int]:
+        """The files of its input and its output, for who waits for both. All its replies so far were read."""
+        return self._process.stdin.fileno(), self._process.stdout.fileno()
+
+    @property
+    def pid(self) -> int:
+        """The number of its process."""
+        return self._process.pid
 
     def check_answers(self) -> None:
         """Returns once it has opened and answered a line that changes nothing. Ended where it doesn't."""
@@ -98,7 +118,9 @@ class Program:
         self.wait()
 
     def wait(self) -> int:
-        """Its status, once it has ended."""
+        """Its status, once it has ended. Replies that nobody took are let be: it waits until they are read."""
+        while not self._process.stdout.closed and self._process.stdout.read(PIPE_BYTES):
+            pass
         status = self._process.wait()
         self._listener.join()
         self._process.stdout.close()

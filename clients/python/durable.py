@@ -19,34 +19,25 @@ service is opened from them in the place of serving each line again.
 
 from __future__ import annotations
 
-import dataclasses
 import json
-import logging
-import os
-import subprocess
 import threading
 from collections import deque
 from concurrent.futures import Future
 from dataclasses import dataclass, field
-from typing import Any, Callable, Deque, Iterable, List, Optional, Sequence, Tuple
+from typing import Any, Callable, Deque, Iterable, List, Optional, Sequence
 
 from co_process import Program
-from compaction import (
-    NotCompacted, NotOpened, folder_of, keep_log, keep_private, last_moment_in, load_options, open_program,
-    record_files, remove_leftovers, save_records,
-)
-from line_log import LineLog, LogFault
+from compaction import NotCompacted, NotOpened
+from kept_program import KeptProgram, Replayed, for_read, for_replay
+from line_log import LogFault
 from operations import READS
-from service_settings import OtherSettings, RefusedSettings, Settings, check_settings, read_header
+from service_settings import OtherSettings, RefusedSettings, Settings, read_header
 from wfserve import Calls, Clock, Ended, answered, request_of, text_of
 
 __all__ = [
-    "DurableService", "NotCompacted", "NotOpened", "OtherSettings", "RefusedSettings", "Settings", "read_header",
+    "DurableService", "NotCompacted", "NotOpened", "OtherSettings", "RefusedSettings", "Settings", "for_replay",
+    "read_header",
 ]
-
-LOG = logging.getLogger("wfserve.log")
-# The program refuses a line of a later moment.
-MOMENTS = 1 << 64
 
 
 @dataclass
@@ -63,35 +54,19 @@ def waiting_for(request: dict) -> Waiting:
     """A call that waits for its turn. A read is asked at no moment, so that it sets none."""
     if request.get("op") not in READS:
         return Waiting(text_of(request).encode())
-    return Waiting(text_of({name: value for name, value in request.items() if name != "at"}).encode(), logged=False)
+    return Waiting(for_read(request), logged=False)
+
+
+def replayed_as(observe: Optional[Callable[[dict, dict], None]]) -> Optional[Replayed]:
+    """Tells an observer each request and its reply."""
+    if observe is None:
+        return None
+    return lambda number, request, line, text: observe(request, json.loads(text))
 
 
 def fail(calls: Iterable[Waiting], fault: Exception) -> None:
     for call in calls:
         call.reply.set_exception(fault)
-
-
-def request_in(line: bytes) -> dict:
-    """The request that a line of the log has. One that can't be read was refused when it was made."""
-    try:
-        return json.loads(line)
-    except (ValueError, RecursionError):
-        return {}
-
-
-def for_replay(line: bytes) -> bytes:
-    """What the program is given for a line of the log when it is served again.
-
-    A log of an earlier time has reads, and a history is long. A description sets the same moment on the same
-    shard, and changes as little.
-    """
-    if b'"history"' not in line:
-        return line
-    request = request_in(line)
-    if request.get("op") != "history":
-        return line
-    named = {name: request[name] for name in ("workflow_id", "run") if isinstance(request.get(name), str)}
-    return text_of({"op": "describe", "at": request.get("at", 0), **named}).encode()
 
 
 class DurableService(Calls):
@@ -125,18 +100,11 @@ class DurableService(Calls):
         # Whether lines are on their way to the program, and whether they have to wait.
         self._writing = False
         self._paused = False
-        self._command = list(command)
-        self._log = LineLog(log)
-        self._start(settings)
-        self._replay(replayed or (lambda request, reply: None))
+        self._kept = KeptProgram(command, log, settings, replayed_as(replayed))
+        self.last_moment = self._kept.last_moment
         self._writer = threading.Thread(target=self._write_calls, daemon=True)
         self._writer.start()
         self._read_on()
-        try:
-            self._grow(settings)
-        except BaseException:
-            self.close()
-            raise
 
     def __enter__(self) -> "DurableService":
         return self
@@ -145,133 +113,32 @@ class DurableService(Calls):
         self.close()
 
     @property
+    def settings(self) -> Settings:
+        """What the service was opened with. The capacity may have grown since."""
+        return self._kept.settings
+
+    @property
     def lines(self) -> int:
         """How many lines the log has for the program."""
-        return len(self._log) - 1
+        return self._kept.lines
 
     @property
     def size(self) -> int:
         """How many bytes the log has."""
-        return self._log.size
+        return self._kept.log.size
 
     @property
     def records_size(self) -> int:
         """How many bytes the records have that the log goes on from."""
-        return sum(os.path.getsize(path) for path in self.record_files())
-
-    @property
-    def wrong(self) -> str:
-        """Why no call is taken now, in one word; empty where they are."""
-        if self._closed is not None:
-            return "ended"
-        return "broken" if self._log.broken else "full" if self._log.full else ""
-
-    @property
-    def compacting(self) -> bool:
-        """Whether calls wait until the log is compacted."""
-        return self._paused
+        return self._kept.records_size
 
     def record_files(self) -> List[str]:
         """The files of the records that the log goes on from, by their shards."""
-        return record_files(self._log.path, self._generation)
+        return self._kept.record_files()
 
-    # Opening.
-
-    def _start(self, wanted: Optional[Settings]) -> None:
-        """Starts the program with the log's settings, and from its records where it has some."""
-        try:
-            self.settings, self._generation = self._settled(wanted)
-            remove_leftovers(self._log.path, self._generation)
-            if self._generation:
-                self._start_from_records()
-            else:
-                self._program = Program([*self._command, *self.settings.options()])
-        except BaseException:
-            self._log.close()
-            raise
-
-    def _start_from_records(self) -> None:
-        log, generation = self._log.path, self._generation
-        keep_private(folder_of(log, generation))
-        self.last_moment = last_moment_in(log, generation)
-        self._program, settings = open_program(self._command, self.settings, log, generation)
-        if settings == self.settings:
-            return
-        if self.lines:
-            # With other queues these lines may be answered otherwise than they were.
-            self._program.kill()
-            raise NotOpened(f"{log}: more tasks wait in its records than its queues hold, and it has lines after them")
-        self._log = self._log.replaced([settings.header(generation)])
-        self._tell_growth(settings)
-
-    def _tell_growth(self, settings: Settings) -> None:
-        LOG.warning(
-            "%s: the queues have room for %d tasks from now on, and had for %d",
-            self._log.path, settings.capacity, self.settings.capacity,
-        )
-        self.settings = settings
-
-    def _settled(self, wanted: Optional[Settings]) -> Tuple[Settings, int]:
-        """The log's settings, and how often it was compacted; a new log gets the settings that are wanted."""
-        if len(self._log) == 0:
-            settings = wanted or Settings()
-            self._check(settings)
-            self._log.append([settings.header()])
-            return settings, 0
-        found, generation = read_header(next(self._log.lines()), self._log.path)
-        if wanted is not None:
-            check_settings(found, wanted, self._log.path)
-        return found, generation
-
-    def _check(self, settings: Settings) -> None:
-        """Has the program serve an empty script: a log can't change the settings that it was begun with."""
-        command = [*self._command, *settings.options()]
-        ran = subprocess.run(command, stdin=subprocess.DEVNULL, stdout=subprocess.DEVNULL)
-        if ran.returncode:
-            raise RefusedSettings(f"the program refuses {' '.join(settings.options())}: status {ran.returncode}")
-
-    def _lines_for_replay(self) -> List[bytes]:
-        return [for_replay(line) for line in list(self._log.lines())[1:]]
-
-    def _replay(self, replayed: Callable[[dict, dict], None]) -> None:
-        """Gives the program the lines of the log, and takes its replies."""
-        lines = self._lines_for_replay()
-        feeder = threading.Thread(target=self._feed, args=(lines,), daemon=True)
-        feeder.start()
-        try:
-            for number, line in enumerate(lines, 1):
-                self._replay_one(number, request_in(line), replayed)
-        except BaseException:
-            self._program.kill()
-            feeder.join()
-            self._log.close()
-            raise
-        feeder.join()
-
-    def _replay_one(self, number: int, request: dict, replayed: Callable[[dict, dict], None]) -> None:
-        moment = request.get("at")
-        if isinstance(moment, int) and moment < MOMENTS:
-            self.last_moment = max(self.last_moment, moment)
-        if request.get("op") in READS:
-            self._program.skip_reply(number)
-        else:
-            replayed(request, self._program.reply(number))
-
-    def _feed(self, lines: List[bytes]) -> None:
-        for begin in range(0, len(lines), 1_000):
-            self._program.write(lines[begin:begin + 1_000])
-
-    def _grow(self, wanted: Optional[Settings]) -> None:
-        """Gives the queues the room that is wanted, where that is more than they have."""
-        if wanted is None or wanted.capacity == self.settings.capacity:
-            return
-        if wanted.capacity > self.settings.capacity:
-            self.compact(wanted.capacity)
-        else:
-            LOG.warning(
-                "%s: the queues keep their room for %d tasks: it never falls, so %d is not taken",
-                self._log.path, self.settings.capacity, wanted.capacity,
-            )
+    def read_all(self, requests: Sequence[dict]) -> List[dict]:
+        """The replies to reads, refusals as the replies that they are."""
+        return [reply.result() for reply in [self.send(request) for request in requests]]
 
     # Calls.
 
@@ -298,19 +165,19 @@ class DurableService(Calls):
         while True:
             calls = self._next_calls()
             if not calls:
-                self._program.end_input()
+                self._kept.program.end_input()
                 return
-            self._hand_over(self._kept(calls))
+            self._hand_over(self._logged(calls))
             with self._changed:
                 self._writing = False
                 self._changed.notify_all()
 
-    def _kept(self, calls: List[Waiting]) -> List[Waiting]:
+    def _logged(self, calls: List[Waiting]) -> List[Waiting]:
         """Logs the calls, and gives them their numbers. Where that can't be done, only the reads are left."""
         logged, number = [call for call in calls if call.logged], self.lines
         try:
             if logged:
-                self._log.append([call.line for call in logged])
+                self._kept.log.append([call.line for call in logged])
         except LogFault as fault:
             fail(logged, fault)
             calls = [call for call in calls if not call.logged]
@@ -325,7 +192,7 @@ class DurableService(Calls):
             if over is None:
                 self._sent.extend(calls)
         if over is None:
-            self._program.write([call.line for call in calls])
+            self._kept.program.write([call.line for call in calls])
         else:
             fail(calls, over)
 
@@ -340,7 +207,7 @@ class DurableService(Calls):
 
     def _read_on(self) -> None:
         """Begins to read the program's replies."""
-        self._reader = threading.Thread(target=self._read_replies, args=(self._program,), daemon=True)
+        self._reader = threading.Thread(target=self._read_replies, args=(self._kept.program,), daemon=True)
         self._reader.start()
 
     def _next_number(self) -> int:
@@ -359,7 +226,7 @@ class DurableService(Calls):
                 call.reply.set_result({**reply, "line": call.number})
         except Exception as fault:
             with self._changed:
-                replaced = self._program is not program
+                replaced = self._kept.program is not program
             if not replaced:
                 self._end(fault)
 
@@ -382,8 +249,7 @@ class DurableService(Calls):
                 self._changed.notify_all()
             self._writer.join()
             self._reader.join()
-            self._status = self._program.wait()
-            self._log.close()
+            self._status = self._kept.close()
         return self._status
 
     # Compaction.
@@ -400,7 +266,11 @@ class DurableService(Calls):
         """
         self._pause()
         try:
-            self._save_and_go_on(max(capacity, self.settings.capacity))
+            former = self._kept.next_generation(capacity)
+            former.end_input()
+            self._reader.join()
+            self._kept.end(former)
+            self._read_on()
         finally:
             with self._changed:
                 self._paused = False
@@ -418,39 +288,3 @@ class DurableService(Calls):
                 self._paused = False
                 self._changed.notify_all()
                 raise self._closed
-
-    def _save_and_go_on(self, capacity: int) -> None:
-        """Saves the records, has the log begin with them, and goes on with a program that is opened from them."""
-        log, generation = self._log.path, self._generation + 1
-        words = [*self._command, *self.settings.options(), *load_options(log, self._generation)]
-        save_records(words, self._lines_for_replay(), folder_of(log, generation))
-        try:
-            program, settings = self._opened_from(generation, capacity)
-        except BaseException:
-            remove_leftovers(log, self._generation)
-            raise
-        if settings != self.settings:
-            self._tell_growth(settings)
-        self._go_on_with(program, generation)
-
-    def _opened_from(self, generation: int, capacity: int) -> Tuple[Program, Settings]:
-        """A program that was opened from these records, and its settings, once the log begins with them."""
-        log = self._log.path
-        wanted = dataclasses.replace(self.settings, capacity=capacity)
-        program, settings = open_program(self._command, wanted, log, generation)
-        try:
-            keep_log(log, self._generation)
-            self._log = self._log.replaced([settings.header(generation)])
-        except BaseException:
-            program.kill()
-            raise
-        return program, settings
-
-    def _go_on_with(self, program: Program, generation: int) -> None:
-        with self._changed:
-            old, self._program, self._generation = self._program, program, generation
-        old.end_input()
-        self._reader.join()
-        old.wait()
-        remove_leftovers(self._log.path, generation)
-        self._read_on()

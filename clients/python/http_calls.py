@@ -8,7 +8,8 @@
 It may be called by many threads; each has a connection of its own.
 
 A call that can't count twice is made again where its reply was lost, or the server is away: one that reads,
-and one that bears a request id or a task's token. Where a report on a task is answered NotFound then,
+one that bears a request id or a task's token, and a poll, which bears a key by which the server gives the task
+again that it took. Where a report on a task is answered NotFound then,
 either the lost one was taken or the task's time was over.
 """
 
@@ -20,7 +21,8 @@ import random
 import threading
 import time
 import urllib.parse
-from typing import Iterator, Optional, Tuple
+import uuid
+from typing import Dict, Iterator, Optional, Tuple
 
 from wfserve import Calls, Unavailable, answered
 
@@ -32,8 +34,8 @@ MARKS = ("request_id", "token")
 AWAY = (500, 502, 503, 504, 507)
 # Seconds between a call and the same call made again: twice as many each time, up to the longest.
 FIRST_PAUSE, LONGEST_PAUSE = 0.05, 2.0
-# For how many seconds a call is made again, and a heartbeat, for which an activity waits.
-PATIENCE, HEARTBEAT_PATIENCE = 60.0, 1.0
+# For how many seconds a call is made again, a heartbeat, for which an activity waits, and a poll.
+PATIENCE, HEARTBEAT_PATIENCE, POLL_PATIENCE = 60.0, 1.0, 5.0
 
 
 class CallLost(Unavailable):
@@ -65,7 +67,7 @@ def pauses(first: float = FIRST_PAUSE, longest: float = LONGEST_PAUSE) -> Iterat
 
 def counts_once(request: dict) -> bool:
     """Whether a call may be made again without counting twice."""
-    return request["op"] in READS or any(mark in request for mark in MARKS)
+    return request["op"] in READS or request["op"] in POLLS or any(mark in request for mark in MARKS)
 
 
 class HttpService(Calls):
@@ -106,26 +108,27 @@ class HttpService(Calls):
 
     def _served(self, request: dict) -> str:
         """The reply's text. Makes a call again where it was not served, if that can't count twice."""
-        body = json.dumps(request).encode()
-        patience = min(self._patience, HEARTBEAT_PATIENCE) if request["op"] == "heartbeat" else self._patience
-        late = time.monotonic() + patience if counts_once(request) else 0.0
+        body, op = json.dumps(request).encode(), request["op"]
+        key = {"Idempotency-Key": uuid.uuid4().hex} if op in POLLS else {}
+        most = HEARTBEAT_PATIENCE if op == "heartbeat" else POLL_PATIENCE if op in POLLS else self._patience
+        late = time.monotonic() + min(self._patience, most) if counts_once(request) else 0.0
         for pause in pauses():
             try:
-                return self._served_once(body)
+                return self._served_once(body, key)
             except (CallLost, NotServed) as fault:
                 if not fault.passes or time.monotonic() + pause > late or self._hopeless.wait(pause):
                     raise
 
-    def _served_once(self, body: bytes) -> str:
-        status, text = self._post(body)
+    def _served_once(self, body: bytes, key: Dict[str, str]) -> str:
+        status, text = self._post(body, key)
         if status != 200:
             raise NotServed(status, text)
         return text
 
-    def _post(self, body: bytes) -> Tuple[int, str]:
+    def _post(self, body: bytes, key: Dict[str, str]) -> Tuple[int, str]:
         connection = self._connection()
         try:
-            connection.request("POST", "/calls", body, self._headers)
+            connection.request("POST", "/calls", body, {**self._headers, **key})
             response = connection.getresponse()
             return response.status, response.read().decode()
         except (OSError, http.client.HTTPException) as fault:

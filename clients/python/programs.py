@@ -16,10 +16,17 @@ BUILT = pathlib.Path(os.environ.get("WFSERVE", ROOT / "out/build/crates/wfserve/
 needs_program = unittest.skipUnless(BUILT.exists(), "wfserve is not built: ./serve builds it")
 
 
-
 def memory_folder():
     """A folder for logs of tests that kill programs but not the machine: in memory where that can be had."""
     return tempfile.TemporaryDirectory(dir="/dev/shm" if os.access("/dev/shm", os.W_OK) else None)
+
+
+def program_file(folder, text):
+    """A program of these lines, as a file that can be started."""
+    path = pathlib.Path(folder) / "program"
+    path.write_text(text, encoding="utf-8")
+    path.chmod(0o755)
+    return str(path)
 
 
 # A program that answers each line with its number, and the line itself. Turns have nothing to do, polls

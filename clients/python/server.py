@@ -9,9 +9,10 @@
     POST /compact       compacts the log; calls wait meanwhile. Queues get room for `capacity` tasks, where that is more.
     GET  /health/live   answers while the server runs
     GET  /health/ready  200 where calls are taken, else 503 and why
+    GET  /metrics       counts and times, as text for Prometheus
 
-It needs aiohttp (setup.sh). It listens on 127.0.0.1 alone, unless --host says otherwise, and then every
-request has to bear a token. No proof covers it.
+It needs aiohttp (setup.sh), and is faster where httptools and uvloop are there. It listens on 127.0.0.1 alone,
+unless --host says otherwise, and then every request has to bear a token. No proof covers it.
 """
 
 from __future__ import annotations
@@ -19,65 +20,138 @@ from __future__ import annotations
 import argparse
 import asyncio
 import dataclasses
+import gc
+import json
 import logging
 import pathlib
 import signal
 import sys
 import tempfile
-from typing import List, Optional
+from typing import List
 
 from aiohttp import web
 
 from durable import DurableService, Settings, read_header
+from kept_program import KeptProgram
 from line_log import LogFault, first_line
-from server_calls import Backend, Observers
+from server_calls import Observers
 from server_connections import Connections
+from server_core import Core
 from server_http import Calls, Guard, Health, answer_faults
+from server_ledger import Ledger
 from server_list import Workflows
 from server_moments import Moments
 from server_pages import Pages
 from server_records import Recorded
+from server_replies import Replies
 from server_turns import Deadlines, Turns
 from wfserve import Ended
+
+try:
+    import uvloop
+except ImportError:
+    uvloop = None
+try:
+    from server_front import Front
+except ImportError:
+    Front = None
 
 BODY_LIMIT = 1_048_576
 LOCAL = "127.0.0.1"
 SHORTEST_TOKEN = 16
+SHUTDOWN_SECONDS = 2.0
+# After so many objects garbage is looked for. A call makes some ten, and leaves no circles.
+GARBAGE_AT = 20_000
+
+
+class Opened:
+    """A log that was opened, and all that was learned of it: what a server begins with."""
+
+    def __init__(self, said: argparse.Namespace, log: str):
+        settings = settings_of(said, log)
+        self.workflows, self.deadlines = Workflows(), Deadlines(settings.shards)
+        self.ledger, self.replies = Ledger(settings.shards), Replies()
+        self.observe = Observers(self.workflows, self.deadlines).observe
+        self.kept = KeptProgram([said.program], log, settings, self._replayed)
+        try:
+            Recorded(self.kept, self.workflows).add_all()
+        except BaseException:
+            self.kept.close()
+            raise
+
+    def _replayed(self, number: int, request: dict, line: bytes, reply: bytes) -> None:
+        said = json.loads(reply)
+        self.observe(request, said)
+        self.ledger.observe(request, said)
+        self.replies.replayed(number, request, line, reply)
 
 
 def application(
-    said: argparse.Namespace, backend: Backend, workflows: Workflows, connections: Connections
+    said: argparse.Namespace, core: Core, workflows: Workflows, connections: Connections
 ) -> web.Application:
     middlewares = [connections.note, answer_faults, guard_of(said).check]
     app = web.Application(middlewares=middlewares, client_max_size=BODY_LIMIT)
-    for part in (Calls(backend, said.read_timeout), Health(backend), Pages(backend, workflows)):
+    for part in (Calls(core, said.read_timeout), Health(core), Pages(core, workflows)):
         app.router.add_routes(part.routes())
     return app
 
 
-async def serve(said: argparse.Namespace, service: DurableService, workflows: Workflows, deadlines: Deadlines) -> int:
-    """Serves until it is told to stop, or the program ends. The status to end with."""
-    moments, connections = Moments(service.last_moment), Connections(said.read_timeout)
-    backend = Backend(service, said.queue_limit, Observers(workflows, deadlines).observe, moments)
-    runner = web.AppRunner(application(said, backend, workflows, connections))
-    await runner.setup()
-    await web.TCPSite(runner, said.host, said.port, shutdown_timeout=2).start()
-    host = f"[{said.host}]" if ":" in said.host else said.host
-    print(f"serving http://{host}:{runner.addresses[0][1]}/", flush=True)
-    turns = asyncio.create_task(Turns(backend, service.settings.shards, deadlines).run())
-    looking = asyncio.create_task(connections.run(runner.server))
+class Listening:
+    """The server's sockets: short ways for calls where httptools is there, and aiohttp for all else."""
+
+    def __init__(self, said: argparse.Namespace, core: Core, workflows: Workflows):
+        self._said = said
+        self._connections = Connections(said.read_timeout)
+        self._runner = web.AppRunner(application(said, core, workflows, self._connections))
+        self._front = None
+        if Front is not None:
+            self._front = Front(core, guard_of(said), lambda: self._runner.server(), said.read_timeout)
+        self._looking: List[asyncio.Task] = []
+
+    async def start(self) -> None:
+        """Listens, and says where."""
+        await self._runner.setup()
+        connect = self._runner.server if self._front is None else self._front.connect
+        said, loop = self._said, asyncio.get_running_loop()
+        self._server = await loop.create_server(connect, said.host, said.port, backlog=1_024)
+        self._looking = [asyncio.create_task(self._connections.run(self._runner.server))]
+        if self._front is not None:
+            self._looking.append(asyncio.create_task(self._front.run()))
+        host = f"[{said.host}]" if ":" in said.host else said.host
+        print(f"serving http://{host}:{self._server.sockets[0].getsockname()[1]}/", flush=True)
+
+    async def stop(self) -> None:
+        """Takes no more connections, and closes those that are there."""
+        for task in self._looking:
+            task.cancel()
+        self._server.close()
+        if self._front is not None:
+            self._front.close()
+        await self._runner.server.shutdown(SHUTDOWN_SECONDS)
+        await self._runner.cleanup()
+
+
+async def serve(said: argparse.Namespace, opened: Opened) -> int:
+    """Serves until it is told to stop, or the program ends for good. The status to end with."""
+    core = Core(
+        opened.kept, said.queue_limit, opened.observe, Moments(opened.kept.last_moment), opened.ledger, opened.replies,
+    )
+    listening = Listening(said, core, opened.workflows)
+    await listening.start()
+    turns = asyncio.create_task(Turns(core, opened.deadlines).run())
     try:
-        await asyncio.wait({turns, asyncio.create_task(told_to_stop())}, return_when=asyncio.FIRST_COMPLETED)
-        if turns.done():
-            print(f"server: {turns.exception()}", file=sys.stderr)
+        stopping = asyncio.create_task(told_to_stop())
+        await asyncio.wait({turns, core.over, stopping}, return_when=asyncio.FIRST_COMPLETED)
+        if turns.done() or core.over.done():
+            print(f"server: {turns.exception() if turns.done() else core.over.result()}", file=sys.stderr)
             return 2
-        await backend.drain()
+        await core.drain()
         return 0
     finally:
-        backend.closing = True
+        core.closing = True
         turns.cancel()
-        looking.cancel()
-        await runner.cleanup()
+        await listening.stop()
+        core.close()
 
 
 async def told_to_stop() -> None:
@@ -116,7 +190,7 @@ def words_of(words: List[str]) -> argparse.Namespace:
     add("--host", default=LOCAL, help=f"the address to listen on, {LOCAL} by default; another one needs a token")
     add("--port", type=port, default=7233, help="the port, 7233 by default; 0 takes a free one")
     add("--token-file", help="a file with the token that every request has to bear")
-    add("--queue-limit", type=int, default=1_000, help="how many calls may wait, 1,000 by default")
+    add("--queue-limit", type=int, default=10_000, help="how many calls may wait, and as many polls; 10,000 by default")
     add("--read-timeout", type=float, default=30, help="how many seconds a request may take to come, 30 by default")
     add("--shards", type=int, help="how many shards a new log's service has, 1 by default")
     add("--queues", help="the names of a new log's task queues, with commas between them, main by default")
@@ -136,36 +210,39 @@ def settings_of(said: argparse.Namespace, log: str) -> Settings:
     return dataclasses.replace(Settings() if header is None else read_header(header, log)[0], **named)
 
 
-def opened(said: argparse.Namespace, log: str, workflows: Workflows, deadlines: Deadlines) -> DurableService:
-    """The service of the log. The list has its runs, also those of the records that it goes on from."""
-    service = DurableService([said.program], log, settings_of(said, log), replayed=Observers(workflows, deadlines).observe)
-    try:
-        Recorded(service, workflows).add_all()
-    except BaseException:
-        service.close()
-        raise
-    return service
-
-
-def compact(service: DurableService) -> int:
+def compact(said: argparse.Namespace, log: str) -> int:
     """Compacts a log that is not served."""
-    lines, size = service.lines, service.size
-    service.compact()
-    print(f"{lines} lines, {size} bytes; now {service.records_size} bytes of records")
+    with DurableService([said.program], log, settings_of(said, log)) as service:
+        lines, size = service.lines, service.size
+        service.compact()
+        print(f"{lines} lines, {size} bytes; now {service.records_size} bytes of records")
     return 0
+
+
+def serve_log(said: argparse.Namespace, log: str) -> int:
+    """Opens a log and serves it."""
+    opened = Opened(said, log)
+    # What was opened stays: it needn't be looked through again and again for what is garbage.
+    gc.collect()
+    gc.freeze()
+    gc.set_threshold(GARBAGE_AT)
+    if uvloop is not None:
+        uvloop.install()
+    try:
+        return asyncio.run(serve(said, opened))
+    finally:
+        opened.kept.close()
 
 
 def main(words: List[str]) -> int:
     said = words_of(words)
-    workflows, deadlines = Workflows(), Deadlines()
     try:
         guard_of(said)
         if said.compact and not said.log:
             raise ValueError("--compact needs a --log")
         with tempfile.TemporaryDirectory() as folder:
             log = said.log or f"{folder}/log"
-            with opened(said, log, workflows, deadlines) as service:
-                return compact(service) if said.compact else asyncio.run(serve(said, service, workflows, deadlines))
+            return compact(said, log) if said.compact else serve_log(said, log)
     except (LogFault, Ended, OSError, ValueError) as wrong:
         print(f"server: {wrong}", file=sys.stderr)
         return 2

@@ -1,4 +1,7 @@
-"""What an HTTP request meets first: who may ask, how a fault is answered, and POST /calls."""
+"""What an HTTP request meets first: who may ask, how a fault is answered, and POST /calls, by aiohttp.
+
+Where httptools is there, server_front.py answers the calls that are as they should be, and hands all else on.
+"""
 
 from __future__ import annotations
 
@@ -6,19 +9,23 @@ import asyncio
 import hmac
 import json
 import logging
-from typing import List, NoReturn, Optional
+from typing import List, NoReturn, Optional, Tuple
 
 from aiohttp import web
 
 from line_log import LogFault, LogFull
-from operations import POLLS
-from server_calls import BadCall, Backend, Busy, Draining, request_of
+from server_calls import BadCall, Busy, Draining, KeyReused, call_of, key_of
+from server_core import Core
+from server_lines import Waiter
+from server_metrics import resident_bytes
 from service_settings import MOST_CAPACITY
 from wfserve import Ended
 
 LOG = logging.getLogger("wfserve.http")
 # Asked by what starts and watches servers, which has no token; they say nothing of workflows.
 HEALTH = ("/health/live", "/health/ready")
+# After so many seconds a call that was not taken may be made again.
+RETRY_SECONDS = 1
 
 
 class Refusal(Exception):
@@ -31,7 +38,17 @@ class Refusal(Exception):
 
 def fault(status: int, name: str, said: str) -> web.Response:
     """An answer that is no reply of the service."""
-    return web.json_response({"error": name, "said": said}, status=status)
+    headers = {"Retry-After": str(RETRY_SECONDS)} if status == 503 else None
+    return web.json_response({"error": name, "said": said}, status=status, headers=headers)
+
+
+def fault_of(wrong: Exception) -> Tuple[int, str, str]:
+    """The status, the name and the text with which a fault of a call is answered."""
+    statuses = ((BadCall, 400), (KeyReused, 422), ((Draining, Busy), 503), (LogFull, 507), ((LogFault, Ended), 500))
+    for kinds, status in statuses:
+        if isinstance(wrong, kinds):
+            return status, type(wrong).__name__, str(wrong)
+    return 500, "Fault", "the server is at fault; its standard error says more"
 
 
 @web.middleware
@@ -49,17 +66,11 @@ async def answer_faults(request: web.Request, handler):
         return answer_of
     except Refusal as refused:
         return fault(refused.status, refused.name, str(refused))
-    except BadCall as bad:
-        return fault(400, "BadCall", str(bad))
-    except (Draining, Busy) as refused:
-        return fault(503, type(refused).__name__, str(refused))
-    except LogFull as full:
-        return fault(507, "LogFull", str(full))
-    except (LogFault, Ended) as ended:
-        return fault(500, type(ended).__name__, str(ended))
     except Exception as wrong:
-        LOG.exception("%s %s: %s: %s", request.method, request.path, type(wrong).__name__, wrong)
-        return fault(500, "Fault", "the server is at fault; its standard error says more")
+        status, name, said = fault_of(wrong)
+        if name == "Fault":
+            LOG.exception("%s %s: %s: %s", request.method, request.path, type(wrong).__name__, wrong)
+        return fault(status, name, said)
 
 
 def cookie_of(request: web.Request) -> str:
@@ -86,6 +97,12 @@ class Guard:
         if not self._is_token(self._given(request)):
             return fault(401, "NoToken", "this server wants its token")
         return await handler(request)
+
+    def takes(self, host: str, authorization: str) -> bool:
+        """Whether a request with these headers is let through, whatever else it has."""
+        scheme, _, said = authorization.partition(" ")
+        is_known = self._token is None or (scheme.lower() == "bearer" and self._is_token(said))
+        return is_known and (self._hosts is None or self._is_named(host))
 
     def _is_named(self, host: str) -> bool:
         name, _, port = host.partition(":")
@@ -137,54 +154,64 @@ def capacity_of(body: bytes) -> int:
 class Calls:
     """POST /calls, and POST /compact."""
 
-    def __init__(self, backend: Backend, read_seconds: float):
-        self._backend = backend
+    def __init__(self, core: Core, read_seconds: float):
+        self._core = core
         self._read_seconds = read_seconds
-        self._compacting = False
 
     def routes(self) -> List[web.RouteDef]:
         return [web.post("/calls", self.answer), web.post("/compact", self.compact)]
 
     async def answer(self, request: web.Request) -> web.Response:
-        call = request_of(await body_of(request, self._read_seconds))
-        if call["op"] in POLLS:
-            return web.json_response(await self._backend.poll(call, lambda: is_gone(request)))
-        return web.json_response(await self._backend.call(call))
+        call, begin = call_of(await body_of(request, self._read_seconds))
+        waiter = Waiter(lambda: is_gone(request))
+        self._core.submit(call, begin, waiter, key_of(request.headers.get("Idempotency-Key")))
+        return web.Response(body=await waiter.future, content_type="application/json", charset="utf-8")
 
     async def compact(self, request: web.Request) -> web.Response:
         """Compacts the log while it is served, with room for so many tasks in its queues. Calls wait meanwhile."""
         capacity = capacity_of(await body_of(request, self._read_seconds))
-        if self._compacting or self._backend.closing:
+        core, kept = self._core, self._core.kept
+        if core.compacting or core.closing:
             return fault(503, "Busy", "the log is being compacted, or the server is told to stop")
-        service, self._compacting = self._backend.service, True
-        lines, size = service.lines, service.size
-        try:
-            await asyncio.get_running_loop().run_in_executor(None, service.compact, capacity)
-        finally:
-            self._compacting = False
-        said = {"lines": lines, "bytes": size, "records": service.records_size, "capacity": service.settings.capacity}
+        lines, size = kept.lines, kept.log.size
+        await core.compact(capacity)
+        said = {"lines": lines, "bytes": size, "records": kept.records_size, "capacity": kept.settings.capacity}
         return web.json_response({"ok": "compacted", **said})
 
 
 class Health:
-    """GET /health/live and /health/ready: whether the server runs, and whether it takes calls."""
+    """GET /health/live and /health/ready: whether the server runs, and whether it takes calls. GET /metrics counts."""
 
-    def __init__(self, backend: Backend):
-        self._backend = backend
+    def __init__(self, core: Core):
+        self._core = core
 
     def routes(self) -> List[web.RouteDef]:
-        return [web.get("/health/live", self.live), web.get("/health/ready", self.ready)]
+        return [
+            web.get("/health/live", self.live), web.get("/health/ready", self.ready), web.get("/metrics", self.metrics),
+        ]
 
     async def live(self, request: web.Request) -> web.Response:
         return web.json_response({"status": "live"})
 
     async def ready(self, request: web.Request) -> web.Response:
         """Whether calls are taken now. A clock that is ahead is told by how many milliseconds."""
-        service = self._backend.service
-        wrong = "draining" if self._backend.closing else service.wrong
+        core = self._core
         said = {
-            "status": wrong or "ready", "lines": service.lines, "bytes": service.size,
-            "clock_ahead": self._backend.moments.ahead, "queue_full": self._backend.full,
-            "compacting": service.compacting,
+            "status": core.wrong or "ready", "lines": core.kept.lines, "bytes": core.kept.log.size,
+            "clock_ahead": core.moments.ahead, "queue_full": bool(core.ledger.full), "compacting": core.compacting,
         }
-        return web.json_response(said, status=503 if wrong else 200)
+        return web.json_response(said, status=503 if core.wrong else 200)
+
+    async def metrics(self, request: web.Request) -> web.Response:
+        core = self._core
+        gauges = {
+            "calls_waiting": ("Calls of clients that wait for their answers.", core.waiting),
+            "polls_waiting": ("Polls that wait for a task.", len(core.polls)),
+            "log_lines": ("Lines of the log.", core.kept.lines),
+            "log_bytes": ("Bytes of the log.", core.kept.log.size),
+            "program_bytes": ("Memory of the program.", resident_bytes(core.kept.program.pid)),
+            "clock_ahead_seconds": ("How far moments are ahead of the wall clock.", core.moments.ahead / 1_000),
+            "sweeps_found": ("Turns of a sweep that found what no call had told of.", core.ledger.missed),
+            "ready": ("Whether calls are taken.", int(not core.wrong)),
+        }
+        return web.Response(text=core.metrics.text(gauges), content_type="text/plain", charset="utf-8")

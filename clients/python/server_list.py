@@ -145,7 +145,7 @@ class Workflows:
             self._transfers += 1
         if op == "timer_turn" and reply.get("class") == "retention":
             self.remove(reply["run"])
-        run = run_of_token(str(request.get("token", "")), self._service)
+        run = run_of_token(str(request["token"]), self._service) if "token" in request else None
         if op == "complete_workflow_task":
             self._observe_commands(request, run)
         for changed in (reply.get("run"), run):

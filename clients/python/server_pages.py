@@ -8,13 +8,15 @@ from __future__ import annotations
 
 import asyncio
 import importlib
+import json
 import pathlib
 import sys
 from typing import List, Optional, Tuple
 
 from aiohttp import web
 
-from server_calls import Backend
+from server_core import Core
+from server_lines import Waiter
 from server_list import Entry, Workflows
 
 HERE = pathlib.Path(__file__).resolve().parent
@@ -60,8 +62,8 @@ def pending(events: List[dict]) -> List[dict]:
 class Pages:
     """What the server answers a browser."""
 
-    def __init__(self, backend: Backend, workflows: Workflows):
-        self._backend = backend
+    def __init__(self, core: Core, workflows: Workflows):
+        self._core = core
         self._workflows = workflows
         self._timeline = load_timeline()
 
@@ -126,7 +128,7 @@ class Pages:
     async def picture(self, request: web.Request) -> web.Response:
         entry, events = await self._entry(request)
         events = events or await self._events(entry)
-        now = self._backend.moments.now() if entry.status == "Running" else None
+        now = self._core.moments.now() if entry.status == "Running" else None
         return web.Response(
             text=self._timeline.picture_file(events, now), content_type="image/svg+xml",
             headers={"Content-Security-Policy": PICTURE_POLICY, "Cache-Control": "no-cache"},
@@ -172,4 +174,6 @@ class Pages:
 
     async def _ask(self, op: str, workflow_id: str, run: Optional[str] = None) -> dict:
         named = {} if run is None else {"run": run}
-        return await self._backend.ask({"op": op, "workflow_id": workflow_id, **named})
+        request, waiter = {"op": op, "workflow_id": workflow_id, **named}, Waiter()
+        self._core.submit(request, json.dumps(request).encode()[:-1], waiter)
+        return json.loads(await waiter.future)

@@ -8,11 +8,11 @@ they began, so the run of the next ordinal is that of the first request that it 
 from __future__ import annotations
 
 import json
-from concurrent.futures import Future
 from dataclasses import dataclass
-from typing import Dict, Iterable, Iterator, List, Optional
+from typing import Dict, Iterable, Iterator, List, Optional, Union
 
 from durable import DurableService
+from kept_program import KeptProgram
 from server_list import Workflows, commands_in, run_id, run_of_token
 
 # Only lines with one of these may begin a run.
@@ -58,7 +58,7 @@ def beginnings(path: str, service: int) -> Iterator[Beginning]:
 class Recorded:
     """Finds the runs of the records, and adds them to the list."""
 
-    def __init__(self, service: DurableService, workflows: Workflows):
+    def __init__(self, service: Union[DurableService, KeptProgram], workflows: Workflows):
         self._service = service
         self._workflows = workflows
         # The workflow ID of each run that is known.
@@ -73,18 +73,15 @@ class Recorded:
             else:
                 self._add_in_order(shard, found)
 
-    def _describe(self, workflow_id: str, run: Optional[str] = None) -> "Future[dict]":
-        named = {} if run is None else {"run": run}
-        return self._service.send({"op": "describe", "workflow_id": workflow_id, **named})
-
     def _ask_latest(self, workflow_ids: Iterable[str]) -> None:
         """Learns the latest run of each workflow ID."""
         asked: List[str] = list(workflow_ids)
         for begin in range(0, len(asked), ASKED_AT_ONCE):
             part = asked[begin:begin + ASKED_AT_ONCE]
-            for workflow_id, reply in zip(part, [self._describe(it) for it in part]):
-                if "run" in reply.result():
-                    self._known[reply.result()["run"]] = workflow_id
+            replies = self._service.read_all([{"op": "describe", "workflow_id": it} for it in part])
+            for workflow_id, reply in zip(part, replies):
+                if "run" in reply:
+                    self._known[reply["run"]] = workflow_id
 
     def _add_latest(self, found: List[Beginning]) -> None:
         """Of what a retention deleted nothing is known, and so not whose ordinals these were."""
@@ -107,4 +104,5 @@ class Recorded:
         """Whether a run is one of this workflow ID."""
         if run in self._known:
             return self._known[run] == workflow_id
-        return "error" not in self._describe(workflow_id, run).result()
+        asked = {"op": "describe", "workflow_id": workflow_id, "run": run}
+        return "error" not in self._service.read_all([asked])[0]

@@ -141,7 +141,7 @@ class Compacted(Durable):
             before = service.history("w0")
             data = self.log.read_bytes()
             # The program is not there when it is to save.
-            service._command = [str(self.log.parent / "nobody")]
+            service._kept.command = [str(self.log.parent / "nobody")]
             with self.assertRaises(OSError):
                 service.compact()
             self.assertEqual(self.log.read_bytes(), data)

@@ -24,6 +24,7 @@ class Scripted(http.server.BaseHTTPRequestHandler):
 
     def do_POST(self):
         self.server.asked.append(json.loads(self.rfile.read(int(self.headers["Content-Length"]))))
+        self.server.keys.append(self.headers["Idempotency-Key"])
         answer = self.server.script.pop(0) if self.server.script else {"ok": "signaled"}
         if answer == DROPPED:
             self.close_connection = True
@@ -43,7 +44,7 @@ class HttpCalls(unittest.TestCase):
     def setUp(self):
         self.server = http.server.ThreadingHTTPServer(("127.0.0.1", 0), Scripted)
         self.server.daemon_threads = True
-        self.server.script, self.server.asked = [], []
+        self.server.script, self.server.asked, self.server.keys = [], [], []
         serving = threading.Thread(target=self.server.serve_forever, args=(0.02,), daemon=True)
         serving.start()
         self.addCleanup(self.server.server_close)
@@ -56,7 +57,7 @@ class HttpCalls(unittest.TestCase):
         return client
 
     def answers(self, *script):
-        self.server.script[:], self.server.asked[:] = script, []
+        self.server.script[:], self.server.asked[:], self.server.keys[:] = script, [], []
 
     def test_what_counts_once_is_made_again_until_it_is_answered(self):
         calls = {
@@ -82,7 +83,7 @@ class HttpCalls(unittest.TestCase):
 
     def test_what_could_count_twice_is_made_once(self):
         for call in (
-            lambda: self.service.signal("w", "go"), lambda: self.service.terminate("w"), self.service.poll_activity_task,
+            lambda: self.service.signal("w", "go"), lambda: self.service.terminate("w"),
         ):
             self.answers(DROPPED)
             with self.assertRaises(CallLost):
@@ -91,6 +92,20 @@ class HttpCalls(unittest.TestCase):
             with self.assertRaises(NotServed):
                 call()
             self.assertEqual(len(self.server.asked), 1)
+
+    def test_a_poll_is_made_again_with_its_key(self):
+        for poll in (self.service.poll_activity_task, self.service.poll_workflow_task):
+            for away in ((DROPPED, 503), (500, DROPPED)):
+                self.answers(*away, {"ok": "empty"}, {"ok": "empty"})
+                self.assertIsNone(poll())
+                self.assertIsNone(poll())
+                self.assertEqual(len(self.server.asked), 4)
+                first, again, last, other = self.server.keys
+                self.assertEqual((first, first), (again, last))
+                self.assertNotIn(other, (None, first))
+        self.answers({"ok": "signaled"})
+        self.service.signal("w", "go", request_id="r")
+        self.assertEqual(self.server.keys, [None])
 
     def test_what_is_refused_is_not_made_again(self):
         for status in (400, 401, 413):

@@ -130,10 +130,22 @@ class Killer:
         if kind == "program":
             for program in children_of(self.server.process.pid):
                 os.kill(program, signal.SIGKILL)
-            # The server ends with its program, and says so.
-            self.server.process.wait(20)
+            self._go_on()
+            return
         self.server.kill()
         time.sleep(pause)
+        self._start_again()
+
+    def _go_on(self):
+        """The server starts its program again; it ends where that was killed twice at one line, and says so."""
+        while self.server.process.poll() is None:
+            try:
+                if self.server.asked("GET", "/health/ready")[0] == 200:
+                    return
+            except OSError:
+                pass
+            time.sleep(0.05)
+        self.server.kill()
         self._start_again()
 
     def _start_again(self):

@@ -189,7 +189,7 @@ class Crashing(Calls):
 
     def _kill(self, kind):
         self.crashes[kind] += 1
-        self.service._program._process.kill()
+        self.service._kept.program._process.kill()
 
     def _reopen(self):
         self.service.close()
