@@ -84,6 +84,8 @@ PROMISES = (
     Promise("records: their text, reading it, and the one history of several",
             (Calls(("task_token", "wire_steps", "record_text", "trace_text", "history", "service_history")),)),
     Promise("the file of a journal", (Calls(("journal_disk", "journal_frames", "journal_file")),)),
+    Promise("a script with a journal, and what is found in one",
+            (Calls(("script",), ("run_journaled",)), Calls(("journal_text",)))),
     Promise("the command line", (Calls(("script_settings", "wfserve_run")),)),
     Promise("laws of the definitions", LAWS),
 )
