@@ -48,9 +48,9 @@ class Claims(unittest.TestCase):
     def test_a_promise_that_no_clause_makes(self):
         look = docs_claims.wrong_promises
         wrong = {
-            "clauses of `meet` (`agree`, `tickets`, `hints`)": "clauses of `meet` (`agree`, `tickets`, `popped`)",
+            "clauses of `meet` (`met`, `hints`)": "clauses of `meet` (`met`, `popped`)",
             "clauses of `close` (`queues`) and": "clauses of `closes` (`queues`) and",
-            "clause (`Stepped`, `kept`)": "clause (`Stepped`, `keeps`)",
+            "clause (`IsSequential`, `kept`)": "clause (`IsSequential`, `keeps`)",
         }
         for old, new in wrong.items():
             with self.subTest(new=new):
@@ -72,7 +72,7 @@ class Claims(unittest.TestCase):
         for old, new in wrong.items():
             with self.subTest(new=new):
                 self.assertEqual(len(self.faults(look, path, old, new)), 1)
-        for word in ("--capacity", "--retention", "--trace", "QueueFull", "CommandAfterClose", "retry_ready"):
+        for word in ("--capacity", "--retention", "--journal", "--trace", "QueueFull", "CommandAfterClose", "retry_ready"):
             with self.subTest(word=word):
                 self.assertEqual(len(look(text_of(path).replace(word, "-"), ROOT)), 1)
 
