@@ -359,43 +359,47 @@ class Dies(OverALog):
         )
         return [program_file(self.folder, text)]
 
+    async def killed(self, served, done):
+        """Kills the program at drawn moments until it is done. How often."""
+        draw, count = random.Random(SEED), 0
+        while not done.is_set():
+            await asyncio.sleep(draw.random() / 20)
+            os.kill(served.kept.program.pid, signal.SIGKILL)
+            count += 1
+            # A second end at the same line would be for good.
+            while served.core.metrics.restarts < count or (
+                served.core._answered <= served.core._died_at and not done.is_set()
+            ):
+                await asyncio.sleep(0.001)
+        return count
+
     def test_a_program_that_is_killed_is_started_again_and_nobody_notices(self):
         print(f"\nkilled programs: seed {SEED}", file=sys.stderr)
 
-        async def killed(served, done):
-            draw, count = random.Random(SEED), 0
-            while not done.is_set():
-                await asyncio.sleep(draw.random() / 20)
-                os.kill(served.kept.program.pid, signal.SIGKILL)
-                count += 1
-                # A second end at the same line would be for good.
-                while served.core.metrics.restarts < count or (
-                    served.core._answered <= served.core._died_at and not done.is_set()
-                ):
-                    await asyncio.sleep(0.001)
-            return count
-
         async def called(served, caller):
-            for number in range(150):
+            number = 0
+            while number < 150 or served.core.metrics.restarts < 3:
                 reply = await served.call(
                     op="signal_with_start", workflow_id=f"w{caller}", workflow_type="T", task_queue="main",
                     name=f"{number}", request_id=f"{caller} {number}",
                 )
                 self.assertIn(reply["ok"], ("started", "signaled"))
                 await served.call(op="describe", workflow_id=f"w{caller}")
+                number += 1
+            return number
 
         async def all_called():
             async with self.served(settings=Settings(shards=2)) as served:
                 done = asyncio.Event()
-                killing = asyncio.create_task(killed(served, done))
-                await asyncio.gather(*[called(served, caller) for caller in range(8)])
+                killing = asyncio.create_task(self.killed(served, done))
+                counts = await asyncio.gather(*[called(served, caller) for caller in range(8)])
                 done.set()
-                self.assertGreater(min(await killing, served.core.metrics.restarts), 2)
+                self.assertGreater(await killing, 2)
                 await served.idle()
-                for caller in range(8):
+                for caller, count in enumerate(counts):
                     events = (await served.call(op="history", workflow_id=f"w{caller}"))["events"]
                     names = [it["attrs"]["name"] for it in events if it["type"] == "WorkflowExecutionSignaled"]
-                    self.assertEqual(names, [str(number) for number in range(150)])
+                    self.assertEqual(names, [str(number) for number in range(count)])
 
         with self.assertLogs("wfserve.server", "WARNING"):
             asyncio.run(all_called())
