@@ -7,6 +7,7 @@ use std::rt::{Clock, Files};
 use std::sync::Wait;
 use std::thread::Threads;
 use std::{fs, io};
+use wfserve_run::LockFiles;
 
 /// Where the records of the lines before the cut are saved.
 const SAVED: &str = "records";
@@ -48,7 +49,7 @@ fn script_between(
 }
 
 /// Runs the program over such lines, with more words on its command line.
-fn run_part<R: Clock + Files + AllocGlobal + Threads + Wait + Sync>(
+fn run_part<R: Clock + LockFiles + AllocGlobal + Threads + Wait + Sync>(
     rt: &R,
     case: &Case,
     more: &[&str],
@@ -64,7 +65,7 @@ fn run_part<R: Clock + Files + AllocGlobal + Threads + Wait + Sync>(
 }
 
 /// What the program answers where it is ended behind a line and goes on from its records.
-pub(crate) fn run_cut<R: Clock + Files + AllocGlobal + Threads + Wait + Sync>(
+pub(crate) fn run_cut<R: Clock + LockFiles + AllocGlobal + Threads + Wait + Sync>(
     rt: &R,
     case: &Case,
     line: usize,

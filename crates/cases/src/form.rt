@@ -5,9 +5,10 @@ use crate::opened::CallForm;
 use crate::process::{Ended, run_program};
 use case_files::{Case, Step};
 use std::alloc::{AllocError, Global};
-use std::rt::{Clock, Files};
+use std::rt::Clock;
 use std::sync::Wait;
 use std::thread::Threads;
+use wfserve_run::LockFiles;
 use workflow_service::Shard;
 
 /// The form in which a case is run.
@@ -41,7 +42,7 @@ impl Form {
     }
 
     /// What is answered, or nothing where the case can't be run in this form.
-    pub(crate) fn run<R: Clock + Files + AllocGlobal + Threads + Wait + Sync>(
+    pub(crate) fn run<R: Clock + LockFiles + AllocGlobal + Threads + Wait + Sync>(
         &self,
         rt: &R,
         case: &Case,
@@ -71,7 +72,7 @@ pub(crate) fn script_of(alloc: Global, case: &Case) -> Result<Option<Vec<u8>>, A
 /// What the program answers to a script, which is taken without its last line feed where it is not to
 /// end. The last line counts all the same then, unless it is empty: then it is no line, so such a case
 /// can't be run without it.
-fn by_script<R: Clock + Files + AllocGlobal + Threads + Wait + Sync>(
+fn by_script<R: Clock + LockFiles + AllocGlobal + Threads + Wait + Sync>(
     rt: &R,
     case: &Case,
     ends: bool,
@@ -89,7 +90,7 @@ fn by_script<R: Clock + Files + AllocGlobal + Threads + Wait + Sync>(
 }
 
 /// What the program answers, or nothing where a case has more than lines.
-fn by_program<R: Clock + Files + AllocGlobal + Threads + Wait + Sync>(
+fn by_program<R: Clock + LockFiles + AllocGlobal + Threads + Wait + Sync>(
     rt: &R,
     case: &Case,
     ends: bool,

@@ -22,9 +22,10 @@ use crate::opened::CallForm;
 use case_files::{Case, cases_of, first_difference};
 use std::io;
 use std::process::ExitCode;
-use std::rt::{Clock, Env, Files};
+use std::rt::{Clock, Env};
 use std::sync::Wait;
 use std::thread::Threads;
+use wfserve_run::LockFiles;
 
 /// How many cases there are, how many of them failed, and whether a file was told of.
 #[derive(Clone, Copy)]
@@ -44,7 +45,7 @@ fn is_wanted<R: Print>(rt: &R, title: &str, by: &str, wanted: &str, got: &str) -
 }
 
 /// Whether a case is answered as is wanted in this form, or nothing where it can't be run in it.
-fn passes_form<R: Clock + Files + Print + AllocGlobal + Threads + Wait + Sync>(
+fn passes_form<R: Clock + LockFiles + Print + AllocGlobal + Threads + Wait + Sync>(
     rt: &R,
     title: &str,
     case: &Case,
@@ -58,7 +59,7 @@ fn passes_form<R: Clock + Files + Print + AllocGlobal + Threads + Wait + Sync>(
 }
 
 /// In how many forms a case was run, or nothing where one of them answers something else.
-fn run_forms<R: Clock + Files + Print + AllocGlobal + Threads + Wait + Sync>(
+fn run_forms<R: Clock + LockFiles + Print + AllocGlobal + Threads + Wait + Sync>(
     rt: &R,
     title: &str,
     case: &Case,
@@ -77,7 +78,7 @@ fn run_forms<R: Clock + Files + Print + AllocGlobal + Threads + Wait + Sync>(
 
 /// Whether the answers are the same where the program is ended behind this line, and goes on from its
 /// records.
-fn passes_cut<R: Clock + Files + Print + AllocGlobal + Threads + Wait + Sync>(
+fn passes_cut<R: Clock + LockFiles + Print + AllocGlobal + Threads + Wait + Sync>(
     rt: &R,
     title: &str,
     case: &Case,
@@ -90,7 +91,7 @@ fn passes_cut<R: Clock + Files + Print + AllocGlobal + Threads + Wait + Sync>(
 }
 
 /// The same of each line; and the records of all lines are saved alike once they were loaded.
-fn passes_cuts<R: Clock + Files + Print + AllocGlobal + Threads + Wait + Sync>(
+fn passes_cuts<R: Clock + LockFiles + Print + AllocGlobal + Threads + Wait + Sync>(
     rt: &R,
     title: &str,
     case: &Case,
@@ -115,7 +116,7 @@ fn passes_cuts<R: Clock + Files + Print + AllocGlobal + Threads + Wait + Sync>(
 }
 
 /// Runs a case in every form in which it can be run, and prints what became of it. Whether it passed.
-fn passes_all<R: Clock + Files + Print + AllocGlobal + Threads + Wait + Sync>(
+fn passes_all<R: Clock + LockFiles + Print + AllocGlobal + Threads + Wait + Sync>(
     rt: &R,
     title: &str,
     case: &Case,
@@ -133,7 +134,7 @@ fn passes_all<R: Clock + Files + Print + AllocGlobal + Threads + Wait + Sync>(
 }
 
 /// Whether a case passes. One with a line that says nothing doesn't.
-fn passes<R: Clock + Files + Print + AllocGlobal + Threads + Wait + Sync>(
+fn passes<R: Clock + LockFiles + Print + AllocGlobal + Threads + Wait + Sync>(
     rt: &R,
     file: &str,
     case: &Case,
@@ -148,7 +149,7 @@ fn passes<R: Clock + Files + Print + AllocGlobal + Threads + Wait + Sync>(
     passes_all(rt, title.as_str(), case, wanted.as_str())
 }
 
-fn run_cases<R: Clock + Files + Print + AllocGlobal + Threads + Wait + Sync>(
+fn run_cases<R: Clock + LockFiles + Print + AllocGlobal + Threads + Wait + Sync>(
     rt: &R,
     file: &str,
     cases: &[Case],
@@ -187,7 +188,7 @@ fn tell<R: Print + AllocGlobal + Wait>(
 }
 
 /// Runs the cases of the file that a word names, or tells of them.
-fn run_word<R: Clock + Files + Print + AllocGlobal + Threads + Wait + Sync>(
+fn run_word<R: Clock + LockFiles + Print + AllocGlobal + Threads + Wait + Sync>(
     rt: &R,
     word: &str,
     tally: &mut Tally,
@@ -203,7 +204,7 @@ fn run_word<R: Clock + Files + Print + AllocGlobal + Threads + Wait + Sync>(
 }
 
 /// Runs the cases of all files that the arguments name. Whether there were some, and all passed.
-fn run<R: Clock + Env + Files + Print + AllocGlobal + Threads + Wait + Sync>(
+fn run<R: Clock + Env + LockFiles + Print + AllocGlobal + Threads + Wait + Sync>(
     rt: &R,
 ) -> io::Result<bool> {
     let mut tally = Tally {

@@ -6,9 +6,10 @@ use std::cell::Cell;
 use std::env::FillError;
 use std::fmt::Display;
 use std::io::{self, BufRead, Error, ErrorKind, Input, Lines};
-use std::rt::{Clock, Env, Files};
+use std::rt::{Clock, Env};
 use std::sync::Wait;
 use std::thread::Threads;
+use wfserve_run::LockFiles;
 
 /// What the program wrote to standard output and to standard error, and its exit status.
 #[derive(Drop)]
@@ -41,7 +42,7 @@ impl Ended {
 
 /// Runs the program with these arguments and this input, where standard output takes so many bytes.
 /// What it wrote is put behind what others did.
-pub(crate) fn run_program<R: Clock + Files + AllocGlobal + Threads + Wait + Sync>(
+pub(crate) fn run_program<R: Clock + LockFiles + AllocGlobal + Threads + Wait + Sync>(
     rt: &R,
     words: &[&str],
     input: &[u8],

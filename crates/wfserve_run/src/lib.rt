@@ -23,6 +23,6 @@ mod restored;
 mod served;
 
 pub use fault::Fault;
-pub use journal::Locks;
+pub use journal::LockFiles;
 pub use program::{run, status};
 pub use served::Served;

@@ -22,13 +22,7 @@ impl<S: KeepsShard> Served<S> {
     {
         match self {
             Served::Script(outcome) => outcome.status(),
-            Served::Journaled(journaled) => {
-                if journaled.refused {
-                    1
-                } else {
-                    0
-                }
-            }
+            Served::Journaled(journaled) => { if journaled.refused { 1 } else { 0 } }
         }
     }
 }
