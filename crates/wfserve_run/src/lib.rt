@@ -10,8 +10,8 @@
 //! prints, behind the last reply, a line for each step of any shard, in the order of their tickets.
 //! Its exit status is 0, or 1 where a reply was a refusal, or 2 for a fault, whose text goes to
 //! standard error. Faults are looked for in this order: the command line, the file, the folder to
-//! save in or the journal, the records, the settings' ranges, the opening, and then reading, writing
-//! and memory, and last what is saved.
+//! save in, the records, the settings' ranges, the opening, and then reading, writing and memory, and
+//! last what is saved; with a journal the settings' ranges come before the folder and the journal.
 #![tactic(auto)]
 
 mod fault;
