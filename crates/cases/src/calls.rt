@@ -16,14 +16,15 @@ use wf_event_values::Refusal;
 use wire_counted::Counted;
 
 /// The command line of a case, or nothing where the case can't be run by calls: its lines stand in a
-/// file or go to several lanes, it loads or saves records, it prints the steps too, or its standard
-/// output gets full.
+/// file or go to several lanes, it loads or saves records or has a journal, it prints the steps too,
+/// or its standard output gets full.
 fn line_of<'a>(alloc: Global, case: &'a Case<'a>) -> Option<CommandLine<'a>> {
     if case.room().is_some() {
         return None;
     }
     let line = settings_of(alloc, case.words()).ok()?;
-    let reads_no_file = line.file.is_none() && line.load.is_none() && line.save.is_none();
+    let keeps_no_records = line.save.is_none() && line.journal.is_none();
+    let reads_no_file = line.file.is_none() && line.load.is_none() && keeps_no_records;
     if !reads_no_file || line.trace || line.settings.passes != 1 {
         return None;
     }

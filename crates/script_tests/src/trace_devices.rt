@@ -14,11 +14,13 @@ use wire_counted::Counted;
 /// How many shards there are, some of which have a step.
 const SHARDS: u64 = 12;
 
-/// A script whose last line has no line feed, and what is printed: the replies, and a line for each step.
+/// A script whose last line has no line feed, what is printed, which is the replies and a line for each
+/// step, and how often it is flushed: the last time behind the steps.
 struct Traced {
     has_lanes: bool,
     script: &'static [u8],
     output: &'static [u8],
+    flushes: u64,
 }
 
 const SCRIPTS: [Traced; 2] = [
@@ -34,6 +36,8 @@ const SCRIPTS: [Traced; 2] = [
 {"pass":0,"request":{"at":0,"op":"history","workflow_id":"b"},"shard":1,"ticket":2}
 {"pass":0,"request":{"at":0,"op":"history","workflow_id":"m"},"shard":0,"ticket":3}
 "#,
+        // Behind what was read, at the end of the input, behind the last line's reply, and behind the steps.
+        flushes: 4,
     },
     Traced {
         has_lanes: true,
@@ -45,6 +49,8 @@ const SCRIPTS: [Traced; 2] = [
 {"pass":2,"request":{"at":0,"op":"history","workflow_id":"l"},"shard":11,"ticket":1}
 {"pass":1,"request":{"at":0,"op":"history","workflow_id":"b"},"shard":1,"ticket":2}
 "#,
+        // At the barrier, behind the last line's reply, and behind the steps.
+        flushes: 3,
     },
 ];
 
@@ -109,21 +115,19 @@ pub(crate) fn writers_fail_at_each_byte<
     }
 }
 
-/// Three flushes for the replies, as without the steps, and one behind these. None is lost where it fails.
+/// None of the flushes is lost where it fails, and all is written before the last one.
 pub(crate) fn writers_whose_flush_fails<
     S: KeepsShard + Send + Sync,
     H: AllocGlobal + Abort + Threads + Wait + Sync,
 >(rt: &H) {
     for traced in &SCRIPTS {
-        for flushes in 0..=4 {
+        for flushes in 0..=traced.flushes {
             let Some((count, fails)) = written::<S, H>(rt, traced, usize::MAX, flushes) else {
                 panic!(rt; "another output behind {flushes} flushes")
             };
-            assert!(rt; fails == (flushes < 4), "{flushes}");
-            assert!(rt;
-                (count == traced.output.len()) == (flushes >= 3),
-                "{flushes}"
-            );
+            assert!(rt; fails == (flushes < traced.flushes), "{flushes}");
+            let is_whole = count == traced.output.len();
+            assert!(rt; is_whole == (flushes + 1 >= traced.flushes), "{flushes}");
         }
     }
 }
