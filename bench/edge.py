@@ -7,7 +7,8 @@
 Each client has a connection of its own and one call on its way. `signal` signals a workflow of the client's
 own, with a request id. `flow` starts a workflow, polls for a workflow task and completes it: three calls.
 The log lies in FOLDER, on whose disk its syncs depend. The processor time is the server's, without the
-program's; the load is Python too, and has the same processors. --server names the server of another checkout.
+program's; the load is Python too, and has the same processors. --server names the server of an earlier
+checkout, which was one file in Python.
 """
 
 from __future__ import annotations
@@ -27,7 +28,9 @@ from dataclasses import dataclass, field
 from typing import Dict, List, Optional, Tuple
 
 ROOT = pathlib.Path(__file__).resolve().parent.parent
-SERVER = ROOT / "clients/python/server.py"
+sys.path.insert(0, str(ROOT / "tools"))
+import client_package  # noqa: E402
+
 PYTHON = "/usr/bin/python3"
 HEAD = "POST /calls HTTP/1.1\r\nHost: 127.0.0.1\r\nContent-Type: application/json\r\nContent-Length: %d\r\n\r\n"
 
@@ -136,15 +139,16 @@ def processor_seconds(pid: int) -> float:
 
 def started(said: argparse.Namespace, log: str) -> Tuple[subprocess.Popen, int]:
     """A server over a log, and its port."""
+    server = ["-m", "wfserve.server"] if said.server is None else [said.server]
     command = [
-        PYTHON, said.server, "--program", said.program, "--log", log, "--port", "0", "--shards", str(said.shards),
+        PYTHON, *server, "--program", said.program, "--log", log, "--port", "0", "--shards", str(said.shards),
         "--capacity", "65536", "--queue-limit", "100000",
     ]
-    process = subprocess.Popen(command, stdout=subprocess.PIPE, text=True)
+    process = subprocess.Popen(command, stdout=subprocess.PIPE, text=True, env=client_package.environment())
     line = process.stdout.readline()
     if not line.startswith("serving "):
         process.kill()
-        raise SystemExit(f"{said.server} did not start")
+        raise SystemExit("the server did not start")
     return process, int(line.rstrip("/\n").rpartition(":")[2])
 
 
@@ -183,7 +187,7 @@ def words_of(words: Optional[List[str]]) -> argparse.Namespace:
     parser.add_argument("--kind", choices=("signal", "flow"), default="signal", help="what is called")
     parser.add_argument("--shards", type=int, default=1, help="how many shards the service has")
     parser.add_argument("--folder", help="where the log lies")
-    parser.add_argument("--server", default=str(SERVER), help="the server, as of another checkout")
+    parser.add_argument("--server", help="the server of an earlier checkout, a file in Python")
     return parser.parse_args(words)
 
 

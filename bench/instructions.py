@@ -34,7 +34,7 @@ def polls(count):
 def completions(count, command):
     """So many completions of tasks that were polled, each with this command."""
     return polls(WORKFLOWS) + [{"op": "complete_workflow_task", "commands": [command],
-                                "token": queues.token(queues.WORKFLOW, run, 2, 1, 0)}
+                                "token": queues.token_text(queues.WORKFLOW, run, 2, 1, 0)}
                                for run in range(1, count + 1)]
 
 
@@ -52,10 +52,10 @@ def attempts(activities, count):
     """One run with so many activities, of which `count` are taken, say a heartbeat and are completed."""
     commands = [{"type": "ScheduleActivityTask", "activity_id": f"a{number}", "task_queue": "main",
                  "start_to_close": 30_000} for number in range(activities)]
-    tokens = [queues.token(queues.ACTIVITY, 1, 5 + number, 1, 0) for number in range(count)]
+    tokens = [queues.token_text(queues.ACTIVITY, 1, 5 + number, 1, 0) for number in range(count)]
     lines = [first_path.start("order"), {"op": "dispatch_turn", "shard": 0},
              {"op": "poll_workflow_task", "task_queue": "main"},
-             {"op": "complete_workflow_task", "commands": commands, "token": queues.token(queues.WORKFLOW, 1, 2, 1, 0)}]
+             {"op": "complete_workflow_task", "commands": commands, "token": queues.token_text(queues.WORKFLOW, 1, 2, 1, 0)}]
     for token in tokens:
         lines += [{"op": "dispatch_turn", "shard": 0}, {"op": "poll_activity_task", "task_queue": "main"},
                   {"op": "heartbeat", "token": token}, {"op": "complete_activity", "token": token}]

@@ -10,34 +10,24 @@ Times are processor times of the built program and times by the clock, the short
 the program goes before all others (`chrt -r 10`), and each new thread has a core as soon as one is idle. The
 program is crates/wfserve/out/wfserve, which `rt run` builds in that folder.
 """
-import base64
 import json
 import os
 import re
 import resource
-import struct
 import subprocess
 import sys
 import tempfile
 import time
 
 HERE = os.path.dirname(os.path.abspath(__file__))
+sys.path.insert(0, os.path.join(HERE, "..", "tools"))
+import client_package  # noqa: E402, F401
+from wfserve.ids import TaskKind, shard_of, token_text  # noqa: E402
+
 PROGRAM = os.path.join(HERE, "..", "crates", "wfserve", "out", "wfserve")
 RUNS = 3
-WORKFLOW, ACTIVITY = 1, 2
+WORKFLOW, ACTIVITY = TaskKind.WORKFLOW, TaskKind.ACTIVITY
 LANE_SHARDS, QUEUES = 16, 8
-
-
-def token(kind, run, event, attempt, shard):
-    return base64.b64encode(struct.pack(">BBHQQI", 1, kind, shard, run, event, attempt)).decode()
-
-
-def shard_of(workflow_id, shards):
-    """The workflow ID's hash (FNV-1a of 32 bits) modulo the number of shards."""
-    value = 2166136261
-    for byte in workflow_id.encode():
-        value = (value ^ byte) * 16777619 % 2**32
-    return value % shards
 
 
 class Script:
@@ -65,7 +55,7 @@ class Script:
         return shard, self.runs[shard]
 
     def complete(self, shard, run, event, commands, at=0):
-        self.add(shard, "complete_workflow_task", token=token(WORKFLOW, run, event, 1, shard), commands=commands, at=at)
+        self.add(shard, "complete_workflow_task", token=token_text(WORKFLOW, run, event, 1, shard), commands=commands, at=at)
 
     def attempts(self, shard, tokens, end, at):
         """Hands attempts to their queue, polls them, and ends each."""
@@ -95,7 +85,7 @@ def activities(count, shards=1, lanes=1):
                      "start_to_close": 60_000} for k in range(each)]
         at = number * 2_000
         script.complete(shard, run, 2, schedule, at)
-        tokens = [[token(ACTIVITY, run, 5 + k, attempt, shard) for k in range(each)] for attempt in (1, 2)]
+        tokens = [[token_text(ACTIVITY, run, 5 + k, attempt, shard) for k in range(each)] for attempt in (1, 2)]
         script.attempts(shard, tokens[0], "fail_activity", at)
         for _ in range(each):
             script.add(shard, "timer_turn", shard=shard, at=at + 1_000)

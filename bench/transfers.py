@@ -9,15 +9,17 @@ Times are processor times of the built program, in and under the kernel, the sho
 memory is the most that it held. The program is crates/wfserve/out/wfserve, which `rt run` builds in that
 folder.
 """
-import base64
 import json
 import os
-import struct
 import subprocess
 import sys
 import tempfile
 
 HERE = os.path.dirname(os.path.abspath(__file__))
+sys.path.insert(0, os.path.join(HERE, "..", "tools"))
+import client_package  # noqa: E402, F401
+from wfserve import ids  # noqa: E402
+
 PROGRAM = os.path.join(HERE, "..", "crates", "wfserve", "out", "wfserve")
 RUNS = 3
 SHARDS = 16
@@ -25,16 +27,12 @@ EACH = 500
 
 
 def shard_of(workflow_id):
-    """The workflow ID's hash (FNV-1a of 32 bits) modulo the number of shards."""
-    value = 2166136261
-    for byte in workflow_id.encode():
-        value = (value ^ byte) * 16777619 % 2**32
-    return value % SHARDS
+    return ids.shard_of(workflow_id, SHARDS)
 
 
 def token(run, shard):
     """The token of a run's first workflow task."""
-    return base64.b64encode(struct.pack(">BBHQQI", 1, 1, shard, run, 2, 1)).decode()
+    return ids.token_text(ids.TaskKind.WORKFLOW, run, 2, 1, shard)
 
 
 class Script:

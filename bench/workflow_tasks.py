@@ -7,19 +7,20 @@ Usage: bench/workflow_tasks.py [WORKFLOWS..]   (default: 25000 50000)
 Times are differences of processor times, each the shortest of three runs: of the starts alone, of these
 and the tasks taken, and of all. The program is built by `rt run` in crates/wfserve, or by ./serve.
 """
-import base64
 import os
 import sys
 import tempfile
 
 from first_path import PROGRAM, best_time, start, write_lines
 
+sys.path.insert(0, os.path.join(os.path.dirname(os.path.abspath(__file__)), "..", "tools"))
+import client_package  # noqa: E402, F401
+from wfserve.ids import TaskKind, token_text  # noqa: E402
+
 
 def token(run, event=2, attempt=1):
-    """The token of a workflow task of the first shard, by its run, the event that scheduled it and its
-    attempt."""
-    parts = bytes([1, 1]) + bytes(2) + run.to_bytes(8, "big") + event.to_bytes(8, "big") + attempt.to_bytes(4, "big")
-    return base64.b64encode(parts).decode()
+    """The token of a workflow task of the first shard, by its run, the event that scheduled it and its attempt."""
+    return token_text(TaskKind.WORKFLOW, run, event, attempt)
 
 
 def starts(count):

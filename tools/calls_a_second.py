@@ -11,12 +11,13 @@ import tempfile
 import threading
 import time
 
-HERE = pathlib.Path(__file__).resolve().parent
-sys.path.insert(0, str(HERE.parent / "clients" / "python"))
+import client_package
 
-from durable import DurableService  # noqa: E402
-from served import Server  # noqa: E402
-from wfserve import Service  # noqa: E402
+sys.path.append(str(client_package.CLIENT / "tests"))
+
+from support.served import Server  # noqa: E402
+from wfserve.calls import Service  # noqa: E402
+from wfserve.durable import DurableService  # noqa: E402
 
 SECONDS = 5
 

@@ -5,7 +5,7 @@
 
 A name in back quotes, of a document or of a comment in a source of a crate, is looked for word by word in all
 files that are no documents, without such comments. A file or a lemma is looked up in its crate (docs_paths.py).
-Names of the toolchain and of its libraries are listed in tools/known_names.txt. Each file of definitions says in its
+Names of the toolchain, of its libraries and of Temporal's SDK are listed in tools/known_names.txt. Each file of definitions says in its
 first line whether it is meaning or proof. docs/ARCHITECTURE.md lists the former, and has the table that
 lines_to_believe.py prints: on how many lines each promise rests.
 
@@ -15,7 +15,7 @@ claim about crates, calls, clauses and options is looked up by docs_claims.py. A
 toolchain than the one that is here. No text of the tree may hold what a merge leaves where two sides differ.
 
 No sentence of a document has more than 40 words (readability.py), and none has a word that a stranger stumbles over
-(plain_words.py). Documents below crates/ are held to neither yet.
+(plain_words.py), nor has a comment of a crate's source. Documents below crates/ are held to neither yet.
 """
 from __future__ import annotations
 
@@ -146,8 +146,8 @@ def is_specification(file: Path) -> bool:
 def wrong_markers(files: list[Path]) -> list[str]:
     """Files of definitions that don't say what they are, or aren't listed, and counts that are out of date."""
     specifications = [file for file in files if is_specification(file)]
-    wrong = [f"{file.relative_to(TOP)}: its first line says neither MEANING nor PROOF"
-             for file in specifications if not file.read_text().startswith(("-- MEANING", "-- PROOF"))]
+    wrong = [f"{file.relative_to(TOP)}: its first line says neither MEANING nor INNER nor PROOF"
+             for file in specifications if not file.read_text().startswith(("-- MEANING", "-- INNER", "-- PROOF"))]
     meaning = [file for file in specifications if file.read_text().startswith("-- MEANING")]
     architecture = (TOP / "docs/ARCHITECTURE.md").read_text()
     names = [str(file.relative_to(TOP / "crates").with_suffix("")) for file in meaning]
@@ -191,6 +191,12 @@ def other_kits(documents: list[Path]) -> list[str]:
             for kit_named in docs_claims.other_kits(document.read_text(), kit)]
 
 
+def unplain_comments(file: Path) -> list[str]:
+    """Words in the comments of a crate's source that a stranger stumbles over."""
+    comments = plain_words.comments_by_line(file.read_text(encoding="utf-8"), file.suffix)
+    return [f"line {one.line}: {one.text}: write {one.better}" for one in plain_words.found_in(comments)]
+
+
 def main() -> int:
     files = tracked()
     documents = [file for file in files if file.suffix == ".md"]
@@ -206,7 +212,7 @@ def main() -> int:
                for document in documents for fault in missing_in(document, words)]
     faults += [f"{file.relative_to(TOP)}: {fault}" for file in files
                if file.suffix in docs_paths.COMMENT and TOP / "crates" in file.parents
-               for fault in missing_in_comments(file, words)]
+               for fault in missing_in_comments(file, words) + unplain_comments(file)]
     for note in other_kits(documents):
         print(f"note: {note}", file=sys.stderr)
     for fault in faults:

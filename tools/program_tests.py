@@ -8,7 +8,6 @@ one history.
 
 PROGRAM is the built `wfserve`, as `rt ci` leaves it in crates/wfserve/out. The status is 1 where a test fails.
 """
-import base64
 import collections
 import json
 import os
@@ -17,12 +16,14 @@ import queue
 import resource
 import shutil
 import signal as signals
-import struct
 import subprocess
 import sys
 import tempfile
 import threading
 import unittest
+
+import client_package  # noqa: F401
+from wfserve.ids import TaskKind, token_text
 
 ROOT = pathlib.Path(__file__).resolve().parent.parent
 # A reply comes at once, on a machine that is busy too.
@@ -48,7 +49,7 @@ def signal(at):
 
 def token(shard, run):
     """The token of a run's first workflow task."""
-    return base64.b64encode(struct.pack(">BBHQQI", 1, 1, shard, run, 2, 1)).decode()
+    return token_text(TaskKind.WORKFLOW, run, 2, 1, shard)
 
 
 def ran(lines, *words, **environment):
@@ -260,7 +261,7 @@ class Reopening(unittest.TestCase):
         saved = self.fresh("saved")
         served([start("a"), start("c")], "--save", saved)
         for words, fault in (
-            (["--capacity", "1"], "more tasks wait in the records than their queues hold"),
+            (["--capacity", "1"], "more tasks wait in the records than their queues hold: raise --capacity"),
             (["--shards", "2"], f"{saved}/shard-01.rec: No such file or directory (os error 2)"),
             (["--shards", "2", "--capacity", "1"], f"{saved}/shard-01.rec: No such file or directory (os error 2)"),
             (["--capacity", "0"], "--capacity is out of range"),

@@ -28,6 +28,9 @@ import subprocess
 import sys
 import tempfile
 
+import client_package  # noqa: F401
+from wfserve import ids
+
 ROOT = pathlib.Path(__file__).resolve().parent.parent
 LANES, SHARDS, LINES = 3, 2, 24
 NAMES = ["a", "b", "c", "d"]
@@ -37,11 +40,7 @@ SETTINGS = ["--shards", str(SHARDS)]
 
 
 def shard_of(workflow_id):
-    """The workflow ID's hash (FNV-1a of 32 bits) modulo the number of shards."""
-    value = 2166136261
-    for byte in workflow_id.encode():
-        value = (value ^ byte) * 16777619 % 2**32
-    return value % SHARDS
+    return ids.shard_of(workflow_id, SHARDS)
 
 
 def drawn(source):

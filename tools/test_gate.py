@@ -109,15 +109,30 @@ class Run(unittest.TestCase):
                 self.assertEqual((ran.returncode, ran.stdout), (2, ""))
                 self.assertIn(said, ran.stderr)
 
+    def test_an_edge_that_can_not_be_built_is_skipped_by_name(self):
+        out = io.StringIO()
+        with contextlib.redirect_stdout(out), unittest.mock.patch.object(gate.gate_edge, "REGISTRY", Path(self.folder)):
+            self.assertEqual(gate.edge(), 0)
+        self.assertRegex(out.getvalue(), "skipped: the compiled edge: .*the crate tokio, no the crate hyper")
+
     def test_each_quick_part_runs_after_one_that_failed(self):
         out = io.StringIO()
         statuses = {"a": 0, "b": 1, "c": 5, "d": 0}
         parts = [(name, ".", ["sh", "-c", f"exit {status}"]) for name, status in statuses.items()]
-        with contextlib.redirect_stdout(out), unittest.mock.patch.object(gate, "QUICK", parts):
+        nothing = unittest.mock.patch.object(gate, "CHECKED", ())
+        with contextlib.redirect_stdout(out), nothing, unittest.mock.patch.object(gate, "QUICK", parts):
             self.assertEqual(gate.quick(), 1)
         self.assertTrue(out.getvalue().endswith("gate: FAILED: b, c\n"), out.getvalue())
-        with contextlib.redirect_stdout(out), unittest.mock.patch.object(gate, "QUICK", parts[:1]):
+        with contextlib.redirect_stdout(out), nothing, unittest.mock.patch.object(gate, "QUICK", parts[:1]):
             self.assertEqual(gate.quick(), 0)
+
+    def test_what_a_check_needs_and_is_not_there_is_said(self):
+        parts = [("types", ".", ["false"]), ("names", ".", ["no-such-program", "src"])]
+        out = io.StringIO()
+        with contextlib.redirect_stdout(out), unittest.mock.patch.object(gate, "QUICK", ()):
+            with unittest.mock.patch.object(gate, "CHECKED", parts):
+                self.assertEqual(gate.quick(), 1)
+        self.assertEqual(out.getvalue(), "== types\ngate: skipped: names: there is no no-such-program here\ngate: FAILED: types\n")
 
 
 if __name__ == "__main__":

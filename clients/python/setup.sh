@@ -1,5 +1,5 @@
 #!/usr/bin/env bash
-# Installs what server.py needs beside Python, for Debian's own python3: aiohttp, and httptools and uvloop, with which
+# Installs what wfserve.server needs beside Python, for Debian's own python3: aiohttp, and httptools and uvloop, with which
 # a call takes a third of the time. Does nothing where they are there; without root it wants aiohttp alone.
 set -eu
 python=/usr/bin/python3

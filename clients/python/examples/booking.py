@@ -1,6 +1,6 @@
 """A booking of three steps. Where a step fails, what was booked before is undone, the last first."""
 
-from workflows import ActivityFailed, Cancellation, Cancelled, NonRetryable, Retry, attempt, seconds, workflow
+from wfserve.workflows import ActivityFailed, Cancellation, Cancelled, NonRetryable, Retry, attempt, seconds, workflow
 
 QUEUES = ("main",)
 

@@ -1,6 +1,6 @@
 """A parent with a hundred children: each works out a square, and the parent adds them up."""
 
-from workflows import ChildFailed, seconds, workflow
+from wfserve.workflows import ChildFailed, seconds, workflow
 
 QUEUES = ("main",)
 CHILDREN = 100

@@ -4,7 +4,7 @@ That version let the code go on after each event of a task, and waited for no ch
 histories are kept as they were made: the code has to agree with them, by the rules of their time.
 """
 
-from workflows import Cancelled, hours, seconds, workflow
+from wfserve.workflows import Cancelled, hours, seconds, workflow
 
 QUEUES = ("main",)
 

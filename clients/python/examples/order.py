@@ -1,6 +1,6 @@
 """An order: a payment that is tried until the provider answers, a wait for shipping, and a signal that calls it off."""
 
-from workflows import ActivityFailed, Retry, attempt, hours, minutes, seconds, workflow
+from wfserve.workflows import ActivityFailed, Retry, attempt, hours, minutes, seconds, workflow
 
 QUEUES = ("main",)
 

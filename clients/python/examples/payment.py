@@ -1,6 +1,6 @@
 """A payment in parts: an activity tells how far it is, and its next attempt goes on from there."""
 
-from workflows import ActivityFailed, Cancelled, Retry, attempt, minutes, seconds, workflow
+from wfserve.workflows import ActivityFailed, Cancelled, Retry, attempt, minutes, seconds, workflow
 
 QUEUES = ("main",)
 PARTS = 5

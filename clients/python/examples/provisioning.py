@@ -2,7 +2,7 @@
 
 import uuid
 
-from workflows import Retry, days, seconds, workflow
+from wfserve.workflows import Retry, days, seconds, workflow
 
 QUEUES = ("main",)
 ROUNDS = 3

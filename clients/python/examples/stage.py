@@ -4,9 +4,10 @@ from __future__ import annotations
 
 from typing import Callable, Optional, Sequence
 
-from wfserve import Calls, Unavailable
-from workflows import Driver, JumpingClock, Worker, input_of, text_of
-from workflows.definitions import type_of
+from wfserve.calls import Calls
+from wfserve.errors import Unavailable
+from wfserve.workflows import Driver, JumpingClock, Worker, input_of, text_of
+from wfserve.workflows.definitions import type_of
 
 CLOSED = ("Completed", "Failed", "Canceled", "Terminated", "TimedOut")
 

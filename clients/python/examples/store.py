@@ -1,6 +1,6 @@
 """python3 -m examples.store PROGRAM: writes the stored histories and talks of the examples anew.
 
-Histories are what the tests compare with, and what `python3 -m workflows replay` checks code against.
+Histories are what the tests compare with, and what `python3 -m wfserve.workflows replay` checks code against.
 A talk is each line of a scenario with its reply: what stands in for the program where it isn't built.
 """
 
@@ -10,10 +10,11 @@ import pathlib
 import sys
 from unittest import mock
 
-from wfserve import Calls, Refused, Service, answered, request_of
-from workflows import JumpingClock
-
 from .stage import Stage, histories
+from wfserve.calls import Calls, Service, answered, request_of
+from wfserve.errors import Refused
+from wfserve.workflows import JumpingClock
+
 
 NAMES = ("order", "payment", "provisioning", "booking", "children")
 TALKED = ("order", "payment", "provisioning", "booking")

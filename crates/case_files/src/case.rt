@@ -23,9 +23,9 @@ pub struct Case<'a> {
     words: Vec<&'a str>,
     steps: Vec<Step>,
     room: Option<usize>,
-    /// Whether the program is also ended behind lines of it, and goes on from its records.
+    /// Whether the program is also ended after lines of it, and goes on from its records.
     is_cut: bool,
-    /// The lines behind which it is not, since a poll then finds other hints.
+    /// The lines after which it is not, since a poll then finds other hints.
     whole_behind: Vec<usize>,
     /// How many steps each shard's record has at the end; none where that isn't said.
     recorded: Vec<usize>,
@@ -72,7 +72,7 @@ impl<'a> Case<'a> {
         self.room
     }
 
-    /// Whether the program is also ended behind this line, and goes on from its records.
+    /// Whether the program is also ended after this line, and goes on from its records.
     pub fn is_cut_behind(&self, line: usize) -> bool {
         self.is_cut && !self.whole_behind.iter().any(|other| *other == line)
     }
@@ -105,7 +105,7 @@ impl<'a> Case<'a> {
         Ok(replies)
     }
 
-    /// Puts so many more copies of the bytes behind the last line of the script. False where there
+    /// Puts so many more copies of the bytes after the last line of the script. False where there
     /// is no such line, or the count is no number.
     fn lengthen(&mut self, count: &str, bytes: &[u8]) -> Result<bool, AllocError> {
         let Ok(count) = count.parse::<u32>() else {
@@ -139,7 +139,7 @@ impl<'a> Case<'a> {
         Ok(true)
     }
 
-    /// The lines behind which the program is not ended. False where a word is no number.
+    /// The lines after which the program is not ended. False where a word is no number.
     fn leave_whole(&mut self, words: &[&str]) -> Result<bool, AllocError> {
         push_numbers(&mut self.whole_behind, words)
     }
@@ -202,7 +202,7 @@ impl<'a> Case<'a> {
     }
 }
 
-/// Puts numbers behind others. False where a word is none.
+/// Puts numbers after others. False where a word is none.
 fn push_numbers(numbers: &mut Vec<usize>, words: &[&str]) -> Result<bool, AllocError> {
     for word in words {
         match word.parse::<usize>() {
@@ -213,7 +213,7 @@ fn push_numbers(numbers: &mut Vec<usize>, words: &[&str]) -> Result<bool, AllocE
     Ok(true)
 }
 
-/// Puts a text behind a line, with the number in place of each `#`.
+/// Puts a text after a line, with the number in place of each `#`.
 fn push_numbered(
     alloc: Global,
     line: &mut Vec<u8>,

@@ -1,4 +1,4 @@
-//! The program ended behind a line of a case, and begun again from its records.
+//! The program ended after a line of a case, and begun again from its records.
 
 use crate::process::{Ended, run_program};
 use case_files::{Case, Step};
@@ -64,7 +64,7 @@ fn run_part<R: Clock + LockFiles + AllocGlobal + Threads + Wait + Sync>(
     run_program(rt, &words, &script, usize::MAX, ended)
 }
 
-/// What the program answers where it is ended behind a line and goes on from its records.
+/// What the program answers where it is ended after a line and goes on from its records.
 pub(crate) fn run_cut<R: Clock + LockFiles + AllocGlobal + Threads + Wait + Sync>(
     rt: &R,
     case: &Case,

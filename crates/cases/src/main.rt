@@ -1,10 +1,10 @@
 //! `cases FILE..`: runs the cases that the files have, and prints one line for each.
 //! `cases --tell=FILE`: tells what the calls of the file's first case are answered, and what the lines of
-//! its second one read behind each call that is refused memory (`tools/refused_allocations.py`).
+//! its second one read after each call that is refused memory (`tools/refused_allocations.py`).
 //!
 //! A case is text: what the program is given, and what it has to answer. Each is run as the program
 //! runs a script, and by the calls of the service, in the form that may wait and in the one that
-//! never does; the answers have to be the same, also where the program is ended behind a line and goes
+//! never does; the answers have to be the same, also where the program is ended after a line and goes
 //! on from its records. The exit status is 0 only where all cases passed.
 //! `README.md` beside `src` says how a case is written.
 #![tactic(auto)]
@@ -76,7 +76,7 @@ fn run_forms<R: Clock + LockFiles + Print + AllocGlobal + Threads + Wait + Sync>
     Ok(Some(count))
 }
 
-/// Whether the answers are the same where the program is ended behind this line, and goes on from its
+/// Whether the answers are the same where the program is ended after this line, and goes on from its
 /// records.
 fn passes_cut<R: Clock + LockFiles + Print + AllocGlobal + Threads + Wait + Sync>(
     rt: &R,

@@ -28,7 +28,7 @@ impl Ended {
         }
     }
 
-    /// Puts what a further run wrote behind the others.
+    /// Puts what a further run wrote after the others.
     fn add(&mut self, output: &[u8], errors: &[u8], status: u8) -> Result<(), AllocError> {
         self.status = self.status.max(status);
         self.output.extend_from_slice(output)?;
@@ -41,7 +41,7 @@ impl Ended {
 }
 
 /// Runs the program with these arguments and this input, where standard output takes so many bytes.
-/// What it wrote is put behind what others did.
+/// What it wrote is put after what others did.
 pub(crate) fn run_program<R: Clock + LockFiles + AllocGlobal + Threads + Wait + Sync>(
     rt: &R,
     words: &[&str],
@@ -67,7 +67,7 @@ struct Process<'a> {
     errors: Cell<Vec<u8>>,
 }
 
-/// Puts the bytes behind those that the cell has.
+/// Puts the bytes after those that the cell has.
 fn write_into(alloc: Global, cell: &Cell<Vec<u8>>, bytes: &[u8]) -> Result<(), AllocError> {
     let mut all = cell.replace(Vec::new(alloc));
     let written = all.extend_from_slice(bytes);

@@ -13,7 +13,7 @@ use wf_event_values::{Field, Refusal};
 use wire_replies::reply_text;
 use wire_requests::{Asked, read_line};
 
-/// A service, and the text of what was told of it so far: the reply lines, and behind a call that was
+/// A service, and the text of what was told of it so far: the reply lines, and after a call that was
 /// refused memory what its histories and descriptions are then.
 pub(crate) struct Talk<'a, S: KeepsShard> {
     pub(crate) settings: &'a Settings,
@@ -114,7 +114,7 @@ impl<S: KeepsShard> Talk<'_, S> {
         Ok(())
     }
 
-    /// Tells what lines read behind a word that says what came before.
+    /// Tells what lines read after a word that says what came before.
     pub(crate) fn push_reads_behind<R: AllocGlobal + Wait>(
         &mut self,
         rt: &R,

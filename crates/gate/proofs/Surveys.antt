@@ -25,7 +25,7 @@ module _ {Q C : Type 0} (o : Origin Q C) (grounds : List C → ℕ → Q → Typ
   abbrev Rule : State (Option (Lying Q C)) V → Type 0
   Rule = IsGated o (grounds_by grounds after o.starts)
 
-  -- what the rule says of the run
+  -- what the rule says about the run
   told : (s : State (Option (Lying Q C)) V) (r : Rule s) (id slots : ℕ) (v : V) → get_elem? s.views id ≡ some v → slots ≡ width o → Surveyed grounds after o v (get_or s.words slots 0)
   told s r id slots v at as_many =
       let t = r.ticketed in

@@ -13,7 +13,7 @@ stands-at [] n below = absurd (omega arith)
 stands-at (x ∷ xs) zero below = (x, refl)
 stands-at (x ∷ xs) (suc n) below = stands-at xs n (omega arith)
 
--- what stands at a place stands there too where more lies behind
+-- what stands at a place stands there too where more follows
 pub stays-at : {A : Type 0} (xs ys : List A) (k : ℕ) (y : A) → slice_get xs k ≡ Some y → slice_get (xs ++ ys) k ≡ Some y
 stays-at [] ys k y is = absurd (cc)
 stays-at (x ∷ xs) ys zero y is = is

@@ -1,4 +1,4 @@
--- what the tests say of the passes of a gate
+-- what the tests say about the passes of a gate
 use Rattle.std.specs.Prelude.{◌≡◌, ℕ, List, Some, slice_get}
 use Rattle.gate.specs.GateViews.{IsPassOf}
 use Rattle.gate.specs.Passes.{view, number}

@@ -86,7 +86,7 @@ pub(crate) fn take_pass<O: Object>(gate: &Gate<O>, passes: &mut Vec<Pass<O>>) ->
     pass
 }
 
-/// Gives a pass back, behind those with lower numbers.
+/// Gives a pass back, after those with lower numbers.
 pub(crate) fn give_back<O: Object, R: Abort>(
     rt: &R,
     gate: &Gate<O>,

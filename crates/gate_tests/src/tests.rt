@@ -1,4 +1,4 @@
-//! One pass alone, and two passes one behind the other.
+//! One pass alone, and two passes one after the other.
 
 ghost use Rattle.std.specs.Prelude.{◌≡◌, ◌<◌, [], length};
 ghost use Rattle.gate.specs.GateViews.{slots, given, IsPassOf};

@@ -1,4 +1,4 @@
--- MEANING: how the call's types are read as those of the definition
+-- INNER: how the call's types are read as those of the definition
 use Rattle.std.specs.Prelude.{ℕ, Bool, false, List, Option, None, Some, option_map, option_copied}
 use Rattle.wf_event_values.specs.declared.policies.Status.{Status}
 use Rattle.id_policy.specs.declared.decision.Latest.{Latest}

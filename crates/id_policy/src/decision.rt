@@ -1,7 +1,6 @@
 //! The decision on a workflow ID.
 //!
-//! Rule: PROFILE, Workflow IDs. Definition: IdPolicy. Rows: TaskRows, PolicyRows. Cases: policies,
-//! workflow_ids.
+//! Rules: I1, I2, I3, I4, I5, I6, I7, I8, F3.
 
 ghost use Rattle.std.specs.Prelude.{◌≡◌, ◌≢◌, Some, option_copied};
 ghost use Rattle.service_model.specs.IdPolicy.{decide, is_same_request, is_failed, on_open, on_closed, New as NewRun};

@@ -31,7 +31,7 @@ found-none f all left more found x so next is = so ∙ ap (λ l. found ++ filter
 pub found-all : {A B : Type 0} (f : A → Option B) (all left : List A) (found : List B) → filter_map f all ≡ found ++ filter_map f left → left ≡ [] → found ≡ filter_map f all
 found-all f all left found so none = sym (so ∙ ap (λ l. found ++ filter_map f l) none ∙ append-nil found)
 
--- one more is behind those that were looked at
+-- one more is after those that were looked at
 pub one-behind : {A : Type 0} (all done left more : List A) (x : A) → all ≡ done ++ left → left ≡ x ∷ more → all ≡ (done ++ x ∷ []) ++ more
 one-behind all done left more x so next = so ∙ ap (λ l. done ++ l) next ∙ sym (append_assoc done (x ∷ []) more)
 

@@ -1,4 +1,4 @@
--- MEANING: the transfers that a run issues, by the events that it shows
+-- INNER: the transfers that a run issues, by the events that it shows
 use Rattle.std.specs.Prelude.{Bool, if◌then◌else◌, List, [], ◌++◌, filter_map, Option}
 use Rattle.wf_event.specs.declared.event.Event.{Event}
 use Rattle.wf_event.specs.declared.payloads.Parent.{Parent}

@@ -1,4 +1,4 @@
--- MEANING: the children that events settle, by the events that asked for them
+-- INNER: the children that events settle, by the events that asked for them
 use Rattle.std.specs.Prelude.{◌≡◌, ℕ, ◌==◌, if◌then◌else◌, List, map, Option, None, Some}
 use Rattle.std.specs.List.{list_any}
 use Rattle.wf_event.specs.declared.event.Event.{Event}

@@ -1,7 +1,6 @@
 //! What a run sends as it closes.
 //!
-//! Rule: PROFILE, Children and other workflows. Definition: Issued. Rows: ShardRows. Cases:
-//! children.
+//! Rules: X3, X4.
 
 ghost use Rattle.std.specs.Prelude.{◌≡◌, ◌<◌, List, IfOk, Some, filter_map};
 ghost use Rattle.wf_event.specs.declared.attributes.Attributes.TheVariants.{StartChildWorkflowExecutionInitiated as a_child};

@@ -1,7 +1,6 @@
 //! The tasks that a run hands to their queues, by the events that schedule them.
 //!
-//! Rule: PROFILE, Task queues and polls. Definition: Issued. Rows: -. Cases: dispatch_turns,
-//! whole_workflows.
+//! Rules: Q2.
 
 ghost use Rattle.std.specs.Prelude.{◌≡◌, filter_map, IfOk};
 ghost use Rattle.service_model.specs.Issued.{task_dispatch};

@@ -1,7 +1,6 @@
 //! What the commands of a run ask of other shards.
 //!
-//! Rule: PROFILE, Children and other workflows. Definition: Issued. Rows: TransferRows. Cases:
-//! children, externals.
+//! Rules: X1.
 
 ghost use Rattle.std.specs.Prelude.{◌≡◌, ◌<◌, IfOk, Some};
 ghost use Rattle.wf_event.specs.declared.attributes.Attributes.TheVariants.{StartChildWorkflowExecutionInitiated as a_child, SignalExternalWorkflowExecutionInitiated as a_signal, RequestCancelExternalWorkflowExecutionInitiated as a_cancel};

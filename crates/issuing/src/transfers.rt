@@ -1,7 +1,6 @@
 //! The transfers of a run.
 //!
-//! Rule: PROFILE, Children and other workflows. Definition: Issued. Rows: TransferRows, ChildRows.
-//! Cases: children, externals.
+//! Rules: X1.
 
 ghost use Rattle.std.specs.Prelude.{◌≡◌, ◌<◌, IfOk};
 ghost use Rattle.issuing.specs.Behind.{closings_behind, transfers_behind};

@@ -1,4 +1,4 @@
-//! A machine that crashes behind each call of its file.
+//! A machine that crashes after each call of its file.
 
 use crate::batches::{BATCHES, are_first, are_told, commit_each};
 use crate::crashing_file::CrashingFile;
@@ -57,7 +57,7 @@ fn found(alloc: Global, image: &[u8]) -> Result<Option<usize>, AllocError> {
     }
 }
 
-/// Whether a crash behind so many calls left all that was committed and at most one batch more, and no
+/// Whether a crash after so many calls left all that was committed and at most one batch more, and no
 /// reply was told before its batch was there; and whether so does a second crash.
 fn is_safe(alloc: Global, calls: u64, seed: u64) -> Result<bool, AllocError> {
     let left = run(alloc, Vec::new(alloc), 0, calls, seed)?;

@@ -55,7 +55,7 @@ fn reading(alloc: Global, bytes: Vec<u8>) -> Option<Result<usize, usize>> {
 }
 
 /// Whether a changed byte of this batch is refused, at the batch's first byte. The last one is as a crash
-/// may leave it where it has a zero or doesn't end, and is left away.
+/// may leave it where it has a zero or doesn't end, and is dropped.
 fn is_found(
     alloc: Global,
     bytes: &[u8],

@@ -3,14 +3,13 @@ use Rattle.std.proofs.Common.{◌≡◌, ◌⊎◌, ℕ, zero, suc, ◌-◌, Lis
 use Rattle.std.proofs.lemmas.List.{drop-append-le, length-append, length-drop, take-append-le, take_all}
 use Rattle.std.proofs.lemmas.Option.{none-some, same_Some}
 use Rattle.std.proofs.Math.Seq.{drop-append_seam}
-use Rattle.service_model_types.specs.Replies.{Reply}
 use Rattle.wire_replies.specs.Replies.{reply_line}
 use Rattle.script.specs.Serving.{is_refusal}
 use Rattle.lanes.specs.declared.answer.Answer.{Answer}
-use Rattle.lanes.specs.Answers.{AreLines, IsLine}
+use Rattle.lanes.specs.Answers.{AreLines, IsLine, LineReply}
 
 -- a text that grows keeps them
-line-longer : (text more : List ℕ) (a : Answer) (r : Reply) → IsLine text a r → IsLine (text ++ more) a r
+line-longer : (text more : List ℕ) (a : Answer) (r : LineReply) → IsLine text a r → IsLine (text ++ more) a r
 line-longer text more a r h = record {
   begins = h.begins;
   ends = omega (arith, h.ends, length-append text more);
@@ -19,14 +18,14 @@ line-longer text more a r h = record {
   refused_is = h.refused_is;
 }
 
-pub lines-longer : (text more : List ℕ) (answers : List Answer) (rs : List Reply) → AreLines text answers rs → AreLines (text ++ more) answers rs
+pub lines-longer : (text more : List ℕ) (answers : List Answer) (rs : List LineReply) → AreLines text answers rs → AreLines (text ++ more) answers rs
 lines-longer text more [] [] h = tt
 lines-longer text more [] (r ∷ rs) h = absurd h
 lines-longer text more (a ∷ answers) [] h = absurd h
 lines-longer text more (a ∷ answers) (r ∷ rs) h = (line-longer text more a r h.0, lines-longer text more answers rs h.1)
 
 -- the last line of a text
-line-last : (text line : List ℕ) (a : Answer) (r : Reply) → a.start ≡ length text → a.end ≡ length (text ++ line) → line ≡ reply_line a.number r → a.refused ≡ is_refusal (Some r) → IsLine (text ++ line) a r
+line-last : (text line : List ℕ) (a : Answer) (r : LineReply) → a.start ≡ length text → a.end ≡ length (text ++ line) → line ≡ reply_line r.number r.reply → a.refused ≡ is_refusal (Some r.reply) → IsLine (text ++ line) a r
 line-last text line a r begins ends is refused = record {
   begins = omega (arith, begins, ends, length-append text line);
   ends = omega (arith, ends);
@@ -35,14 +34,14 @@ line-last text line a r begins ends is refused = record {
   refused_is = refused;
 }
 
-lines-push : (text : List ℕ) (answers : List Answer) (rs : List Reply) (a : Answer) (r : Reply) → AreLines text answers rs → IsLine text a r → AreLines text (answers ++ a ∷ []) (rs ++ r ∷ [])
+lines-push : (text : List ℕ) (answers : List Answer) (rs : List LineReply) (a : Answer) (r : LineReply) → AreLines text answers rs → IsLine text a r → AreLines text (answers ++ a ∷ []) (rs ++ r ∷ [])
 lines-push text [] [] a r h one = (one, tt)
 lines-push text [] (s ∷ rs) a r h one = absurd h
 lines-push text (b ∷ answers) [] a r h one = absurd h
 lines-push text (b ∷ answers) (s ∷ rs) a r h one = (h.0, lines-push text answers rs a r h.1 one)
 
 -- one line more
-pub line-more : (text line : List ℕ) (answers : List Answer) (rs : List Reply) (a : Answer) (r : Reply) → a.start ≡ length text → a.end ≡ length (text ++ line) → line ≡ reply_line a.number r → a.refused ≡ is_refusal (Some r)
+pub line-more : (text line : List ℕ) (answers : List Answer) (rs : List LineReply) (a : Answer) (r : LineReply) → a.start ≡ length text → a.end ≡ length (text ++ line) → line ≡ reply_line r.number r.reply → a.refused ≡ is_refusal (Some r.reply)
     → AreLines text answers rs → AreLines (text ++ line) (answers ++ a ∷ []) (rs ++ r ∷ [])
 line-more text line answers rs a r begins ends is refused h = lines-push (text ++ line) answers rs a r (lines-longer text line answers rs h) (line-last text line a r begins ends is refused)
 

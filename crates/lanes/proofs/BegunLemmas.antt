@@ -16,16 +16,15 @@ use Rattle.script.proofs.LineLemmas.{ended-whole}
 use Rattle.script.proofs.Steps.{ended-append}
 use Rattle.wire_counted.specs.Written.{AppendsBeginning}
 use Rattle.wire_counted.proofs.Known.{Consumes-keeps, Consumes-none, Consumes-then, beginning_behind, beginning_of_all, beginning_of_nothing}
-use Rattle.lanes.specs.declared.run.Script.{Script}
+use Rattle.lanes.specs.declared.run.LaneScript.{LaneScript}
 use Rattle.lanes.specs.Course.{Serves, Meets, Course, InTurn, LineServed, asks_of}
 use Rattle.lanes.specs.Endings.{Beginning, Broke, Ended, Halted}
-use Rattle.lanes.specs.Lanes.{Took, WereAsked, is_barrier, own_calls, passes_of, place_in}
+use Rattle.lanes.specs.Lanes.{Took, Waiting, is_barrier, passes_of, place_in}
 use Rattle.lanes.specs.ToldLines.{Added, BeginsLine, BeginsLines, BeginsMore, Progress, Stopped, TellsLine, TellsMore, TextTold, Told}
-use Rattle.lanes.proofs.PhaseLemmas.{phase-part, phase-part-barrier}
+use Rattle.lanes.proofs.PhaseLemmas.{Part, phase-part, phase-part-barrier}
 use Rattle.lanes.proofs.PrintLemmas.{numbered-append}
-use Rattle.lanes.proofs.ToldLemmas.{asks-push, barrier-asked, barrier-places, lines-clean, lines-end, lines-last, next-number, told-longer}
+use Rattle.lanes.proofs.ToldLemmas.{asks-push, barrier-asked, lines-clean, lines-end, lines-last, next-number, told-longer, waits-more, waits-still}
 use Rattle.lanes.proofs.TurnLemmas.{turn-append}
-use Rattle.lanes.proofs.WorkLemmas.{waiting-same}
 
 -- what was printed whole is a beginning
 pub ended-begun : {serves : Serves} {meets : Meets} {K : Settings} {ps : List Pass} (text : List ℕ) (held held' : Option (List ℕ)) (refused : Bool) (ends : List Pass) → Ended serves meets K ps text held held' refused ends → Beginning serves meets K ps (all_lines text) held held'
@@ -61,7 +60,7 @@ begins-more {serves} {meets} {K} {ps} lines more held w b = record {
 
 module _ {Keeper Plan : Type 0} where
   -- the lines before the last barrier were printed
-  begins-told : {serves : Serves} {meets : Meets} {K : Settings} {ps : List Pass} (lines : List Line) (s : Script Keeper Plan) (held w : Option (List ℕ)) → Told serves meets K ps lines s held w → Beginning serves meets K ps lines held w
+  begins-told : {serves : Serves} {meets : Meets} {K : Settings} {ps : List Pass} (lines : List Line) (s : LaneScript Keeper Plan) (held w : Option (List ℕ)) → Told serves meets K ps lines s held w → Beginning serves meets K ps lines held w
   begins-told lines s held w h = record {
     front = h.done;
     rest = h.waits;
@@ -76,48 +75,48 @@ both-begun : (first : ℕ) (rs ss : List (Option Reply)) (held w w' : Option (Li
 both-begun first rs ss held w w' count h k = rw (numbered-append 1 rs ss, count) (beginning_behind held w w' (numbered_from 1 rs) (numbered_from first ss) h k)
 
 module _ {Keeper Plan : Type 0} where
-  -- the lines before the last barrier, and the first of those behind it
-  begins-front : {serves : Serves} {meets : Meets} {K : Settings} {ps : List Pass} (lines : List Line) (s : Script Keeper Plan) (held w w' : Option (List ℕ)) (more : List (Result Asked Refusal)) (n : ℕ) (rs : List (Option Reply)) (ps' : List Pass) (all : List Line)
-      → (h : Told serves meets K ps lines s held w) → asks_of K all ≡ h.done ++ more → Course serves meets (passes_of s.lanes.items) (take n more) rs ps' → AppendsBeginning w w' (numbered_from s.first rs) → Beginning serves meets K ps all held w'
-  begins-front {serves} {meets} {K} {ps} lines s held w w' more n rs ps' all h parts course written = record {
-    front = h.done ++ take n more;
-    rest = drop n more;
-    replies = h.replies ++ rs;
-    served = ps';
-    parts = parts ∙ ap (λ x. h.done ++ x) (sym (take-append-drop n more)) ∙ sym (append_assoc h.done (take n more) (drop n more));
-    course = turn-append (LineServed serves meets) ps (passes_of s.lanes.items) ps' h.done (take n more) h.replies rs h.course course;
-    written = both-begun s.first h.replies rs held w w' (next-number lines s held w h) h.written written;
+  -- the lines before the last barrier, and the first of those after it
+  begins-front : {serves : Serves} {meets : Meets} {K : Settings} {ps : List Pass} (lines : List Line) (s : LaneScript Keeper Plan) (held w w' : Option (List ℕ)) (more : List (Result Asked Refusal)) (rs : List (Option Reply)) (all : List Line)
+      → (h : Told serves meets K ps lines s held w) → asks_of K all ≡ h.done ++ more → Part serves meets (passes_of s.lanes.items) more rs → AppendsBeginning w w' (numbered_from s.first rs) → Beginning serves meets K ps all held w'
+  begins-front {serves} {meets} {K} {ps} lines s held w w' more rs all h parts part written = record {
+    front = h.done ++ part.front;
+    rest = part.rest;
+    replies = h.replies ++ part.replies;
+    served = part.passes;
+    parts = parts ∙ ap (λ x. h.done ++ x) part.parts ∙ sym (append_assoc h.done part.front part.rest);
+    course = turn-append (LineServed serves meets) ps (passes_of s.lanes.items) part.passes h.done part.front h.replies part.replies h.course part.course;
+    written = both-begun s.first h.replies part.replies held w w' (next-number lines s held w h) h.written (subst (AppendsBeginning w w') (part.text s.first) written);
   }
 
   -- a phase was not printed whole
-  pub begins-phase : {serves : Serves} {meets : Meets} {K : Settings} {ps : List Pass} (closes : Bool) (lines : List Line) (s : Script Keeper Plan) (held w w' : Option (List ℕ)) → Stopped serves meets closes s w w' → Told serves meets K ps lines s held w → Beginning serves meets K ps lines held w'
-  begins-phase {serves} {meets} {K} {ps} closes lines s held w w' (inl same) h = subst (λ x. Beginning serves meets K ps lines held x) (sym same) (begins-told lines s held w h)
-  begins-phase {serves} {meets} {K} {ps} closes lines s held w w' (inr p) h =
-      let b = p.begun in
-      let part = phase-part serves meets closes h.waits s.places b.count b.replies s.lanes.items p.after b.left h.plain h.waiting p.phase (subst (λ x. InTurn Took p.phase.replies (take b.count x) b.replies b.left) h.waiting.places b.took) in
-      begins-front lines s held w w' h.waits b.count b.replies part.0 lines h h.parts part.1 b.written
+  pub begins-phase : {serves : Serves} {meets : Meets} {K : Settings} {ps : List Pass} (lines : List Line) (s : LaneScript Keeper Plan) (held w w' : Option (List ℕ)) → Stopped serves s w w' → Told serves meets K ps lines s held w → Beginning serves meets K ps lines held w'
+  begins-phase {serves} {meets} {K} {ps} lines s held w w' (inl same) h = subst (λ x. Beginning serves meets K ps lines held x) (sym same) (begins-told lines s held w h)
+  begins-phase {serves} {meets} {K} {ps} lines s held w w' (inr p) h =
+      let b = p.begun h.waits h.waiting in
+      let part = phase-part serves meets s.first h.waits s.places.items b.count b.replies s.lanes.items b.left h.plain h.waiting p.phase (subst (λ x. InTurn Took p.phase.replies (take b.count x) b.replies b.left) h.waiting.places b.took) in
+      begins-front lines s held w w' h.waits b.replies lines h h.parts part b.written
 
   -- nothing was made of some lines
-  pub begins-unread : {serves : Serves} {meets : Meets} (K : Settings) (more : List Line) (s : Script Keeper Plan) (w : Option (List ℕ)) → BeginsLines serves meets K more s w w
+  pub begins-unread : {serves : Serves} {meets : Meets} (K : Settings) (more : List Line) (s : LaneScript Keeper Plan) (w : Option (List ℕ)) → BeginsLines serves meets K more s w w
   begins-unread K more s w ps lines held h = begins-more lines more held w (begins-told lines s held w h)
 
   -- a line more was read, and nothing printed
-  pub begins-line : {serves : Serves} {meets : Meets} {K : Settings} {ps : List Pass} (lines : List Line) (line : Line) (s : Script Keeper Plan) (held w : Option (List ℕ)) → Told serves meets K ps lines s held w → Beginning serves meets K ps (lines ++ line ∷ []) held w
+  pub begins-line : {serves : Serves} {meets : Meets} {K : Settings} {ps : List Pass} (lines : List Line) (line : Line) (s : LaneScript Keeper Plan) (held w : Option (List ℕ)) → Told serves meets K ps lines s held w → Beginning serves meets K ps (lines ++ line ∷ []) held w
   begins-line lines line s held w h = begins-more lines (line ∷ []) held w (begins-told lines s held w h)
 
   -- a phase that a barrier ends was not printed whole
-  pub begins-barrier : {serves : Serves} {meets : Meets} {K : Settings} {ps : List Pass} (lines : List Line) (line : Line) (s s1 : Script Keeper Plan) (held w w' : Option (List ℕ)) → Added (asked K line) s s1 → is_barrier (place_in (asked K line)) ≡ true
-      → Stopped serves meets true s1 w w' → Told serves meets K ps lines s held w → Beginning serves meets K ps (lines ++ line ∷ []) held w'
+  pub begins-barrier : {serves : Serves} {meets : Meets} {K : Settings} {ps : List Pass} (lines : List Line) (line : Line) (s s1 : LaneScript Keeper Plan) (held w w' : Option (List ℕ)) → Added (asked K line) s s1 → is_barrier (place_in (asked K line)) ≡ true
+      → Stopped serves s1 w w' → Told serves meets K ps lines s held w → Beginning serves meets K ps (lines ++ line ∷ []) held w'
   begins-barrier {serves} {meets} {K} {ps} lines line s s1 held w w' a barrier (inl same) h = subst (λ x. Beginning serves meets K ps (lines ++ line ∷ []) held x) (sym same) (begins-line lines line s held w h)
   begins-barrier {serves} {meets} {K} {ps} lines line s s1 held w w' a barrier (inr p) h =
       let is : asked K line ≡ Ok a_barrier = barrier-asked (asked K line) barrier in
       let all = h.waits ++ Ok a_barrier ∷ [] in
-      let b = p.begun in
-      let places : s1.places ≡ map place_in all = barrier-places (asked K line) h.waits s.places s1.places is a.places h.waiting.places in
-      let waiting = waiting-same h.waits s.places s.lanes.items s1.lanes.items (subst (λ x. WereAsked (λ k. own_calls k x) s.lanes.items s1.lanes.items) is a.lanes) h.waiting in
-      let part = phase-part-barrier serves meets h.waits s.places b.count b.replies s1.lanes.items p.after b.left h.plain waiting p.phase (subst (λ x. InTurn Took p.phase.replies (take b.count x) b.replies b.left) places b.took) in
-      begins-front lines s held w w' all b.count b.replies part.0 (lines ++ line ∷ []) h (asks-push K lines line h.done h.waits h.parts ∙ ap (λ x. h.done ++ (h.waits ++ x ∷ [])) is)
-      (subst (λ x. Course serves meets x (take b.count all) b.replies part.0) a.lanes.passes part.1) (subst (λ n. AppendsBeginning w w' (numbered_from n b.replies)) a.first b.written)
+      let waits : Waiting s1.first all s1.places.items s1.lanes.items = subst (λ x. Waiting s1.first (h.waits ++ x ∷ []) s1.places.items s1.lanes.items) is (waits-more (asked K line) h.waits s s1 a h.waiting) in
+      let b = p.begun all waits in
+      let part = phase-part-barrier serves meets s1.first h.waits s.places.items b.count b.replies s1.lanes.items b.left h.plain (waits-still (asked K line) h.waits s s1 a is h.waiting) p.phase
+      (subst (λ x. InTurn Took p.phase.replies (take b.count x) b.replies b.left) waits.places b.took) in
+      begins-front lines s held w w' all b.replies (lines ++ line ∷ []) h (asks-push K lines line h.done h.waits h.parts ∙ ap (λ x. h.done ++ (h.waits ++ x ∷ [])) is)
+      (subst (λ x. Part serves meets x all b.replies) a.lanes.passes part) (subst (λ n. AppendsBeginning w w' (numbered_from n b.replies)) a.first b.written)
 
 -- ---- texts
 
@@ -127,7 +126,7 @@ begins-longer {serves} {meets} {K} {ps} a b held w h = subst (λ ls. Beginning s
 
 module _ {Keeper Plan : Type 0} where
   -- a part that ends a line
-  pub begins-end : {serves : Serves} {meets : Meets} {K : Settings} {ps : List Pass} (text part : List ℕ) (s s1 : Script Keeper Plan) (held w w' : Option (List ℕ)) → has_feed part ≡ false → s1.line ≡ grown s.line part
+  pub begins-end : {serves : Serves} {meets : Meets} {K : Settings} {ps : List Pass} (text part : List ℕ) (s s1 : LaneScript Keeper Plan) (held w w' : Option (List ℕ)) → has_feed part ≡ false → s1.line ≡ grown s.line part
       → s1.lanes ≡ s.lanes → s1.places ≡ s.places → s1.first ≡ s.first → s1.refused ≡ s.refused → BeginsLine serves meets K s1.line s1 w w'
       → TextTold serves meets K ps text s held w → Beginning serves meets K ps (ended (Some []) (text ++ (part ++ 10 ∷ []))) held w'
   begins-end {serves} {meets} {K} {ps} text part s s1 held w w' free grows lanes places first refused step h =
@@ -136,7 +135,7 @@ module _ {Keeper Plan : Type 0} where
       (step ps (ended (Some []) text) held (told-longer (ended (Some []) text) s s1 held w lanes places first refused h.told))
 
   -- a part that nothing was made of
-  pub begins-part : {serves : Serves} {meets : Meets} {K : Settings} {ps : List Pass} (text part : List ℕ) (s : Script Keeper Plan) (held w : Option (List ℕ)) → TextTold serves meets K ps text s held w → Beginning serves meets K ps (ended (Some []) (text ++ part)) held w
+  pub begins-part : {serves : Serves} {meets : Meets} {K : Settings} {ps : List Pass} (text part : List ℕ) (s : LaneScript Keeper Plan) (held w : Option (List ℕ)) → TextTold serves meets K ps text s held w → Beginning serves meets K ps (ended (Some []) (text ++ part)) held w
   begins-part text part s held w h = begins-longer text part held w (begins-told (ended (Some []) text) s held w h.told)
 
 -- the parts of a chunk, one after another: `done` was told of, and then a beginning with `part`
@@ -150,14 +149,14 @@ begins-chunk {serves} {meets} {K} {ps} text all done part rest held w is b =
 -- ---- turns
 
 module _ {Keeper Plan : Type 0} where
-  pub broke-reading : {serves : Serves} {meets : Meets} {K : Settings} {ps : List Pass} (s : Script Keeper Plan) (unread held r r' w : Option (List ℕ)) → Keeps r r' → Progress serves meets K ps s unread held r w → Broke serves meets K ps unread held r' w
+  pub broke-reading : {serves : Serves} {meets : Meets} {K : Settings} {ps : List Pass} (s : LaneScript Keeper Plan) (unread held r r' w : Option (List ℕ)) → Keeps r r' → Progress serves meets K ps s unread held r w → Broke serves meets K ps unread held r' w
   broke-reading {serves} {meets} {K} {ps} s unread held r r' w keeps p = record {
     text = p.text;
     read = Consumes-keeps unread r r' p.text p.read keeps;
     begun = subst (λ ls. Beginning serves meets K ps ls held w) (ended-whole p.text) (begins-told (ended (Some []) p.text) s held w p.told.told);
   }
 
-  pub broke-feeding : {serves : Serves} {meets : Meets} {K : Settings} {ps : List Pass} (s : Script Keeper Plan) (unread held r r' w w' : Option (List ℕ)) (chunk : List ℕ) → Consumes r r' chunk → (p : Progress serves meets K ps s unread held r w)
+  pub broke-feeding : {serves : Serves} {meets : Meets} {K : Settings} {ps : List Pass} (s : LaneScript Keeper Plan) (unread held r r' w w' : Option (List ℕ)) (chunk : List ℕ) → Consumes r r' chunk → (p : Progress serves meets K ps s unread held r w)
       → Beginning serves meets K ps (ended (Some []) (p.text ++ chunk)) held w' → Broke serves meets K ps unread held r' w'
   broke-feeding {serves} {meets} {K} {ps} s unread held r r' w w' chunk read p b = record {
     text = p.text ++ chunk;
@@ -171,48 +170,48 @@ nothing-read unread held = inl (record { text = []; read = Consumes-none unread;
 -- ---- the end
 
 module _ {Keeper Plan : Type 0} where
-  -- behind a line feed
-  pub begins-clean : {serves : Serves} {meets : Meets} {K : Settings} {ps : List Pass} (text : List ℕ) (s : Script Keeper Plan) (held w w' : Option (List ℕ)) → is_empty_line s.line ≡ true → Stopped serves meets true s w w'
+  -- after a line feed
+  pub begins-clean : {serves : Serves} {meets : Meets} {K : Settings} {ps : List Pass} (text : List ℕ) (s : LaneScript Keeper Plan) (held w w' : Option (List ℕ)) → is_empty_line s.line ≡ true → Stopped serves s w w'
       → TextTold serves meets K ps text s held w → Beginning serves meets K ps (all_lines text) held w'
   begins-clean {serves} {meets} {K} {ps} text s held w w' empty stop h =
-      subst (λ ls. Beginning serves meets K ps ls held w') (lines-clean text s.line h.line empty) (begins-phase true (ended (Some []) text) s held w w' stop h.told)
+      subst (λ ls. Beginning serves meets K ps ls held w') (lines-clean text s.line h.line empty) (begins-phase (ended (Some []) text) s held w w' stop h.told)
 
   -- in a last line without its line feed
-  pub begins-last : {serves : Serves} {meets : Meets} {K : Settings} {ps : List Pass} (text : List ℕ) (s : Script Keeper Plan) (held w w' : Option (List ℕ)) → is_empty_line s.line ≡ false → BeginsLine serves meets K s.line s w w'
+  pub begins-last : {serves : Serves} {meets : Meets} {K : Settings} {ps : List Pass} (text : List ℕ) (s : LaneScript Keeper Plan) (held w w' : Option (List ℕ)) → is_empty_line s.line ≡ false → BeginsLine serves meets K s.line s w w'
       → TextTold serves meets K ps text s held w → Beginning serves meets K ps (all_lines text) held w'
   begins-last {serves} {meets} {K} {ps} text s held w w' some step h =
       subst (λ ls. Beginning serves meets K ps ls held w') (lines-last text s.line h.line some) (step ps (ended (Some []) text) held h.told)
 
-  -- behind it
-  pub begins-behind : {serves : Serves} {meets : Meets} {K : Settings} {ps : List Pass} (text : List ℕ) (s s1 : Script Keeper Plan) (held w w1 w' : Option (List ℕ)) → is_empty_line s.line ≡ false → TellsLine serves meets K s.line s s1 w w1 → Stopped serves meets true s1 w1 w'
+  -- after it
+  pub begins-behind : {serves : Serves} {meets : Meets} {K : Settings} {ps : List Pass} (text : List ℕ) (s s1 : LaneScript Keeper Plan) (held w w1 w' : Option (List ℕ)) → is_empty_line s.line ≡ false → TellsLine serves meets K s.line s s1 w w1 → Stopped serves s1 w1 w'
       → TextTold serves meets K ps text s held w → Beginning serves meets K ps (all_lines text) held w'
   begins-behind {serves} {meets} {K} {ps} text s s1 held w w1 w' some step stop h =
       subst (λ ls. Beginning serves meets K ps ls held w') (lines-last text s.line h.line some)
-      (begins-phase true (ended (Some []) text ++ s.line ∷ []) s1 held w1 w' stop (step ps (ended (Some []) text) held h.told))
+      (begins-phase (ended (Some []) text ++ s.line ∷ []) s1 held w1 w' stop (step ps (ended (Some []) text) held h.told))
 
 module _ {Keeper Plan : Type 0} where
   -- a batch that was read was not printed whole
-  pub broke-serving : {serves : Serves} {meets : Meets} {K : Settings} {ps : List Pass} (s : Script Keeper Plan) (unread held r w w' : Option (List ℕ)) → Stopped serves meets false s w w' → Progress serves meets K ps s unread held r w → Broke serves meets K ps unread held r w'
+  pub broke-serving : {serves : Serves} {meets : Meets} {K : Settings} {ps : List Pass} (s : LaneScript Keeper Plan) (unread held r w w' : Option (List ℕ)) → Stopped serves s w w' → Progress serves meets K ps s unread held r w → Broke serves meets K ps unread held r w'
   broke-serving {serves} {meets} {K} {ps} s unread held r w w' stop p = record {
     text = p.text;
     read = p.read;
-    begun = subst (λ ls. Beginning serves meets K ps ls held w') (ended-whole p.text) (begins-phase false (ended (Some []) p.text) s held w w' stop p.told.told);
+    begun = subst (λ ls. Beginning serves meets K ps ls held w') (ended-whole p.text) (begins-phase (ended (Some []) p.text) s held w w' stop p.told.told);
   }
 
-  -- a part was told of, and then a beginning of what stands behind it
-  pub begins-then : {serves : Serves} {meets : Meets} {K : Settings} (a b : List ℕ) (s m : Script Keeper Plan) (w w1 w' : Option (List ℕ)) → TellsMore serves meets K a s m w w1 → BeginsMore serves meets K b m w1 w' → BeginsMore serves meets K (a ++ b) s w w'
+  -- a part was told of, and then a beginning of what stands after it
+  pub begins-then : {serves : Serves} {meets : Meets} {K : Settings} (a b : List ℕ) (s m : LaneScript Keeper Plan) (w w1 w' : Option (List ℕ)) → TellsMore serves meets K a s m w w1 → BeginsMore serves meets K b m w1 w' → BeginsMore serves meets K (a ++ b) s w w'
   begins-then {serves} {meets} {K} a b s m w w1 w' one two ps text held h = subst (λ t. Beginning serves meets K ps (ended (Some []) t) held w') (append_assoc text a b) (two ps (text ++ a) held (one ps text held h))
 
-  -- a beginning of a part, and more stands behind it
-  pub begins-early : {serves : Serves} {meets : Meets} {K : Settings} (a b : List ℕ) (s : Script Keeper Plan) (w w' : Option (List ℕ)) → BeginsMore serves meets K a s w w' → BeginsMore serves meets K (a ++ b) s w w'
+  -- a beginning of a part, and more stands after it
+  pub begins-early : {serves : Serves} {meets : Meets} {K : Settings} (a b : List ℕ) (s : LaneScript Keeper Plan) (w w' : Option (List ℕ)) → BeginsMore serves meets K a s w w' → BeginsMore serves meets K (a ++ b) s w w'
   begins-early {serves} {meets} {K} a b s w w' one ps text held h = subst (λ t. Beginning serves meets K ps (ended (Some []) t) held w') (append_assoc text a b) (begins-longer (text ++ a) b held w' (one ps text held h))
 
   -- nothing was made of a text
-  pub begins-text : {serves : Serves} {meets : Meets} {K : Settings} (a : List ℕ) (s : Script Keeper Plan) (w : Option (List ℕ)) → BeginsMore serves meets K a s w w
+  pub begins-text : {serves : Serves} {meets : Meets} {K : Settings} (a : List ℕ) (s : LaneScript Keeper Plan) (w : Option (List ℕ)) → BeginsMore serves meets K a s w w
   begins-text a s w ps text held h = begins-part text a s held w h
 
   -- a beginning of the lines of a text that begins a line
-  pub begins-lines : {serves : Serves} {meets : Meets} {K : Settings} (part : List ℕ) (s : Script Keeper Plan) (w w' : Option (List ℕ)) → s.line ≡ Some [] → BeginsLines serves meets K (ended (Some []) part) s w w' → BeginsMore serves meets K part s w w'
+  pub begins-lines : {serves : Serves} {meets : Meets} {K : Settings} (part : List ℕ) (s : LaneScript Keeper Plan) (w w' : Option (List ℕ)) → s.line ≡ Some [] → BeginsLines serves meets K (ended (Some []) part) s w w' → BeginsMore serves meets K part s w w'
   begins-lines {serves} {meets} {K} part s w w' begins step ps text held h =
       let so_far : left (Some []) text ≡ Some [] = sym h.line ∙ begins in
       let lines : ended (Some []) (text ++ part) ≡ ended (Some []) text ++ ended (Some []) part = ended-append (Some []) text part ∙ ap (λ l. ended (Some []) text ++ ended l part) so_far in

@@ -16,7 +16,7 @@ use Rattle.script.specs.Pending.{ended, grown, has_feed, left}
 use Rattle.script.proofs.PartLemmas.{ended-free, ended-line, left-line}
 use Rattle.script.proofs.Steps.{ended-append, left-append}
 use Rattle.lanes.specs.declared.reading.Reader.{Reader}
-use Rattle.lanes.specs.declared.run.Script.{Script}
+use Rattle.lanes.specs.declared.run.LaneScript.{LaneScript}
 use Rattle.lanes.specs.Course.{Serves, Meets, asks_of}
 use Rattle.lanes.specs.Endings.{Beginning}
 use Rattle.lanes.specs.declared.sorted.Sorted.{Sorted}
@@ -95,15 +95,15 @@ read-found K s fs fs' lines one line grows gives r = record {
 -- ---- lines that are taken from a reader
 
 module _ {Keeper Plan : Type 0} where
-  -- the first of these lines were told of, and those behind them were found
-  pub record Taking (serves : Serves) (meets : Meets) (K : Settings) (lines : List Line) (found : List (Result Asked Refusal)) (s s' : Script Keeper Plan) (w w' : Option (List ℕ)) : Type 0 where
+  -- the first of these lines were told of, and those after them were found
+  pub record Taking (serves : Serves) (meets : Meets) (K : Settings) (lines : List Line) (found : List (Result Asked Refusal)) (s s' : LaneScript Keeper Plan) (w w' : Option (List ℕ)) : Type 0 where
     pub done : List Line
     pub rest : List Line
     pub parts : lines ≡ done ++ rest
     pub behind : AreFound K found rest
     pub told : TellsLines serves meets K done s s' w w'
 
-  pub taking-none : {serves : Serves} {meets : Meets} (K : Settings) (lines : List Line) (found : List (Result Asked Refusal)) (s : Script Keeper Plan) (w : Option (List ℕ)) → AreFound K found lines → Taking serves meets K lines found s s w w
+  pub taking-none : {serves : Serves} {meets : Meets} (K : Settings) (lines : List Line) (found : List (Result Asked Refusal)) (s : LaneScript Keeper Plan) (w : Option (List ℕ)) → AreFound K found lines → Taking serves meets K lines found s s w w
   taking-none {serves} {meets} K lines found s w h = record {
     done = [];
     rest = lines;
@@ -112,7 +112,7 @@ module _ {Keeper Plan : Type 0} where
     told = λ ps before held told. subst (λ ls. Told serves meets K ps ls s held w) (sym (append-nil before)) told;
   }
 
-  pub taking-one : {serves : Serves} {meets : Meets} (K : Settings) (lines : List Line) (f : Result Asked Refusal) (found : List (Result Asked Refusal)) (s m s' : Script Keeper Plan) (w w1 w' : Option (List ℕ)) → TellsFound serves meets f m s' w1 w'
+  pub taking-one : {serves : Serves} {meets : Meets} (K : Settings) (lines : List Line) (f : Result Asked Refusal) (found : List (Result Asked Refusal)) (s m s' : LaneScript Keeper Plan) (w w1 w' : Option (List ℕ)) → TellsFound serves meets f m s' w1 w'
       → Taking serves meets K lines (f ∷ found) s m w w1 → Taking serves meets K lines found s s' w w'
   taking-one {serves} {meets} K lines f found s m s' w w1 w' step t = go t.rest t.parts t.behind
     where
@@ -126,14 +126,14 @@ module _ {Keeper Plan : Type 0} where
         told = λ ps before held told. subst (λ ls. Told serves meets K ps ls s' held w') (append_assoc before t.done (line ∷ [])) (step K line h.0 ps (before ++ t.done) held (t.told ps before held told));
       }
 
-  pub taking-all : {serves : Serves} {meets : Meets} (K : Settings) (lines : List Line) (s s' : Script Keeper Plan) (w w' : Option (List ℕ)) → Taking serves meets K lines [] s s' w w' → TellsLines serves meets K lines s s' w w'
+  pub taking-all : {serves : Serves} {meets : Meets} (K : Settings) (lines : List Line) (s s' : LaneScript Keeper Plan) (w w' : Option (List ℕ)) → Taking serves meets K lines [] s s' w w' → TellsLines serves meets K lines s s' w w'
   taking-all {serves} {meets} K lines s s' w w' t = go t.rest t.parts t.behind
     where
       go : (rest : List Line) → lines ≡ t.done ++ rest → AreFound K [] rest → TellsLines serves meets K lines s s' w w'
       go [] parts h = subst (λ ls. TellsLines serves meets K ls s s' w w') (sym (parts ∙ append-nil t.done)) t.told
       go (line ∷ rest) parts h = absurd h
 
-  pub taking-begun : {serves : Serves} {meets : Meets} (K : Settings) (lines : List Line) (f : Result Asked Refusal) (found : List (Result Asked Refusal)) (s m : Script Keeper Plan) (w w1 w' : Option (List ℕ)) → BeginsFound serves meets f m w1 w'
+  pub taking-begun : {serves : Serves} {meets : Meets} (K : Settings) (lines : List Line) (f : Result Asked Refusal) (found : List (Result Asked Refusal)) (s m : LaneScript Keeper Plan) (w w1 w' : Option (List ℕ)) → BeginsFound serves meets f m w1 w'
       → Taking serves meets K lines (f ∷ found) s m w w1 → BeginsLines serves meets K lines s w w'
   taking-begun {serves} {meets} K lines f found s m w w1 w' step t = go t.rest t.parts t.behind
     where
@@ -144,16 +144,16 @@ module _ {Keeper Plan : Type 0} where
           let all : ((before ++ t.done) ++ line ∷ []) ++ rest ≡ before ++ lines = append_assoc (before ++ t.done) (line ∷ []) rest ∙ append_assoc before t.done (line ∷ rest) ∙ ap (λ x. before ++ x) (sym parts) in
           subst (λ ls. Beginning serves meets K ps ls held w') all (begins-more ((before ++ t.done) ++ line ∷ []) rest held w' b)
 
--- ---- lines that a reader sorted, and those that wait behind them
+-- ---- lines that a reader sorted, and those that wait after them
 
 module _ {Keeper Plan : Type 0} where
-  pub read-tells : {serves : Serves} {meets : Meets} (K : Settings) (sorted : Sorted) (found : List (Result Asked Refusal)) (lines : List Line) (s s1 s' : Script Keeper Plan) (w w' : Option (List ℕ)) → ((asks : List (Result Asked Refusal)) → IsSorted asks sorted → AddedAll asks s s1)
+  pub read-tells : {serves : Serves} {meets : Meets} (K : Settings) (sorted : Sorted) (found : List (Result Asked Refusal)) (lines : List Line) (s s1 s' : LaneScript Keeper Plan) (w w' : Option (List ℕ)) → ((asks : List (Result Asked Refusal)) → IsSorted asks sorted → AddedAll asks s s1)
       → ((K : Settings) (more : List Line) → AreFound K found more → TellsLines serves meets K more s1 s' w w') → AreRead K sorted found lines → TellsLines serves meets K lines s s' w w'
   read-tells {serves} {meets} K sorted found lines s s1 s' w w' added step r ps before held told =
       subst (λ ls. Told serves meets K ps ls s' held w') (append_assoc before r.front r.back ∙ ap (λ x. before ++ x) (sym r.parts))
       (step K r.back r.waits ps (before ++ r.front) held (told-all before r.front s s1 held w (added (asks_of K r.front) r.sorted) r.plain told))
 
-  pub read-begins : {serves : Serves} {meets : Meets} (K : Settings) (sorted : Sorted) (found : List (Result Asked Refusal)) (lines : List Line) (s s1 : Script Keeper Plan) (w w' : Option (List ℕ)) → ((asks : List (Result Asked Refusal)) → IsSorted asks sorted → AddedAll asks s s1)
+  pub read-begins : {serves : Serves} {meets : Meets} (K : Settings) (sorted : Sorted) (found : List (Result Asked Refusal)) (lines : List Line) (s s1 : LaneScript Keeper Plan) (w w' : Option (List ℕ)) → ((asks : List (Result Asked Refusal)) → IsSorted asks sorted → AddedAll asks s s1)
       → ((K : Settings) (more : List Line) → AreFound K found more → BeginsLines serves meets K more s1 w w') → AreRead K sorted found lines → BeginsLines serves meets K lines s w w'
   read-begins {serves} {meets} K sorted found lines s s1 w w' added step r ps before held told =
       subst (λ ls. Beginning serves meets K ps ls held w') (append_assoc before r.front r.back ∙ ap (λ x. before ++ x) (sym r.parts))
@@ -161,7 +161,7 @@ module _ {Keeper Plan : Type 0} where
 
 -- ---- the parts of readers
 
--- a part that stands in a text behind another
+-- a part that stands in a text after another
 part-behind : (text front part behind : List ℕ) (from to : ℕ) → text ≡ front ++ (part ++ behind) → from ≡ length front → to ≡ length front + length part → slice_range text from to ≡ part
 part-behind text front part behind from to is begins ends =
     ap (λ n. take (to - n) (drop n text)) begins ∙ ap (λ t. take (to - length front) (drop (length front) t)) is ∙ ap (take (to - length front)) (drop-append_seam front (part ++ behind))
@@ -250,22 +250,22 @@ read-at K (r ∷ rs) (lines ∷ parts) (suc k) d h below = read-at K rs parts k 
 pub lines-one : (parts : List (List Line)) (k : ℕ) → k < length parts → lines_of (take (k + 1) parts) ≡ lines_of (take k parts) ++ get_or parts k []
 lines-one parts k below = ap lines_of (take_more parts k [] below) ∙ flat_map-append (λ (lines : List Line). lines) (take k parts) (get_or parts k [] ∷ []) ∙ ap (λ x. lines_of (take k parts) ++ x) (append-nil (get_or parts k []))
 
--- the lines of the first readers, of the next one, and of those behind it
+-- the lines of the first readers, of the next one, and of those after it
 pub lines-split : (parts : List (List Line)) (k : ℕ) → k < length parts → lines_of parts ≡ (lines_of (take k parts) ++ get_or parts k []) ++ lines_of (drop (k + 1) parts)
 lines-split parts k below =
     ap lines_of (sym (take-append-drop (k + 1) parts)) ∙ flat_map-append (λ (lines : List Line). lines) (take (k + 1) parts) (drop (k + 1) parts) ∙ ap (λ x. x ++ lines_of (drop (k + 1) parts)) (lines-one parts k below)
 
 module _ {Keeper Plan : Type 0} where
   -- no lines
-  pub tells-none : {serves : Serves} {meets : Meets} (K : Settings) (s : Script Keeper Plan) (w : Option (List ℕ)) → TellsLines serves meets K [] s s w w
+  pub tells-none : {serves : Serves} {meets : Meets} (K : Settings) (s : LaneScript Keeper Plan) (w : Option (List ℕ)) → TellsLines serves meets K [] s s w w
   tells-none {serves} {meets} K s w ps before held told = subst (λ ls. Told serves meets K ps ls s held w) (sym (append-nil before)) told
 
   -- some lines, and then others
-  pub tells-then : {serves : Serves} {meets : Meets} (K : Settings) (a b : List Line) (s m s' : Script Keeper Plan) (w w1 w' : Option (List ℕ)) → TellsLines serves meets K a s m w w1 → TellsLines serves meets K b m s' w1 w' → TellsLines serves meets K (a ++ b) s s' w w'
+  pub tells-then : {serves : Serves} {meets : Meets} (K : Settings) (a b : List Line) (s m s' : LaneScript Keeper Plan) (w w1 w' : Option (List ℕ)) → TellsLines serves meets K a s m w w1 → TellsLines serves meets K b m s' w1 w' → TellsLines serves meets K (a ++ b) s s' w w'
   tells-then {serves} {meets} K a b s m s' w w1 w' one two ps before held told = subst (λ ls. Told serves meets K ps ls s' held w') (append_assoc before a b) (two ps (before ++ a) held (one ps before held told))
 
-  -- some lines, a beginning of others, and nothing of those behind them
-  pub begins-within : {serves : Serves} {meets : Meets} (K : Settings) (a b c : List Line) (s m : Script Keeper Plan) (w w1 w' : Option (List ℕ)) → TellsLines serves meets K a s m w w1 → BeginsLines serves meets K b m w1 w' → BeginsLines serves meets K ((a ++ b) ++ c) s w w'
+  -- some lines, a beginning of others, and nothing of those after them
+  pub begins-within : {serves : Serves} {meets : Meets} (K : Settings) (a b c : List Line) (s m : LaneScript Keeper Plan) (w w1 w' : Option (List ℕ)) → TellsLines serves meets K a s m w w1 → BeginsLines serves meets K b m w1 w' → BeginsLines serves meets K ((a ++ b) ++ c) s w w'
   begins-within {serves} {meets} K a b c s m w w1 w' one two ps before held told =
       let both = subst (λ ls. Beginning serves meets K ps ls held w') (append_assoc before a b) (two ps (before ++ a) held (one ps before held told)) in
       subst (λ ls. Beginning serves meets K ps ls held w') (append_assoc before (a ++ b) c) (begins-more (before ++ (a ++ b)) c held w' both)

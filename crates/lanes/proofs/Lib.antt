@@ -1,6 +1,7 @@
 pub mod AlongLemmas
 pub mod AnswerLemmas
 pub mod BegunLemmas
+pub mod CallLemmas
 pub mod CourseLemmas
 pub mod FaultLemmas
 pub mod FoundLemmas
@@ -9,9 +10,9 @@ pub mod MeetLemmas
 pub mod NumberLemmas
 pub mod PhaseLemmas
 pub mod PlaceLemmas
-pub mod PlacesLemmas
 pub mod PrintLemmas
 pub mod ReopenLemmas
+pub mod RepliedLemmas
 pub mod SortLemmas
 pub mod TraceLemmas
 pub mod ToldLemmas

@@ -2,11 +2,10 @@
 use Rattle.std.proofs.Common.{◌≡◌, ℕ, ◌+◌, ◌<◌, ◌≤◌, ◌⊎◌, All, List, [], ◌∷◌, ◌++◌, take, length, set, get_or, inl, inr, sym, ap, subst, ◌∙◌, arith}
 use Rattle.std.proofs.lemmas.Bool.{cases_eq}
 use Rattle.std.proofs.lemmas.List.{get_or-map, get_or-set_other, get_or-set_same, length-map, length-set, map-set, take_all, take_more, take_more_set}
-use Rattle.std.proofs.Math.Seq.{map-set_same}
 use Rattle.service.specs.ServiceViews.{Pass}
 use Rattle.lanes.specs.declared.lane.Lane.{Lane}
 use Rattle.lanes.specs.Course.{Meets, FirstMet, InTurn}
-use Rattle.lanes.specs.Lanes.{KeepsReplies, calls_of, passes_of}
+use Rattle.lanes.specs.Lanes.{passes_of}
 use Rattle.lanes.proofs.TurnLemmas.{turn-append, turn-one}
 
 -- the first of these passes, p, met the others so far, and is q
@@ -33,22 +32,6 @@ module _ {Keeper Plan : Type 0} where
       let before : take i (passes_of xs) ≡ passes_of xs = take_all i (passes_of xs) (omega (arith, past, length-map xs (λ (l : Lane Keeper Plan). l.pass))) in
       let now : take i (passes_of ys) ≡ passes_of ys = take_all i (passes_of ys) (omega (arith, past, count, length-map ys (λ (l : Lane Keeper Plan). l.pass))) in
       subst (λ x. HasMet meets first.pass x (passes_of ys) first'.pass) before (subst (λ x. HasMet meets first.pass (take i (passes_of xs)) x first'.pass) now h)
-
-  -- one lane got another pass
-  pub kept-set : (xs ys : List (Lane Keeper Plan)) (i : ℕ) (x y : Lane Keeper Plan) → calls_of y ≡ calls_of (get_or ys i x) → y.replies ≡ (get_or ys i x).replies → y.taken ≡ (get_or ys i x).taken → KeepsReplies xs ys → KeepsReplies xs (set ys i y)
-  kept-set xs ys i x y asked replies taken h = record {
-    asked = map-set_same calls_of ys i y x asked ∙ h.asked;
-    replies = map-set_same (λ (l : Lane Keeper Plan). l.replies) ys i y x replies ∙ h.replies;
-    taken = map-set_same (λ (l : Lane Keeper Plan). l.taken) ys i y x taken ∙ h.taken;
-  }
-
-  -- the first lane too
-  pub kept-first : (x y : Lane Keeper Plan) (xs ys : List (Lane Keeper Plan)) → calls_of y ≡ calls_of x → y.replies ≡ x.replies → y.taken ≡ x.taken → KeepsReplies xs ys → KeepsReplies (x ∷ xs) (y ∷ ys)
-  kept-first x y xs ys asked replies taken h = record {
-    asked = λ i. asked i ∷ h.asked i;
-    replies = λ i. replies i ∷ h.replies i;
-    taken = λ i. taken i ∷ h.taken i;
-  }
 
   -- it holds of all passes still, where it holds of the new one
   pub all-set : (P : Pass → Type 0) (ys : List (Lane Keeper Plan)) (i : ℕ) (y : Lane Keeper Plan) → P y.pass → All (λ (l : Lane Keeper Plan). P l.pass) ys → All (λ (l : Lane Keeper Plan). P l.pass) (set ys i y)

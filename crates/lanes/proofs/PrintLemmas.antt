@@ -11,9 +11,12 @@ use Rattle.script.specs.Output.{numbered_from}
 use Rattle.lanes.specs.declared.lane.Lane.{Lane}
 use Rattle.lanes.specs.declared.place.Place.{Place}
 use Rattle.lanes.specs.declared.place.Place.TheVariants.{InLane}
+use Rattle.lanes.specs.Answers.{LineReply}
 use Rattle.lanes.specs.Course.{InTurn}
 use Rattle.lanes.specs.Lanes.{AllLeft, Took}
+use Rattle.lanes.specs.Numbers.{AreNumbered, IsNext}
 use Rattle.lanes.specs.Printed.{Begun, BegunIn, Printed, PrintedOne}
+use Rattle.lanes.proofs.RepliedLemmas.{next-at}
 use Rattle.lanes.proofs.TurnLemmas.{turn-append, turn-count, turn-one}
 
 pub numbered-append : (n : ℕ) (rs ss : List (Option Reply)) → numbered_from n (rs ++ ss) ≡ numbered_from n rs ++ numbered_from (n + length rs) ss
@@ -36,15 +39,15 @@ or-false false = refl
 
 module _ {Keeper Plan : Type 0} where
   -- nothing was printed yet
-  pub printed-none : (first : ℕ) (rss : List (List Reply)) (ls : List (Lane Keeper Plan)) (held : Option (List ℕ)) → AllLeft ls rss → Printed first [] rss ls false held held
+  pub printed-none : (first : ℕ) (rss : List (List LineReply)) (ls : List (Lane Keeper Plan)) (held : Option (List ℕ)) → AllLeft ls rss → Printed first [] rss ls false held held
   printed-none first rss ls held h = record { replies = []; left = rss; took = refl; kept = h; written = Appends-none held; refused_is = refl }
 
 -- nothing of some lines was printed
-pub begun-none : (first : ℕ) (ps : List Place) (rss : List (List Reply)) (held : Option (List ℕ)) → Begun first ps rss held held
+pub begun-none : (first : ℕ) (ps : List Place) (rss : List (List LineReply)) (held : Option (List ℕ)) → Begun first ps rss held held
 begun-none first ps rss held = record { count = 0; replies = []; left = rss; took = refl; written = beginning_of_nothing held [] }
 
 -- a beginning of one line was printed
-pub begun-one : (number : ℕ) (p : Place) (reply : Option Reply) (rss left : List (List Reply)) (held held' : Option (List ℕ)) → Took rss p reply left → AppendsBeginning held held' (text_of number reply) → Begun number (p ∷ []) rss held held'
+pub begun-one : (number : ℕ) (p : Place) (reply : Option Reply) (rss left : List (List LineReply)) (held held' : Option (List ℕ)) → Took rss p reply left → AppendsBeginning held held' (text_of number reply) → Begun number (p ∷ []) rss held held'
 begun-one number p reply rss left held held' took written = record {
   count = 1;
   replies = reply ∷ [];
@@ -54,16 +57,17 @@ begun-one number p reply rss left held held' took written = record {
 }
 
 -- a beginning of a call's line was printed, or nothing of it
-pub begun-in : (number : ℕ) (lane : ℕ) (rss : List (List Reply)) (held held' : Option (List ℕ)) → BegunIn number lane rss held held' → Begun number (InLane lane ∷ []) rss held held'
+pub begun-in : (number : ℕ) (lane : ℕ) (rss : List (List LineReply)) (held held' : Option (List ℕ)) → BegunIn number lane rss held held' → Begun number (InLane lane ∷ []) rss held held'
 begun-in number lane rss held held' (inl same) = subst (λ x. Begun number (InLane lane ∷ []) rss held x) (sym same) (begun-none number (InLane lane ∷ []) rss held)
 begun-in number lane rss held held' (inr b) = begun-one number (InLane lane) (Some b.reply) rss b.left held held' b.took b.written
 
 module _ {Keeper Plan : Type 0} where
   -- one line more was printed
-  pub printed-more : (first number i : ℕ) (ps : List Place) (p : Place) (b c : Bool) (rss : List (List Reply)) (l1 l2 : List (Lane Keeper Plan)) (h0 h1 h2 : Option (List ℕ)) → i < length ps → p ≡ get_or ps i p → number ≡ first + i
-      → Printed first (take i ps) rss l1 b h0 h1 → ((left : List (List Reply)) → AllLeft l1 left → PrintedOne number p left l2 c h1 h2) → Printed first (take (i + 1) ps) rss l2 (b || c) h0 h2
-  printed-more first number i ps p b c rss l1 l2 h0 h1 h2 below is counts h step =
-      let k = step h.left h.kept in
+  pub printed-more : (first number i : ℕ) (ps : List Place) (p : Place) (b c : Bool) (rss : List (List LineReply)) (l1 l2 : List (Lane Keeper Plan)) (h0 h1 h2 : Option (List ℕ)) → i < length ps → p ≡ get_or ps i p → number ≡ first + i
+      → AreNumbered first ps rss → Printed first (take i ps) rss l1 b h0 h1 → ((left : List (List LineReply)) → AllLeft l1 left → IsNext p number left → PrintedOne number p left l2 c h1 h2)
+      → Printed first (take (i + 1) ps) rss l2 (b || c) h0 h2
+  printed-more first number i ps p b c rss l1 l2 h0 h1 h2 below is counts numbered h step =
+      let k = step h.left h.kept (next-at first number i ps p rss h.left h.replies below is counts numbered h.took) in
       let grows : take (i + 1) ps ≡ take i ps ++ p ∷ [] = take_more ps i p below ∙ ap (λ x. take i ps ++ x ∷ []) (sym is) in
       let count : i ≡ length h.replies = sym (length-take-le i ps (omega arith)) ∙ turn-count Took rss h.left (take i ps) h.replies h.took in
       let place : number ≡ first + length h.replies = counts ∙ ap (λ n. first + n) count in
@@ -82,10 +86,10 @@ take-none (suc n) = refl
 
 module _ {Keeper Plan : Type 0} where
   -- all lines before one were printed, and a beginning of that one
-  pub begun-at : (first number i : ℕ) (ps : List Place) (p : Place) (b : Bool) (rss : List (List Reply)) (l1 : List (Lane Keeper Plan)) (h0 h1 h2 : Option (List ℕ)) → i < length ps → p ≡ get_or ps i p → number ≡ first + i
-      → Printed first (take i ps) rss l1 b h0 h1 → ((left : List (List Reply)) → AllLeft l1 left → Begun number (p ∷ []) left h1 h2) → Begun first ps rss h0 h2
-  begun-at first number i ps p b rss l1 h0 h1 h2 below is counts h step =
-      let k = step h.left h.kept in
+  pub begun-at : (first number i : ℕ) (ps : List Place) (p : Place) (b : Bool) (rss : List (List LineReply)) (l1 : List (Lane Keeper Plan)) (h0 h1 h2 : Option (List ℕ)) → i < length ps → p ≡ get_or ps i p → number ≡ first + i
+      → AreNumbered first ps rss → Printed first (take i ps) rss l1 b h0 h1 → ((left : List (List LineReply)) → AllLeft l1 left → IsNext p number left → Begun number (p ∷ []) left h1 h2) → Begun first ps rss h0 h2
+  begun-at first number i ps p b rss l1 h0 h1 h2 below is counts numbered h step =
+      let k = step h.left h.kept (next-at first number i ps p rss h.left h.replies below is counts numbered h.took) in
       let grows : take (i + 1) ps ≡ take i ps ++ p ∷ [] = take_more ps i p below ∙ ap (λ x. take i ps ++ x ∷ []) (sym is) in
       let count : i ≡ length h.replies = sym (length-take-le i ps (omega arith)) ∙ turn-count Took rss h.left (take i ps) h.replies h.took in
       let place : number ≡ first + length h.replies = counts ∙ ap (λ n. first + n) count in
@@ -102,7 +106,7 @@ module _ {Keeper Plan : Type 0} where
       one-more (suc n) grows = ap (λ k. take k ps) (let e : i + min 1 (suc n) ≡ i + 1 = omega arith in e) ∙ grows ∙ ap (λ x. take i ps ++ p ∷ x) (sym (take-none n))
 
   -- all of them were printed
-  pub begun-all : (first : ℕ) (ps : List Place) (b : Bool) (rss : List (List Reply)) (ls' : List (Lane Keeper Plan)) (h0 h1 h2 : Option (List ℕ)) → Printed first ps rss ls' b h0 h1 → Keeps h1 h2 → Begun first ps rss h0 h2
+  pub begun-all : (first : ℕ) (ps : List Place) (b : Bool) (rss : List (List LineReply)) (ls' : List (Lane Keeper Plan)) (h0 h1 h2 : Option (List ℕ)) → Printed first ps rss ls' b h0 h1 → Keeps h1 h2 → Begun first ps rss h0 h2
   begun-all first ps b rss ls' h0 h1 h2 h keeps = record {
     count = length ps;
     replies = h.replies;

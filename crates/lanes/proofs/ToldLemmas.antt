@@ -19,16 +19,16 @@ use Rattle.script.proofs.LineLemmas.{ended-all}
 use Rattle.script.proofs.PartLemmas.{ended-free, ended-line as line-ended, left-free, left-line}
 use Rattle.script.proofs.Steps.{ended-append, left-append}
 use Rattle.wire_counted.proofs.Known.{Appends-none, Appends-then}
-use Rattle.lanes.specs.declared.place.Place.{Place}
-use Rattle.lanes.specs.declared.run.Script.{Script}
+use Rattle.lanes.specs.declared.run.LaneScript.{LaneScript}
 use Rattle.lanes.specs.Course.{AllMet, Serves, Meets, Course, InTurn, LineServed, asks_of}
+use Rattle.lanes.specs.Calls.{number_at}
 use Rattle.lanes.specs.Endings.{Ended}
 use Rattle.lanes.specs.Lanes.{ArePlain, Took, Waiting, WereAsked, is_barrier, own_calls, passes_of, place_in}
-use Rattle.lanes.specs.ToldLines.{Added, AddedAll, Closed, Opened, TellsLine, TellsLines, TellsMore, TextTold, Told, Unchanged}
-use Rattle.lanes.proofs.PhaseLemmas.{phase-barrier, phase-last}
+use Rattle.lanes.specs.ToldLines.{Added, AddedAll, Closed, Opened, Served, TellsLine, TellsLines, TellsMore, TextTold, Told, Unchanged}
+use Rattle.lanes.proofs.PhaseLemmas.{phase-barrier, phase-whole}
 use Rattle.lanes.proofs.PrintLemmas.{any-append, numbered-append}
 use Rattle.lanes.proofs.TurnLemmas.{turn-append, turn-count}
-use Rattle.lanes.proofs.WorkLemmas.{waiting-all, waiting-more, waiting-same}
+use Rattle.lanes.proofs.WorkLemmas.{idle-same, waiting-all, waiting-more, waiting-same}
 
 -- ---- lines
 
@@ -49,7 +49,7 @@ barrier-asked (Err refusal) is = absurd (true≢false (sym is))
 
 module _ {Keeper Plan : Type 0} where
   -- the number of the next line
-  pub next-number : {serves : Serves} {meets : Meets} {K : Settings} {ps : List Pass} (lines : List Line) (s : Script Keeper Plan) (held w : Option (List ℕ)) → (h : Told serves meets K ps lines s held w) → 1 + length h.replies ≡ s.first
+  pub next-number : {serves : Serves} {meets : Meets} {K : Settings} {ps : List Pass} (lines : List Line) (s : LaneScript Keeper Plan) (held w : Option (List ℕ)) → (h : Told serves meets K ps lines s held w) → 1 + length h.replies ≡ s.first
   next-number {serves} {meets} {K} {ps} lines s held w h = ap (λ n. 1 + n) (sym (turn-count (LineServed serves meets) ps (passes_of s.lanes.items) h.done h.replies h.course)) ∙ sym h.number
 
 both-written : (first : ℕ) (rs ss : List (Option Reply)) (held w w' : Option (List ℕ)) → 1 + length rs ≡ first → Appends held w (numbered_from 1 rs) → Appends w w' (numbered_from first ss) → Appends held w' (numbered_from 1 (rs ++ ss))
@@ -61,8 +61,20 @@ both-refused a b c rs ss is first second = is ∙ ap (λ x. x || b) first ∙ ap
 -- ---- steps
 
 module _ {Keeper Plan : Type 0} where
+  -- one line more waits
+  pub waits-more : (ask : Result Asked Refusal) (waits : List (Result Asked Refusal)) (s s' : LaneScript Keeper Plan) → Added ask s s' → Waiting s.first waits s.places.items s.lanes.items → Waiting s'.first (waits ++ ask ∷ []) s'.places.items s'.lanes.items
+  waits-more ask waits s s' a w =
+      subst (λ n. Waiting n (waits ++ ask ∷ []) s'.places.items s'.lanes.items) (sym a.first) (waiting-more s.first waits ask s.places.items s'.places.items s.lanes.items s'.lanes.items a.places a.lanes w)
+
+  -- and where it is a barrier, each lane has the same calls
+  pub waits-still : (ask : Result Asked Refusal) (waits : List (Result Asked Refusal)) (s s' : LaneScript Keeper Plan) → Added ask s s' → ask ≡ Ok a_barrier → Waiting s.first waits s.places.items s.lanes.items → Waiting s'.first waits s.places.items s'.lanes.items
+  waits-still ask waits s s' a is w =
+      let n = number_at s.first (length s.places.items) in
+      subst (λ n. Waiting n waits s.places.items s'.lanes.items) (sym a.first)
+      (waiting-same s.first n waits s.places.items s.lanes.items s'.lanes.items (subst (λ x. WereAsked (λ k. own_calls k n x) s.lanes.items s'.lanes.items) is a.lanes) w)
+
   -- before the first byte
-  pub told-nothing : {serves : Serves} {meets : Meets} {K : Settings} (ps : List Pass) (held : Option (List ℕ)) (s : Script Keeper Plan) → Opened ps s → TextTold serves meets K ps [] s held held
+  pub told-nothing : {serves : Serves} {meets : Meets} {K : Settings} (ps : List Pass) (held : Option (List ℕ)) (s : LaneScript Keeper Plan) → Opened ps s → TextTold serves meets K ps [] s held held
   unfolding ended left
   told-nothing ps held s o = record {
     line = o.line;
@@ -81,7 +93,7 @@ module _ {Keeper Plan : Type 0} where
   }
 
   -- one line more waits
-  pub told-line : {serves : Serves} {meets : Meets} {K : Settings} {ps : List Pass} (lines : List Line) (line : Line) (s s' : Script Keeper Plan) (held w : Option (List ℕ)) → Added (asked K line) s s' → is_barrier (place_in (asked K line)) ≡ false
+  pub told-line : {serves : Serves} {meets : Meets} {K : Settings} {ps : List Pass} (lines : List Line) (line : Line) (s s' : LaneScript Keeper Plan) (held w : Option (List ℕ)) → Added (asked K line) s s' → is_barrier (place_in (asked K line)) ≡ false
       → Told serves meets K ps lines s held w → Told serves meets K ps (lines ++ line ∷ []) s' held w
   told-line {serves} {meets} {K} {ps} lines line s s' held w a no_barrier h = record {
     done = h.done;
@@ -89,7 +101,7 @@ module _ {Keeper Plan : Type 0} where
     replies = h.replies;
     parts = asks-push K lines line h.done h.waits h.parts;
     course = subst (λ x. Course serves meets ps h.done h.replies x) (sym a.lanes.passes) h.course;
-    waiting = waiting-more h.waits (asked K line) s.places s'.places s.lanes.items s'.lanes.items a.places a.lanes h.waiting;
+    waiting = waits-more (asked K line) h.waits s s' a h.waiting;
     plain = plain-push h.waits (asked K line) h.plain no_barrier;
     written = h.written;
     number = a.first ∙ h.number;
@@ -104,7 +116,7 @@ plain-append (line ∷ lines) asks h k =
 
 module _ {Keeper Plan : Type 0} where
   -- more lines wait
-  pub told-all : {serves : Serves} {meets : Meets} {K : Settings} {ps : List Pass} (lines more : List Line) (s s' : Script Keeper Plan) (held w : Option (List ℕ)) → AddedAll (asks_of K more) s s' → ArePlain (asks_of K more)
+  pub told-all : {serves : Serves} {meets : Meets} {K : Settings} {ps : List Pass} (lines more : List Line) (s s' : LaneScript Keeper Plan) (held w : Option (List ℕ)) → AddedAll (asks_of K more) s s' → ArePlain (asks_of K more)
       → Told serves meets K ps lines s held w → Told serves meets K ps (lines ++ more) s' held w
   told-all {serves} {meets} {K} {ps} lines more s s' held w a plain h = record {
     done = h.done;
@@ -112,30 +124,30 @@ module _ {Keeper Plan : Type 0} where
     replies = h.replies;
     parts = map-append (asked K) lines more ∙ ap (λ x. x ++ asks_of K more) h.parts ∙ append_assoc h.done h.waits (asks_of K more);
     course = subst (λ x. Course serves meets ps h.done h.replies x) (sym a.lanes.passes) h.course;
-    waiting = waiting-all h.waits (asks_of K more) s.places s'.places s.lanes.items s'.lanes.items a.places a.lanes h.waiting;
+    waiting = subst (λ n. Waiting n (h.waits ++ asks_of K more) s'.places.items s'.lanes.items) (sym a.first)
+        (waiting-all s.first h.waits (asks_of K more) s.places.items s'.places.items s.lanes.items s'.lanes.items a.places a.lanes h.waiting);
     plain = plain-append h.waits (asks_of K more) h.plain plain;
     written = h.written;
     number = a.first ∙ h.number;
     refused_is = a.refused ∙ h.refused_is;
   }
 
--- the places of lines and of the barrier behind them
-pub barrier-places : (ask : Result Asked Refusal) (waits : List (Result Asked Refusal)) (ps ps' : List Place) → ask ≡ Ok a_barrier → ps' ≡ ps ++ place_in ask ∷ [] → ps ≡ map place_in waits → ps' ≡ map place_in (waits ++ Ok a_barrier ∷ [])
-barrier-places ask waits ps ps' is grows places = grows ∙ ap (λ x. ps ++ place_in x ∷ []) is ∙ ap (λ x. x ++ place_in (Ok a_barrier) ∷ []) places ∙ sym (map-append place_in waits (Ok a_barrier ∷ []))
-
 module _ {Keeper Plan : Type 0} where
   -- a barrier, and what waited before it
-  pub told-barrier : {serves : Serves} {meets : Meets} {K : Settings} {ps : List Pass} (lines : List Line) (line : Line) (s s1 s' : Script Keeper Plan) (held w w' : Option (List ℕ)) → Added (asked K line) s s1 → is_barrier (place_in (asked K line)) ≡ true
-      → Closed serves meets true s1 s' w w' → Told serves meets K ps lines s held w → Told serves meets K ps (lines ++ line ∷ []) s' held w'
+  pub told-barrier : {serves : Serves} {meets : Meets} {K : Settings} {ps : List Pass} (lines : List Line) (line : Line) (s s1 s' : LaneScript Keeper Plan) (held w w' : Option (List ℕ)) → Added (asked K line) s s1 → is_barrier (place_in (asked K line)) ≡ true
+      → Closed serves meets s1 s' w w' → Told serves meets K ps lines s held w → Told serves meets K ps (lines ++ line ∷ []) s' held w'
   told-barrier {serves} {meets} {K} {ps} lines line s s1 s' held w w' a barrier c h =
       let is : asked K line ≡ Ok a_barrier = barrier-asked (asked K line) barrier in
       let all = h.waits ++ Ok a_barrier ∷ [] in
-      let p = c.printed in
-      let rs = p.printed.replies in
-      let places : s1.places ≡ map place_in all = barrier-places (asked K line) h.waits s.places s1.places is a.places h.waiting.places in
-      let waiting = waiting-same h.waits s.places s.lanes.items s1.lanes.items (subst (λ x. WereAsked (λ k. own_calls k x) s.lanes.items s1.lanes.items) is a.lanes) h.waiting in
-      let phase = phase-barrier serves meets h.waits s.places rs s1.lanes.items p.after p.printed.left h.plain waiting p.phase (subst (λ x. InTurn Took p.phase.replies x rs p.printed.left) places p.printed.took) in
-      let course = subst (λ x. Course serves meets x all rs (passes_of s'.lanes.items)) a.lanes.passes (subst (λ x. Course serves meets (passes_of s1.lanes.items) all rs x) (sym p.passes) phase) in
+      let waits : Waiting s1.first all s1.places.items s1.lanes.items = subst (λ x. Waiting s1.first (h.waits ++ x ∷ []) s1.places.items s1.lanes.items) is (waits-more (asked K line) h.waits s s1 a h.waiting) in
+      let v = c.served in
+      let p = v.printed in
+      let q = p.printed all waits in
+      let rs = q.replies in
+      let met : AllMet meets (passes_of p.phase.worked) (passes_of s'.lanes.items) = subst (λ x. AllMet meets x (passes_of s'.lanes.items)) p.passes c.met.met in
+      let phase = phase-barrier serves meets s1.first h.waits s.places.items rs s1.lanes.items q.left (passes_of s'.lanes.items) h.plain (waits-still (asked K line) h.waits s s1 a is h.waiting) p.phase
+      (subst (λ x. InTurn Took p.phase.replies x rs q.left) waits.places q.took) met in
+      let course = subst (λ x. Course serves meets x all rs (passes_of s'.lanes.items)) a.lanes.passes phase in
       let count : 1 + length h.replies ≡ s1.first = next-number lines s held w h ∙ sym a.first in
       record {
         done = h.done ++ all;
@@ -143,55 +155,57 @@ module _ {Keeper Plan : Type 0} where
         replies = h.replies ++ rs;
         parts = asks-push K lines line h.done h.waits h.parts ∙ ap (λ x. h.done ++ (h.waits ++ x ∷ [])) is ∙ sym (append-nil (h.done ++ all));
         course = turn-append (LineServed serves meets) ps (passes_of s.lanes.items) (passes_of s'.lanes.items) h.done all h.replies rs h.course course;
-        waiting = record { places = c.places; asked = p.idle };
+        waiting = record { places = c.met.places ∙ v.places; asked = idle-same c.between.lanes.items s'.lanes.items c.met.asked p.idle };
         plain = refl;
-        written = both-written s1.first h.replies rs held w w' count h.written p.printed.written;
-        number = omega (arith, c.first, a.first, h.number, length-append h.done all, ap length places, length-map all place_in);
-        refused_is = both-refused s.refused c.refused s'.refused h.replies rs (c.refused_is ∙ ap (λ x. x || c.refused) a.refused) h.refused_is p.printed.refused_is;
+        written = both-written s1.first h.replies rs held w w' count h.written q.written;
+        number = omega (arith, c.met.first, v.first, a.first, h.number, length-append h.done all, ap length waits.places, length-map all place_in);
+        refused_is = both-refused s.refused v.refused s'.refused h.replies rs (c.met.refused ∙ v.refused_is ∙ ap (λ x. x || v.refused) a.refused) h.refused_is q.refused_is;
       }
 
-  -- what waited was served, and no phase closed
-  pub told-served : {serves : Serves} {meets : Meets} {K : Settings} {ps : List Pass} (lines : List Line) (s s' : Script Keeper Plan) (held w w' : Option (List ℕ)) → Closed serves meets false s s' w w'
+  -- what waited was served, and no passes met
+  pub told-served : {serves : Serves} {meets : Meets} {K : Settings} {ps : List Pass} (lines : List Line) (s s' : LaneScript Keeper Plan) (held w w' : Option (List ℕ)) → Served serves s s' w w'
       → Told serves meets K ps lines s held w → Told serves meets K ps lines s' held w'
   told-served {serves} {meets} {K} {ps} lines s s' held w w' c h =
       let p = c.printed in
-      let rs = p.printed.replies in
-      let phase = phase-last serves meets false h.waits s.places rs s.lanes.items p.after p.printed.left h.plain h.waiting p.phase (subst (λ x. InTurn Took p.phase.replies x rs p.printed.left) h.waiting.places p.printed.took) in
-      let passes : passes_of p.phase.worked ≡ passes_of s'.lanes.items = sym p.phase.met ∙ sym p.passes in
+      let q = p.printed h.waits h.waiting in
+      let rs = q.replies in
+      let phase = phase-whole serves meets s.first h.waits s.places.items rs s.lanes.items q.left h.plain h.waiting p.phase (subst (λ x. InTurn Took p.phase.replies x rs q.left) h.waiting.places q.took) in
       record {
         done = h.done ++ h.waits;
         waits = [];
         replies = h.replies ++ rs;
         parts = h.parts ∙ sym (append-nil (h.done ++ h.waits));
-        course = turn-append (LineServed serves meets) ps (passes_of s.lanes.items) (passes_of s'.lanes.items) h.done h.waits h.replies rs h.course (subst (λ x. Course serves meets (passes_of s.lanes.items) h.waits rs x) passes phase);
+        course = turn-append (LineServed serves meets) ps (passes_of s.lanes.items) (passes_of s'.lanes.items) h.done h.waits h.replies rs h.course (subst (λ x. Course serves meets (passes_of s.lanes.items) h.waits rs x) (sym p.passes) phase);
         waiting = record { places = c.places; asked = p.idle };
         plain = refl;
-        written = both-written s.first h.replies rs held w w' (next-number lines s held w h) h.written p.printed.written;
+        written = both-written s.first h.replies rs held w w' (next-number lines s held w h) h.written q.written;
         number = omega (arith, c.first, h.number, length-append h.done h.waits, ap length h.waiting.places, length-map h.waits place_in);
-        refused_is = both-refused s.refused c.refused s'.refused h.replies rs c.refused_is h.refused_is p.printed.refused_is;
+        refused_is = both-refused s.refused c.refused s'.refused h.replies rs c.refused_is h.refused_is q.refused_is;
       }
 
-  -- the same of a text, where something waited or nothing did
-  pub text-served : {serves : Serves} {meets : Meets} {K : Settings} {ps : List Pass} (text : List ℕ) (s s' : Script Keeper Plan) (held w w' : Option (List ℕ)) → (Unchanged s s' w w' ⊎ Closed serves meets false s s' w w')
+  -- so of a text, where something waited or nothing did
+  pub text-served : {serves : Serves} {meets : Meets} {K : Settings} {ps : List Pass} (text : List ℕ) (s s' : LaneScript Keeper Plan) (held w w' : Option (List ℕ)) → (Unchanged s s' w w' ⊎ Served serves s s' w w')
       → TextTold serves meets K ps text s held w → TextTold serves meets K ps text s' held w'
   text-served {serves} {meets} {K} {ps} text s s' held w w' (inl u) h = subst (λ x. TextTold serves meets K ps text x held w') (sym u.same) (subst (λ x. TextTold serves meets K ps text s held x) (sym u.kept) h)
   text-served text s s' held w w' (inr c) h = record { line = c.line ∙ h.line; told = told-served (ended (Some []) text) s s' held w w' c h.told }
 
   -- the end, and what waited before it
-  pub told-ended : {serves : Serves} {meets : Meets} {K : Settings} {ps : List Pass} (text : List ℕ) (lines : List Line) (s s' : Script Keeper Plan) (held w w' : Option (List ℕ)) → lines ≡ all_lines text
-      → Closed serves meets true s s' w w' → Told serves meets K ps lines s held w → Ended serves meets K ps text held w' s'.refused (passes_of s'.lanes.items)
+  pub told-ended : {serves : Serves} {meets : Meets} {K : Settings} {ps : List Pass} (text : List ℕ) (lines : List Line) (s s' : LaneScript Keeper Plan) (held w w' : Option (List ℕ)) → lines ≡ all_lines text
+      → Closed serves meets s s' w w' → Told serves meets K ps lines s held w → Ended serves meets K ps text held w' s'.refused (passes_of s'.lanes.items)
   told-ended {serves} {meets} {K} {ps} text lines s s' held w w' all c h =
-      let p = c.printed in
-      let rs = p.printed.replies in
-      let phase = phase-last serves meets true h.waits s.places rs s.lanes.items p.after p.printed.left h.plain h.waiting p.phase (subst (λ x. InTurn Took p.phase.replies x rs p.printed.left) h.waiting.places p.printed.took) in
+      let v = c.served in
+      let p = v.printed in
+      let q = p.printed h.waits h.waiting in
+      let rs = q.replies in
+      let phase = phase-whole serves meets s.first h.waits s.places.items rs s.lanes.items q.left h.plain h.waiting p.phase (subst (λ x. InTurn Took p.phase.replies x rs q.left) h.waiting.places q.took) in
       record {
         replies = h.replies ++ rs;
         served = passes_of p.phase.worked;
         course = subst (λ x. Course serves meets ps x (h.replies ++ rs) (passes_of p.phase.worked)) (sym h.parts ∙ ap (asks_of K) all)
             (turn-append (LineServed serves meets) ps (passes_of s.lanes.items) (passes_of p.phase.worked) h.done h.waits h.replies rs h.course phase);
-        met = subst (AllMet meets (passes_of p.phase.worked)) (sym p.passes) p.phase.met;
-        written = both-written s.first h.replies rs held w w' (next-number lines s held w h) h.written p.printed.written;
-        refused_is = both-refused s.refused c.refused s'.refused h.replies rs c.refused_is h.refused_is p.printed.refused_is;
+        met = subst (λ x. AllMet meets x (passes_of s'.lanes.items)) p.passes c.met.met;
+        written = both-written s.first h.replies rs held w w' (next-number lines s held w h) h.written q.written;
+        refused_is = both-refused s.refused v.refused s'.refused h.replies rs (c.met.refused ∙ v.refused_is) h.refused_is q.refused_is;
       }
 
 -- ---- texts
@@ -201,8 +215,8 @@ pub lines-end : (text part : List ℕ) → has_feed part ≡ false → ended (So
 lines-end text part free = ended-append (Some []) text (part ++ 10 ∷ []) ∙ ap (λ ls. ended (Some []) text ++ ls) (line-ended (left (Some []) text) part free)
 
 module _ {Keeper Plan : Type 0} where
-  -- what was told of lines is told of them while the line behind them grows
-  pub told-longer : {serves : Serves} {meets : Meets} {K : Settings} {ps : List Pass} (lines : List Line) (s s' : Script Keeper Plan) (held w : Option (List ℕ)) → s'.lanes ≡ s.lanes → s'.places ≡ s.places → s'.first ≡ s.first → s'.refused ≡ s.refused
+  -- what was told of lines is told of them while the line after them grows
+  pub told-longer : {serves : Serves} {meets : Meets} {K : Settings} {ps : List Pass} (lines : List Line) (s s' : LaneScript Keeper Plan) (held w : Option (List ℕ)) → s'.lanes ≡ s.lanes → s'.places ≡ s.places → s'.first ≡ s.first → s'.refused ≡ s.refused
       → Told serves meets K ps lines s held w → Told serves meets K ps lines s' held w
   told-longer {serves} {meets} {K} {ps} lines s s' held w lanes places first refused h = record {
     done = h.done;
@@ -210,7 +224,8 @@ module _ {Keeper Plan : Type 0} where
     replies = h.replies;
     parts = h.parts;
     course = subst (λ x. Course serves meets ps h.done h.replies (passes_of x.items)) (sym lanes) h.course;
-    waiting = subst (λ x. Waiting h.waits x s'.lanes.items) (sym places) (subst (λ x. Waiting h.waits s.places x.items) (sym lanes) h.waiting);
+    waiting = subst (λ n. Waiting n h.waits s'.places.items s'.lanes.items) (sym first)
+        (subst (λ x. Waiting s.first h.waits x.items s'.lanes.items) (sym places) (subst (λ x. Waiting s.first h.waits s.places.items x.items) (sym lanes) h.waiting));
     plain = h.plain;
     written = h.written;
     number = first ∙ h.number;
@@ -218,7 +233,7 @@ module _ {Keeper Plan : Type 0} where
   }
 
   -- a part that ends a line
-  pub text-line : {serves : Serves} {meets : Meets} {K : Settings} {ps : List Pass} (text part : List ℕ) (s s1 s' : Script Keeper Plan) (held w w' : Option (List ℕ)) → has_feed part ≡ false → s1.line ≡ grown s.line part
+  pub text-line : {serves : Serves} {meets : Meets} {K : Settings} {ps : List Pass} (text part : List ℕ) (s s1 s' : LaneScript Keeper Plan) (held w w' : Option (List ℕ)) → has_feed part ≡ false → s1.line ≡ grown s.line part
       → s1.lanes ≡ s.lanes → s1.places ≡ s.places → s1.first ≡ s.first → s1.refused ≡ s.refused → s'.line ≡ Some []
       → TellsLine serves meets K s1.line s1 s' w w' → TextTold serves meets K ps text s held w → TextTold serves meets K ps (text ++ (part ++ 10 ∷ [])) s' held w'
   text-line {serves} {meets} {K} {ps} text part s s1 s' held w w' free grows lanes places first refused empty step h =
@@ -230,7 +245,7 @@ module _ {Keeper Plan : Type 0} where
       }
 
   -- a part within a line
-  text-part : {serves : Serves} {meets : Meets} {K : Settings} {ps : List Pass} (text part : List ℕ) (s s' : Script Keeper Plan) (held w : Option (List ℕ)) → has_feed part ≡ false → s'.line ≡ grown s.line part
+  text-part : {serves : Serves} {meets : Meets} {K : Settings} {ps : List Pass} (text part : List ℕ) (s s' : LaneScript Keeper Plan) (held w : Option (List ℕ)) → has_feed part ≡ false → s'.line ≡ grown s.line part
       → s'.lanes ≡ s.lanes → s'.places ≡ s.places → s'.first ≡ s.first → s'.refused ≡ s.refused → TextTold serves meets K ps text s held w → TextTold serves meets K ps (text ++ part) s' held w
   text-part {serves} {meets} {K} {ps} text part s s' held w free grows lanes places first refused h =
       let so_far = left (Some []) text in
@@ -242,12 +257,12 @@ module _ {Keeper Plan : Type 0} where
       }
 
   -- a chunk whose parts so far were told of, and the rest within a line
-  pub text-whole : {serves : Serves} {meets : Meets} {K : Settings} {ps : List Pass} (text chunk done rest : List ℕ) (s s' : Script Keeper Plan) (held w : Option (List ℕ)) → chunk ≡ done ++ rest → has_feed rest ≡ false → s'.line ≡ grown s.line rest
+  pub text-whole : {serves : Serves} {meets : Meets} {K : Settings} {ps : List Pass} (text chunk done rest : List ℕ) (s s' : LaneScript Keeper Plan) (held w : Option (List ℕ)) → chunk ≡ done ++ rest → has_feed rest ≡ false → s'.line ≡ grown s.line rest
       → s'.lanes ≡ s.lanes → s'.places ≡ s.places → s'.first ≡ s.first → s'.refused ≡ s.refused → TextTold serves meets K ps (text ++ done) s held w → TextTold serves meets K ps (text ++ chunk) s' held w
   text-whole {serves} {meets} {K} {ps} text chunk done rest s s' held w is free grows lanes places first refused h =
       subst (λ t. TextTold serves meets K ps t s' held w) (append_assoc text done rest ∙ ap (λ t. text ++ t) (sym is)) (text-part (text ++ done) rest s s' held w free grows lanes places first refused h)
 
--- all lines of a text behind a line feed
+-- all lines of a text after a line feed
 pub lines-clean : (text : List ℕ) (line : Line) → line ≡ left (Some []) text → is_empty_line line ≡ true → ended (Some []) text ≡ all_lines text
 lines-clean text line is empty =
     sym (append-nil (ended (Some []) text)) ∙ ap (λ b. ended (Some []) text ++ cond b [] (left (Some []) text ∷ [])) (sym (ap is_empty_line (sym is) ∙ empty)) ∙ ended-all text
@@ -258,28 +273,28 @@ lines-last text line is some =
     ap (λ l. ended (Some []) text ++ l ∷ []) is ∙ ap (λ b. ended (Some []) text ++ cond b [] (left (Some []) text ∷ [])) (sym (ap is_empty_line (sym is) ∙ some)) ∙ ended-all text
 
 module _ {Keeper Plan : Type 0} where
-  -- the end behind a line feed
-  pub ended-clean : {serves : Serves} {meets : Meets} {K : Settings} {ps : List Pass} (text : List ℕ) (s s' : Script Keeper Plan) (held w w' : Option (List ℕ)) → is_empty_line s.line ≡ true → Closed serves meets true s s' w w'
+  -- the end after a line feed
+  pub ended-clean : {serves : Serves} {meets : Meets} {K : Settings} {ps : List Pass} (text : List ℕ) (s s' : LaneScript Keeper Plan) (held w w' : Option (List ℕ)) → is_empty_line s.line ≡ true → Closed serves meets s s' w w'
       → TextTold serves meets K ps text s held w → Ended serves meets K ps text held w' s'.refused (passes_of s'.lanes.items)
   ended-clean text s s' held w w' empty c h = told-ended text (ended (Some []) text) s s' held w w' (lines-clean text s.line h.line empty) c h.told
 
-  -- the end behind a last line without its line feed
-  pub ended-line : {serves : Serves} {meets : Meets} {K : Settings} {ps : List Pass} (text : List ℕ) (s s1 s' : Script Keeper Plan) (held w w1 w' : Option (List ℕ)) → is_empty_line s.line ≡ false
-      → TellsLine serves meets K s.line s s1 w w1 → Closed serves meets true s1 s' w1 w' → TextTold serves meets K ps text s held w → Ended serves meets K ps text held w' s'.refused (passes_of s'.lanes.items)
+  -- the end after a last line without its line feed
+  pub ended-line : {serves : Serves} {meets : Meets} {K : Settings} {ps : List Pass} (text : List ℕ) (s s1 s' : LaneScript Keeper Plan) (held w w1 w' : Option (List ℕ)) → is_empty_line s.line ≡ false
+      → TellsLine serves meets K s.line s s1 w w1 → Closed serves meets s1 s' w1 w' → TextTold serves meets K ps text s held w → Ended serves meets K ps text held w' s'.refused (passes_of s'.lanes.items)
   ended-line {serves} {meets} {K} {ps} text s s1 s' held w w1 w' some step c h =
       told-ended text (ended (Some []) text ++ s.line ∷ []) s1 s' held w1 w' (lines-last text s.line h.line some) c (step ps (ended (Some []) text) held h.told)
 
 module _ {Keeper Plan : Type 0} where
   -- one part of a text, and then another
-  pub more-then : {serves : Serves} {meets : Meets} {K : Settings} (a b : List ℕ) (s m s' : Script Keeper Plan) (w w1 w' : Option (List ℕ)) → TellsMore serves meets K a s m w w1 → TellsMore serves meets K b m s' w1 w' → TellsMore serves meets K (a ++ b) s s' w w'
+  pub more-then : {serves : Serves} {meets : Meets} {K : Settings} (a b : List ℕ) (s m s' : LaneScript Keeper Plan) (w w1 w' : Option (List ℕ)) → TellsMore serves meets K a s m w w1 → TellsMore serves meets K b m s' w1 w' → TellsMore serves meets K (a ++ b) s s' w w'
   more-then {serves} {meets} {K} a b s m s' w w1 w' one two ps text held h = subst (λ t. TextTold serves meets K ps t s' held w') (append_assoc text a b) (two ps (text ++ a) held (one ps text held h))
 
   -- nothing of a text
-  pub more-none : {serves : Serves} {meets : Meets} {K : Settings} (s : Script Keeper Plan) (w : Option (List ℕ)) → TellsMore serves meets K [] s s w w
+  pub more-none : {serves : Serves} {meets : Meets} {K : Settings} (s : LaneScript Keeper Plan) (w : Option (List ℕ)) → TellsMore serves meets K [] s s w w
   more-none {serves} {meets} {K} s w ps text held h = subst (λ t. TextTold serves meets K ps t s held w) (sym (append-nil text)) h
 
   -- the lines of a text that begins a line, and ends one
-  pub more-lines : {serves : Serves} {meets : Meets} {K : Settings} (part : List ℕ) (s s' : Script Keeper Plan) (w w' : Option (List ℕ)) → s.line ≡ Some [] → s'.line ≡ Some [] → left (Some []) part ≡ Some []
+  pub more-lines : {serves : Serves} {meets : Meets} {K : Settings} (part : List ℕ) (s s' : LaneScript Keeper Plan) (w w' : Option (List ℕ)) → s.line ≡ Some [] → s'.line ≡ Some [] → left (Some []) part ≡ Some []
       → TellsLines serves meets K (ended (Some []) part) s s' w w' → TellsMore serves meets K part s s' w w'
   more-lines {serves} {meets} {K} part s s' w w' begins ends whole step ps text held h =
       let so_far : left (Some []) text ≡ Some [] = sym h.line ∙ begins in

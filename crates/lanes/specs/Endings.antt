@@ -14,7 +14,7 @@ use Rattle.script.specs.Output.{numbered_from}
 use Rattle.lanes.specs.Course.{Serves, Meets, AllMet, Course, asks_of}
 
 -- All lines of a text were served one after another, from these passes on, and at the end the first pass met every
--- other as at a barrier, behind which the passes are these.
+-- other as at a barrier, after which the passes are these.
 -- Just the replies of that course were printed, each under its line's number, and `refused` says whether one of them is a refusal.
 pub record Ended (serves : Serves) (meets : Meets) (K : Settings) (ps : List Pass) (text : List ℕ) (held held' : Option (List ℕ))
     (refused : Bool) (ends : List Pass) : Type 0 where

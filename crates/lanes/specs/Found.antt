@@ -21,7 +21,7 @@ AreFound K [] (line ∷ lines) = ⊥
 AreFound K (found ∷ more) [] = ⊥
 AreFound K (found ∷ more) (line ∷ lines) = Gives found (asked K line) × AreFound K more lines
 
--- the first of these lines are sorted, none of them a barrier, and of those behind them it was found what they ask
+-- the first of these lines are sorted, none of them a barrier, and of those after them it was found what they ask
 pub record AreRead (K : Settings) (s : Sorted) (found : List (Result Asked Refusal)) (lines : List Line) : Type 0 where
   pub front : List Line
   pub back : List Line
@@ -50,7 +50,7 @@ pub record IsGiven (text : List ℕ) (r : Reader) : Type 0 where
 abbrev pub AllGiven : List ℕ → List Reader → Type 0
 AllGiven text readers = All (IsGiven text) readers
 
--- the parts of readers, one behind the other
+-- the parts of readers, one after the other
 abbrev pub parts_of : List ℕ → List Reader → List ℕ
 parts_of text readers = flat_map (part_of text) readers
 
@@ -69,6 +69,6 @@ AllRead K [] (lines ∷ more) = ⊥
 AllRead K (r ∷ readers) [] = ⊥
 AllRead K (r ∷ readers) (lines ∷ more) = IsRead K r lines × AllRead K readers more
 
--- lines of several readers, one behind the other
+-- lines of several readers, one after the other
 abbrev pub lines_of : List (List Line) → List Line
 lines_of parts = flat_map (λ (lines : List Line). lines) parts

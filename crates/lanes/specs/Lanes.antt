@@ -1,20 +1,20 @@
 -- PROOF: what becomes of lanes within a phase
-use Rattle.std.specs.Prelude.{◌≡◌, ℕ, ◌+◌, ◌<◌, drop, ◌==◌, if◌then◌else◌, Bool, true, false, List, [], ◌∷◌, ◌++◌, length, map, set, get_or, slice_get, Option, None, Some, Result, Ok, Err}
-use Rattle.std.specs.List.{flat_map, list_any}
+use Rattle.std.specs.Prelude.{◌≡◌, ℕ, suc, ◌+◌, ◌<◌, drop, ◌==◌, if◌then◌else◌, Bool, true, false, List, [], ◌∷◌, ◌++◌, length, map, set, get_or, slice_get, Option, None, Some, Result, Ok, Err}
+use Rattle.std.specs.List.{list_any}
 use Rattle.wf_event_values.specs.declared.field.Field.TheVariants as field
 use Rattle.wf_event_values.specs.declared.refusal.Refusal.{Refusal}
 use Rattle.wf_event_values.specs.declared.refusal.Refusal.TheVariants.{InvalidArgument}
-use Rattle.service_model_types.specs.declared.call.Call.{Call}
 use Rattle.service_model_types.specs.Replies.{Reply}
 use Rattle.service.specs.ServiceViews.{Pass}
 use Rattle.wire_requests.specs.declared.calls.Asked.{Asked}
 use Rattle.wire_requests.specs.declared.calls.Asked.TheVariants.{Barrier as a_barrier, Call as in_a_lane}
+use Rattle.lanes.specs.declared.calls.LineCall.{LineCall}
 use Rattle.lanes.specs.declared.lane.Lane.{Lane}
 use Rattle.lanes.specs.declared.place.Place.{Place}
 use Rattle.lanes.specs.declared.place.Place.TheVariants.{Barrier, Refused, InLane}
-use Rattle.lanes.specs.Calls.{waiting}
-use Rattle.lanes.specs.Answers.{AreKept, AreLines, KeepsLines, Wrote}
-use Rattle.lanes.specs.Course.{Serves, Meets, AllMet, InTurn}
+use Rattle.lanes.specs.Calls.{number_at, waiting}
+use Rattle.lanes.specs.Answers.{AreKept, AreLines, LineReply, Wrote}
+use Rattle.lanes.specs.Course.{Serves, InTurn}
 
 -- what a line was found to be
 abbrev pub place_in : Result Asked Refusal → Place
@@ -36,50 +36,46 @@ module _ {Keeper Plan : Type 0} where
   passes_of lanes = map (λ (l : Lane Keeper Plan). l.pass) lanes
 
   -- the calls that a lane is to make
-  abbrev pub calls_of : Lane Keeper Plan → List Call
+  abbrev pub calls_of : Lane Keeper Plan → List LineCall
   calls_of l = waiting l.asked
 
   -- these are the replies of a lane that were not taken
-  abbrev pub Left : Lane Keeper Plan → List Reply → Type 0
+  abbrev pub Left : Lane Keeper Plan → List LineReply → Type 0
   Left l rs = AreLines l.replies.text.items (drop l.taken l.replies.answers.items) rs
 
-  -- the same of each lane
-  abbrev pub AllLeft : List (Lane Keeper Plan) → List (List Reply) → Type 0
+  -- likewise of each lane
+  abbrev pub AllLeft : List (Lane Keeper Plan) → List (List LineReply) → Type 0
   AllLeft [] [] = Unit {0}
   AllLeft [] (rs ∷ rss) = ⊥
   AllLeft (l ∷ ls) [] = ⊥
   AllLeft (l ∷ ls) (rs ∷ rss) = Left l rs × AllLeft ls rss
 
--- the first pass met every other twice, or none met
-abbrev pub MetIf : Meets → Bool → List Pass → List Pass → Type 0
-MetIf meets true ps ps' = AllMet meets ps ps'
-MetIf meets false ps ps' = ps' ≡ ps
-
 -- ---- calls that wait
 
 -- a call for one lane, as any lane has it
-abbrev pub only_in : ℕ → Call → ℕ → List Call
+abbrev pub only_in : ℕ → LineCall → ℕ → List LineCall
 only_in lane call k = if lane == k then call ∷ [] else []
 
--- what a line asks of a lane
-abbrev pub own_calls : ℕ → Result Asked Refusal → List Call
-own_calls k (Ok a_barrier) = []
-own_calls k (Ok (in_a_lane c)) = only_in c.lane c.call k
-own_calls k (Err refusal) = []
+-- what the line with this number asks of a lane
+abbrev pub own_calls : ℕ → ℕ → Result Asked Refusal → List LineCall
+own_calls k number (Ok a_barrier) = []
+own_calls k number (Ok (in_a_lane c)) = only_in c.lane (record { line = number; call = c.call }) k
+own_calls k number (Err refusal) = []
 
--- the calls of a lane among what lines ask, in their order
-abbrev pub calls_in : ℕ → List (Result Asked Refusal) → List Call
-calls_in k lines = flat_map (own_calls k) lines
+-- the calls of a lane among what lines ask, in their order; the first line has the first of these numbers, and so on
+abbrev pub calls_in : ℕ → (ℕ → ℕ) → List (Result Asked Refusal) → List LineCall
+calls_in k number [] = []
+calls_in k number (ask ∷ asks) = own_calls k (number 0) ask ++ calls_in k (λ i. number (suc i)) asks
 
 module _ {Keeper Plan : Type 0} where
   -- a lane as it was at its place, with these calls more
-  pub record HasMore (calls : List Call) (ls : List (Lane Keeper Plan)) (k : ℕ) (l' : Lane Keeper Plan) : Type 0 where
+  pub record HasMore (calls : List LineCall) (ls : List (Lane Keeper Plan)) (k : ℕ) (l' : Lane Keeper Plan) : Type 0 where
     pub before : Lane Keeper Plan
     pub there : slice_get ls k ≡ Some before
     pub asked : calls_of l' ≡ calls_of before ++ calls
 
   -- each lane was asked these calls more
-  pub record WereAsked (calls : ℕ → List Call) (ls ls' : List (Lane Keeper Plan)) : Type 0 where
+  pub record WereAsked (calls : ℕ → List LineCall) (ls ls' : List (Lane Keeper Plan)) : Type 0 where
     pub passes : passes_of ls' ≡ passes_of ls
     pub each : (k : ℕ) (l' : Lane Keeper Plan) → slice_get ls' k ≡ Some l' → HasMore (calls k) ls k l'
 
@@ -87,50 +83,45 @@ module _ {Keeper Plan : Type 0} where
   abbrev pub AreIdle : List (Lane Keeper Plan) → Type 0
   AreIdle lanes = (k : ℕ) (l : Lane Keeper Plan) → slice_get lanes k ≡ Some l → calls_of l ≡ []
 
-  -- these lines wait: each has its place, and each lane the calls that are its own
-  pub record Waiting (lines : List (Result Asked Refusal)) (ps : List Place) (lanes : List (Lane Keeper Plan)) : Type 0 where
+  -- these lines wait, numbered from this number on: each has its place, and each lane the calls that are its own
+  pub record Waiting (first : ℕ) (lines : List (Result Asked Refusal)) (ps : List Place) (lanes : List (Lane Keeper Plan)) : Type 0 where
     pub places : ps ≡ map place_in lines
-    pub asked : (k : ℕ) (l : Lane Keeper Plan) → slice_get lanes k ≡ Some l → calls_of l ≡ calls_in k lines
+    pub asked : (k : ℕ) (l : Lane Keeper Plan) → slice_get lanes k ≡ Some l → calls_of l ≡ calls_in k (number_at first) lines
 
 -- ---- calls that are made
 
-module _ {Keeper Plan : Type 0} where
-  -- the next call was answered, and its reply's line stands behind the others
-  pub record AnsweredOne (serves : Serves) (l l' : Lane Keeper Plan) : Type 0 where
-    pub call : Call
-    pub reply : Reply
-    pub calls : calls_of l ≡ call ∷ calls_of l'
-    pub served : serves l.pass l'.pass call reply
-    pub wrote : Wrote reply l.replies l'.replies
-    pub taken : l'.taken ≡ l.taken
+-- a call of a pass was answered so, under the number of the call's line
+abbrev pub Makes : Serves → Pass → LineCall → LineReply → Pass → Type 0
+Makes serves p c r p' = (r.number ≡ c.line) × serves p p' c.call r.reply
 
-  -- memory ran out at the next call, or there was none
-  pub record Failed (l l' : Lane Keeper Plan) : Type 0 where
-    pub kept : KeepsLines l.replies l'.replies
-    pub taken : l'.taken ≡ l.taken
-    pub pass : calls_of l ≡ [] → l'.pass ≡ l.pass
+module _ {Keeper Plan : Type 0} where
+  -- a lane answered a call, and the reply's line stands after the others
+  pub record ServedOne (serves : Serves) (next : LineCall) (l l' : Lane Keeper Plan) : Type 0 where
+    pub reply : Reply
+    pub served : serves l.pass l'.pass next.call reply
+    pub wrote : Wrote next.line reply l.replies l'.replies
 
   -- a lane made some of its calls, one after another, and has the others yet to make
   pub record Working (serves : Serves) (l l' : Lane Keeper Plan) : Type 0 where
-    pub done : List Call
-    pub replies : List Reply
+    pub done : List LineCall
+    pub replies : List LineReply
     pub parts : calls_of l ≡ done ++ calls_of l'
-    pub turns : InTurn (λ p c r p'. serves p p' c r) l.pass done replies l'.pass
+    pub turns : InTurn (Makes serves) l.pass done replies l'.pass
     pub kept : AreKept l'.replies replies
     pub taken : l'.taken ≡ 0
 
 -- Calls of a pass were answered one after another, up to the first that memory ran out at. These are the replies, and where there are
 -- as many as calls, the pass is this one then.
-abbrev pub Answered : Serves → Pass → List Call → List Reply → Pass → Type 0
+abbrev pub Answered : Serves → Pass → List LineCall → List LineReply → Pass → Type 0
 Answered serves p [] [] p' = p' ≡ p
 Answered serves p [] (r ∷ rs) p' = ⊥
 Answered serves p (c ∷ calls) [] p' = Unit {0}
-Answered serves p (c ∷ calls) (r ∷ rs) p' = (q : Pass) × serves p q c r × Answered serves q calls rs p'
+Answered serves p (c ∷ calls) (r ∷ rs) p' = (q : Pass) × Makes serves p c r q × Answered serves q calls rs p'
 
 module _ {Keeper Plan : Type 0} where
   -- a lane made its calls, up to the first that memory ran out at, and none of the replies was taken
   pub record Made (serves : Serves) (l l' : Lane Keeper Plan) : Type 0 where
-    pub replies : List Reply
+    pub replies : List LineReply
     pub answered : Answered serves l.pass (calls_of l) replies l'.pass
     pub kept : AreKept l'.replies replies
     pub taken : l'.taken ≡ 0
@@ -144,21 +135,14 @@ module _ {Keeper Plan : Type 0} where
   abbrev pub EachWorked : Serves → List (Lane Keeper Plan) → List (Lane Keeper Plan) → Type 0
   EachWorked serves ls ls' = (k : ℕ) (d : Lane Keeper Plan) → k < length ls → Worked serves (get_or ls k d) (get_or ls' k d)
 
-  -- nothing of lanes changed but their passes
-  pub record KeepsReplies (ls ls' : List (Lane Keeper Plan)) : Type 0 where
-    pub asked : map calls_of ls' ≡ map calls_of ls
-    pub replies : map (λ (l : Lane Keeper Plan). l.replies) ls' ≡ map (λ (l : Lane Keeper Plan). l.replies) ls
-    pub taken : map (λ (l : Lane Keeper Plan). l.taken) ls' ≡ map (λ (l : Lane Keeper Plan). l.taken) ls
-
-  -- all lanes made their calls, and these are the replies; then the first pass met every other, where that closes a phase
-  pub record Phase (serves : Serves) (meets : Meets) (closes : Bool) (ls after : List (Lane Keeper Plan)) : Type 0 where
+  -- all lanes made their calls: as they are then, and the replies
+  pub record Phase (serves : Serves) (ls : List (Lane Keeper Plan)) : Type 0 where
     pub worked : List (Lane Keeper Plan)
-    pub replies : List (List Reply)
+    pub replies : List (List LineReply)
     pub count : length worked ≡ length ls
     pub counts : length replies ≡ length ls
-    pub each : (k : ℕ) (l : Lane Keeper Plan) (rs : List Reply) (l' : Lane Keeper Plan) → slice_get ls k ≡ Some l
+    pub each : (k : ℕ) (l : Lane Keeper Plan) (rs : List LineReply) (l' : Lane Keeper Plan) → slice_get ls k ≡ Some l
         → slice_get replies k ≡ Some rs → slice_get worked k ≡ Some l' → Answered serves l.pass (calls_of l) rs l'.pass
-    pub met : MetIf meets closes (passes_of worked) (passes_of after)
 
 -- ---- replies that are taken
 
@@ -170,20 +154,21 @@ module _ {Keeper Plan : Type 0} where
     pub is : l'.taken ≡ at + 1
 
 -- the first of the replies that a lane has left was taken
-pub record TookFirst (lane : ℕ) (rs : List Reply) (rss : List (List Reply)) (r : Option Reply) (rss' : List (List Reply)) : Type 0 where
-  pub reply : Reply
-  pub rest : List Reply
-  pub is : r ≡ Some reply
+pub record TookFirst (lane : ℕ) (rs : List LineReply) (rss : List (List LineReply)) (r : Option Reply)
+    (rss' : List (List LineReply)) : Type 0 where
+  pub reply : LineReply
+  pub rest : List LineReply
+  pub is : r ≡ Some reply.reply
   pub first : rs ≡ reply ∷ rest
   pub lanes : rss' ≡ set rss lane rest
 
 -- the reply of a call is the first that its lane has; a lane that is not there is an invalid argument
-abbrev pub TookIn : ℕ → Option (List Reply) → List (List Reply) → Option Reply → List (List Reply) → Type 0
+abbrev pub TookIn : ℕ → Option (List LineReply) → List (List LineReply) → Option Reply → List (List LineReply) → Type 0
 TookIn lane None rss r rss' = (r ≡ Some (Err (InvalidArgument field.Lane))) × (rss' ≡ rss)
 TookIn lane (Some rs) rss r rss' = TookFirst lane rs rss r rss'
 
 -- the reply of a line, by its place, was taken from those that the lanes have left
-abbrev pub Took : List (List Reply) → Place → Option Reply → List (List Reply) → Type 0
+abbrev pub Took : List (List LineReply) → Place → Option Reply → List (List LineReply) → Type 0
 Took rss Barrier r rss' = (r ≡ None) × (rss' ≡ rss)
 Took rss (Refused refusal) r rss' = (r ≡ Some (Err refusal)) × (rss' ≡ rss)
 Took rss (InLane lane) r rss' = TookIn lane (slice_get rss lane) rss r rss'

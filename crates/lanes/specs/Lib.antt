@@ -5,9 +5,8 @@ pub mod Endings
 pub mod Found
 pub mod Lanes
 pub mod Meetings
-pub mod Places
+pub mod Numbers
 pub mod Printed
 pub mod Reopened
 pub mod Sorted
 pub mod ToldLines
-pub mod Walks

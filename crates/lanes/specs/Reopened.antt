@@ -40,8 +40,8 @@ pub record IsOpenedFrom (K : Settings) (R : List (List Entry)) (x : Service) (pa
   pub bases : (k : ℕ) (p : Pass) → slice_get passes k ≡ Some p → (s : ℕ) → base (known_by p) s ≡ record_at R s
   pub held : HoldsAtOpening K R passes
 
--- The records at the end, where these are the passes then: one of each shard, which begins with the one that was given; what is behind
--- that are steps of passes, and those of each pass are its own, once and in order
+-- The records at the end, where these are the passes then: one of each shard, which begins with the one that was given; what comes
+-- after that are steps of passes, and those of each pass are its own, once and in order
 pub record AreRecordsAfter (K : Settings) (R : List (List Entry)) (ends : List Pass) (logs : List (List Entry)) : Type 0 where
   pub count : length logs ≡ K.shards
   pub records : (s : ℕ) (log : List Entry) → slice_get logs s ≡ Some log → IsEnd (record_at R s) K.passes log
@@ -57,7 +57,7 @@ pub record ServedAlong (x : Service) (logs : List (List Entry)) (p p' : Pass) (c
 
 -- The one history of all shards at the end: all steps since the opening, whichever lane made them, in the order of
 -- their tickets. Each shard's
--- record is the one that was given and, behind it, the steps on that shard; what comes before a step grounds it; and the tickets that
+-- record is the one that was given and, after it, the steps on that shard; what comes before a step grounds it; and the tickets that
 -- these passes have seen of a shard begin that shard's.
 pub record AreOneHistory (x : Service) (ends : List Pass) (logs : List (List Entry)) : Type 0 where
   pub tickets : List (List ℕ)
@@ -73,7 +73,7 @@ AreQueuesAfter K held ends = (slot : ℕ) → slot < 2 * length K.queues
     → of_queue.IsEnd (matching.held_at held slot) K.passes (parts_at ends slot)
 
 -- all lines of the input were served by a service that was opened from the records, these are its records at the end,
--- and behind the replies
+-- and after the replies
 -- the steps of its one history were written, where they were asked for
 pub record RanFrom (K : Settings) (trace : Bool) (R : List (List Entry)) (unread held unread' held' : Option (List ℕ))
     (refused : Bool) (logs : List (List Entry)) : Type 0 where
@@ -95,7 +95,7 @@ pub record HaltedBehind (K : Settings) (R : List (List Entry)) (unread held unre
   pub opened : IsOpenedFrom K R service passes
   pub halted : over.Halted (PassServed service) (PassesMet service) K passes unread held unread' held'
 
--- all lines were served, and behind the replies a beginning of the steps was written, where these were asked for
+-- all lines were served, and after the replies a beginning of the steps was written, where these were asked for
 pub record HaltedInTrace (K : Settings) (trace : Bool) (R : List (List Entry)) (unread held unread' held' : Option (List ℕ)) : Type 0 where
   pub service : Service
   pub passes : List Pass

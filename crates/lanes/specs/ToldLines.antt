@@ -13,144 +13,163 @@ use Rattle.script.specs.Lines.{Line, all_lines}
 use Rattle.script.specs.Pending.{ended, left}
 use Rattle.script.specs.Serving.{is_refusal}
 use Rattle.script.specs.Output.{numbered_from}
-use Rattle.lanes.specs.declared.run.Script.{Script}
-use Rattle.lanes.specs.Course.{Serves, Meets, Course, asks_of}
+use Rattle.lanes.specs.declared.run.LaneScript.{LaneScript}
+use Rattle.lanes.specs.Calls.{number_at}
+use Rattle.lanes.specs.Course.{AllMet, Serves, Meets, Course, asks_of}
 use Rattle.lanes.specs.Endings.{Beginning, Broke, Ended}
-use Rattle.lanes.specs.Lanes.{ArePlain, Waiting, WereAsked, calls_in, own_calls, passes_of, place_in}
+use Rattle.lanes.specs.Lanes.{ArePlain, Waiting, WereAsked, calls_in, calls_of, own_calls, passes_of, place_in}
 use Rattle.lanes.specs.Printed.{PhaseBegun, PhasePrinted}
 
 module _ {Keeper Plan : Type 0} where
-  -- the first of these lines were served and printed, and those behind them wait
-  pub record Told (serves : Serves) (meets : Meets) (K : Settings) (ps : List Pass) (lines : List Line) (s : Script Keeper Plan)
+  -- the first of these lines were served and printed, and those after them wait
+  pub record Told (serves : Serves) (meets : Meets) (K : Settings) (ps : List Pass) (lines : List Line) (s : LaneScript Keeper Plan)
       (held held' : Option (List ℕ)) : Type 0 where
     pub done : List (Result Asked Refusal)
     pub waits : List (Result Asked Refusal)
     pub replies : List (Option Reply)
     pub parts : asks_of K lines ≡ done ++ waits
     pub course : Course serves meets ps done replies (passes_of s.lanes.items)
-    pub waiting : Waiting waits s.places s.lanes.items
+    pub waiting : Waiting s.first waits s.places.items s.lanes.items
     pub plain : ArePlain waits
     pub written : Appends held held' (numbered_from 1 replies)
     pub number : s.first ≡ 1 + length done
     pub refused_is : s.refused ≡ list_any is_refusal replies
 
   -- what it has told of a text so far
-  pub record TextTold (serves : Serves) (meets : Meets) (K : Settings) (ps : List Pass) (text : List ℕ) (s : Script Keeper Plan)
+  pub record TextTold (serves : Serves) (meets : Meets) (K : Settings) (ps : List Pass) (text : List ℕ) (s : LaneScript Keeper Plan)
       (held held' : Option (List ℕ)) : Type 0 where
     pub line : s.line ≡ left (Some []) text
     pub told : Told serves meets K ps (ended (Some []) text) s held held'
 
   -- some text was read, and told of
-  pub record Progress (serves : Serves) (meets : Meets) (K : Settings) (ps : List Pass) (s : Script Keeper Plan)
+  pub record Progress (serves : Serves) (meets : Meets) (K : Settings) (ps : List Pass) (s : LaneScript Keeper Plan)
       (unread held unread' held' : Option (List ℕ)) : Type 0 where
     pub text : List ℕ
     pub read : Consumes unread unread' text
     pub told : TextTold serves meets K ps text s held held'
 
   -- nothing was read, and no line waits
-  pub record Opened (ps : List Pass) (s : Script Keeper Plan) : Type 0 where
+  pub record Opened (ps : List Pass) (s : LaneScript Keeper Plan) : Type 0 where
     pub passes : passes_of s.lanes.items ≡ ps
-    pub waiting : Waiting [] s.places s.lanes.items
+    pub waiting : Waiting s.first [] s.places.items s.lanes.items
     pub first : s.first ≡ 1
     pub refused : s.refused ≡ false
     pub line : s.line ≡ Some []
 
   -- one line more waits, which asks this
-  pub record Added (ask : Result Asked Refusal) (s s' : Script Keeper Plan) : Type 0 where
-    pub places : s'.places ≡ s.places ++ place_in ask ∷ []
-    pub lanes : WereAsked (λ k. own_calls k ask) s.lanes.items s'.lanes.items
+  pub record Added (ask : Result Asked Refusal) (s s' : LaneScript Keeper Plan) : Type 0 where
+    pub places : s'.places.items ≡ s.places.items ++ place_in ask ∷ []
+    pub lanes : WereAsked (λ k. own_calls k (number_at s.first (length s.places.items)) ask) s.lanes.items s'.lanes.items
     pub first : s'.first ≡ s.first
     pub refused : s'.refused ≡ s.refused
     pub line : s'.line ≡ s.line
 
   -- lines more wait, which ask this
-  pub record AddedAll (asks : List (Result Asked Refusal)) (s s' : Script Keeper Plan) : Type 0 where
-    pub places : s'.places ≡ s.places ++ map place_in asks
-    pub lanes : WereAsked (λ k. calls_in k asks) s.lanes.items s'.lanes.items
+  pub record AddedAll (asks : List (Result Asked Refusal)) (s s' : LaneScript Keeper Plan) : Type 0 where
+    pub places : s'.places.items ≡ s.places.items ++ map place_in asks
+    pub lanes : WereAsked (λ k. calls_in k (λ i. number_at s.first (length s.places.items + i)) asks) s.lanes.items s'.lanes.items
     pub first : s'.first ≡ s.first
     pub refused : s'.refused ≡ s.refused
     pub line : s'.line ≡ s.line
 
   -- what waited was served and printed: nothing waits
-  pub record Closed (serves : Serves) (meets : Meets) (closes : Bool) (s s' : Script Keeper Plan) (held held' : Option (List ℕ)) : Type 0 where
+  pub record Served (serves : Serves) (s s' : LaneScript Keeper Plan) (held held' : Option (List ℕ)) : Type 0 where
     pub refused : Bool
-    pub printed : PhasePrinted serves meets closes s.first s.places s.lanes.items s'.lanes.items refused held held'
-    pub first : s'.first ≡ s.first + length s.places
-    pub places : s'.places ≡ []
+    pub printed : PhasePrinted serves s.first s.places.items s.lanes.items s'.lanes.items refused held held'
+    pub first : s'.first ≡ s.first + length s.places.items
+    pub places : s'.places.items ≡ []
     pub refused_is : s'.refused ≡ (s.refused || refused)
     pub line : s'.line ≡ s.line
 
+  -- the first lane met every other twice, and nothing else changed
+  pub record Met (meets : Meets) (s s' : LaneScript Keeper Plan) : Type 0 where
+    pub met : AllMet meets (passes_of s.lanes.items) (passes_of s'.lanes.items)
+    pub asked : map calls_of s'.lanes.items ≡ map calls_of s.lanes.items
+    pub first : s'.first ≡ s.first
+    pub places : s'.places.items ≡ s.places.items
+    pub refused : s'.refused ≡ s.refused
+    pub line : s'.line ≡ s.line
+
+  -- what waited was served and printed, and then the first lane met every other
+  pub record Closed (serves : Serves) (meets : Meets) (s s' : LaneScript Keeper Plan) (held held' : Option (List ℕ)) : Type 0 where
+    pub between : LaneScript Keeper Plan
+    pub served : Served serves s between held held'
+    pub met : Met meets between s'
+
   -- nothing waited, and nothing was done
-  pub record Unchanged (s s' : Script Keeper Plan) (held held' : Option (List ℕ)) : Type 0 where
+  pub record Unchanged (s s' : LaneScript Keeper Plan) (held held' : Option (List ℕ)) : Type 0 where
     pub same : s' ≡ s
     pub kept : held' ≡ held
 
   -- what waited was not served; or it was, and a beginning of it was printed
-  abbrev pub Stopped : Serves → Meets → Bool → (Script Keeper Plan) → (held held' : Option (List ℕ)) → Type 0
-  Stopped serves meets closes s held held' = (held' ≡ held) ⊎ PhaseBegun serves meets closes s.first s.places s.lanes.items held held'
+  abbrev pub Stopped : Serves → (LaneScript Keeper Plan) → (held held' : Option (List ℕ)) → Type 0
+  Stopped serves s held held' = (held' ≡ held) ⊎ PhaseBegun serves s.first s.places.items s.lanes.items held held'
 
 -- ---- a step of the script, whatever was told before it
 
 module _ {Keeper Plan : Type 0} where
   -- all was told of the lines before, and then of this one too
-  abbrev pub TellsLine : Serves → Meets → Settings → Line → (Script Keeper Plan) → (Script Keeper Plan) → Option (List ℕ)
+  abbrev pub TellsLine : Serves → Meets → Settings → Line → (LaneScript Keeper Plan) → (LaneScript Keeper Plan) → Option (List ℕ)
       → Option (List ℕ) → Type 0
   TellsLine serves meets K line s s' w w' = (ps : List Pass) (lines : List Line) (held : Option (List ℕ))
       → Told serves meets K ps lines s held w → Told serves meets K ps (lines ++ line ∷ []) s' held w'
 
-  -- likewise of a line of which this was found: what it asks, or want of memory
-  abbrev pub TellsFound : Serves → Meets → Result Asked Refusal → (Script Keeper Plan) → (Script Keeper Plan)
+  -- likewise of a line of which this was found: what it asks, or out of memory
+  abbrev pub TellsFound : Serves → Meets → Result Asked Refusal → (LaneScript Keeper Plan) → (LaneScript Keeper Plan)
       → Option (List ℕ) → Option (List ℕ) → Type 0
-  TellsFound serves meets found s s' w w' = (K : Settings) (line : Line) → Gives found (asked K line) → TellsLine serves meets K line s s' w w'
+  TellsFound serves meets found s s' w w' = (K : Settings) (line : Line) → Gives found (asked K line)
+      → TellsLine serves meets K line s s' w w'
 
   -- all was told of the lines before, and then of these too
-  abbrev pub TellsLines : Serves → Meets → Settings → List Line → (Script Keeper Plan) → (Script Keeper Plan) → Option (List ℕ)
+  abbrev pub TellsLines : Serves → Meets → Settings → List Line → (LaneScript Keeper Plan) → (LaneScript Keeper Plan) → Option (List ℕ)
       → Option (List ℕ) → Type 0
   TellsLines serves meets K more s s' w w' = (ps : List Pass) (lines : List Line) (held : Option (List ℕ))
       → Told serves meets K ps lines s held w → Told serves meets K ps (lines ++ more) s' held w'
 
   -- all was told of the lines before, and then a beginning
-  abbrev pub BeginsLine : Serves → Meets → Settings → Line → (Script Keeper Plan) → Option (List ℕ) → Option (List ℕ) → Type 0
+  abbrev pub BeginsLine : Serves → Meets → Settings → Line → (LaneScript Keeper Plan) → Option (List ℕ) → Option (List ℕ) → Type 0
   BeginsLine serves meets K line s w w' = (ps : List Pass) (lines : List Line) (held : Option (List ℕ))
       → Told serves meets K ps lines s held w → Beginning serves meets K ps (lines ++ line ∷ []) held w'
 
   -- likewise with a line of which this was found
-  abbrev pub BeginsFound : Serves → Meets → Result Asked Refusal → (Script Keeper Plan) → Option (List ℕ)
+  abbrev pub BeginsFound : Serves → Meets → Result Asked Refusal → (LaneScript Keeper Plan) → Option (List ℕ)
       → Option (List ℕ) → Type 0
   BeginsFound serves meets found s w w' = (K : Settings) (line : Line) → Gives found (asked K line) → BeginsLine serves meets K line s w w'
 
   -- all was told of the lines before, and then a beginning with these
-  abbrev pub BeginsLines : Serves → Meets → Settings → List Line → (Script Keeper Plan) → Option (List ℕ) → Option (List ℕ) → Type 0
+  abbrev pub BeginsLines : Serves → Meets → Settings → List Line → (LaneScript Keeper Plan) → Option (List ℕ) → Option (List ℕ) → Type 0
   BeginsLines serves meets K more s w w' = (ps : List Pass) (lines : List Line) (held : Option (List ℕ))
       → Told serves meets K ps lines s held w → Beginning serves meets K ps (lines ++ more) held w'
 
   -- all was told of a text, and then of these bytes more
-  abbrev pub TellsMore : Serves → Meets → Settings → List ℕ → (Script Keeper Plan) → (Script Keeper Plan) → Option (List ℕ)
+  abbrev pub TellsMore : Serves → Meets → Settings → List ℕ → (LaneScript Keeper Plan) → (LaneScript Keeper Plan) → Option (List ℕ)
       → Option (List ℕ) → Type 0
   TellsMore serves meets K more s s' w w' = (ps : List Pass) (text : List ℕ) (held : Option (List ℕ))
       → TextTold serves meets K ps text s held w → TextTold serves meets K ps (text ++ more) s' held w'
 
   -- all was told of a text, and then a beginning of it with these bytes
-  abbrev pub BeginsMore : Serves → Meets → Settings → List ℕ → (Script Keeper Plan) → Option (List ℕ) → Option (List ℕ) → Type 0
+  abbrev pub BeginsMore : Serves → Meets → Settings → List ℕ → (LaneScript Keeper Plan) → Option (List ℕ) → Option (List ℕ) → Type 0
   BeginsMore serves meets K more s w w' = (ps : List Pass) (text : List ℕ) (held : Option (List ℕ))
       → TextTold serves meets K ps text s held w → Beginning serves meets K ps (ended (Some []) (text ++ more)) held w'
 
   -- some text was read and told of, and then more of it
-  abbrev pub ReadsOn : Serves → Meets → Settings → (Script Keeper Plan) → (Script Keeper Plan) → (r r' w w' : Option (List ℕ)) → Type 0
+  abbrev pub ReadsOn : Serves → Meets → Settings → (LaneScript Keeper Plan) → (LaneScript Keeper Plan) → (r r' w w' : Option (List ℕ))
+      → Type 0
   ReadsOn serves meets K s s' r r' w w' = (ps : List Pass) (unread held : Option (List ℕ))
       → Progress serves meets K ps s unread held r w → Progress serves meets K ps s' unread held r' w'
 
   -- some text was read and told of, and then a beginning of more
-  abbrev pub Breaks : Serves → Meets → Settings → (Script Keeper Plan) → (r r' w w' : Option (List ℕ)) → Type 0
+  abbrev pub Breaks : Serves → Meets → Settings → (LaneScript Keeper Plan) → (r r' w w' : Option (List ℕ)) → Type 0
   Breaks serves meets K s r r' w w' = (ps : List Pass) (unread held : Option (List ℕ))
       → Progress serves meets K ps s unread held r w → Broke serves meets K ps unread held r' w'
 
   -- all was told of a text, and then of its last line too
-  abbrev pub TellsAll : Serves → Meets → Settings → (Script Keeper Plan) → (Script Keeper Plan) → Option (List ℕ) → Option (List ℕ) → Type 0
+  abbrev pub TellsAll : Serves → Meets → Settings → (LaneScript Keeper Plan) → (LaneScript Keeper Plan) → Option (List ℕ)
+      → Option (List ℕ) → Type 0
   TellsAll serves meets K s s' w w' = (ps : List Pass) (text : List ℕ) (held : Option (List ℕ))
       → TextTold serves meets K ps text s held w → Ended serves meets K ps text held w' s'.refused (passes_of s'.lanes.items)
 
   -- all was told of a text, and then a beginning of all its lines
-  abbrev pub BeginsAll : Serves → Meets → Settings → (Script Keeper Plan) → Option (List ℕ) → Option (List ℕ) → Type 0
+  abbrev pub BeginsAll : Serves → Meets → Settings → (LaneScript Keeper Plan) → Option (List ℕ) → Option (List ℕ) → Type 0
   BeginsAll serves meets K s w w' = (ps : List Pass) (text : List ℕ) (held : Option (List ℕ))
       → TextTold serves meets K ps text s held w → Beginning serves meets K ps (all_lines text) held w'

@@ -1,12 +1,33 @@
-//! The calls that wait in a lane.
+//! The calls that wait in a lane, each with the number of its line.
 
-ghost use Rattle.std.specs.Prelude.{◌≡◌, [], ◌∷◌, ◌++◌, OnOk, IfSome, IfNone};
-ghost use Rattle.lanes.specs.Calls.{waiting};
+ghost use Rattle.std.specs.Prelude.{◌≡◌, [], ◌∷◌, ◌++◌, map, OnOk, IfSome, IfNone};
+ghost use Rattle.lanes.specs.Calls.{counted_from, number_at, waiting};
 
 use service_model_types::call::Call;
 use std::alloc::{AllocError, Global};
 use std::collections::VecDeque;
 use std::mem;
+
+/// A call, and the number of its line. In a list that a reader made, lines count from 0.
+#[derive(Drop)]
+pub(crate) struct LineCall {
+    pub(crate) line: u64,
+    pub(crate) call: Call,
+}
+
+/// Calls that a reader found, and the number from which their lines count.
+#[derive(Drop)]
+struct CallList {
+    first: u64,
+    calls: VecDeque<LineCall>,
+}
+
+/// What waits at one place: a call that came alone, or a list.
+#[derive(Drop)]
+enum Entry {
+    One(LineCall),
+    List(CallList),
+}
 
 /// Calls in their order, in the lists that they came in.
 ///
@@ -14,11 +35,19 @@ use std::mem;
 /// memory, so that each move of it counts.
 #[derive(Drop)]
 pub(crate) struct Calls {
-    now: VecDeque<Call>,
-    /// Those behind it.
-    lists: VecDeque<VecDeque<Call>>,
+    now: CallList,
+    /// What comes after it.
+    next: VecDeque<Entry>,
     /// Lists that were gone through. Their memory is used again.
-    spare: Vec<VecDeque<Call>>,
+    spare: Vec<VecDeque<LineCall>>,
+}
+
+/// The number of the line that stands so many lines after the one with this number. No number is
+/// greater than the greatest `u64`.
+pub(crate) fn number_at(first: u64, count: u64) -> u64
+    ensures { result ≡ number_at first count }
+{
+    first.saturating_add(count)
 }
 
 impl Calls {
@@ -26,14 +55,17 @@ impl Calls {
         ensures { waiting result ≡ [] }
     {
         Calls {
-            now: VecDeque::new(alloc),
-            lists: VecDeque::new(alloc),
+            now: CallList {
+                first: 0,
+                calls: VecDeque::new(alloc),
+            },
+            next: VecDeque::new(alloc),
             spare: Vec::new(alloc),
         }
     }
 
     /// A list that is used for nothing.
-    fn room(&mut self, alloc: Global) -> VecDeque<Call>
+    fn room(&mut self, alloc: Global) -> VecDeque<LineCall>
         ensures { waiting self.new ≡ waiting self.old }
     {
         match self.spare.pop() {
@@ -42,53 +74,63 @@ impl Calls {
         }
     }
 
-    /// One call more, behind those of the last list.
-    pub(crate) fn push(&mut self, call: Call) -> Result<(), AllocError>
+    /// One call more.
+    pub(crate) fn push(&mut self, call: LineCall) -> Result<(), AllocError>
         ensures { OnOk result (waiting self.new ≡ waiting self.old ++ call ∷ []) }
     {
-        let Some(mut last) = self.lists.pop_back() else {
-            self.now.push_back(call)?;
-            return Ok(());
-        };
-        last.push_back(call)?;
-        self.lists.push_back(last)?;
+        self.next.push_back(Entry::One(call))?;
         Ok(())
     }
 
-    /// A list of calls more. Another one is left in its place.
+    /// A list of calls more, whose lines count from this number on. Another one is left in its place.
     pub(crate) fn take_list(
         &mut self,
         alloc: Global,
-        calls: &mut VecDeque<Call>,
+        first: u64,
+        calls: &mut VecDeque<LineCall>,
     ) -> Result<(), AllocError>
-        ensures { OnOk result (waiting self.new ≡ waiting self.old ++ calls.old.items) }
+        ensures { OnOk result
+            (waiting self.new ≡ waiting self.old ++ map (counted_from first) calls.old.items) }
     {
         let room = self.room(alloc);
-        let list = mem::replace(calls, room);
-        self.lists.push_back(list)?;
+        let calls = mem::replace(calls, room);
+        self.next.push_back(Entry::List(CallList { first, calls }))?;
         Ok(())
     }
 
     /// The first call, which is made now.
-    pub(crate) fn pop(&mut self) -> Option<Call>
+    pub(crate) fn pop(&mut self) -> Option<LineCall>
         ensures some { IfSome result (λ c. waiting self.old ≡ c ∷ waiting self.new) }
         ensures none { IfNone result (waiting self.old ≡ []) }
     {
-        while self.now.len() == 0 {
-            let Some(list) = self.lists.pop_front() else {
+        while self.now.calls.len() == 0 {
+            let Some(entry) = self.next.pop_front() else {
                 return None;
             };
-            let done = mem::replace(&mut self.now, list);
-            let _ = self.spare.push(done);
+            match entry {
+                Entry::One(call) => return Some(call),
+                Entry::List(list) => self.begin(list),
+            }
         }
-        self.now.pop_front()
+        let LineCall { line, call } = self.now.calls.pop_front()?;
+        let line = number_at(self.now.first, line);
+        Some(LineCall { line, call })
     }
 
-    /// Takes all of them away.
+    /// A list whose calls are made now, in the place of one that has none left.
+    fn begin(&mut self, list: CallList)
+        ensures now { self.new.now ≡ list }
+        ensures next { self.new.next ≡ self.old.next }
+    {
+        let CallList { first: _, calls } = mem::replace(&mut self.now, list);
+        let _ = self.spare.push(calls);
+    }
+
+    /// Removes all of them.
     pub(crate) fn clear(&mut self)
         ensures { waiting self.new ≡ [] }
     {
-        self.now.clear();
-        self.lists.clear();
+        self.now.calls.clear();
+        self.next.clear();
     }
 }

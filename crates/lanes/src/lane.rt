@@ -1,17 +1,17 @@
 //! One lane.
 
-ghost use Rattle.std.specs.Prelude.{◌≡◌, ◌⊎◌, ◌<◌, [], ◌∷◌, ◌++◌, slice_get, slice_range, Some, OnOk, OnErr, IfSome, vec_len};
+ghost use Rattle.std.specs.Prelude.{◌≡◌, ◌<◌, [], ◌∷◌, ◌++◌, map, slice_get, slice_range, Some, OnOk, OnErr, IfSome, vec_len};
 ghost use Rattle.lanes.specs.declared.answer.Answer.{Answer};
-ghost use Rattle.lanes.specs.Lanes.{AnsweredOne, Failed, IsBehind, Made, Worked, calls_of};
+ghost use Rattle.lanes.specs.Answers.{KeepsLines};
+ghost use Rattle.lanes.specs.Calls.{counted_from};
+ghost use Rattle.lanes.specs.Lanes.{IsBehind, Made, ServedOne, Worked, calls_of};
 
 use crate::answer::Answer;
-use crate::calls::Calls;
+use crate::calls::{Calls, LineCall};
 use crate::door::Door;
-use crate::place::Mark;
 use crate::replies::Replies;
 use crate::room::make_room;
 use service::{KeepsShard, Pass};
-use service_model_types::call::Call;
 use std::alloc::{AllocError, Global};
 use std::collections::VecDeque;
 use std::sync::Wait;
@@ -55,7 +55,7 @@ impl<S: KeepsShard> Lane<S> {
     }
 
     /// One call more.
-    pub(crate) fn ask(&mut self, call: Call) -> Result<(), AllocError>
+    pub(crate) fn ask(&mut self, call: LineCall) -> Result<(), AllocError>
         ensures pass { self.new.pass ≡ self.old.pass }
         ensures asked { OnOk result (calls_of self.new ≡ calls_of self.old ++ call ∷ []) }
     {
@@ -63,16 +63,19 @@ impl<S: KeepsShard> Lane<S> {
         Ok(())
     }
 
-    /// More calls, in a list of which another one takes the place.
+    /// More calls, in a list of which another one takes the place. Their lines count from this number
+    /// on.
     pub(crate) fn ask_all(
         &mut self,
         alloc: Global,
-        calls: &mut VecDeque<Call>,
+        first: u64,
+        calls: &mut VecDeque<LineCall>,
     ) -> Result<(), AllocError>
         ensures pass { self.new.pass ≡ self.old.pass }
-        ensures asked { OnOk result (calls_of self.new ≡ calls_of self.old ++ calls.old.items) }
+        ensures asked { OnOk result
+            (calls_of self.new ≡ calls_of self.old ++ map (counted_from first) calls.old.items) }
     {
-        self.asked.take_list(alloc, calls)?;
+        self.asked.take_list(alloc, first, calls)?;
         Ok(())
     }
 
@@ -109,16 +112,8 @@ impl<S: KeepsShard> Lane<S> {
     }
 
     /// Makes the calls in their order, up to the first that memory runs out at. All replies that there
-    /// were are gone. The lines whose calls these are have their numbers from this one on.
-    pub(crate) fn serve<R: Wait, D: Door<S>>(
-        &mut self,
-        rt: &R,
-        alloc: Global,
-        door: &D,
-        lane: usize,
-        first: u64,
-        marks: &[Mark],
-    )
+    /// were are gone.
+    pub(crate) fn serve<R: Wait, D: Door<S>>(&mut self, rt: &R, alloc: Global, door: &D)
         requires { D.admits door.now self.old.pass }
         ensures own { D.admits door.now self.new.pass }
         ensures worked { Worked (D.serves door.now) self.old self.new }
@@ -126,19 +121,16 @@ impl<S: KeepsShard> Lane<S> {
         make_room(alloc);
         self.replies.clear(alloc);
         self.taken = 0;
-        let _ = self.serve_all(rt, alloc, door, lane, first, marks);
+        let _ = self.serve_all(rt, alloc, door);
         self.asked.clear();
     }
 
-    /// Makes the calls, each under the number of its line.
+    /// Makes the calls.
     fn serve_all<R: Wait, D: Door<S>>(
         &mut self,
         rt: &R,
         alloc: Global,
         door: &D,
-        lane: usize,
-        first: u64,
-        marks: &[Mark],
     ) -> Result<(), AllocError>
         requires own { D.admits door.now self.old.pass }
         requires taken { self.old.taken ≡ 0 }
@@ -146,57 +138,30 @@ impl<S: KeepsShard> Lane<S> {
         ensures own { D.admits door.now self.new.pass }
         ensures made { Made (D.serves door.now) self.old self.new }
     {
-        let mut number = first;
-        for mark in marks {
-            self.serve_line(rt, alloc, door, lane, number, mark)?;
-            number = number.wrapping_add(1);
+        while let Some(next) = self.asked.pop() {
+            self.serve_one(rt, alloc, door, next)?;
         }
         Ok(())
     }
 
-    /// Makes the next call, and the line of its reply, where the line with this mark has its call here.
-    fn serve_line<R: Wait, D: Door<S>>(
+    /// Makes a call, and its reply's line under the number of the call's line.
+    fn serve_one<R: Wait, D: Door<S>>(
         &mut self,
         rt: &R,
         alloc: Global,
         door: &D,
-        lane: usize,
-        number: u64,
-        mark: &Mark,
+        next: LineCall,
     ) -> Result<(), AllocError>
         requires { D.admits door.now self.old.pass }
         ensures own { D.admits door.now self.new.pass }
-        ensures answered { OnOk result ((self.new ≡ self.old)
-            ⊎ AnsweredOne (D.serves door.now) self.old self.new) }
-        ensures failed { OnErr result (Failed self.old self.new) }
+        ensures asked { self.new.asked ≡ self.old.asked }
+        ensures taken { self.new.taken ≡ self.old.taken }
+        ensures served { OnOk result (ServedOne (D.serves door.now) next self.old self.new) }
+        ensures kept { OnErr result (KeepsLines self.old.replies self.new.replies) }
     {
-        if !mark.is_in(lane) {
-            return Ok(());
-        }
-        self.serve_next(rt, alloc, door, number)?;
-        Ok(())
-    }
-
-    /// Makes the next call, and the line of its reply. Lines of other lanes pay nothing for what a call
-    /// needs of the stack.
-    #[inline(never)]
-    fn serve_next<R: Wait, D: Door<S>>(
-        &mut self,
-        rt: &R,
-        alloc: Global,
-        door: &D,
-        number: u64,
-    ) -> Result<(), AllocError>
-        requires { D.admits door.now self.old.pass }
-        ensures own { D.admits door.now self.new.pass }
-        ensures answered { OnOk result (AnsweredOne (D.serves door.now) self.old self.new) }
-        ensures failed { OnErr result (Failed self.old self.new) }
-    {
-        let Some(call) = self.asked.pop() else {
-            return Err(AllocError);
-        };
+        let LineCall { line, call } = next;
         let reply = door.call(rt, &mut self.pass, call)?;
-        self.replies.add(alloc, number, &reply)?;
+        self.replies.add(alloc, line, &reply)?;
         Ok(())
     }
 }

@@ -4,7 +4,7 @@
 //! thread of its own with its own pass, and writes the replies in the order of the lines before it reads
 //! on. At a barrier and at the end the lanes' passes meet.
 //! `run_lanes_from` does so over a service that it opens from records, and gives the records of its end;
-//! where it is asked for, it writes the one history of all shards behind the last reply.
+//! where it is asked for, it writes the one history of all shards after the last reply.
 #![tactic(auto)]
 
 mod answer;
@@ -13,7 +13,6 @@ mod door;
 mod lane;
 mod phase;
 mod place;
-mod places;
 mod print;
 mod reading;
 mod reopened;
@@ -21,7 +20,6 @@ mod replies;
 mod room;
 mod run;
 mod sorted;
-mod walk;
 
 pub use door::Door;
 pub use reopened::run_lanes_from;

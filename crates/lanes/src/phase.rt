@@ -1,15 +1,14 @@
-//! The lines of a batch between two barriers.
+//! The lines of a batch between two barriers, and what the lanes do at a barrier.
 
-ghost use Rattle.std.specs.Prelude.{◌≡◌, ◌+◌, ◌<◌, ◌≤◌, ◌^◌, All, length, IfOk, IfErr, OnErr};
+ghost use Rattle.std.specs.Prelude.{◌≡◌, ◌+◌, ◌<◌, ◌≤◌, ◌^◌, All, length, map, IfOk, IfErr, OnErr};
 ghost use Rattle.script.specs.Endings.{IsWriteFault};
 ghost use Rattle.lanes.specs.Course.{AllMet, FirstMet};
-ghost use Rattle.lanes.specs.Lanes.{EachWorked, KeepsReplies, MetIf, Worked, passes_of};
+ghost use Rattle.lanes.specs.Lanes.{EachWorked, Worked, calls_of, passes_of};
 ghost use Rattle.lanes.specs.Printed.{PhaseBegun, PhasePrinted};
 
 use crate::door::Door;
 use crate::lane::Lane;
-use crate::place::Mark;
-use crate::places::Places;
+use crate::place::Place;
 use crate::print::print;
 use script::ScriptFault;
 use service::KeepsShard;
@@ -20,15 +19,12 @@ use std::thread;
 use std::thread::Threads;
 use wire_counted::Counted;
 
-/// Lets all lanes make their calls at the same time, each in a thread of its own. The calls are those of
-/// lines with these marks, which are numbered from this one on.
+/// Lets all lanes make their calls at the same time, each in a thread of its own.
 fn serve_lanes<R: Threads + Wait + Sync, S: KeepsShard + Send + Sync, D: Door<S> + Sync>(
     rt: &R,
     alloc: Global,
     door: &D,
     lanes: &mut [Lane<S>],
-    first: u64,
-    marks: &[Mark],
 )
     requires { All (λ l. D.admits door.now l.pass) lanes.old }
     ensures own { All (λ l. D.admits door.now l.pass) lanes.new }
@@ -41,11 +37,11 @@ fn serve_lanes<R: Threads + Wait + Sync, S: KeepsShard + Send + Sync, D: Door<S>
             rt,
             lanes,
             threads,
-            &|at, lane: &mut Lane<S>|
+            &|_, lane: &mut Lane<S>|
                 requires { D.admits door.now lane.now.pass }
                 ensures own { D.admits door.entry.now lane.exit.now.pass }
                 ensures worked { Worked (D.serves door.entry.now) lane.entry.now lane.exit.now }
-            { lane.serve(rt, alloc, door, at, first, marks) },
+            { lane.serve(rt, alloc, door) },
         );
     }
 }
@@ -56,7 +52,7 @@ fn meet_others<S: KeepsShard, D: Door<S>>(door: &D, lanes: &mut [Lane<S>])
     ensures own { All (λ l. D.admits door.now l.pass) lanes.new }
     ensures count { length lanes.new ≡ length lanes.old }
     ensures met { FirstMet (D.meets door.now) (passes_of lanes.old) (passes_of lanes.new) }
-    ensures kept { KeepsReplies lanes.old lanes.new }
+    ensures asked { map calls_of lanes.new ≡ map calls_of lanes.old }
 {
     if let Some((first, rest)) = lanes.split_first_mut() {
         for other in rest {
@@ -66,34 +62,19 @@ fn meet_others<S: KeepsShard, D: Door<S>>(door: &D, lanes: &mut [Lane<S>])
 }
 
 /// The first lane meets every other twice, so that all of them have seen what any of them did.
-fn meet_all<S: KeepsShard, D: Door<S>>(door: &D, lanes: &mut [Lane<S>])
+pub(crate) fn meet_all<S: KeepsShard, D: Door<S>>(door: &D, lanes: &mut [Lane<S>])
     requires { All (λ l. D.admits door.now l.pass) lanes.old }
     ensures own { All (λ l. D.admits door.now l.pass) lanes.new }
     ensures count { length lanes.new ≡ length lanes.old }
     ensures met { AllMet (D.meets door.now) (passes_of lanes.old) (passes_of lanes.new) }
-    ensures kept { KeepsReplies lanes.old lanes.new }
+    ensures asked { map calls_of lanes.new ≡ map calls_of lanes.old }
 {
     meet_others(door, lanes);
     meet_others(door, lanes);
 }
 
-/// Lets the lanes meet where lines close a phase.
-fn meet_if<S: KeepsShard, D: Door<S>>(door: &D, lanes: &mut [Lane<S>], closes: bool)
-    requires { All (λ l. D.admits door.now l.pass) lanes.old }
-    ensures own { All (λ l. D.admits door.now l.pass) lanes.new }
-    ensures count { length lanes.new ≡ length lanes.old }
-    ensures met { MetIf (D.meets door.now) closes (passes_of lanes.old) (passes_of lanes.new) }
-    ensures kept { KeepsReplies lanes.old lanes.new }
-{
-    if !closes {
-        return;
-    }
-    meet_all(door, lanes);
-}
-
-/// Lets all lanes make their calls, lets the first one meet every other where the lines close a phase,
-/// and writes the replies to the lines, which are numbered from this one on. It says whether one of
-/// them is a refusal.
+/// Lets all lanes make their calls, and writes the replies to the lines, which are numbered from this
+/// one on. It says whether one of them is a refusal.
 pub(crate) fn serve_phase<
     R: Threads + Wait + Sync,
     S: KeepsShard + Send + Sync,
@@ -105,8 +86,7 @@ pub(crate) fn serve_phase<
     door: &D,
     lanes: &mut [Lane<S>],
     first: u64,
-    places: &Places,
-    closes: bool,
+    places: &[Place],
     writer: &mut Counted<W>,
 ) -> Result<bool, ScriptFault>
     requires own { All (λ l. D.admits door.now l.pass) lanes.old }
@@ -114,17 +94,14 @@ pub(crate) fn serve_phase<
     ensures own { All (λ l. D.admits door.now l.pass) lanes.new }
     ensures count { length lanes.new ≡ length lanes.old }
     ensures printed { IfOk result (λ refused.
-        PhasePrinted (D.serves door.now) (D.meets door.now) closes
-        first places.now lanes.old lanes.new refused
+        PhasePrinted (D.serves door.now) first places.now lanes.old lanes.new refused
         (W.contents writer.old.inner) (W.contents writer.new.inner)) }
-    ensures begun { OnErr result (PhaseBegun (D.serves door.now) (D.meets door.now) closes
-        first places.now lanes.old
+    ensures begun { OnErr result (PhaseBegun (D.serves door.now) first places.now lanes.old
         (W.contents writer.old.inner) (W.contents writer.new.inner)) }
     ensures grows { writer.old.failures ≤ writer.new.failures }
     ensures fault { IfErr result (λ e. IsWriteFault e writer.old.failures writer.new.failures) }
 {
-    serve_lanes(rt, alloc, door, lanes, first, places.marks());
-    meet_if(door, lanes, closes);
+    serve_lanes(rt, alloc, door, lanes);
     let refused = print(alloc, lanes, first, places, writer)?;
     if let Err(error) = writer.flush() {
         return Err(ScriptFault::Write(error));

@@ -12,21 +12,3 @@ pub(crate) enum Place {
     /// A call in a lane.
     InLane(u8),
 }
-
-/// The same without the refusal, in two bytes.
-#[derive(Clone, Copy)]
-pub(crate) enum Mark {
-    Barrier,
-    Refused,
-    InLane(u8),
-}
-
-impl Mark {
-    /// Whether it is a call in this lane.
-    pub(crate) fn is_in(&self, lane: usize) -> bool {
-        match self {
-            Mark::InLane(own) => usize::from(*own) == lane,
-            _ => false,
-        }
-    }
-}

@@ -4,14 +4,14 @@ ghost use Rattle.std.specs.Prelude.{◌≡◌, ◌+◌, ◌<◌, ◌≤◌, ◌^
 ghost use Rattle.std.specs.Io.KnownBytes.{Appends};
 ghost use Rattle.wire_counted.specs.Written.{AppendsBeginning};
 ghost use Rattle.script.specs.Endings.{IsWriteFault};
-ghost use Rattle.service_model_types.specs.Replies.{Reply};
 ghost use Rattle.script.specs.Serving.{text_of};
+ghost use Rattle.lanes.specs.Answers.{LineReply};
 ghost use Rattle.lanes.specs.Lanes.{AllLeft, calls_of, passes_of};
+ghost use Rattle.lanes.specs.Numbers.{AreNumbered, IsNext, IsNextIn};
 ghost use Rattle.lanes.specs.Printed.{Begun, BegunIn, Printed, PrintedIn, PrintedOne};
 
 use crate::lane::Lane;
 use crate::place::Place;
-use crate::places::Places;
 use script::ScriptFault;
 use service::KeepsShard;
 use service_model_types::answer::Reply;
@@ -78,9 +78,10 @@ fn print_refusal<W: Write>(
 /// Writes the next reply of a lane, and says whether it is a refusal. A lane that is not there is an
 /// invalid argument.
 ///
+/// The reply's line was made under the number of its own line.
+///
 /// # Errors
-/// There is no reply where memory ran out in the lane. A reply's line was made under its own line's
-/// number, and under no other is it written.
+/// There is no reply where memory ran out in the lane.
 fn print_in<S: KeepsShard, W: Write>(
     alloc: Global,
     lanes: &mut [Lane<S>],
@@ -90,10 +91,12 @@ fn print_in<S: KeepsShard, W: Write>(
 ) -> Result<bool, ScriptFault>
     ensures passes { passes_of lanes.new ≡ passes_of lanes.old }
     ensures calls { map calls_of lanes.new ≡ map calls_of lanes.old }
-    ensures printed { IfOk result (λ refused. (rss : List (List Reply)) → AllLeft lanes.old rss
+    ensures printed { IfOk result (λ refused.
+        (rss : List (List LineReply)) → AllLeft lanes.old rss → IsNextIn lane number rss
         → PrintedIn number lane (slice_get rss lane) rss lanes.new refused
         (W.contents writer.old.inner) (W.contents writer.new.inner)) }
-    ensures begun { OnErr result ((rss : List (List Reply)) → AllLeft lanes.old rss
+    ensures begun { OnErr result
+        ((rss : List (List LineReply)) → AllLeft lanes.old rss → IsNextIn lane number rss
         → BegunIn number lane rss (W.contents writer.old.inner) (W.contents writer.new.inner)) }
     ensures grows { writer.old.failures ≤ writer.new.failures }
     ensures fault { IfErr result (λ e. IsWriteFault e writer.old.failures writer.new.failures) }
@@ -106,9 +109,6 @@ fn print_in<S: KeepsShard, W: Write>(
         return Err(ScriptFault::Memory);
     };
     let answer = lanes[lane].answer(at);
-    if answer.number != number {
-        return Err(ScriptFault::Memory);
-    }
     print_line(lanes[lane].line(at), writer)?;
     Ok(answer.refused)
 }
@@ -123,10 +123,12 @@ fn print_one<S: KeepsShard, W: Write>(
 ) -> Result<bool, ScriptFault>
     ensures passes { passes_of lanes.new ≡ passes_of lanes.old }
     ensures calls { map calls_of lanes.new ≡ map calls_of lanes.old }
-    ensures printed { IfOk result (λ refused. (rss : List (List Reply)) → AllLeft lanes.old rss
+    ensures printed { IfOk result (λ refused.
+        (rss : List (List LineReply)) → AllLeft lanes.old rss → IsNext place number rss
         → PrintedOne number place rss lanes.new refused
         (W.contents writer.old.inner) (W.contents writer.new.inner)) }
-    ensures begun { OnErr result ((rss : List (List Reply)) → AllLeft lanes.old rss
+    ensures begun { OnErr result
+        ((rss : List (List LineReply)) → AllLeft lanes.old rss → IsNext place number rss
         → Begun number (place ∷ []) rss
         (W.contents writer.old.inner) (W.contents writer.new.inner)) }
     ensures grows { writer.old.failures ≤ writer.new.failures }
@@ -151,16 +153,18 @@ pub(crate) fn print<S: KeepsShard, W: Write>(
     alloc: Global,
     lanes: &mut [Lane<S>],
     first: u64,
-    places: &Places,
+    places: &[Place],
     writer: &mut Counted<W>,
 ) -> Result<bool, ScriptFault>
     requires { first + length places.now < 2 ^ 64 }
     ensures passes { passes_of lanes.new ≡ passes_of lanes.old }
     ensures calls { map calls_of lanes.new ≡ map calls_of lanes.old }
-    ensures printed { IfOk result (λ refused. (rss : List (List Reply)) → AllLeft lanes.old rss
+    ensures printed { IfOk result (λ refused.
+        (rss : List (List LineReply)) → AllLeft lanes.old rss → AreNumbered first places.now rss
         → Printed first places.now rss lanes.new refused
         (W.contents writer.old.inner) (W.contents writer.new.inner)) }
-    ensures begun { OnErr result ((rss : List (List Reply)) → AllLeft lanes.old rss
+    ensures begun { OnErr result
+        ((rss : List (List LineReply)) → AllLeft lanes.old rss → AreNumbered first places.now rss
         → Begun first places.now rss
         (W.contents writer.old.inner) (W.contents writer.new.inner)) }
     ensures grows { writer.old.failures ≤ writer.new.failures }
@@ -168,9 +172,8 @@ pub(crate) fn print<S: KeepsShard, W: Write>(
 {
     let mut refused = false;
     let mut number = first;
-    let mut walk = places.walk();
-    while let Some(place) = walk.next() {
-        refused |= print_one(alloc, lanes, number, place, writer)?;
+    for place in places {
+        refused |= print_one(alloc, lanes, number, *place, writer)?;
         number += 1;
     }
     Ok(refused)

@@ -147,7 +147,7 @@ pub(crate) fn readers_for(alloc: Global, lanes: usize) -> Result<Vec<Reader>, Al
     Ok(readers)
 }
 
-/// The text up to the first line feed at this place or behind it, and what stands behind that.
+/// The text up to the first line feed at this place or after it, and what stands after that.
 fn part_at(text: &[u8], least: usize) -> (&[u8], &[u8])
     ensures parts { text.now ≡ result.0.now ++ result.1.now }
     ensures ends { EndsLines result.0.now }

@@ -20,10 +20,10 @@ use wire_counted::Counted;
 /// lane as [`run_lanes`] does, and closes the service. Without records nothing was done before.
 ///
 /// There is one list of all steps of all lanes, in the order of their tickets. With `trace` it is
-/// written behind the last reply, a line for each step. It begins with the first step of each shard, so
+/// written after the last reply, a line for each step. It begins with the first step of each shard, so
 /// no records are given then.
 ///
-/// The records come back with what the lines did behind them: each begins with the one that was given,
+/// The records come back with what the lines did after them: each begins with the one that was given,
 /// and what each pass did in it is there once and in order.
 ///
 /// Where the opening is refused, nothing was read or written. After any other fault what was written

@@ -1,4 +1,4 @@
-//! The lines of replies, one behind the other in one text.
+//! The lines of replies, one after the other in one text.
 
 ghost use Rattle.std.specs.Prelude.{◌≡◌, ℕ, ◌≤◌, Some, length, slice_get};
 ghost use Rattle.lanes.specs.declared.answer.Answer.{Answer};
@@ -37,7 +37,7 @@ impl Replies {
         }
     }
 
-    /// Takes all of them away. A text that took much memory gives it back.
+    /// Removes all of them. A text that took much memory gives it back.
     pub(crate) fn clear(&mut self, alloc: Global)
         ensures { self.new.answers.items ≡ [] }
     {
@@ -55,7 +55,7 @@ impl Replies {
         number: u64,
         reply: &Reply,
     ) -> Result<(), AllocError>
-        ensures wrote { OnOk result (Wrote reply.now self.old self.new) }
+        ensures wrote { OnOk result (Wrote number reply.now self.old self.new) }
         ensures kept { OnErr result (KeepsLines self.old self.new) }
     {
         let room = mem::replace(&mut self.room, String::new(alloc));
@@ -65,7 +65,6 @@ impl Replies {
         self.text.extend_from_slice(line.as_bytes())?;
         let end = self.text.len();
         self.answers.push(Answer {
-            number,
             start,
             end,
             refused,

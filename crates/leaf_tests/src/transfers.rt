@@ -70,7 +70,7 @@ fn issue<R: Abort>(rt: &R, outbox: &mut Outbox, initiated: u64)
     outbox.issue(1, content(initiated));
 }
 
-/// A number that is acknowledged one after another where two transfers wait, what is said of it, and
+/// A number that is acknowledged one after another where two transfers wait, what is said about it, and
 /// the first number that isn't acknowledged then.
 const COUNTED: &str = "2|out of order|1
 1|acknowledged|2
@@ -104,7 +104,7 @@ fn counts_on_acknowledgements_in_order(rt: HostRuntime) {
     assert!(rt; outbox.first_to(0).is_none());
 }
 
-/// Whether the transfer of this number is the first one once it is issued, and none is behind it.
+/// Whether the transfer of this number is the first one once it is issued, and none is after it.
 fn is_first<R: Abort>(rt: &R, outbox: &mut Outbox, number: u64) -> bool
     requires { length outbox.old ≡ 2 }
     ensures { length outbox.new ≡ 2 }
@@ -122,7 +122,7 @@ fn numbers_go_on_behind_what_was_acknowledged(rt: HostRuntime) {
     assert!(rt; is_first(&rt, &mut outbox, 3));
 }
 
-/// A number that is delivered one after another, and what is said of it.
+/// A number that is delivered one after another, and what is said about it.
 const DELIVERED: &str = "2|out of order
 1|accepted
 3|out of order

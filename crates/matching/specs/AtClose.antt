@@ -22,7 +22,7 @@ pub record HasDone (t : Part) (put taken : List Entry) : Type 0 where
 pub record IsEnd (held : List Hint) (given : ℕ) (parts : List Part) : Type 0 where
   pub put : List Entry
   pub taken : List Entry
-  -- what was put behind the first hints
+  -- what was put after the first hints
   pub more : List Entry
   pub opened : put ≡ by_first held ++ more
   -- what still waits

@@ -6,7 +6,7 @@ use Rattle.service_model_types.specs.declared.content.Dispatch.{Dispatch}
 use Rattle.service_model_types.specs.declared.request.Hint.{Hint}
 use Rattle.matching.specs.Named.{place_in, slot_of}
 
--- a hint behind all that wait in the queue of a slot, where there is room
+-- a hint after all that wait in the queue of a slot, where there is room
 abbrev pub pushed_at : ℕ → List (List Hint) → ℕ → Hint → Result (List (List Hint)) Refusal
 pushed_at capacity all slot hint =
     let waiting = slice_index_or all slot [] in

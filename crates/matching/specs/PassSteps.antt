@@ -1,6 +1,7 @@
 -- MEANING: What each step on a queue tells the pass that makes it.
-use Rattle.std.specs.Prelude.{◌≡◌, ℕ, ◌+◌, ◌<◌, List, [], ◌∷◌, ◌++◌, length}
+use Rattle.std.specs.Prelude.{◌≡◌, ℕ, ◌+◌, ◌<◌, ◌≤◌, List, [], ◌∷◌, ◌++◌, length}
 use Rattle.service_model_types.specs.declared.request.Hint.{Hint}
+use Rattle.crossbeam_queue.specs.Fifo.{Held}
 use Rattle.matching.specs.declared.view.View.{View}
 use Rattle.matching.specs.declared.view.Holder.TheVariants.{Nobody, Pass, Maker}
 use Rattle.matching.specs.Entries.{Entry, by_first, own_of}
@@ -81,7 +82,7 @@ fresh given shards capacity waiting number = record {
   handed = [];
 }
 
--- the pass after it pushed a hint behind all that was put
+-- the pass after it pushed a hint after all that was put
 abbrev pub with_put : View → List Entry → List Entry → Hint → View
 with_put v put taken x = record v { put = put ++ (v.number, x) ∷ []; taken = taken; pushed = v.pushed ++ (v.number, x) ∷ [] }
 
@@ -93,7 +94,7 @@ with_taken v put taken x = record v { put = put; taken = taken ++ (v.number, x) 
 abbrev pub with_seen : View → List Entry → List Entry → View
 with_seen v put taken = record v { put = put; taken = taken }
 
--- a push: at a moment when fewer than the queue's capacity waited, the hint came behind all that was put
+-- a push: at a moment when the queue had room, the hint came after all that was put
 pub record Puts (v : View) (x : Hint) (w : View) : Type 0 where
   pub put : List Entry
   pub taken : List Entry
@@ -116,3 +117,12 @@ pub record Sees (v : View) (waiting : List Hint) (w : View) : Type 0 where
   pub taken : List Entry
   pub moment : IsMoment v put taken waiting
   pub knows : w ≡ with_seen v put taken
+
+-- at one moment fewer than so many hints waited
+abbrev pub HadRoom : View → ℕ → Type 0
+HadRoom v most = (waiting : List Hint) × (w : View) × (length waiting < most) × Sees v waiting w
+
+-- at one moment so many hints waited or more, no more than the queue has room for, and the pass has seen what was put
+-- and taken until then
+abbrev pub FindsMany : View → ℕ → View → Type 0
+FindsMany v least w = (n : ℕ) × (least ≤ n) × (n ≤ v.capacity) × Held n (λ waiting. Sees v waiting w)

@@ -3,6 +3,7 @@
 
 mod alone;
 mod close;
+mod count;
 mod held;
 mod line;
 mod looks;

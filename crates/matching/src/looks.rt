@@ -6,10 +6,10 @@ ghost use Rattle.crossbeam_queue.specs.declared.array_queue.Stage.TheVariants.{S
 ghost use Rattle.crossbeam_queue.specs.Passes.{view, IsSamePass};
 ghost use Rattle.crossbeam_queue.specs.Ring.{saw_tail, saw_head, saw_free, saw_full};
 ghost use Rattle.matching.specs.declared.view.Holder.TheVariants.{Pass};
-ghost use Rattle.matching.specs.Rings.{IsSeatOf, saw_full_queue, saw_empty_queue};
+ghost use Rattle.matching.specs.Rings.{IsSeatOf, saw_count, saw_full_queue, saw_empty_queue};
 
 use crate::line::{HEAD, Line, STAMPS, TAIL};
-use crate::rule::{FindsNoRoom, FindsNone, Seat, SeesFree, SeesFull, SeesHead, SeesTail};
+use crate::rule::{Counts, FindsNoRoom, FindsNone, Seat, SeesFree, SeesFull, SeesHead, SeesTail};
 
 impl Line {
     pub(crate) fn tail(&self, seat: &mut Seat) -> u64
@@ -66,5 +66,15 @@ impl Line {
             × saw_empty_queue (step self.now.cap 0 0 0 none) seat.old.me result seat.new.me }
     {
         self.table.shared.load::<FindsNone>(seat, TAIL)
+    }
+
+    pub(crate) fn head_to_count(&self, seat: &mut Seat) -> u64
+        requires own { IsSeatOf self.now seat.old }
+        requires seen { seat.old.me.0.stage ≡ SawTail }
+        requires pass { (view seat.old).kind ≡ Pass }
+        ensures { IsSamePass seat.old seat.new
+            × saw_count (step self.now.cap 0 0 0 none) seat.old.me result seat.new.me }
+    {
+        self.table.shared.load::<Counts>(seat, HEAD)
     }
 }

@@ -1,10 +1,11 @@
 //! One queue of hints, and its passes.
 
-ghost use Rattle.std.specs.Prelude.{◌≡◌, ◌+◌, ◌<◌, ◌≤◌, [], List, length, IfOk, MatchOption, MatchResult};
+ghost use Rattle.std.specs.Prelude.{◌≡◌, ◌+◌, ◌<◌, ◌≤◌, [], List, length, IfOk, IsTrue, MatchOption, MatchResult, true, false};
 ghost use Rattle.matching.specs.declared.view.Holder.TheVariants.{Maker, Pass};
 ghost use Rattle.matching.specs.Entries.{FromShards};
 ghost use Rattle.matching.specs.Meetings.{Agree};
-ghost use Rattle.matching.specs.PassSteps.{fresh, Puts, Takes, Sees};
+ghost use Rattle.matching.specs.PassSteps.{fresh, FindsMany, HadRoom, Puts, Takes, Sees};
+ghost use Rattle.matching.specs.Rings.{FoundRoom};
 ghost use Rattle.matching.specs.ToldHints.{IsQuiet, taken_in};
 ghost use Rattle.matching.specs.Rule.{IsLast};
 ghost use Rattle.crossbeam_queue.specs.Fifo.{Held};
@@ -109,19 +110,43 @@ impl HintQueue {
         HintPass { seat, number }
     }
 
-    /// Puts a hint behind all that was put. It may wait for ever.
+    /// Puts a hint after all that was put, unless so many hints wait. It may wait for ever.
     ///
     /// # Errors
-    /// With the hint, where at one moment of the call the queue was full.
-    pub(crate) fn push<R: Wait>(&self, rt: &R, pass: &mut HintPass, hint: Hint) -> Result<(), Hint>
+    /// With the hint, where at one moment of the call so many waited or more.
+    pub(crate) fn push<R: Wait>(
+        &self,
+        rt: &R,
+        pass: &mut HintPass,
+        most: usize,
+        hint: Hint,
+    ) -> Result<(), Hint>
         requires own { IsPassOf pass.old self.now }
+        requires most { most ≤ capacity_of self.now }
         requires shard { hint.shard < shards_of self.now }
         ensures own { IsPassOf pass.new self.now }
-        ensures pushed { MatchResult result (λ _. Puts (known_by pass.old) hint (known_by pass.new))
-            (λ x. (x ≡ hint) × Held (capacity_of self.now)
-            (λ waiting. Sees (known_by pass.old) waiting (known_by pass.new))) }
+        ensures pushed { MatchResult result (λ _. Puts (known_by pass.old) hint (known_by pass.new)
+            × HadRoom (known_by pass.old) most)
+            (λ x. (x ≡ hint) × FindsMany (known_by pass.old) most (known_by pass.new)) }
     {
+        if self.has_many(rt, pass, most) {
+            return Err(hint);
+        }
         self.line.push(rt, &mut pass.seat, hint)
+    }
+
+    /// Whether so many hints wait, of a queue that has room for more. It may wait for ever.
+    fn has_many<R: Wait>(&self, rt: &R, pass: &mut HintPass, most: usize) -> bool
+        requires own { IsPassOf pass.old self.now }
+        requires most { most ≤ capacity_of self.now }
+        ensures own { IsPassOf pass.new self.now }
+        ensures many { result ≡ true → FindsMany (known_by pass.old) most (known_by pass.new) }
+        ensures fewer { result ≡ false → FoundRoom (known_by pass.old) most (known_by pass.new) }
+    {
+        if most == self.line.cap {
+            return false;
+        }
+        self.line.count(rt, &mut pass.seat) >= most
     }
 
     /// Takes the first hint that was not taken, if there is one. It may wait for ever.

@@ -1,7 +1,8 @@
 //! All task queues of a service, and what a thread calls them with.
 
 ghost use Rattle.std.specs.Prelude.{◌≡◌, ℕ, ◌+◌, ◌*◌, ◌^◌, ◌<◌, ◌≤◌, Some, slice_get, slice_set, map, length, IfOk, IfSome, MatchOption, MatchResult};
-ghost use Rattle.matching.specs.Named.{place_in, slot_of, at, StoodAt, PutAt, TakenAt, Pushes, Pops};
+ghost use Rattle.matching.specs.Named.{place_in, slot_of, at, StoodAt, StoodFullAt, PutAt, TakenAt, Pushes, Pops};
+ghost use Rattle.matching.specs.PassSteps.{HadRoom};
 
 use crate::queue::{HintPass, HintQueue};
 use service_model_types::request::Hint;
@@ -54,11 +55,12 @@ impl QueuesPass {
 impl Queues {
     ghost use Rattle.matching.specs.Named.{names_of, capacity_of, shards_of, known_by, IsPassOf};
 
-    /// Puts a hint behind all that was put into the queue of that name, of the hint's kind. It may
+    /// Puts a hint after all that was put into the queue of that name, of the hint's kind. It may
     /// wait for ever.
     ///
     /// # Errors
-    /// `UnknownTaskQueue`; `QueueFull` where the queue was full at one moment of the call.
+    /// `UnknownTaskQueue`; `QueueFull` where at one moment of the call as many hints waited in the
+    /// queue as its capacity says, or more.
     pub fn push_hint<R: Wait>(
         &self,
         rt: &R,
@@ -94,10 +96,11 @@ impl Queues {
         requires shard { hint.shard < shards_of self.now }
         ensures own { IsPassOf pass.new self.now }
         ensures pushed { MatchResult result
-            (λ _. PutAt (known_by pass.old) (known_by pass.new) slot hint)
-            (λ _. StoodAt (known_by pass.old) (known_by pass.new) slot (capacity_of self.now)) }
+            (λ _. PutAt (known_by pass.old) (known_by pass.new) slot hint
+            × HadRoom (at (known_by pass.old) slot) (capacity_of self.now))
+            (λ _. StoodFullAt (known_by pass.old) (known_by pass.new) slot (capacity_of self.now)) }
     {
-        self.queues[slot].push(rt, &mut pass.passes[slot], hint)
+        self.queues[slot].push(rt, &mut pass.passes[slot], self.capacity, hint)
     }
 
     /// Takes the first hint that was not taken from the queue of that name and kind, if there is one.

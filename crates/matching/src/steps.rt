@@ -18,7 +18,7 @@ use std::sync::Wait;
 const LAST: u64 = 3 << 62;
 
 impl Line {
-    fn index_of(&self, at: u64) -> usize
+    pub(crate) fn index_of(&self, at: u64) -> usize
         ensures value { (p : ℕ) → at ≡ stamp self.now.cap p
             → (result ≡ p % self.now.cap) × (result < self.now.cap) }
         ensures below { result ≤ at }
@@ -87,7 +87,7 @@ impl Line {
         Ok(item.unwrap())
     }
 
-    /// Puts a hint behind all that was put. It may wait for ever.
+    /// Puts a hint after all that was put. It may wait for ever.
     ///
     /// # Errors
     /// With the hint, where at one moment of the call the ring was full.

@@ -1,4 +1,4 @@
-//! Task queues over threads: what no contract says of them, that hints get through and that calls
+//! Task queues over threads: what no contract says about them, that hints get through and that calls
 //! find memory.
 #![tactic(auto)]
 

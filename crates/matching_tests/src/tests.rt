@@ -130,7 +130,8 @@ fn open<R: Abort + AllocGlobal>(
     ensures own { (k : ℕ) (p : QueuesPass) → slice_get result.1.items k ≡ Some p
         → IsPassOf p result.0 }
 {
-    match Queues::open(rt.alloc(), names(rt, 1), capacity, passes, 1, waiting) {
+    let most = waiting.len();
+    match Queues::open(rt.alloc(), names(rt, 1), capacity, passes, 1, waiting, most) {
         Ok(opened) => opened,
         Err(_) => panic!(rt; "the queues were not opened"),
     }
@@ -194,7 +195,7 @@ fn pop<R: Wait>(rt: &R, queues: &Queues, pass: &mut QueuesPass, name: &Id, kind:
     }
 }
 
-/// Whether a queue is full behind two hints, and then empty behind both.
+/// Whether a queue is full after two hints, and then empty after both.
 fn fills_and_empties<R: Wait>(rt: &R, queues: &Queues, pass: &mut QueuesPass, name: &Id) -> bool
     requires { IsPassOf pass.old queues.now × (0 < shards_of queues.now) }
 {
@@ -245,6 +246,32 @@ fn what_waits_at_the_opening_is_found(rt: HostRuntime) {
     find_both(&rt, &queues, &mut one, &mut two, &name);
 }
 
+/// Whether a queue of capacity 2, in which hints 7, 8 and 9 waited from the opening on, takes no other
+/// one until fewer than two wait.
+fn takes_more_after_two<R: Wait>(rt: &R, queues: &Queues, pass: &mut QueuesPass, name: &Id) -> bool
+    requires { IsPassOf pass.old queues.now × (0 < shards_of queues.now) }
+{
+    let kind = TaskKind::Workflow;
+    finds_full(rt, queues, pass, name, 10)
+        && pop(rt, queues, pass, name, kind) == 7
+        && finds_full(rt, queues, pass, name, 10)
+        && pop(rt, queues, pass, name, kind) == 8
+        && queues.push_hint(rt, pass, name, hint(10)).is_ok()
+        && finds_full(rt, queues, pass, name, 11)
+        && pop(rt, queues, pass, name, kind) == 9
+        && pop(rt, queues, pass, name, kind) == 10
+        && pop(rt, queues, pass, name, kind) == 0
+}
+
+#[test]
+fn more_may_wait_at_the_opening_than_the_capacity(rt: HostRuntime) {
+    let name = name_of(&rt, "main");
+    let waiting = waiting(&rt, &[("main", 7), ("main", 8), ("main", 9)]);
+    let (queues, mut passes) = open(&rt, 2, 1, waiting);
+    let mut pass = take_pass(&queues, &mut passes);
+    assert!(rt; takes_more_after_two(&rt, &queues, &mut pass, &name));
+}
+
 /// So many names `main`.
 fn names<R: Abort + AllocGlobal>(rt: &R, count: usize) -> Vec<Id>
     ensures { length result.items ≡ count }
@@ -258,11 +285,11 @@ fn names<R: Abort + AllocGlobal>(rt: &R, count: usize) -> Vec<Id>
     names
 }
 
-/// Whether queues of the name `main`, each with room for one hint, can't be opened with these.
+/// Why queues of the name `main`, in each of which one hint may wait, can't be opened with these.
 fn is_refused<R: Abort + AllocGlobal>(rt: &R, waiting: Vec<Dispatch>) -> Option<Refusal>
     requires { All (λ d. d.hint.shard < 1) waiting.items }
 {
-    Queues::open(rt.alloc(), names(rt, 1), 1, 1, 1, waiting).err()
+    Queues::open(rt.alloc(), names(rt, 1), 1, 1, 1, waiting, 1).err()
 }
 
 #[test]
@@ -283,6 +310,7 @@ fn the_largest_queues_are_opened(rt: HostRuntime) {
         1,
         1,
         Vec::new(rt.alloc()),
+        65_536,
     );
     assert!(rt; opened.is_ok());
 }

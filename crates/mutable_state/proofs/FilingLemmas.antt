@@ -32,7 +32,7 @@ pub record FilesBy (es : List Event) (m m' : FinMap nat_cmp Due) (rs rs' : List 
   pub filed : AreFiled m' rs'
   pub dues : AreDue m es rs → AreDue m' es rs'
 
--- it is taken away
+-- it is removed
 pub away-files : (m m' : FinMap nat_cmp Due) (rs : List Row) (p : ℕ) (x d : Row) → AreRising (keys rs) → slice_get rs p ≡ Some x → AreFiled m rs → m' ≡ without_id x.due m → d.due ≡ None → d.kept ≡ None → Files m m' rs (slice_set rs p d)
 away-files m m' rs p x d rising there filed gone none dead =
     let f = refiled m m' m' rs p x d None None rising there filed gone refl none tt (λ some. absurd (let clash : false ≡ true = some in cc)) in
@@ -41,7 +41,7 @@ away-files m m' rs p x d rising there filed gone none dead =
       dues = λ es h. due-set m m' es rs p d None f (subst (RowDueBy m' es d.due) (sym dead) tt) h;
     }
 
--- what settles it is held back
+-- what settles it is buffered
 marked-due : (m : FinMap nat_cmp Due) (es : List Event) (kept : Option Open) → RowDueBy m es None (option_map marked_in kept)
 marked-due m es None = tt
 marked-due m es (Some o) = sym (settled-none es (marked_in o) refl)

@@ -278,7 +278,7 @@ change-at k g rs p d stays h is = changed (λ (r : Row). r.kept) (λ (r : Row). 
 pub change-none : (k : Opener) (g : Open → Option Open) (rs : List Row) → ((x : Open) → is_one k x ≡ false → g x ≡ Some x) → HasRow k rs None → living rs ≡ filter_map g (living rs)
 change-none k g rs stays none = unchanged (λ (r : Row). r.kept) g rs (λ j r at. not-here k g stays r (none j r at))
 
--- it is taken away
+-- it is removed
 away : Opener → Open → Option Open
 away k o = cond (not (is_one k o)) (Some o) None
 
@@ -480,7 +480,7 @@ module _ (k : Opener) (rs : List Row) (last : ℕ) (b : Bool) (p : ℕ) (x d : R
   x-named : NamedBy x.event x.kept
   x-named = all-get IsNamed rs p x kept.named x-there
 
-  -- it is taken away
+  -- it is removed
   pub away-row : d.event ≡ x.event → d.kept ≡ None → AreKept (slice_set rs p d) last b × (living (slice_set rs p d) ≡ without (Some k) (living rs))
   away-row event is =
       let living-is = taken k rs p d h is in

@@ -141,7 +141,7 @@ aims-of es s r a keeps h = aims-target es (buffer_of s) a (settles a) refl (by_o
     by_option None g k e = absurd (cc)
     by_option (Some j) g k e = let is : j ≡ k = cc in subst (λ x. Target es (buffer_of s) (role a) x) is (target es s (role a) j keeps g)
 
--- what an event settles is still there when all that was held back is written
+-- what an event settles is still there when all that was buffered is written
 aims-flushed : (es : List Made) (b : Buffer) (a : Attributes) → cancels_timer (role a) ≡ false → Aims es b a → Aims es (flushed b) a
 aims-flushed es b a stays aims = record {
   bound = λ c id g. let h = aims.bound c id g in let l = length-append b.events (with_ids (length b.events + 1) b.held) in omega (arith, h, l);

@@ -16,7 +16,7 @@ row_said a = kept_row a.notes a.scheduled
 abbrev pub is_activity : ℕ → Open → Bool
 is_activity id o = is_one (activity_of id) o
 
--- what its row says of an activity in use where commands are judged
+-- what its row says about an activity in use where commands are judged
 abbrev pub noted_activity : ActivityRow → NotedActivity
 noted_activity r = record { scheduled = r.opened.id; is_running = is_running_phase r.phase; is_asked = r.cancel_requested }
 

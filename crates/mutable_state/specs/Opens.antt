@@ -50,7 +50,7 @@ abbrev pub without : Option Opener → List Open → List Open
 without None os = os
 without (Some k) os = filter (λ o. not (is_one k o)) os
 
--- this one has a settling event that is held back
+-- this one has a settling event that is buffered
 abbrev pub mark : Opener → Open → Open
 mark k o = record o { is_settled = o.is_settled || is_one k o }
 
@@ -58,7 +58,7 @@ abbrev pub marked : Option Opener → List Open → List Open
 marked None os = os
 marked (Some k) os = map (mark k) os
 
--- what is kept that nothing held back settles
+-- what is kept that nothing buffered settles
 abbrev pub unmarked : List Open → List Open
 unmarked os = filter is_unmarked os
 
@@ -98,7 +98,7 @@ MayAddTo n (Some o) = MayAdd n.note o.notes
 abbrev pub MayNote : NoteFact → List Open → Type 0
 MayNote n os = MayAddTo n (find (λ o. is_one (activity_of n.activity) o) os)
 
--- which timer's firing is taken away
+-- which timer's firing is removed
 abbrev pub cancels_of : Role → Option ℕ
 cancels_of (TimerCancels started) = Some started
 cancels_of _ = None
@@ -147,7 +147,7 @@ Ascending (o ∷ os) = AllByRecursion (λ (x : Open). o.opener.event < x.opener.
 abbrev pub HasNoRowsClosed : Status → List Open → Type 0
 HasNoRowsClosed status os = is_open_status status ≡ false → os ≡ []
 
--- what is kept agrees with the history and with what is held back
+-- what is kept agrees with the history and with what is buffered
 pub record AgreesWith (b : Buffer) (os : List Open) : Type 0 where
   pub ids : IdsTo (length b.events) b.events
   pub grounded : SettlesTo (length b.events) (carried b.held)

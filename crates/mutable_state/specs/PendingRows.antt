@@ -27,7 +27,7 @@ opening_event r = (said r).event
 abbrev pub activity_said : PendingRow → ActivityRow
 activity_said r = kept_row (said r).notes (said r).event
 
--- that of a thing that is kept, where no event that settles it is held back
+-- that of a thing that is kept, where no event that settles it is buffered
 abbrev pub pending_at : List Event → ℕ → Open → Option OpenedThing
 pending_at es id o = if o.is_settled then None else (option_map (λ (e : Event). record { event = e; notes = o.notes }) (event_at id es))
 

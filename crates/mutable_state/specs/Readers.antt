@@ -1,4 +1,4 @@
--- PROOF: what a run answers when it is asked what is in use in it, and what is held back
+-- PROOF: what a run answers when it is asked what is in use in it, and what is buffered
 use Rattle.std.specs.Prelude.{◌≡◌, ℕ, Bool, false, if◌then◌else◌, bytes_eq, List, map, length, Option, None, Some, option_map}
 use Rattle.std.specs.Option.{option_map_or}
 use Rattle.std.specs.List.{AllByRecursion}
@@ -13,7 +13,7 @@ use Rattle.mutable_state.specs.declared.open.Open.{Open}
 use Rattle.mutable_state.specs.Formed.{IsFromOutside, SettlesTo, IdsTo}
 use Rattle.mutable_state.specs.Opens.{is_of, event_at}
 
--- a thing in use: the event that opened it, the id that it is known by, and whether an event that settles it is held back
+-- a thing in use: the event that opened it, the id that it is known by, and whether an event that settles it is buffered
 pub record UsedRow : Type 0 where
   pub event : ℕ
   pub name : Option (List ℕ)
@@ -55,11 +55,11 @@ fired_by _ = None
 abbrev pub fired_timer : Attributes → Option ℕ
 fired_timer a = fired_by (role a)
 
--- the timers that events that are held back fire
+-- the timers that events that are buffered fire
 abbrev pub held_firings : RunState → List (Option ℕ)
 held_firings s = map fired_timer (held_attributes s)
 
--- what is in use, and what is settled by an event that is held back, stands in the history, and such an event came from outside
+-- what is in use, and what is settled by an event that is buffered, stands in the history, and such an event came from outside
 pub record IsGrounded (s : RunState) : Type 0 where
   pub ids : (c : Class) → IdsTo (length s.shown) (used c s)
   pub settled : SettlesTo (length s.shown) (held_attributes s)

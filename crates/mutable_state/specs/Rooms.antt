@@ -40,7 +40,7 @@ need_of t (an_event f) = record {
 }
 need_of t (a_note n) = record { events = 0; held = 0; requests = 0; rows = 0; deadlines = 1 }
 
--- where the workflow task stands behind a fact
+-- where the workflow task stands after a fact
 abbrev pub task_behind : Fact → Task → Task
 task_behind (an_event f) t = task_after f.attributes t
 task_behind (a_note n) t = t

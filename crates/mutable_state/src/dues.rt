@@ -1,7 +1,6 @@
 //! When a run's time is over.
 //!
-//! Rule: PROFILE, Deadlines and timer turns, Runs that are taken away. Definition: Deadlines. Rows:
-//! TimerRows, RetentionRows. Cases: timer_turns, activity_timeouts, retention.
+//! Rules: D2, D3, D4, D5, D6, D7, D8, D9, D10, D11, D12, D14, R1, R2.
 
 ghost use Rattle.std.specs.Prelude.{◌≡◌, find, option_and_then, option_copied, option_map};
 ghost use Rattle.timeouts.specs.Firsts.{first_of, first_due};

@@ -87,7 +87,7 @@ impl InUse {
         }
     }
 
-    /// It is in use, and nothing settles it. The event, which the history has, comes behind all that
+    /// It is in use, and nothing settles it. The event, which the history has, comes after all that
     /// opened something.
     pub(crate) fn add(&mut self, history: &History, opened: Option<Class>, event: u64)
         requires room { one_if (is_some opened) ≤ self.old.room }
@@ -124,7 +124,7 @@ impl InUse {
         }
     }
 
-    /// What settles it is held back.
+    /// What settles it is buffered.
     pub(crate) fn mark(&mut self, settled: Option<Opener>)
         ensures rows { self.new.rows ≡ marked settled self.old.rows }
         ensures last { self.new.last ≡ self.old.last }

@@ -1,4 +1,4 @@
-//! What notes say of an activity.
+//! What notes say about an activity.
 
 ghost use Rattle.std.specs.Prelude.{◌≡◌, IfOk};
 ghost use Rattle.service_model.specs.Completion.{is_running_phase};

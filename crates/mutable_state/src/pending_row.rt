@@ -63,7 +63,7 @@ impl Run {
     }
 }
 
-/// The thing that this opened, where it is kept and no event that settles it is held back.
+/// The thing that this opened, where it is kept and no event that settles it is buffered.
 fn kept_pending<'a>(
     in_use: &'a InUse,
     history: &'a History,

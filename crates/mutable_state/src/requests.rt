@@ -29,7 +29,7 @@ impl Drop for Remembered {
 }
 
 /// The request ids of a run's signals, in their order, and the last request to cancel it, also where
-/// that is held back. Most runs have none, which takes no memory.
+/// that is buffered. Most runs have none, which takes no memory.
 pub struct Requests {
     kept: Option<Box<Remembered>>,
     alloc: Global,

@@ -13,9 +13,9 @@ use wf_event_values::Moment;
 /// So many places in each of a run's tables.
 #[derive(Clone, Copy)]
 pub struct Rooms {
-    /// Of the history, for each event: what is held back has one too.
+    /// Of the history, for each event: what is buffered has one too.
     pub events: usize,
-    /// For what is held back.
+    /// For what is buffered.
     pub held: usize,
     /// For the request ids of signals. A request to cancel has a place of its own beside them, which
     /// is there where one of these is.
@@ -83,7 +83,7 @@ pub(crate) fn rooms_for(task: WorkflowTask, facts: &[Fact]) -> Rooms
     rooms
 }
 
-/// The workflow task behind a fact. Of its numbers nothing is asked.
+/// The workflow task after a fact. Of its numbers nothing is asked.
 fn behind(task: WorkflowTask, fact: &Fact) -> WorkflowTask
     ensures { result.phase ≡ task_behind fact.now task.phase }
 {

@@ -50,7 +50,7 @@ impl Row {
         }
     }
 
-    /// Whether something is here that no event settles which is held back.
+    /// Whether something is here that no event settles which is buffered.
     pub(crate) fn is_unmarked(&self) -> bool
         ensures { result ≡ is_unmarked_at self.now }
     {
@@ -71,7 +71,7 @@ impl Row {
         self.due = None;
     }
 
-    /// What settles it is held back: it has no deadline any more.
+    /// What settles it is buffered: it has no deadline any more.
     pub(crate) fn mark(&mut self)
         ensures { self.new ≡ record self.old {
           kept = option_map marked_in self.old.kept;

@@ -29,7 +29,7 @@ pub(crate) struct Table {
     dead: usize,
     /// The last event that opened something.
     last: u64,
-    /// Whether a row may be settled by an event that is held back.
+    /// Whether a row may be settled by an event that is buffered.
     has_marked: bool,
 }
 
@@ -121,7 +121,7 @@ impl Table {
         self.rows.is_empty()
     }
 
-    /// It is in use, and nothing settles it. The event, which the history has, comes behind all that
+    /// It is in use, and nothing settles it. The event, which the history has, comes after all that
     /// opened something.
     pub(crate) fn add(&mut self, history: &History, class: Class, event: u64)
         requires room { 0 < self.old.room }
@@ -168,7 +168,7 @@ impl Table {
         }
     }
 
-    /// Takes the dead rows away.
+    /// Removes the dead rows.
     fn clear_dead(&mut self)
         ensures rows { self.new.rows ≡ self.old.rows }
         ensures last { self.new.last ≡ self.old.last }
@@ -180,7 +180,7 @@ impl Table {
         self.dead = 0;
     }
 
-    /// What settles it is held back.
+    /// What settles it is buffered.
     pub(crate) fn mark(&mut self, opener: Opener)
         ensures rows { self.new.rows ≡ marked (Some opener) self.old.rows }
         ensures last { self.new.last ≡ self.old.last }
@@ -289,7 +289,7 @@ fn file(deadlines: &mut Deadlines, due: Option<Due>) -> Option<DueId>
     }
 }
 
-/// Takes a deadline away, where there is one.
+/// Removes a deadline, where there is one.
 fn unfile(deadlines: &mut Deadlines, id: Option<DueId>)
     requires { HasId deadlines.old.members id }
     ensures members { deadlines.new.members ≡ without_id id deadlines.old.members }

@@ -44,7 +44,7 @@ pub all-counted : (s : RunState) (a t h g k : ℕ) → a ≡ length (pending Act
     ◌≡◌ {A = Pending} (record { activities = a; timers = t; children = h; signals = g; cancels = k }) (pending_in s)
 all-counted s a t h g k ea et eh eg ek = rw (ea, et, eh, eg, ek) refl
 
--- the timers that events fire that are held back
+-- the timers that events fire that are buffered
 pub firings-are : (held : List NewEvent) → map (λ (e : NewEvent). fired_timer e.attributes) held ≡ map fired_timer (map (λ (e : NewEvent). e.attributes) held)
 firings-are [] = refl
 firings-are (e ∷ held) = ap (λ l. fired_timer e.attributes ∷ l) (firings-are held)

@@ -5,7 +5,7 @@ ghost use Rattle.mutable_state_keeper.specs.Histories.{lists_in};
 
 use buffered::History;
 
-/// The history of a run, and what is held back. A run in tables lends it. One that keeps no list of
+/// The history of a run, and what is buffered. A run in tables lends it. One that keeps no list of
 /// its events makes one for whoever asks.
 #[derive(Drop)]
 pub enum KeptHistory<'a> {

@@ -9,7 +9,7 @@ use service_model_types::journal::NewEvent;
 use std::alloc::{AllocError, Global};
 use std::collections::VecDeque;
 
-/// How many of what is in use are pending: no event that settles them is held back.
+/// How many of what is in use are pending: no event that settles them is buffered.
 pub(crate) fn count_pending(used: &[Used<'_>]) -> u64
     ensures { result ≡ length (filter (λ (row : UsedRow). not row.is_settled) used.now) }
 {

@@ -40,7 +40,7 @@ next p t n w v more is left = ap (iterate (next_wait p) (n - (t + 1))) is ∙ ap
 pub still : (p : PolicyFields) (t n w : ℕ) → next_wait p w ≡ w → iterate (next_wait p) (n - t) w ≡ wait p n → w ≡ wait p n
 still p t n w same left = sym (stays (next_wait p) (n - t) w same) ∙ left
 
--- behind the last turn none is left
+-- after the last turn none is left
 pub done : (p : PolicyFields) (t n w : ℕ) → n ≤ t → iterate (next_wait p) (n - t) w ≡ wait p n → w ≡ wait p n
 done p t n w all left = ap (λ k. iterate (next_wait p) k w) none ∙ left
   where

@@ -1,4 +1,4 @@
--- MEANING: how an attempt's end is read as that of the definitions
+-- INNER: how an attempt's end is read as that of the definitions
 use Rattle.std.specs.Prelude.{option_copied}
 use Rattle.retry.specs.declared.verdict.Ended.{Ended}
 use Rattle.retry.specs.declared.verdict.Ended.TheVariants.{Timeout, Failure}

@@ -1,6 +1,6 @@
 //! Verdicts on attempts that ended.
 //!
-//! Rule: PROFILE, Attempts of activities. Definition: Retry. Rows: ActivityRows. Cases: attempts.
+//! Rules: A7, A8, A9, A10, A12, A13, A14, A15, A16.
 
 ghost use Rattle.std.specs.Prelude.{◌≡◌, ◌==◌, ◌&&◌, ◌||◌, not, nat_le, option_copied};
 ghost use Rattle.service_model.specs.Retry.{verdict, is_non_retryable, is_listed};

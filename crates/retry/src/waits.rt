@@ -1,7 +1,6 @@
 //! How long an activity waits before it is tried again.
 //!
-//! Rule: PROFILE, Attempts of activities. Definition: Retry. Rows: ActivityRows. Cases: attempts,
-//! whole_workflows.
+//! Rules: W8, A7, A8, A9, A11, A12, A13, A14, A15, A16.
 
 ghost use Rattle.std.specs.Prelude.{◌≡◌, ◌≤◌, IsTrue};
 ghost use Rattle.wf_event.specs.RetryPolicies.{good_policy};
@@ -39,7 +38,7 @@ pub fn maximum_of(fields: &PolicyFields) -> u64
     }
 }
 
-/// How many milliseconds the attempt behind the one of this number waits.
+/// How many milliseconds the attempt after the one of this number waits.
 fn wait(fields: &PolicyFields, maximum: u64, attempt: u32) -> u64
     requires good { IsTrue (good_policy fields.now) }
     requires maximum { maximum ≡ maximum_of fields.now }
@@ -57,7 +56,7 @@ fn wait(fields: &PolicyFields, maximum: u64, attempt: u32) -> u64
     wait
 }
 
-/// How many milliseconds the wait behind one of so many lasts.
+/// How many milliseconds the wait after one of so many lasts.
 fn next_wait(fields: &PolicyFields, maximum: u64, wait: u64) -> u64
     requires good { IsTrue (good_policy fields.now) }
     requires maximum { maximum ≡ maximum_of fields.now }

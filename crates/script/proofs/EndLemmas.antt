@@ -3,6 +3,7 @@ use Rattle.std.proofs.Common.{◌≡◌, ℕ, List, [], ◌++◌, Bool, Option, 
 use Rattle.std.specs.Io.KnownBytes.{Appends, IsAtEnd}
 use Rattle.wire_counted.specs.Written.{AppendsBeginning}
 use Rattle.wire_counted.proofs.Known.{Appends-then, Consumes-none, beginning_behind, beginning_of_more, beginning_of_nothing}
+use Rattle.shard_gate.specs.declared.source.Source.TheVariants.{Records as FromRecords}
 use Rattle.script.specs.Lines.{Line, all_lines, whole_lines}
 use Rattle.script.specs.Pending.{ended, left, last}
 use Rattle.script.specs.Cursor.{Cursor, at_opening, after_lines, lines_text}
@@ -52,7 +53,7 @@ module _ (K : Settings) (R : List (List Entry)) (r w r1 : Option (List ℕ)) (c1
       let rest : Appends w1 w2 (lines_text (after_lines (at_opening K R) (ended (Some []) a.text)) (last (left (Some []) a.text))) = rw (← a.served.cursor_is, ← a.served.line_is) written in
       rw (← all_replies K R a.text) (Appends-then w w1 w2 first _ a.served.written rest)
 
-  -- the steps were written behind the replies, where they were asked for
+  -- the steps were written after the replies, where they were asked for
   pub ran : (trace : Bool) (w3 : Option (List ℕ)) → IsAtEnd r1 → Appends w2 w3 (trace_if trace c2.world.steps) → Ran K trace (opening_world K R) r w r1 w3 c2.refused c2.world.records
   ran trace w3 end traced =
       let lines = all_lines a.text in
@@ -79,7 +80,7 @@ module _ (K : Settings) (R : List (List Entry)) (r w r1 : Option (List ℕ)) (c1
   steps_alone none =
       let lines = all_lines a.text in
       let W = world_after_lines K (opening_world K R) lines in
-      let there : HasStepsAlone K W = λ shard below. records-tell-steps K R lines shard below ∙ ap (λ logs. record_at logs shard ++ on shard W.steps) none in
+      let there : HasStepsAlone K W = λ shard below. records-tell-steps FromRecords K R lines shard below ∙ ap (λ logs. record_at logs shard ++ on shard W.steps) none in
       let same : c2.settings ≡ K = ap (λ (c : Cursor). c.settings) came_to ∙ settings-is (at_opening K R) lines in
       subst (λ k. HasStepsAlone k c2.world) (sym same) (subst (λ X. HasStepsAlone K X) (sym came_to_world) there)
 

@@ -75,7 +75,7 @@ past-own x v w s q r h done =
     let given : FromGiven 1 more = subst N h.one done.given in
     sym (by-only more given) ∙ ap (λ n. by n more) (sym h.first) ∙ done.step.own
 
--- the shard of the step: what the pass did there was put behind the record at the opening
+-- the shard of the step: what the pass did there was put after the record at the opening
 based-own : (x : Service) (v w : View Request Content) (s : ℕ) (q : Request) (r : Reply) → KnowsAll v → IsServedOn x v w s q r → gate.seen w s ≡ gate.base v s ++ gate.mine w s
 based-own x v w s q r h done = split-past (gate.base v s) (gate.seen w s) done.step.based ∙ ap (λ t. gate.base v s ++ t) (past-own x v w s q r h done)
 
@@ -118,7 +118,7 @@ knows-same v w h nothing = record {
 abbrev entry_by : View Request Content → Request → Entry
 entry_by v q = record { pass = gate.number v; request = q }
 
--- the step was put behind all that the pass had seen
+-- the step was put after all that the pass had seen
 seen-after : (x : Service) (v w : View Request Content) (s : ℕ) (q : Request) (r : Reply) → KnowsAll v → IsServedOn x v w s q r → gate.seen w s ≡ gate.seen v s ++ entry_by v q ∷ []
 seen-after x v w s q r h done =
     based-own x v w s q r h done ∙ ap (λ t. gate.base v s ++ t) done.step.adds

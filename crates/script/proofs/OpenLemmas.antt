@@ -19,8 +19,8 @@ use Rattle.service_model.proofs.ListLemmas.{get-map}
 use Rattle.gate.specs.Passes as gate
 use Rattle.gate.specs.Records.{replay}
 use Rattle.matching.specs.Alone.{waiting_of}
-use Rattle.matching.specs.Holding.{all_pushed, held_by, pushed, then_push}
-use Rattle.matching.specs.Named.{at, held_at, place_in, slot_of}
+use Rattle.matching.specs.Holding.{all_pushed, pushed, then_push}
+use Rattle.matching.specs.Named.{at, held_at, place_in, room_for, slot_of}
 use Rattle.matching.specs.PassSteps.{fresh, nobody}
 use Rattle.matching.specs.Queues as one
 use Rattle.matching.proofs.Exact.{opens_exactly}
@@ -28,14 +28,16 @@ use Rattle.service.specs.ServiceViews.{Service}
 use Rattle.service.specs.ServiceViews.{Pass}
 use Rattle.service.specs.Contents.{setup_of}
 use Rattle.service.specs.AtClose.{base_of}
-use Rattle.service.specs.HeldHints.{HoldsAtOpening}
+use Rattle.service.specs.HeldHints.{HoldsFrom}
 use Rattle.service.specs.Ranges.{range_fault}
-use Rattle.service.specs.Reopening.{are_records, content_from, contents_from, opens, record_at, records_fault, unless_fault, waiting_from}
+use Rattle.service.specs.Reopening.{are_records, content_from, contents_from, held_from, most_held, opens, opens_from, record_at, records_fault, unless_fault, waiting_from}
+use Rattle.shard_gate.specs.declared.source.Source.{Source}
+use Rattle.shard_gate.specs.declared.source.Source.TheVariants.{Records as FromRecords}
 use Rattle.service.specs.Services.{IsPassOf, hints_by, known_by}
 use Rattle.shard_gate.proofs.OpenLemmas.{replay-same}
 use Rattle.script.specs.Sorted.{steps_seen}
 use Rattle.script.specs.OnePass.{IsOnePass, KnowsAll, KnowsQueues, content_seen, contents_seen, records_seen, world_seen}
-use Rattle.script.specs.World.{World, held_at_opening, opening_world}
+use Rattle.script.specs.World.{World, held_at_opening, opening_from}
 use Rattle.script.proofs.OnePassLemmas.{same-map}
 use Rattle.script.proofs.TicketLemmas.{steps-none}
 
@@ -90,22 +92,22 @@ all-count names capacity (d ∷ ds) all held is =
 
 -- ---- what opening comes to
 
-opened-held : (K : Settings) (R : List (List Entry)) (held : Lists) → opens K R ≡ Ok held → held_by K.queues K.capacity (waiting_from K R) ≡ Ok held
-opened-held K R held is = by_range (range_fault K) is
+opened-held : (source : Source) (K : Settings) (R : List (List Entry)) (held : Lists) → opens_from source K R ≡ Ok held → held_from source K (waiting_from source K R) ≡ Ok held
+opened-held source K R held is = by_range (range_fault K) is
   where
-    by_records : (b : Bool) → unless_fault (if b then Ok tt else Err (InvalidArgument field.Records)) (held_by K.queues K.capacity (waiting_from K R)) ≡ Ok held → held_by K.queues K.capacity (waiting_from K R) ≡ Ok held
+    by_records : (b : Bool) → unless_fault (if b then Ok tt else Err (InvalidArgument field.Records)) (held_from source K (waiting_from source K R)) ≡ Ok held → held_from source K (waiting_from source K R) ≡ Ok held
     by_records true is = is
     by_records false is = absurd (cc is)
 
-    by_range : (r : Result (Unit {0}) Refusal) → unless_fault r (unless_fault (records_fault K R) (held_by K.queues K.capacity (waiting_from K R))) ≡ Ok held → held_by K.queues K.capacity (waiting_from K R) ≡ Ok held
+    by_range : (r : Result (Unit {0}) Refusal) → unless_fault r (unless_fault (records_fault K R) (held_from source K (waiting_from source K R))) ≡ Ok held → held_from source K (waiting_from source K R) ≡ Ok held
     by_range (Ok done) is = by_records (are_records K R) is
     by_range (Err e) is = absurd (cc is)
 
 -- there is a list for each queue
-held-count : (K : Settings) (R : List (List Entry)) (held : Lists) → opens K R ≡ Ok held → length held ≡ 2 * length K.queues
-held-count K R held is =
+held-count : (source : Source) (K : Settings) (R : List (List Entry)) (held : Lists) → opens_from source K R ≡ Ok held → length held ≡ 2 * length K.queues
+held-count source K R held is =
     let none : Lists = replicate (2 * length K.queues) [] in
-    all-count K.queues K.capacity (waiting_from K R) none held (opened-held K R held is) ∙ length-replicate (2 * length K.queues) []
+    all-count K.queues (most_held source K (waiting_from source K R)) (waiting_from source K R) none held (opened-held source K R held is) ∙ length-replicate (2 * length K.queues) []
 
 room-valid : (b : Bool) (all : Lists) (rest : Lists → Result Lists Refusal) (f : Field) → ((more : Lists) → rest more ≢ Err (InvalidArgument f)) → then_push (if b then Ok all else Err QueueFull) rest ≢ Err (InvalidArgument f)
 room-valid true all rest f next = next all
@@ -123,27 +125,31 @@ all-valid names capacity [] all f = λ e. absurd (cc (e))
 all-valid names capacity (d ∷ ds) all f = push-valid capacity all (place_in names d.queue) d.hint (λ more. all_pushed names capacity more ds) f (λ more. all-valid names capacity ds more f)
 
 -- an argument other than the records is a setting that is out of its range
-pub refused-setting : (K : Settings) (R : List (List Entry)) (f : Field) → f ≢ field.Records → opens K R ≡ Err (InvalidArgument f) → range_fault K ≡ Err (InvalidArgument f)
-refused-setting K R f other is = by_range (range_fault K) refl is
+pub refused-from : (source : Source) (K : Settings) (R : List (List Entry)) (f : Field) → f ≢ field.Records → opens_from source K R ≡ Err (InvalidArgument f) → range_fault K ≡ Err (InvalidArgument f)
+refused-from source K R f other is = by_range (range_fault K) refl is
   where
-    by_records : (b : Bool) → unless_fault (if b then Ok tt else Err (InvalidArgument field.Records)) (held_by K.queues K.capacity (waiting_from K R)) ≢ Err (InvalidArgument f)
-    by_records true = all-valid K.queues K.capacity (waiting_from K R) (replicate (2 * length K.queues) []) f
+    by_records : (b : Bool) → unless_fault (if b then Ok tt else Err (InvalidArgument field.Records)) (held_from source K (waiting_from source K R)) ≢ Err (InvalidArgument f)
+    by_records true = all-valid K.queues (most_held source K (waiting_from source K R)) (waiting_from source K R) (replicate (2 * length K.queues) []) f
     by_records false = λ e. other (cc (e))
 
-    by_range : (r : Result (Unit {0}) Refusal) → range_fault K ≡ r → unless_fault r (unless_fault (records_fault K R) (held_by K.queues K.capacity (waiting_from K R))) ≡ Err (InvalidArgument f) → range_fault K ≡ Err (InvalidArgument f)
+    by_range : (r : Result (Unit {0}) Refusal) → range_fault K ≡ r → unless_fault r (unless_fault (records_fault K R) (held_from source K (waiting_from source K R))) ≡ Err (InvalidArgument f) → range_fault K ≡ Err (InvalidArgument f)
     by_range (Ok done) was is = absurd (by_records (are_records K R) is)
     by_range (Err e) was is = let same : e ≡ InvalidArgument f = cc is in was ∙ ap Err same
+
+-- the same where it is opened from records
+pub refused-setting : (K : Settings) (R : List (List Entry)) (f : Field) → f ≢ field.Records → opens K R ≡ Err (InvalidArgument f) → range_fault K ≡ Err (InvalidArgument f)
+refused-setting = refused-from FromRecords
 
 -- ---- what it knows of the queues
 
 -- what the pass knows of the queue in a slot, where these hints are held
 abbrev KnowsHeld : Settings → Lists → Pass → Type 0
-KnowsHeld K held p = (s : ℕ) → s < length (hints_by p) → at (hints_by p) s ≡ fresh 1 K.shards K.capacity (held_at held s) 0
+KnowsHeld K held p = (s : ℕ) → s < length (hints_by p) → at (hints_by p) s ≡ fresh 1 K.shards (room_for K.capacity (held_at held s)) (held_at held s) 0
 
-fresh-at : (K : Settings) (R : List (List Entry)) (passes : List Pass) (p : Pass) (h : HoldsAtOpening K R passes) → K.passes ≡ 1 → slice_get passes 0 ≡ Some p → KnowsHeld K h.held p
-fresh-at K R passes p h alone first = λ s below.
+fresh-at : (source : Source) (K : Settings) (R : List (List Entry)) (passes : List Pass) (p : Pass) (h : HoldsFrom source K R passes) → K.passes ≡ 1 → slice_get passes 0 ≡ Some p → KnowsHeld K h.held p
+fresh-at source K R passes p h alone first = λ s below.
     let (r, there, is) = get-map one.known_by p.hints.passes.items s (at (hints_by p) s) (slice_get-get_or (hints_by p) s nobody below) in
-    is ∙ h.fresh 0 p first s r there ∙ ap (λ n. fresh n K.shards K.capacity (held_at h.held s) 0) alone
+    is ∙ h.fresh 0 p first s r there ∙ ap (λ n. fresh n K.shards (room_for K.capacity (held_at h.held s)) (held_at h.held s) 0) alone
 
 fresh-queues : (x : Service) (p : Pass) (held : Lists) → IsPassOf p x → KnowsHeld x.settings held p → KnowsQueues x.settings (hints_by p)
 fresh-queues x p held own new =
@@ -151,7 +157,6 @@ fresh-queues x p held own new =
     record {
       count = length-map p.hints.passes.items one.known_by ∙ own.hints.width ∙ own.hints.even ∙ ap (λ names. 2 * length names) own.opened.names;
       alone = λ s below. (ap (λ v. v.given) (new s below), ap (λ v. v.number) (new s below));
-      capacity = λ s below. ap (λ v. v.capacity) (new s below);
       shards = λ s below. ap (λ v. v.shards) (new s below);
     }
 
@@ -161,32 +166,32 @@ waiting-fresh K p held count new =
     let hs = hints_by p in
     let wide : length (map waiting_of hs) ≡ length hs = length-map hs waiting_of in
     ext_get_or [] (map waiting_of hs) held (wide ∙ sym count)
-    (λ s below. get_or-map waiting_of hs s nobody ∙ ap waiting_of (new s (omega (arith, wide, below))) ∙ (opens_exactly K.shards K.capacity (held_at held s)).1)
+    (λ s below. get_or-map waiting_of hs s nobody ∙ ap waiting_of (new s (omega (arith, wide, below))) ∙ (opens_exactly K.shards (room_for K.capacity (held_at held s)) (held_at held s)).1)
 
 -- ---- both
 
-pub fresh-one : (x : Service) (p : Pass) (R : List (List Entry)) (passes : List Pass) → IsPassOf p x → x.settings.passes ≡ 1 → length x.gate.origin.bases ≡ x.settings.shards → gate.IsFresh 0 (known_by p) → slice_get passes 0 ≡ Some p → HoldsAtOpening x.settings R passes → IsOnePass x p
-fresh-one x p R passes own alone wide new first h = record { own = own; all = fresh-all x p own alone wide new; queues = fresh-queues x p h.held own (fresh-at x.settings R passes p h alone first) }
+pub fresh-one : (source : Source) (x : Service) (p : Pass) (R : List (List Entry)) (passes : List Pass) → IsPassOf p x → x.settings.passes ≡ 1 → length x.gate.origin.bases ≡ x.settings.shards → gate.IsFresh 0 (known_by p) → slice_get passes 0 ≡ Some p → HoldsFrom source x.settings R passes → IsOnePass x p
+fresh-one source x p R passes own alone wide new first h = record { own = own; all = fresh-all x p own alone wide new; queues = fresh-queues x p h.held own (fresh-at source x.settings R passes p h alone first) }
 
-pub world-fresh : (x : Service) (p : Pass) (R : List (List Entry)) (passes : List Pass) → IsPassOf p x → x.settings.passes ≡ 1 → ((s : ℕ) → base_of x s ≡ record_at R s) → gate.IsFresh 0 (known_by p) → slice_get passes 0 ≡ Some p → HoldsAtOpening x.settings R passes →
-    world_seen x.settings (known_by p) (hints_by p) ≡ opening_world x.settings R
-unfolding opening_world
-world-fresh x p R passes own alone is new first h =
+pub world-fresh : (source : Source) (x : Service) (p : Pass) (R : List (List Entry)) (passes : List Pass) → IsPassOf p x → x.settings.passes ≡ 1 → ((s : ℕ) → base_of x s ≡ record_at R s) → gate.IsFresh 0 (known_by p) → slice_get passes 0 ≡ Some p → HoldsFrom source x.settings R passes →
+    world_seen x.settings (known_by p) (hints_by p) ≡ opening_from source x.settings R
+unfolding opening_from
+world-fresh source x p R passes own alone is new first h =
     let K = x.settings in
-    let knows = fresh-at K R passes p h alone first in
+    let knows = fresh-at source K R passes p h alone first in
     let queues = fresh-queues x p h.held own knows in
-    let held : map waiting_of (hints_by p) ≡ held_at_opening (opens K R) = waiting-fresh K p h.held (held-count K R h.held h.opened ∙ sym queues.count) knows ∙ sym (ap held_at_opening h.opened) in
+    let held : map waiting_of (hints_by p) ≡ held_at_opening (opens_from source K R) = waiting-fresh K p h.held (held-count source K R h.held h.opened ∙ sym queues.count) knows ∙ sym (ap held_at_opening h.opened) in
     let world_of : List Content → Lists → List (List Entry) → List (ℕ × Entry) → World = λ cs t logs steps. record { contents = cs; waiting = t; records = logs; steps = steps } in
     let with_contents : List Content → World = λ cs. world_of cs (map waiting_of (hints_by p)) (records_seen K (known_by p)) (steps_seen (known_by p)) in
     let with_waiting : Lists → World = λ t. world_of (contents_from K R) t (records_seen K (known_by p)) (steps_seen (known_by p)) in
-    let with_records : List (List Entry) → World = λ logs. world_of (contents_from K R) (held_at_opening (opens K R)) logs (steps_seen (known_by p)) in
-    let with_steps : List (ℕ × Entry) → World = world_of (contents_from K R) (held_at_opening (opens K R)) (map (record_at R) (range_with_len 0 K.shards)) in
+    let with_records : List (List Entry) → World = λ logs. world_of (contents_from K R) (held_at_opening (opens_from source K R)) logs (steps_seen (known_by p)) in
+    let with_steps : List (ℕ × Entry) → World = world_of (contents_from K R) (held_at_opening (opens_from source K R)) (map (record_at R) (range_with_len 0 K.shards)) in
     ap with_contents (contents-fresh x p R own is new) ∙ ap with_waiting held ∙ ap with_records (records-fresh x p R own is new) ∙ ap with_steps (steps-none (known_by p) new.bare)
 
 -- the queues hold what the opening world says
-pub opened-is : (K : Settings) (R : List (List Entry)) (passes : List Pass) → HoldsAtOpening K R passes → opens K R ≡ Ok (opening_world K R).waiting
-unfolding opening_world
-opened-is K R passes h = h.opened ∙ ap Ok (sym (ap held_at_opening h.opened))
+pub opened-is : (source : Source) (K : Settings) (R : List (List Entry)) (passes : List Pass) → HoldsFrom source K R passes → opens_from source K R ≡ Ok (opening_from source K R).waiting
+unfolding opening_from
+opened-is source K R passes h = h.opened ∙ ap Ok (sym (ap held_at_opening h.opened))
 
 -- the only member of a list
 pub only-one : {A : Type 0} (xs front : List A) (x : A) → xs ≡ front ++ x ∷ [] → length xs ≡ 1 → slice_get xs 0 ≡ Some x

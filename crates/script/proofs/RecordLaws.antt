@@ -14,7 +14,8 @@ use Rattle.gate.proofs.Runs.{on_else, on_here}
 use Rattle.service.specs.Contents.{setup_of}
 use Rattle.service.specs.Reopening.{content_from, contents_from, record_at}
 use Rattle.script.specs.RecordLaws.{RecordsGrow, RecordsTellContents, RecordsTellSteps}
-use Rattle.script.specs.World.{World, content_at, entry_of, opening_world, recorded, stepped}
+use Rattle.shard_gate.specs.declared.source.Source.{Source}
+use Rattle.script.specs.World.{World, content_at, entry_of, opening_from, recorded, stepped}
 use Rattle.script.proofs.KeptLemmas.{IsKept, lines-kept}
 use Rattle.script.proofs.OnePassLemmas.{map-set, same-or-apart}
 
@@ -29,9 +30,9 @@ same-below : (f g : ℕ → Content) (b m : ℕ) → ((k : ℕ) → k < b + m �
 same-below f g b zero same = refl
 same-below f g b (suc m) same = ap (λ t. t ∷ map g (range_with_len (b + 1) m)) (same b (omega arith)) ∙ ap (λ t. f b ∷ t) (same-below f g (b + 1) m (λ k below. same k (omega (arith, below))))
 
-opening-told : (K : Settings) (R : List (List Entry)) → IsTold K (opening_world K R)
-unfolding opening_world
-opening-told K R =
+opening-told : (source : Source) (K : Settings) (R : List (List Entry)) → IsTold K (opening_from source K R)
+unfolding opening_from
+opening-told source K R =
     let logs = map (record_at R) (range_with_len 0 K.shards) in
     record {
       many = length-map-range_with_len (record_at R) 0 K.shards;
@@ -84,7 +85,7 @@ told-kept K = record {
 }
 
 pub records-tell-contents : RecordsTellContents
-records-tell-contents K R lines = (lines-kept K (IsTold K) (told-kept K) (opening_world K R) lines (opening-told K R)).told
+records-tell-contents source K R lines = (lines-kept K (IsTold K) (told-kept K) (opening_from source K R) lines (opening-told source K R)).told
 
 -- ---- growth
 
@@ -127,14 +128,14 @@ records-grow K W lines shard =
 
 -- ---- steps
 
--- each shard's record is the one at the opening and, behind it, its steps
+-- each shard's record is the one at the opening and, after it, its steps
 record IsStepped (K : Settings) (R : List (List Entry)) (W : World) : Type 0 where
   pub many : length W.records ≡ K.shards
   pub told : (shard : ℕ) → shard < K.shards → record_at W.records shard ≡ record_at R shard ++ on shard W.steps
 
-opening-stepped : (K : Settings) (R : List (List Entry)) → IsStepped K R (opening_world K R)
-unfolding opening_world
-opening-stepped K R = record {
+opening-stepped : (source : Source) (K : Settings) (R : List (List Entry)) → IsStepped K R (opening_from source K R)
+unfolding opening_from
+opening-stepped source K R = record {
   many = length-map-range_with_len (record_at R) 0 K.shards;
   told = λ shard below. get_or-map-range_with_len (record_at R) 0 K.shards shard shard [] below (omega arith) ∙ sym (append-nil (record_at R shard));
 }
@@ -162,4 +163,4 @@ stepped-kept K R = record {
 }
 
 pub records-tell-steps : RecordsTellSteps
-records-tell-steps K R lines shard below = (lines-kept K (IsStepped K R) (stepped-kept K R) (opening_world K R) lines (opening-stepped K R)).told shard below
+records-tell-steps source K R lines shard below = (lines-kept K (IsStepped K R) (stepped-kept K R) (opening_from source K R) lines (opening-stepped source K R)).told shard below

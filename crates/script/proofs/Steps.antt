@@ -8,7 +8,7 @@ use Rattle.script.specs.Pending.{longer, ended, left}
 use Rattle.script.specs.Cursor.{Cursor, after_line, after_lines, line_text, lines_text}
 use Rattle.script.specs.Progress.{Served, Progress, Stopped}
 
--- ---- lines behind a line so far
+-- ---- lines after a line so far
 
 pub left-append : (p : Line) (a b : List ℕ) → left p (a ++ b) ≡ left (left p a) b
 unfolding left

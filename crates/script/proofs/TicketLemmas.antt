@@ -20,7 +20,7 @@ nothing (r ∷ rest) h = absurd (omega (arith, h))
 pub as-long : {A : Type 0} (xs ys : List A) → Begins xs ys → length ys ≡ length xs → ys ≡ xs
 as-long xs ys (rest, is) same = is ∙ ap (λ t. xs ++ t) (nothing rest (omega (arith, ap length is, length-append xs rest, same))) ∙ append-nil xs
 
--- the ticket of a step stands behind those that were seen, where no other pass drew one there
+-- the ticket of a step stands after those that were seen, where no other pass drew one there
 pub ticket-behind : {A : Type 0} (ts front ts' : List ℕ) (t : ℕ) (es es' : List A) (e : A) → Begins ts front → ts' ≡ front ++ t ∷ [] → length ts ≡ length es → es' ≡ es ++ e ∷ [] → length ts' ≡ length es' → ts' ≡ ts ++ t ∷ []
 ticket-behind ts front ts' t es es' e begins last same adds pairs =
     let long : length front ≡ length ts = omega (arith, ap length last, length-append front (t ∷ []), ap length adds, length-append es (e ∷ []), same, pairs) in

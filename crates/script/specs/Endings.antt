@@ -18,7 +18,9 @@ use Rattle.record_text.specs.declared.fault.WriteFault.TheVariants as of_text
 use Rattle.service_model.specs.Service.{Entry}
 use Rattle.service_model_types.specs.declared.settings.Settings.{Settings}
 use Rattle.service.specs.Ranges.{range_fault}
-use Rattle.service.specs.Reopening.{opens}
+use Rattle.service.specs.Reopening.{opens_from}
+use Rattle.shard_gate.specs.declared.source.Source.{Source}
+use Rattle.shard_gate.specs.declared.source.Source.TheVariants.{Records as FromRecords}
 
 -- the input was read to its end, just its output was written, `refused` says whether a reply in it is a refusal, and
 -- the shards' records are those after its lines
@@ -72,22 +74,22 @@ IsDeviceFault QueueFull read read' write write' = ⊥
 
 -- a fault before anything is read: this setting is the first one out of its range, the records are neither none nor one of
 -- each shard, the hints of the tasks that wait don't fit, or memory ran out
-abbrev pub IsOpeningFault : Settings → List (List Entry) → ScriptFault → Type 0
-IsOpeningFault K R Memory = Unit {0}
-IsOpeningFault K R (Read e) = ⊥
-IsOpeningFault K R (Write e) = ⊥
-IsOpeningFault K R (Setting name) = (f : Field) × (range_fault K ≡ Err (refusal.InvalidArgument f)) × (name.now ≡ field_name f)
-IsOpeningFault K R Records = opens K R ≡ Err (refusal.InvalidArgument field.Records)
-IsOpeningFault K R QueueFull = opens K R ≡ Err refusal.QueueFull
+abbrev pub IsOpeningFault : Source → Settings → List (List Entry) → ScriptFault → Type 0
+IsOpeningFault source K R Memory = Unit {0}
+IsOpeningFault source K R (Read e) = ⊥
+IsOpeningFault source K R (Write e) = ⊥
+IsOpeningFault source K R (Setting name) = (f : Field) × (range_fault K ≡ Err (refusal.InvalidArgument f)) × (name.now ≡ field_name f)
+IsOpeningFault source K R Records = opens_from source K R ≡ Err (refusal.InvalidArgument field.Records)
+IsOpeningFault source K R QueueFull = opens_from source K R ≡ Err refusal.QueueFull
 
 -- a fault of the opening, of the reader, of the writer or of memory
 abbrev pub IsScriptFault : Settings → List (List Entry) → ScriptFault → ℕ → ℕ → ℕ → ℕ → Type 0
 IsScriptFault K R Memory read read' write write' = Unit {0}
 IsScriptFault K R (Read e) read read' write write' = Rose read read'
 IsScriptFault K R (Write e) read read' write write' = Rose write write'
-IsScriptFault K R (Setting name) read read' write write' = IsOpeningFault K R (Setting name)
-IsScriptFault K R Records read read' write write' = IsOpeningFault K R Records
-IsScriptFault K R QueueFull read read' write write' = IsOpeningFault K R QueueFull
+IsScriptFault K R (Setting name) read read' write write' = IsOpeningFault FromRecords K R (Setting name)
+IsScriptFault K R Records read read' write write' = IsOpeningFault FromRecords K R Records
+IsScriptFault K R QueueFull read read' write write' = IsOpeningFault FromRecords K R QueueFull
 
 -- P, where the fault is a refused opening's
 abbrev pub IfRefused : ScriptFault → Type 0 → Type 0

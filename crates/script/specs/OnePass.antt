@@ -48,7 +48,6 @@ pub record KnowsAll (v : View Request Content) : Type 0 where
 pub record KnowsQueues (K : Settings) (hs : List HintView) : Type 0 where
   pub count : length hs ≡ 2 * length K.queues
   pub alone : (s : ℕ) → s < length hs → IsAlone (at hs s)
-  pub capacity : (s : ℕ) → s < length hs → (at hs s).capacity ≡ K.capacity
   pub shards : (s : ℕ) → s < length hs → (at hs s).shards ≡ K.shards
 
 -- the pass is the service's only one

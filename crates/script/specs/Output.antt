@@ -34,7 +34,7 @@ abbrev pub trace_if : Bool → List (ℕ × Entry) → List ℕ
 trace_if true steps = trace_of steps
 trace_if false steps = []
 
--- what a script of these lines prints: the replies, and behind the last one all steps, where these are asked for
+-- what a script of these lines prints: the replies, and after the last one all steps, where these are asked for
 abbrev pub output : Settings → Bool → World → List Line → List ℕ
 output K trace W lines = replies_text K W lines ++ trace_if trace (world_after_lines K W lines).steps
 

@@ -1,4 +1,4 @@
--- PROOF: The lines of a text that comes in by parts, behind a line so far.
+-- PROOF: The lines of a text that comes in by parts, after a line so far.
 use Rattle.std.specs.Prelude.{ℕ, ◌==◌, List, [], ◌∷◌, ◌++◌, fold, length, nat_lt, if◌then◌else◌, Bool, true, false, Some, None}
 pub use Rattle.wire_lines.specs.Pending.{has_feed}
 use Rattle.script.specs.Lines.{Line, limit}
@@ -12,12 +12,12 @@ longer (Some bytes) byte = if nat_lt (length bytes) limit then Some (bytes ++ by
 abbrev pub grown : Line → List ℕ → Line
 grown line part = fold longer line part
 
--- the lines that end in a text behind a line so far
+-- the lines that end in a text after a line so far
 unfoldable pub ended : Line → List ℕ → List Line
 ended line [] = []
 ended line (b ∷ text) = if b == 10 then line ∷ ended (Some []) text else ended (longer line b) text
 
--- the line so far behind the last line that ends
+-- the line so far after the last line that ends
 unfoldable pub left : Line → List ℕ → Line
 left line [] = line
 left line (b ∷ text) = if b == 10 then left (Some []) text else left (longer line b) text

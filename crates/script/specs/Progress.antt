@@ -6,7 +6,7 @@ use Rattle.script.specs.Cursor.{Cursor, after_lines, lines_text}
 use Rattle.script.specs.Lines.{Line}
 use Rattle.script.specs.Pending.{ended, left}
 
--- text was served behind a line so far: from a cursor, that line and what the writer held, to those after it
+-- text was served after a line so far: from a cursor, that line and what the writer held, to those after it
 pub record Served (c : Cursor) (line : Line) (held : Option (List ℕ)) (text : List ℕ) (c' : Cursor) (line' : Line)
     (held' : Option (List ℕ)) : Type 0 where
   pub line_is : line' ≡ left line text

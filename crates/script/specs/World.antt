@@ -27,7 +27,9 @@ use Rattle.service_model.specs.Service.{Entry, after, answer, opening}
 use Rattle.matching.specs.Named.{place_in, slot_of}
 use Rattle.service.specs.CallRequests.{to_acknowledge, to_deliver, to_dispatched, to_next_dispatch, to_next_transfer, to_start_task}
 use Rattle.service.specs.Contents.{ends_refusal, refusal_of_step, setup_of, shard_refusal, slot_of_step}
-use Rattle.service.specs.Reopening.{contents_from, opens, record_at}
+use Rattle.service.specs.Reopening.{contents_from, opens_from, record_at}
+use Rattle.shard_gate.specs.declared.source.Source.{Source}
+use Rattle.shard_gate.specs.declared.source.Source.TheVariants.{Records as FromRecords}
 use Rattle.service.specs.TransferTurns.{goes_on}
 
 pub record World : Type 0 where
@@ -50,14 +52,19 @@ abbrev pub held_at_opening : Result (List (List Hint)) Refusal → List (List Hi
 held_at_opening (Ok held) = held
 held_at_opening (Err refusal) = []
 
--- the service as it is opened from a record of each shard: as these left it, with the hints of the tasks that wait in the queues
-unfoldable pub opening_world : Settings → List (List Entry) → World
-opening_world K R = record {
+-- the service as it is opened from a record of each shard, or from those of a journal: as these left it, with the hints
+-- of the tasks that are hinted again in the queues
+unfoldable pub opening_from : Source → Settings → List (List Entry) → World
+opening_from source K R = record {
   contents = contents_from K R;
-  waiting = held_at_opening (opens K R);
+  waiting = held_at_opening (opens_from source K R);
   records = map (record_at R) (range_with_len 0 K.shards);
   steps = [];
 }
+
+-- the same from records
+abbrev pub opening_world : Settings → List (List Entry) → World
+opening_world = opening_from FromRecords
 
 -- a shard's content
 abbrev pub content_at : Settings → List Content → ℕ → Content
@@ -113,7 +120,7 @@ poll_at K W (Some place) kind at = polled K W (slot_of place kind) at (waiting_a
 abbrev pub poll : Settings → World → APoll → Came
 poll K W q = poll_at K W (place_in K.queues q.task_queue) q.kind q.at
 
--- a hint behind all that wait in the queue of a slot, where there is room
+-- a hint after all that wait in the queue of a slot, where there is room
 abbrev pub pushed_at : Settings → World → ℕ → Hint → Result World Refusal
 pushed_at K W slot hint =
     let hints = waiting_at W slot in

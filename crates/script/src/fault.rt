@@ -24,7 +24,7 @@ pub enum ScriptFault {
     #[error("the records are neither none nor one of each shard")]
     Records,
     /// The tasks that wait in the records are more than their queues hold.
-    #[error("more tasks wait in the records than their queues hold")]
+    #[error("more tasks wait in the records than their queues hold: raise --capacity")]
     QueueFull,
 }
 

@@ -2,7 +2,7 @@
 //!
 //! `run_one` serves the lines of a reader one after another, and writes one reply line for each.
 //! What it prints is the definition `output`: the replies of the sequential service to the lines
-//! of the text, one after another, under the lines' numbers, and where it is asked for, behind the
+//! of the text, one after another, under the lines' numbers, and where it is asked for, after the
 //! last one all steps that were made. `run_from` does the same from where records end, and both give
 //! the record of each shard.
 #![tactic(auto)]

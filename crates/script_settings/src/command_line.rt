@@ -17,7 +17,7 @@ pub struct CommandLine<'a> {
     /// The folder in which the journal is that the service is opened from, and that its steps go to
     /// before they are answered. None of the three others is given beside it.
     pub journal: Option<&'a str>,
-    /// Whether the one history of all shards is printed behind the last reply. It begins with the
+    /// Whether the one history of all shards is printed after the last reply. It begins with the
     /// first step of each shard, so no records are loaded then.
     pub trace: bool,
     ghost fresh: { trace ≡ true → load ≡ None },

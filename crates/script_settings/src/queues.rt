@@ -37,7 +37,7 @@ fn names_of(alloc: Global, parts: &[&str]) -> Result<Items<Id>, Refusal>
     Ok(Items::from_vec(names))
 }
 
-/// Want of memory, which is told in clap's words.
+/// Out of memory, which is told in clap's words.
 fn memory(error: AllocError) -> Fault
     ensures { (rows : List Row) → IsQueuesFault rows result }
 {

@@ -51,7 +51,7 @@ x
 {"activities":0,"cancels":0,"children":0,"held":1,"length":3,"line":4,"ok":"described","run":"00000000-0001-8000-8000-000000000001","signals":0,"status":"Running","timers":0}
 "#,
     },
-    // A signal is held back, so a completion that closes its run fails.
+    // A signal is buffered, so a completion that closes its run fails.
     Row {
         record: "",
         script: br#"{"request_id": "r1", "task_queue": "main", "workflow_id": "a", "workflow_type": "w", "op": "start"}
@@ -128,7 +128,7 @@ fn run<S: KeepsShard, H: Abort + AllocGlobal + Wait, R: Read, W: Write>(
     }
 }
 
-/// Whether, of a reader that fails behind so many bytes, the lines that end in what was read are replied
+/// Whether, of a reader that fails after so many bytes, the lines that end in what was read are replied
 /// to, and no others.
 fn reads_so_many<S: KeepsShard, H: Abort + AllocGlobal + Wait>(
     rt: &H,
@@ -200,7 +200,7 @@ pub(crate) fn writers_fail_at_each_byte<S: KeepsShard, H: Abort + AllocGlobal + 
     }
 }
 
-/// The replies are flushed behind what was read, at the end of the input, and behind the reply to
+/// The replies are flushed after what was read, at the end of the input, and after the reply to
 /// the last line, which has no line feed. None of these flushes is lost where it fails.
 pub(crate) fn writers_whose_flush_fails<S: KeepsShard, H: Abort + AllocGlobal + Wait>(rt: &H) {
     for row in &ROWS {

@@ -54,7 +54,7 @@ fn begins(bytes: &[u8]) -> bool {
     }
 }
 
-/// Whether this stands behind what the first phase prints.
+/// Whether this stands after what the first phase prints.
 fn ends_in(bytes: &[u8], part: &[u8]) -> bool {
     match bytes.get(FIRST.len()..) {
         Some(behind) => behind.starts_with(part),
@@ -78,7 +78,7 @@ fn run<
     serve::<S, _, _, _>(rt, &settings, false, Vec::new(rt.alloc()), reader, writer)
 }
 
-/// Whether, of a reader that fails behind so many bytes, the lines that end in what was read are replied
+/// Whether, of a reader that fails after so many bytes, the lines that end in what was read are replied
 /// to, and no others.
 fn reads_so_many<S: KeepsShard + Send + Sync, H: Abort + AllocGlobal + Threads + Wait + Sync>(
     rt: &H,
@@ -104,7 +104,7 @@ fn are_replies(written: &[u8], left: usize) -> bool {
         && matches!(written.last(), None | Some(b'\n'))
 }
 
-/// A fault of the reader comes when the lines that it gave before are answered, also those behind the
+/// A fault of the reader comes when the lines that it gave before are answered, also those after the
 /// last barrier: lanes answer what one read gave before they read on.
 pub(crate) fn readers_fail_at_each_byte<
     S: KeepsShard + Send + Sync,
@@ -159,7 +159,7 @@ pub(crate) fn writers_fail_at_each_byte<
     }
 }
 
-/// How many bytes are told by so many flushes: at the barrier, behind what the one read gave, and behind
+/// How many bytes are told by so many flushes: at the barrier, after what the one read gave, and after
 /// the last line.
 fn flushed(flushes: u64) -> usize {
     match flushes {

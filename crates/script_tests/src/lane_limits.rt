@@ -10,7 +10,7 @@ use wire_counted::Counted;
 
 const LANES: u64 = 256;
 
-/// A start in each lane, and behind a barrier a description of the next lane's workflow.
+/// A start in each lane, and after a barrier a description of the next lane's workflow.
 fn script(alloc: Global) -> Result<String, AllocError> {
     let mut text = String::new(alloc);
     for lane in 0..LANES {
@@ -36,7 +36,7 @@ fn count(bytes: &[u8], words: &str) -> usize {
     }
 }
 
-/// All lanes are served, and behind the barrier each sees what another one did.
+/// All lanes are served, and after the barrier each sees what another one did.
 pub(crate) fn as_many_lanes_as_there_may_be<
     S: KeepsShard + Send + Sync,
     H: Abort + AllocGlobal + Threads + Wait + Sync,

@@ -70,7 +70,7 @@ pub(crate) fn serve<
     }
 }
 
-/// The records behind a script none of whose replies was a refusal.
+/// The records after a script none of whose replies was a refusal.
 pub(crate) fn records_of<R: Abort>(rt: &R, end: End) -> Vec<Record<Request>> {
     match end {
         End::Served(false, records) => records,

@@ -1,4 +1,4 @@
-//! The steps of all lanes as one list, behind the last reply.
+//! The steps of all lanes as one list, after the last reply.
 
 use crate::lane_serving::{End, serve, settings};
 use record_text::write;
@@ -39,7 +39,7 @@ fn text_of<R: Abort + AllocGlobal>(rt: &R, steps: &Record<Request>) -> Vec<u8> {
     writer.inner
 }
 
-/// A shard's lines among those of the trace are those of its record, each with more behind it.
+/// A shard's lines among those of the trace are those of its record, each with more after it.
 fn is_part_of(record: &str, shard: &str, trace: &str) -> bool {
     let mut steps = trace.lines().filter(|line| line.contains(shard));
     for entry in record.lines() {
@@ -73,7 +73,7 @@ fn are_numbered<R: Abort + AllocGlobal>(rt: &R, trace: &str, count: u64) -> bool
     ticket == count
 }
 
-/// What stands behind the replies, which are as many lines as these.
+/// What stands after the replies, which are as many lines as these.
 fn behind_replies(printed: &str, lines: u64) -> &str {
     let mut rest = printed;
     for _ in 0..lines {

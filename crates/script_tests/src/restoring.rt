@@ -17,7 +17,7 @@ fn is_restored<R: AllocGlobal>(rt: &R, text: &[u8], count: usize, again: &[u8]) 
     written.is_ok() && steps.len() == count && writer.inner.as_slice() == again
 }
 
-/// The number of the first line that is no entry, of a text with such a line behind three others; 0 where
+/// The number of the first line that is no entry, of a text with such a line after three others; 0 where
 /// there is none.
 fn bad_line<R: AllocGlobal>(rt: &R, line: &[u8]) -> Result<u64, AllocError> {
     let mut text = SIGNALS.as_bytes().to_vec(rt.alloc())?;
@@ -67,7 +67,7 @@ fn a_factor_counts_as_a_coefficient(rt: HostRuntime) {
     assert!(rt; is_restored(&rt, older.as_bytes(), 1, now.as_bytes()));
 }
 
-/// The first line that is no entry is told by its number, whatever stands behind it.
+/// The first line that is no entry is told by its number, whatever stands after it.
 #[test]
 fn a_line_that_is_no_entry(rt: HostRuntime) -> Result<(), AllocError> {
     for (about, line) in BAD_LINES {

@@ -1,5 +1,5 @@
 //! A writer that fails at each byte of a script whose steps are printed too, by one lane and by three, and one
-//! whose flushes fail, that behind the steps among them.
+//! whose flushes fail, that after the steps among them.
 
 use crate::lane_serving::{End, serve, settings};
 use script::{ScriptFault, run_one};
@@ -15,7 +15,7 @@ use wire_counted::Counted;
 const SHARDS: u64 = 12;
 
 /// A script whose last line has no line feed, what is printed, which is the replies and a line for each
-/// step, and how often it is flushed: the last time behind the steps.
+/// step, and how often it is flushed: the last time after the steps.
 struct Traced {
     has_lanes: bool,
     script: &'static [u8],
@@ -36,7 +36,7 @@ const SCRIPTS: [Traced; 2] = [
 {"pass":0,"request":{"at":0,"op":"history","workflow_id":"b"},"shard":1,"ticket":2}
 {"pass":0,"request":{"at":0,"op":"history","workflow_id":"m"},"shard":0,"ticket":3}
 "#,
-        // Behind what was read, at the end of the input, behind the last line's reply, and behind the steps.
+        // After what was read, at the end of the input, after the last line's reply, and after the steps.
         flushes: 4,
     },
     Traced {
@@ -49,7 +49,7 @@ const SCRIPTS: [Traced; 2] = [
 {"pass":2,"request":{"at":0,"op":"history","workflow_id":"l"},"shard":11,"ticket":1}
 {"pass":1,"request":{"at":0,"op":"history","workflow_id":"b"},"shard":1,"ticket":2}
 "#,
-        // At the barrier, behind the last line's reply, and behind the steps.
+        // At the barrier, after the last line's reply, and after the steps.
         flushes: 3,
     },
 ];

@@ -3,7 +3,7 @@ use Rattle.std.proofs.Common.{◌≡◌, ℕ, ◌+◌, ◌<◌, ◌≤◌, Bool,
 use Rattle.std.proofs.lemmas.List.{length-map}
 use Rattle.std.proofs.lemmas.List.FromFn.{length-map-range_with_len, map-range_with_len_more}
 use Rattle.std.proofs.lemmas.Bool.Decides.{nat_tests}
-use Rattle.std.specs.Prelude.{All, ◌==◌, ◌||◌, flat_map, length, map, slice_get, if◌then◌else◌, nat_lt, Result, Ok, Err, IfOk, IfErr, MatchResult}
+use Rattle.std.specs.Prelude.{All, ◌==◌, ◌||◌, filter, flat_map, length, map, slice_get, if◌then◌else◌, nat_lt, Result, Ok, Err, IfOk, IfErr, MatchResult}
 use Rattle.std.specs.List.{range_with_len, AllByRecursion}
 use Rattle.wf_event_values.specs.declared.field.Field.TheVariants.{Records}
 use Rattle.wf_event_values.specs.declared.refusal.Refusal.{Refusal}
@@ -14,6 +14,9 @@ use Rattle.service_model_types.specs.declared.request.Hint.{Hint}
 use Rattle.service_model_types.specs.declared.settings.Settings.{Settings}
 use Rattle.service_model.specs.Service.{Entry, opening, replay}
 use Rattle.service_model.specs.Waiting.{waiting}
+use Rattle.shard_gate.specs.Sources.{hinted}
+use Rattle.shard_gate.specs.declared.source.Source.{Source}
+use Rattle.shard_gate.specs.declared.source.Source.TheVariants.{Records as FromRecords, Journal as FromJournal}
 use Rattle.service_model.specs.WaitingLaws.{IsNamed}
 use Rattle.service_model.proofs.NamedLemmas.{place-known, waiting-are-named}
 use mathlib.Core.List.{map-map}
@@ -27,7 +30,7 @@ use Rattle.service.specs.Contents.{opening_contents, setup_of}
 use Rattle.service.specs.HeldHints.{HoldAtOpening}
 use Rattle.service.specs.Ranges.{range_fault}
 use Rattle.service.specs.Services.{IsInRange}
-use Rattle.service.specs.Reopening.{are_records, content_from, opens, record_at, records_fault, unless_fault, waiting_from}
+use Rattle.service.specs.Reopening.{are_records, content_from, held_from, most_held, opens_from, record_at, records_fault, unless_fault, waiting_from}
 use Rattle.service_model.proofs.QueueLemmas.{all-both as all-append}
 
 -- the records of a list, one by one from a number on
@@ -105,7 +108,7 @@ tails {B = B} f n g x xs same = ap tail_of same
 pub given-count : (K : Settings) (gs : List Given) → map (λ (g : Given). g.0) gs ≡ map (λ k. setup_of K k) (range_with_len 0 K.shards) → length gs ≡ K.shards
 given-count K gs same = sym (length-map gs (λ (g : Given). g.0)) ∙ ap length same ∙ length-map-range_with_len (λ k. setup_of K k) 0 K.shards
 
--- the same, each behind as many numbers as there are of them
+-- the same, each after as many numbers as there are of them
 pub each-of : {B : Type 0} (K : Settings) (gs : List Given) (f : Given → B) (g : ℕ → B) → length gs ≡ K.shards → map f gs ≡ map g (range_with_len 0 K.shards) → map f gs ≡ map g (range_with_len 0 (length gs))
 each-of K gs f g count same = same ∙ ap (λ n. map g (range_with_len 0 n)) (sym count)
 
@@ -127,26 +130,26 @@ pub opens-with : (K : Settings) (gs : List Given) → map (λ (g : Given). g.0) 
 opens-with K gs same =
     sym (map-map opening (λ (g : Given). g.0) gs) ∙ ap (map opening) same ∙ map-map opening (λ k. setup_of K k) (range_with_len 0 K.shards)
 
-waits-from : (K : Settings) (R : List (List Entry)) (n : ℕ) (gs : List Given)
+waits-from : (source : Source) (K : Settings) (R : List (List Entry)) (n : ℕ) (gs : List Given)
     → map (λ (g : Given). g.0) gs ≡ map (λ k. setup_of K k) (range_with_len n (length gs))
     → map (λ (g : Given). g.1) gs ≡ map (record_at R) (range_with_len n (length gs))
-    → waiting_in gs ≡ flat_map waiting (map (content_from K R) (range_with_len n (length gs)))
-waits-from K R n [] setups logs = refl
-waits-from K R n (g ∷ gs) setups logs =
-    let here : waiting (replay g.0 g.1) ≡ waiting (content_from K R n) =
-    ap (λ s. waiting (replay s g.1)) (heads (λ (g : Given). g.0) n (λ k. setup_of K k) g gs setups) ∙ ap (λ l. waiting (replay (setup_of K n) l)) (heads (λ (g : Given). g.1) n (record_at R) g gs logs) in
-    let rest = waits-from K R (n + 1) gs (tails (λ (g : Given). g.0) n (λ k. setup_of K k) g gs setups) (tails (λ (g : Given). g.1) n (record_at R) g gs logs) in
-    ap (λ t. t ++ waiting_in gs) here ∙ ap (λ t. waiting (content_from K R n) ++ t) rest
+    → waiting_in source gs ≡ flat_map (hinted source) (map (content_from K R) (range_with_len n (length gs)))
+waits-from source K R n [] setups logs = refl
+waits-from source K R n (g ∷ gs) setups logs =
+    let here : hinted source (replay g.0 g.1) ≡ hinted source (content_from K R n) =
+    ap (λ s. hinted source (replay s g.1)) (heads (λ (g : Given). g.0) n (λ k. setup_of K k) g gs setups) ∙ ap (λ l. hinted source (replay (setup_of K n) l)) (heads (λ (g : Given). g.1) n (record_at R) g gs logs) in
+    let rest = waits-from source K R (n + 1) gs (tails (λ (g : Given). g.0) n (λ k. setup_of K k) g gs setups) (tails (λ (g : Given). g.1) n (record_at R) g gs logs) in
+    ap (λ t. t ++ waiting_in source gs) here ∙ ap (λ t. hinted source (content_from K R n) ++ t) rest
 
 -- the tasks that wait on them are those that wait in the contents which the records leave
-pub waiting-is : (K : Settings) (R : List (List Entry)) (gs : List Given)
+pub waiting-is : (source : Source) (K : Settings) (R : List (List Entry)) (gs : List Given)
     → map (λ (g : Given). g.0) gs ≡ map (λ k. setup_of K k) (range_with_len 0 K.shards)
     → map (λ (g : Given). g.1) gs ≡ map (record_at R) (range_with_len 0 K.shards)
-    → waiting_in gs ≡ waiting_from K R
-waiting-is K R gs setups logs =
+    → waiting_in source gs ≡ waiting_from source K R
+waiting-is source K R gs setups logs =
     let count = given-count K gs setups in
-    waits-from K R 0 gs (each-of K gs (λ (g : Given). g.0) (λ k. setup_of K k) count setups) (each-of K gs (λ (g : Given). g.1) (record_at R) count logs)
-    ∙ ap (λ n. flat_map waiting (map (content_from K R) (range_with_len 0 n))) count
+    waits-from source K R 0 gs (each-of K gs (λ (g : Given). g.0) (λ k. setup_of K k) count setups) (each-of K gs (λ (g : Given). g.1) (record_at R) count logs)
+    ∙ ap (λ n. flat_map (hinted source) (map (content_from K R) (range_with_len 0 n))) count
 
 -- what stands at a place of what was made of numbers from one on
 at-range : (f : ℕ → List Entry) (n m s : ℕ) → s < m → at (map f (range_with_len n m)) s ≡ f (n + s)
@@ -165,7 +168,7 @@ record-end [] s past = refl
 record-end (x ∷ xs) zero past = absurd (omega arith)
 record-end (x ∷ xs) (suc s) past = record-end xs s (omega arith)
 
--- a list of records has none behind the last shard
+-- a list of records has none after the last shard
 few : (K : Settings) (R : List (List Entry)) → are_records K R ≡ true → length R ≤ K.shards
 few K R right = by_length (length R) refl
   where
@@ -191,15 +194,27 @@ goes-from : (K : Settings) (n : ℕ) → n < K.shards → (ds : List Dispatch) �
 goes-from K n below [] h = tt
 goes-from K n below (d ∷ ds) h = ((subst (λ s. s < K.shards) (sym h.0.shard) below, place-known (setup_of K n) d h.0), goes-from K n below ds h.1)
 
-all-go : (K : Settings) (R : List (List Entry)) (n m : ℕ) → n + m ≤ K.shards → AllByRecursion (GoesToQueue K) (flat_map waiting (map (content_from K R) (range_with_len n m)))
-all-go K R n zero below = tt
-all-go K R n (suc m) below =
-    all-append (GoesToQueue K) (waiting (content_from K R n)) _ (goes-from K n (omega (arith, below)) (waiting (content_from K R n)) (waiting-are-named (setup_of K n) (record_at R n)))
-    (all-go K R (n + 1) m (omega (arith, below)))
+all-kept : {A : Type 0} (P : A → Type 0) (p : A → Bool) (xs : List A) → AllByRecursion P xs → AllByRecursion P (filter p xs)
+all-kept P p [] h = tt
+all-kept P p (x ∷ xs) h = by_test (p x) (all-kept P p xs h.1)
+  where
+    by_test : (b : Bool) → AllByRecursion P (filter p xs) → AllByRecursion P (if b then x ∷ filter p xs else filter p xs)
+    by_test true rest = (h.0, rest)
+    by_test false rest = rest
+
+hinted-named : (source : Source) (setup : Setup) (R : List Entry) → AllByRecursion (IsNamed setup) (hinted source (replay setup R))
+hinted-named FromRecords setup R = waiting-are-named setup R
+hinted-named FromJournal setup R = all-kept (IsNamed setup) _ (waiting (replay setup R)) (waiting-are-named setup R)
+
+all-go : (source : Source) (K : Settings) (R : List (List Entry)) (n m : ℕ) → n + m ≤ K.shards → AllByRecursion (GoesToQueue K) (flat_map (hinted source) (map (content_from K R) (range_with_len n m)))
+all-go source K R n zero below = tt
+all-go source K R n (suc m) below =
+    all-append (GoesToQueue K) (hinted source (content_from K R n)) _ (goes-from K n (omega (arith, below)) (hinted source (content_from K R n)) (hinted-named source (setup_of K n) (record_at R n)))
+    (all-go source K R (n + 1) m (omega (arith, below)))
 
 -- all tasks that wait go to queues that are there
-pub waiting-go : (K : Settings) (R : List (List Entry)) → AllByRecursion (GoesToQueue K) (waiting_from K R)
-waiting-go K R = all-go K R 0 K.shards (omega arith)
+pub waiting-go : (source : Source) (K : Settings) (R : List (List Entry)) → AllByRecursion (GoesToQueue K) (waiting_from source K R)
+waiting-go source K R = all-go source K R 0 K.shards (omega arith)
 
 each-at : {A : Type 0} (P : A → Type 0) (xs : List A) → AllByRecursion P xs → (k : ℕ) (d : A) → k < length xs → P (slice_index_or xs k d)
 each-at P [] h k d below = absurd (omega arith)
@@ -207,16 +222,16 @@ each-at P (x ∷ xs) h zero d below = h.0
 each-at P (x ∷ xs) h (suc k) d below = each-at P xs h.1 k d (omega arith)
 
 -- their shards are there
-pub waiting-there : (K : Settings) (R : List (List Entry)) → All (λ (d : Dispatch). d.hint.shard < K.shards) (waiting_from K R)
-waiting-there K R = λ k d below. (each-at (GoesToQueue K) (waiting_from K R) (waiting-go K R) k d below).0
+pub waiting-there : (source : Source) (K : Settings) (R : List (List Entry)) → All (λ (d : Dispatch). d.hint.shard < K.shards) (waiting_from source K R)
+waiting-there source K R = λ k d below. (each-at (GoesToQueue K) (waiting_from source K R) (waiting-go source K R) k d below).0
 
 -- ---- what opening comes to
 
 -- the settings are in their ranges and the records are as many as they have to be: then the pushes decide
-pub opens-as : (K : Settings) (R : List (List Entry)) (ds : List Dispatch) (r : Result (List (List Hint)) Refusal) → range_fault K ≡ Ok tt → records_fault K R ≡ Ok tt → ds ≡ waiting_from K R → held_by K.queues K.capacity ds ≡ r → opens K R ≡ r
-opens-as K R ds r range right is pushed =
-    ap (λ f. unless_fault f (unless_fault (records_fault K R) (held_by K.queues K.capacity (waiting_from K R)))) range
-    ∙ ap (λ f. unless_fault f (held_by K.queues K.capacity (waiting_from K R))) right ∙ ap (held_by K.queues K.capacity) (sym is) ∙ pushed
+pub opens-as : (source : Source) (K : Settings) (R : List (List Entry)) (ds : List Dispatch) (r : Result (List (List Hint)) Refusal) → range_fault K ≡ Ok tt → records_fault K R ≡ Ok tt → ds ≡ waiting_from source K R → held_from source K ds ≡ r → opens_from source K R ≡ r
+opens-as source K R ds r range right is pushed =
+    ap (λ f. unless_fault f (unless_fault (records_fault K R) (held_from source K (waiting_from source K R)))) range
+    ∙ ap (λ f. unless_fault f (held_from source K (waiting_from source K R))) right ∙ ap (held_from source K) (sym is) ∙ pushed
 
 -- what a result is, where it is known of it twice
 pub both-ok : {A E : Type 0} (P Q R : A → Type 0) (S : E → Type 0) (r : Result A E) → MatchResult r P S → IfOk r Q → ((x : A) → P x → Q x → R x) → IfOk r R
@@ -228,11 +243,11 @@ err-of P S (Ok x) h = tt
 err-of P S (Err e) h = h
 
 -- the passes of queues into which the dispatches were pushed
-pub holds-pushed : (K : Settings) (names : List (List ℕ)) (capacity passes shards : ℕ) (ds : List Dispatch) (all : List (List Hint)) (ps : List QueuesPass)
-    → names ≡ K.queues → capacity ≡ K.capacity → passes ≡ K.passes → shards ≡ K.shards
-    → held_by names capacity ds ≡ Ok all → ((k : ℕ) (p : QueuesPass) → slice_get ps k ≡ Some p → IsFresh passes shards capacity all k p) → HoldAtOpening K ds ps
-holds-pushed K names capacity passes shards ds all ps is room many wide pushes fresh = record {
+pub holds-pushed : (source : Source) (K : Settings) (names : List (List ℕ)) (most capacity passes shards : ℕ) (ds : List Dispatch) (all : List (List Hint)) (ps : List QueuesPass)
+    → names ≡ K.queues → most ≡ most_held source K ds → capacity ≡ K.capacity → passes ≡ K.passes → shards ≡ K.shards
+    → held_by names most ds ≡ Ok all → ((k : ℕ) (p : QueuesPass) → slice_get ps k ≡ Some p → IsFresh passes shards capacity all k p) → HoldAtOpening source K ds ps
+holds-pushed source K names most capacity passes shards ds all ps is few room many wide pushes fresh = record {
   held = all;
-  pushed = sym (ap (λ t. held_by t capacity ds) is ∙ ap (λ n. held_by K.queues n ds) room) ∙ pushes;
+  pushed = sym (ap (λ t. held_by t most ds) is ∙ ap (λ n. held_by K.queues n ds) few) ∙ pushes;
   fresh = rw (many, wide, room) at fresh;
 }

@@ -117,7 +117,7 @@ after-asked : (S : Content) (q : Request) (t : Transfer) → q.operation ≡ Del
 unfolding after
 after-asked S q t is = ap (after_asking S q.at) is
 
--- a reply that is the sequential service's after a record says of transfers what that does
+-- a reply that is the sequential service's after a record says about transfers what that does
 sequential : (x : Service) (v w : View Request Content) (shard : ℕ) (front : List Entry) (q : Request) (r : Reply) → r ≡ answer (content_of x shard front) q
     → KeepsHistories (content_of x shard (gate.seen v shard)) (content_of x shard (gate.seen w shard)) → IsSequential x v w shard front q r
 sequential x v w shard front q r reply kept = record {
@@ -199,7 +199,7 @@ by-step o served v w r none h = let P : Option Refusal → Type 0 = λ o. Answer
 pub by-refusal : (o : Option Refusal) (served : Type 0) (v : View Request Content) (e : Refusal) → o ≡ Some e → Answered o served v v (Err e)
 by-refusal o served v e some = let P : Option Refusal → Type 0 = λ o. Answered o served v v (Err e) in subst P (sym some) (refl, refl)
 
--- what two clauses say of the value of an Ok
+-- what two clauses say about the value of an Ok
 pub both : {T E : Type 0} (r : Result T E) (P Q R : T → Type 0) → ((x : T) → P x → Q x → R x) → IfOk r P → IfOk r Q → IfOk r R
 both (Ok x) P Q R f h k = f x h k
 both (Err e) P Q R f h k = tt

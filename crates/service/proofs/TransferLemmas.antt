@@ -1,4 +1,4 @@
--- the parts of a transfer turn behind its first one
+-- the parts of a transfer turn after its first one
 use Rattle.std.proofs.Common.{◌≡◌, ◌≢◌, true, refl, sym, subst, Some, inr}
 use Rattle.std.specs.Prelude.{Result, Ok, Err, OnErr}
 use Rattle.service_model_types.specs.declared.call.Stop.{Stop}
@@ -29,12 +29,12 @@ then-delivered x q t v met w next r step found stop done = record {
     by_stop AfterFirstPart apart = absurd (apart refl)
     by_stop AfterSecondPart apart = done
 
--- a transfer was read, and memory was refused behind that
+-- a transfer was read, and memory was refused after that
 pub then-kept : {T E : Type 0} (result : Result T E) (x : Service) (q : TransferTurn) (t : Transfer) (v met w : View Request Content) (next : Reply) → IsServedAtLast x v met q.from (to_next_transfer q.at q.to) next → transfer_of next ≡ Some t → OnErr result (DeliveryKept x q t met w) → OnErr result (TransferKept x q v w)
 then-kept (Ok r) x q t v met w next step found kept = tt
 then-kept (Err e) x q t v met w next step found kept = inr (record { next = next; met = met; step = step; taken = t; found = found; rest = kept })
 
--- a transfer was delivered, and memory was refused behind that
+-- a transfer was delivered, and memory was refused after that
 pub not-acknowledged : {T E : Type 0} (result : Result T E) (x : Service) (q : TransferTurn) (t : Transfer) (v met w : View Request Content) (reply : Reply) → IsServedAtLast x v met q.to (to_deliver q.at t) reply → goes_on q.stop reply ≡ true → Waited met w q.from → OnErr result (DeliveryKept x q t v w)
 not-acknowledged (Ok r) x q t v met w reply step behind waited = tt
 not-acknowledged (Err e) x q t v met w reply step behind waited = inr (record { reply = reply; met = met; step = step; behind = behind; waited = waited })

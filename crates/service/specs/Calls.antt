@@ -1,9 +1,8 @@
 -- MEANING: what a call of any kind comes to
-use Rattle.std.specs.Prelude.{◌≡◌, Option, None, Some, Ok, Err}
+use Rattle.std.specs.Prelude.{◌≡◌, Option, None, Some, Ok}
 use Rattle.service_model_types.specs.declared.answer.Answer.TheVariants as answer
 use Rattle.service_model_types.specs.declared.call.Call.{Call}
 use Rattle.service_model_types.specs.declared.call.Call.TheVariants.{Step, Poll, DispatchTurn, TransferTurn}
-use Rattle.service_model_types.specs.declared.call.DispatchTurn.{DispatchTurn as ADispatchTurn}
 use Rattle.service_model_types.specs.declared.call.Poll.{Poll as APoll}
 use Rattle.service_model_types.specs.declared.request.Hint.{Hint}
 use Rattle.service_model_types.specs.Calls.{request_of}

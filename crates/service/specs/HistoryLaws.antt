@@ -1,4 +1,4 @@
--- MEANING: what the one history of all shards says of the transfers between them
+-- MEANING: what the one history of all shards says about the transfers between them
 use Rattle.std.specs.Prelude.{◌≡◌, ℕ, List, [], ◌++◌}
 use Rattle.service.specs.ServiceViews.{Service}
 use Rattle.service_model.specs.Service.{Entry}

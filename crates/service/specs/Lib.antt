@@ -9,6 +9,7 @@ pub mod HeldPasses
 pub mod HistoryLaws
 pub mod Ranges
 pub mod Reopening
+pub mod JournalLaws
 pub mod Services
 pub mod TransferTurns
 pub mod Turns

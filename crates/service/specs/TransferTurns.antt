@@ -20,7 +20,7 @@ pub record Acknowledges (x : Service) (q : TransferTurn) (number : ℕ) (v w : V
   pub reply : Reply
   pub step : IsServedAtLast x v w q.from (to_acknowledge q.at q.to number) reply
 
--- whether a turn goes on behind the delivery: where the transfer took effect, now or before, and the turn isn't to end there
+-- whether a turn goes on after the delivery: where the transfer took effect, now or before, and the turn isn't to end there
 abbrev pub goes_on : Stop → Reply → Bool
 goes_on AtEnd r = is_delivered r
 goes_on _ r = false
@@ -56,7 +56,7 @@ pub record Transfers (x : Service) (q : TransferTurn) (v w : View Request Conten
 abbrev pub TransferTurns : Service → TransferTurn → (v w : View Request Content) → Reply → Type 0
 TransferTurns x q v w r = Answered (ends_refusal x.settings q.from q.to) (Transfers x q v w r) v w r
 
--- where memory was refused behind the delivery, behind which the turn goes on: the transfer took effect, and isn't acknowledged
+-- where memory was refused after the delivery, after which the turn goes on: the transfer took effect, and isn't acknowledged
 pub record StaysDelivered (x : Service) (q : TransferTurn) (t : Transfer) (v w : View Request Content) : Type 0 where
   pub reply : Reply
   pub met : View Request Content
@@ -67,7 +67,7 @@ pub record StaysDelivered (x : Service) (q : TransferTurn) (t : Transfer) (v w :
 abbrev pub DeliveryKept : Service → TransferTurn → Transfer → (v w : View Request Content) → Type 0
 DeliveryKept x q t v w = Waited v w q.to ⊎ StaysDelivered x q t v w
 
--- where it was refused behind the first part, which answered a transfer
+-- where it was refused after the first part, which answered a transfer
 pub record StaysRead (x : Service) (q : TransferTurn) (v w : View Request Content) : Type 0 where
   pub next : Reply
   pub met : View Request Content

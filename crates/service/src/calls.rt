@@ -135,7 +135,7 @@ impl<S: ShardObject> Service<S> {
     }
 
     /// Describes the workflow ID's run, the named one or the latest (Temporal,
-    /// DescribeWorkflowExecution): its status, and how much is pending, held back and in its history.
+    /// DescribeWorkflowExecution): its status, and how much is pending, buffered and in its history.
     /// It may wait for ever.
     ///
     /// # Errors

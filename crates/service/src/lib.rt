@@ -32,6 +32,8 @@ mod workflows;
 
 pub use gate::Refused;
 pub use held::Held;
-pub use laws::histories_are_in_order;
+pub use laws::{histories_are_in_order, journals_are_opened};
 pub use service::{Pass, Service};
-pub use shard_gate::{Closed, Handing, HandsOut, KeepsRecord, KeepsShard, ShardObject, Tail};
+pub use shard_gate::{
+    Closed, Handing, HandsOut, KeepsRecord, KeepsShard, ShardObject, Source, Tail,
+};

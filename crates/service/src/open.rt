@@ -6,10 +6,9 @@
 //! pass of the service. The room that `close` needs is made here.
 
 ghost use Rattle.std.specs.Prelude.{◌≡◌, ◌≢◌, ℕ, ◌<◌, All, Some, Err, length, map, slice_get, IfOk, IfErr};
-ghost use Rattle.matching.specs.Holding.{held_by};
 ghost use Rattle.matching.specs.Named.{IsPassOf as IsPassOfQueues, capacity_of, given_of, names_of, shards_of};
-ghost use Rattle.service.specs.HeldHints.{HoldAtOpening, Opens};
-ghost use Rattle.service.specs.Reopening.{opens, records_fault};
+ghost use Rattle.service.specs.HeldHints.{HoldAtOpening, Opens, OpensFrom};
+ghost use Rattle.service.specs.Reopening.{held_from, most_held, opens, opens_from, records_fault};
 ghost use Rattle.service.specs.Ranges.{are_different, are_queues, range_fault, stands_in};
 ghost use Rattle.service.specs.ServiceViews.{Pass as PassView};
 ghost use Rattle.service.specs.Services.{IsInRange};
@@ -24,7 +23,7 @@ use service_model_types::limits::{
 };
 use service_model_types::request::Request;
 use service_model_types::settings::Settings;
-use shard_gate::{Opened, ShardGate, ShardObject, ShardPass};
+use shard_gate::{Opened, ShardGate, ShardObject, ShardPass, Source};
 use std::alloc::{AllocError, Global};
 use std::sync::Mutex;
 use step_record::Record;
@@ -51,6 +50,26 @@ impl<S: ShardObject> Service<S> {
         ensures err { IfErr result (λ e.
             e ≢ Refusal.NoMemory → opens settings.now records.items ≡ Err e) }
     {
+        Service::open_from(alloc, Source::Records, settings, records)
+    }
+
+    /// The same from records or from a journal's. From a journal it is never refused for the tasks that
+    /// wait: the hints of those whose dispatches were counted are in their queues again, however many
+    /// these are. The other tasks are handed over by dispatch turns.
+    ///
+    /// # Errors
+    /// Those of `open`; `QueueFull` from records alone.
+    pub fn open_from(
+        alloc: Global,
+        source: Source,
+        settings: &Settings,
+        records: Vec<Record<Request>>,
+    ) -> Result<(Service<S>, Vec<Pass<S>>), Refusal>
+        ensures ok { IfOk result (λ r.
+            OpensFrom source settings.now records.items r.0 r.1.items) }
+        ensures err { IfErr result (λ e. e ≢ Refusal.NoMemory
+            → opens_from source settings.now records.items ≡ Err e) }
+    {
         check_ranges(settings)?;
         check_records(settings, &records)?;
         let given = setups_and_records(alloc, settings, records)?;
@@ -58,8 +77,8 @@ impl<S: ShardObject> Service<S> {
             gate,
             passes: inner,
             waiting,
-        } = ShardGate::open(alloc, given, settings.passes as usize)?;
-        let (queues, hints) = open_queues(alloc, settings, waiting)?;
+        } = ShardGate::open(alloc, given, source, settings.passes as usize)?;
+        let (queues, hints) = open_queues(alloc, source, settings, waiting)?;
         let passes = paired(alloc, inner, hints)?;
         let room = PassRoom::new(alloc)?;
         let service = Service {
@@ -135,9 +154,20 @@ fn stands_in(names: &[Id], name: &Id) -> bool
     names.iter().any(|other| other == name)
 }
 
+/// How many hints may wait in one queue at the opening.
+fn most_held(source: Source, settings: &Settings, waiting: &Vec<Dispatch>) -> usize
+    ensures { result ≡ most_held source settings.now waiting.now.items }
+{
+    match source {
+        Source::Records => settings.capacity as usize,
+        Source::Journal => waiting.len(),
+    }
+}
+
 /// The task queues, which hold the hints of the tasks that wait, and what each pass calls them with.
 fn open_queues(
     alloc: Global,
+    source: Source,
     settings: &Settings,
     waiting: Vec<Dispatch>,
 ) -> Result<(Queues, Vec<QueuesPass>), Refusal>
@@ -152,15 +182,16 @@ fn open_queues(
         (k : ℕ) (p : QueuesPass) → slice_get r.1.items k ≡ Some p
         → IsPassOfQueues p r.0) }
     ensures held { IfOk result (λ r.
-        HoldAtOpening settings.now waiting.items r.1.items) }
+        HoldAtOpening source settings.now waiting.items r.1.items) }
     ensures err { IfErr result (λ e. e ≢ Refusal.NoMemory
-        → held_by settings.now.queues settings.now.capacity waiting.items ≡ Err e) }
+        → held_from source settings.now waiting.items ≡ Err e) }
 {
     let names = settings.copy_queues(alloc)?.into_vec();
     let capacity = settings.capacity as usize;
     let passes = settings.passes as usize;
     let shards = settings.shards as u16;
-    Queues::open(alloc, names, capacity, passes, shards, waiting)
+    let most = most_held(source, settings, &waiting);
+    Queues::open(alloc, names, capacity, passes, shards, waiting, most)
 }
 
 /// The passes on the shards with those at the queues.

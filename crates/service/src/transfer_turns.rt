@@ -90,7 +90,7 @@ impl<S: ShardObject> Service<S> {
         self.deliver(rt, pass, turn, transfer)
     }
 
-    /// The parts of a transfer turn behind its first one.
+    /// The parts of a transfer turn after its first one.
     fn deliver<R: Wait>(
         &self,
         rt: &R,
@@ -178,7 +178,7 @@ impl<S: ShardObject> Service<S> {
     }
 }
 
-/// Whether a turn goes on behind the delivery.
+/// Whether a turn goes on after the delivery.
 fn goes_on(stop: Stop, reply: &Reply) -> bool
     ensures { result ≡ goes_on stop reply.now }
 {

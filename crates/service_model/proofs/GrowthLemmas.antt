@@ -10,7 +10,8 @@ use Rattle.service_model.specs.Counts.{outgoing_to}
 use Rattle.service_model.specs.Deadlines.{is_closing_event}
 use Rattle.service_model.specs.Deliveries.{accepted_from}
 use Rattle.service_model.specs.GroundGrowth.{outcome-accepted, outcome-issued}
-use Rattle.service_model.specs.Growth.{HasOneOpen, KeepsHistories, keeps-on, keeps-same, named-alike, not-away, there-alike}
+use Rattle.service_model.specs.Growth.{HasOneOpen, KeepsHistories}
+use Rattle.service_model.specs.GrowthLaws.{keeps-on, keeps-same, named-alike, not-away, there-alike}
 use Rattle.service_model.specs.Journal.{Journal}
 use Rattle.service_model.specs.Outcome.{Outcome, Added, Counting, CountsNothing, AcceptsFrom, AcknowledgesTo, CountsDispatch}
 use Rattle.service_model.specs.RunState.{RunState, beginning, id_of, is_open, is_there, state_of}
@@ -63,7 +64,7 @@ at-place (y ∷ xs) (suc n) x d is = at-place xs n x d is
 abbrev pub with_runs : Content → List Journal → Content
 with_runs S runs = record S { runs = runs }
 
--- what a journal may become at a moment: its run shows more, and began as it did, or it is taken away; one that had closed is as it was then; one that closes does so at the moment
+-- what a journal may become at a moment: its run shows more, and began as it did, or it is deleted; one that had closed is as it was then; one that closes does so at the moment
 record Becomes (moment : ℕ) (J X : Journal) : Type 0 where
   shows : (more : List Event) × ((X ≡ []) ⊎ (shown X ≡ shown J ++ more))
   closed : is_open (state_of J) ≡ false → (X ≡ []) ⊎ (X ≡ J)
@@ -355,11 +356,11 @@ keeps-later S m later =
       accepted = λ from. k.accepted from;
     }
 
--- the journal to which a step adds, behind it
+-- the journal to which a step adds, after it
 abbrev with_more : Content → ℕ → Added → Journal
 with_more S m a = journal_at S.runs a.run ++ entries (S.steps + 1) m 0 a.facts
 
--- what a step adds, takes away and makes
+-- what a step adds, deletes and makes
 keeps-added : (S : Content) (m : ℕ) (a : Option Added) → MayAdd S m a → KeepsHistories (record S { last_moment = m }) (record S { last_moment = m; runs = with_added (S.steps + 1) m a S.runs })
 keeps-added S m None h = keeps-same (record S { last_moment = m })
 keeps-added S m (Some a) h = keeps-set (record S { last_moment = m }) (a.run - 1) (with_more S m a) becomes never

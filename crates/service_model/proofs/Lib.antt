@@ -24,4 +24,5 @@ mod TransferRows
 mod ExternalRows
 mod ChildRows
 mod ShardRows
+mod WaitingRows
 mod AgingLawLemmas

@@ -365,7 +365,7 @@ fail_workflow_task-names : (R : Runs) (q : FailWorkflowTask) → AllHaveQueues R
 unfolding fail_workflow_task
 fail_workflow_task-names R q all = either (runs_workflow R q.task) (names (λ there. failed-known R.setup (run_at R q.task.run) _ q.message (all q.task.run there)) tt) (names tt tt)
 
--- what workers say of activities
+-- what workers say about activities
 ends-known : (setup : Setup) (s : RunState) (r : ActivityRow) (last : Attributes) → HasQueue setup s → IsKnown setup last → AllKnown setup (ends_activity s r last)
 ends-known setup s r last queue h = outside-known setup s (attempt_started r ∷ plain last ∷ []) queue (tt, (h, tt))
 

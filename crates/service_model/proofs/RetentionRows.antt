@@ -1,4 +1,4 @@
--- two runs of a workflow that are taken away once their retention is over, computed over the definitions
+-- two runs of a workflow that are deleted once their retention is over, computed over the definitions
 use Rattle.std.proofs.Common.{◌≡◌, List, [], ◌∷◌, ◌++◌, None, Some, refl, Ok, Err}
 use Rattle.service_model_types.specs.declared.answer.Answer.TheVariants as says
 use Rattle.service_model_types.specs.declared.content.Content.{Content}
@@ -45,7 +45,7 @@ away_script = over_script ++ turn 1060 ∷ turn 1100 ∷ []
 abbrev start_again : Step
 start_again = (1100, (timed 0).1)
 
--- each is taken away a second after it closed; neither is found then, and the ordinal of neither is used again
+-- each is deleted a second after it closed; neither is found then, and the ordinal of neither is used again
 pub retentions_end :
     (kept_behind continued_script (turn 100) ≡ fired ExecutionTimeout 100 2 1)
     × (kept_behind over_script (turn 1059) ≡ Ok says.NothingDue)

@@ -86,7 +86,7 @@ turns S m t = by_source (nat_lt t.from S.setup.shards && comes_from S.setup t t.
     by_source true near = by_place near _ refl
     by_source false near = inr (refused-rests _)
 
--- the number behind the last accepted one is the next
+-- the number after the last accepted one is the next
 is-next : (so_far number : ℕ) → number ≡ so_far + 1 → delivery_of so_far number ≡ IsNext
 is-next so_far number is = by_tests (nat_le number so_far) refl (number == so_far + 1) refl
   where

@@ -280,7 +280,7 @@ effect-accepts R t (content.SignalExternal c) = signal-accepts R t c _
 effect-accepts R t (content.CancelExternal c) = cancel-accepts R t c _
 effect-accepts R t (content.ExternalDone c) = answer-accepts R t _ _
 
--- the request delivers the transfer behind the last accepted one of that source
+-- the request delivers the transfer after the last accepted one of that source
 record Delivers (S : Content) (a : Operation) (from : ℕ) : Type 0 where
   transfer : Transfer
   asked : a ≡ operation.Deliver transfer
@@ -291,7 +291,7 @@ record Delivers (S : Content) (a : Operation) (from : ℕ) : Type 0 where
 abbrev HasMore : List Outgoing → ℕ → Type 0
 HasMore all to = (outgoing_to all to).acknowledged < length (outgoing_to all to).issued
 
--- the request acknowledges the transfer behind the last acknowledged one
+-- the request acknowledges the transfer after the last acknowledged one
 record Counts (S : Content) (a : Operation) (to : ℕ) : Type 0 where
   more : HasMore S.outgoing to
   counted : Acknowledge
@@ -475,7 +475,7 @@ one-more (x ∷ xs) (suc n) (suc m) = same (one-more xs n m)
     same (inl h) = inl h
     same (inr h) = inr (ap suc h.0, h.1)
 
--- the numbers accepted from all sources behind a step
+-- the numbers accepted from all sources after a step
 abbrev pub counted : List ℕ → Counting → List ℕ
 counted all CountsNothing = all
 counted all (AcceptsFrom from) = slice_set all from (slice_index_or all from 0 + 1)
@@ -597,7 +597,7 @@ counted-next S a to (AcknowledgesTo at) T g same = told (one-more-counted T.outg
     })
 counted-next S a to CountsDispatch T g same = inl (same to)
 
--- a step acknowledges nothing more of what was sent to a shard, or the transfer behind the last acknowledged one
+-- a step acknowledges nothing more of what was sent to a shard, or the transfer after the last acknowledged one
 pub counts-step : (S : Content) (q : Request) (to : ℕ) → ((outgoing_to (after S q).outgoing to).acknowledged ≡ (outgoing_to S.outgoing to).acknowledged) ⊎ CountsNext q.operation to (outgoing_to (after S q).outgoing to).acknowledged
 unfolding after
 counts-step S q to =

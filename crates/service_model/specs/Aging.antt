@@ -43,7 +43,7 @@ IsAged S = AreAged S.last_moment (map state_of S.runs)
 abbrev pub IsOldest : Content → ℕ → Type 0
 IsOldest S n = IsOldestRun (map state_of S.runs) n
 
--- where the younger of two runs of one workflow ID was taken away, the older was too
+-- where the younger of two runs of one workflow ID was deleted, the older was too
 pub record OlderFirst (old new : Content) : Type 0 where
   pub gone : (m n : ℕ) (s t : RunState) → AreOfOne (map state_of old.runs) m n s t → slice_get new.runs n ≡ Some []
       → slice_get new.runs m ≡ Some []

@@ -1,12 +1,14 @@
--- MEANING: the tasks of a shard that wait to be taken: their hints are pushed anew when a service is opened again
-use Rattle.std.specs.Prelude.{ℕ, if◌then◌else◌, ◌&&◌, ◌==◌, List, filter_map, flat_map, map, Option, None, option_and_then}
-use Rattle.std.specs.List.{enumerate_from}
+-- MEANING: the tasks of a shard that wait to be taken: their hints are pushed anew when a service is opened again, all
+-- of them where it is opened from records, and those whose dispatch was counted where it is opened from a journal
+use Rattle.std.specs.Prelude.{ℕ, if◌then◌else◌, ◌&&◌, ◌==◌, not, Bool, List, drop, filter, filter_map, flat_map, map, Option, None, option_and_then}
+use Rattle.std.specs.List.{enumerate_from, list_any}
 use Rattle.wf_event.specs.declared.event.Event.{Event}
 use Rattle.wf_event.specs.declared.attributes.Attributes.{Attributes}
 use Rattle.wf_event.specs.declared.attributes.Attributes.TheVariants.{WorkflowTaskScheduled, ActivityTaskScheduled}
 use Rattle.service_model_types.specs.declared.content.Content.{Content}
 use Rattle.service_model_types.specs.declared.content.Dispatch.{Dispatch}
 use Rattle.service_model_types.specs.declared.content.Setup.{Setup}
+use Rattle.service_model_types.specs.declared.request.Hint.{Hint}
 use Rattle.service_model.specs.Issued.{row_dispatch, task_dispatch}
 use Rattle.service_model.specs.RunState.{RunState, ActivityRow, last_task, state_of}
 use Rattle.service_model.specs.Tasks.{is_queued, is_scheduled_task, pending_row}
@@ -37,3 +39,19 @@ all_waiting setup states = flat_map (λ (p : ℕ × RunState). waiting_of setup 
 -- the tasks of a shard that wait
 abbrev pub waiting : Content → List Dispatch
 waiting S = all_waiting S.setup (map state_of S.runs)
+
+-- whether two hints of a shard name one task: the same attempt of what one event scheduled
+abbrev pub is_same_task : Hint → Hint → Bool
+is_same_task h other = (h.run == other.run) && ((h.event == other.event) && (h.attempt == other.attempt))
+
+-- whether one of these dispatches hands over the task
+abbrev pub hands_over : List Dispatch → Dispatch → Bool
+hands_over ds d = list_any (λ (other : Dispatch). is_same_task d.hint other.hint) ds
+
+-- those of these tasks that none of the dispatches hands over
+abbrev pub not_handed_over : List Dispatch → List Dispatch → List Dispatch
+not_handed_over ds tasks = filter (λ d. not (hands_over ds d)) tasks
+
+-- the tasks of a shard that wait and whose dispatches were counted; the hints of the others come by dispatch turns
+abbrev pub waiting_counted : Content → List Dispatch
+waiting_counted S = not_handed_over (drop S.dispatched S.dispatches) (waiting S)

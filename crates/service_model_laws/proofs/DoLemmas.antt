@@ -121,7 +121,7 @@ abbrev pub CreatedMay : Runs → Option Added → Option (List Fact) → Type 0
 CreatedMay R a None = Unit {0}
 CreatedMay R a (Some facts) = IsNew R a facts
 
--- a run that is taken away goes before the younger ones of its workflow ID, and nothing else is done
+-- a run that is deleted goes before the younger ones of its workflow ID, and nothing else is done
 abbrev pub RemovedMay : Runs → Option Added → Option (List Fact) → Option ℕ → Type 0
 RemovedMay R a c None = Unit {0}
 RemovedMay R a c (Some n) = (a ≡ None) × (c ≡ None) × ((last : ℕ) → IsOneOpen R.states → AreAged last R.states → IsOldestRun R.states (n - 1))

@@ -16,7 +16,8 @@ use Rattle.service_model_types.specs.declared.content.Setup.{Setup}
 use Rattle.service_model_types.specs.declared.journal.Fact.{Fact}
 use Rattle.service_model_types.specs.declared.request.Request.{Request}
 use Rattle.service_model.specs.Aging.{ClosesAt, IsAged, IsOldestRun}
-use Rattle.service_model.specs.Growth.{HasOneOpen, KeepsHistories, keeps-on, keeps-same}
+use Rattle.service_model.specs.Growth.{HasOneOpen, KeepsHistories}
+use Rattle.service_model.specs.GrowthLaws.{keeps-on, keeps-same}
 use Rattle.service_model.specs.Journal.{Journal, Made, events_made, first_some, latest}
 use Rattle.service_model.specs.Outcome.{Added, Counting, CountsNothing, AcceptsFrom, AcknowledgesTo, CountsDispatch, Outcome, run_at}
 use Rattle.service_model.specs.Pending.{NoTask, in_use, is_closed, is_in_use, is_settled, task, task_of}
@@ -132,7 +133,7 @@ pub record IsStood (S : Content) : Type 0 where
 all-usable : (S : Content) (m : ℕ) → IsStood S → AreUsable (runs_of S m)
 all-usable S m h n = subst IsUsable (sym (state-at S.runs (n - 1))) (usable S.steps (slice_index_or S.runs (n - 1) []) (formed-at S.steps S.runs (n - 1) h.formed))
 
--- the journal to which a step adds, before and behind it
+-- the journal to which a step adds, before and after it
 pub record IsAdded (S : Content) (m : ℕ) (a : Added) : Type 0 where
   pub fits : FitStep m (state_of (journal_at S.runs a.run)) a.facts
   pub stood : Stands S.steps (journal_at S.runs a.run) (state_of (journal_at S.runs a.run))

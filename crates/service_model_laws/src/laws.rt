@@ -3,7 +3,7 @@
 ghost use Rattle.service_model_laws.specs.RecordLaws.{OlderGoesFirstInRecords, RecordsHaveOneOpen, RecordsKeepHistories};
 
 /// What a longer record keeps of a shorter one: of each run the history goes on from what it was, until
-/// the run is taken away, and so does all else that a content keeps of each one before it.
+/// the run is deleted, and so does all else that a content keeps of each one before it.
 pub fn records_keep_histories()
     ensures { RecordsKeepHistories }
 {}
@@ -13,7 +13,7 @@ pub fn records_have_one_open_run()
     ensures { RecordsHaveOneOpen }
 {}
 
-/// In which order a longer record takes runs away: of two of one workflow ID that a shorter one leaves,
+/// In which order a longer record deletes runs: of two of one workflow ID that a shorter one leaves,
 /// the younger never before the older.
 pub fn the_older_run_goes_first_in_records()
     ensures { OlderGoesFirstInRecords }

@@ -18,12 +18,12 @@ already started
 not found
 repeated";
 
-/// The value behind this one: 1,103,515,245 times it and 12,345, modulo 2^31.
+/// The value after this one: 1,103,515,245 times it and 12,345, modulo 2^31.
 fn next(value: u64) -> u64 {
     value.wrapping_mul(1_103_515_245).wrapping_add(12_345) % 2_147_483_648
 }
 
-/// What a value asks, before the number of the workflow and behind it.
+/// What a value asks, before the number of the workflow and after it.
 fn asked(value: u64) -> (&'static str, &'static str) {
     match value / 1_048_576 % 5 {
         0 => (

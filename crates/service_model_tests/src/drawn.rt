@@ -15,7 +15,7 @@ use crate::templates::{
 use std::alloc::{AllocError, AllocGlobal, Global};
 use std::process::Abort;
 
-/// What a worker says of an attempt.
+/// What a worker says about an attempt.
 fn report(draws: &mut Draws) -> &'static str {
     match draws.below(8) {
         0 => COMPLETE_ACTIVITY,
@@ -152,7 +152,7 @@ fn push_commands(
     push_template(alloc, line, draws, tasks, template)
 }
 
-/// What is asked, behind the moment.
+/// What is asked, after the moment.
 fn push_asked(
     alloc: Global,
     line: &mut String,

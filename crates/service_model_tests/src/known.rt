@@ -167,7 +167,7 @@ impl Known {
         }
     }
 
-    /// The number of the last dispatch, now and then the one before it or the one behind it.
+    /// The number of the last dispatch, now and then the one before it or the one after it.
     fn dispatch(&self, draws: &mut Draws) -> u64 {
         match draws.below(6) {
             0 => self.dispatch.saturating_sub(1),

@@ -1,5 +1,5 @@
 //! The shard and the plain program side by side: both answer the same drawn requests, each of them
-//! behind all earlier ones. So what tables say of a run is compared with what its journal says. Requests
+//! after all earlier ones. So what tables say about a run is compared with what its journal says. Requests
 //! are drawn as lines of a record.
 #![tactic(auto)]
 

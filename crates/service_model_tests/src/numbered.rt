@@ -10,7 +10,7 @@ use std::process::Abort;
 /// What the second of two shards is asked, of its workflow `b`.
 #[derive(Clone, Copy)]
 enum Asking<'a> {
-    /// This, behind the moment.
+    /// This, after the moment.
     Said(&'a str),
     /// A signal from a workflow of the first shard, under this number.
     Deliver(u64),
@@ -82,7 +82,7 @@ fn read_again<T: KeepsRun, R: Abort + AllocGlobal>(
     has_changed
 }
 
-/// The number before a space, and what stands behind it.
+/// The number before a space, and what stands after it.
 fn number_in<'a, R: Abort>(rt: &R, text: &'a str) -> (u64, &'a str) {
     match text.split_once(' ') {
         Some((number, behind)) => (number.parse().unwrap_or(u64::MAX), behind),
@@ -107,7 +107,7 @@ fn take_step<T: KeepsRun, R: Abort + AllocGlobal>(
     assert!(rt; has_changed == (words.len() < behind.len()), "{step}");
 }
 
-/// Takes the steps behind a start.
+/// Takes the steps after a start.
 fn take_steps<T: KeepsRun, R: Abort + AllocGlobal>(
     rt: &R,
     side: &mut Side<T>,

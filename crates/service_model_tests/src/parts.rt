@@ -1,4 +1,4 @@
-//! What a letter behind a dollar stands for: drawn names, texts, durations and run ids, few of each, so
+//! What a letter after a dollar stands for: drawn names, texts, durations and run ids, few of each, so
 //! that they meet again.
 
 ghost use Rattle.std.specs.Prelude.{◌<◌};

@@ -213,7 +213,7 @@ impl<T: KeepsRun> Side<T> {
         }
     }
 
-    /// What both answer to an entry's request, behind all earlier ones.
+    /// What both answer to an entry's request, after all earlier ones.
     fn answers<R: Abort + AllocGlobal>(&mut self, rt: &R, line: &str) -> Answered {
         let entry = entry_of(rt, line);
         let tables = self.tables.serve(rt, &entry.request);

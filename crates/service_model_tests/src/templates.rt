@@ -1,4 +1,4 @@
-//! Requests and commands as a record has them, behind the moment. A dollar and a letter stand for what is
+//! Requests and commands as a record has them, after the moment. A dollar and a letter stand for what is
 //! drawn there: `parts` says what.
 
 pub(crate) const START: &str =

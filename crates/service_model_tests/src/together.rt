@@ -220,8 +220,8 @@ fn history(alloc: Global, at: u64, number: u64) -> Result<String, AllocError> {
     Ok(line)
 }
 
-/// Most of the time this number, now and then the one before it or the one two behind it. The one
-/// behind it could be the next one, and would stand for a transfer that was never carried.
+/// Most of the time this number, now and then the one before it or the one two after it. The one
+/// after it could be the next one, and would stand for a transfer that was never carried.
 fn near(draws: &mut Draws, number: u64) -> u64 {
     match draws.below(16) {
         0 => number.saturating_sub(1),

@@ -1,4 +1,4 @@
--- MEANING: what clients may ask
+-- INNER: what clients may ask
 use Rattle.std.specs.Prelude.{Bool, true, false}
 use Rattle.service_model_types.specs.declared.request.Operation.{Operation}
 use Rattle.service_model_types.specs.declared.request.Operation.TheVariants as operation

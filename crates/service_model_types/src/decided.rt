@@ -1,7 +1,6 @@
 //! What is decided of a workflow ID and of an attempt that ended.
 //!
-//! Rule: PROFILE, Workflow IDs, Attempts of activities. Definition: IdPolicy, Retry. Rows: PolicyRows,
-//! ActivityRows. Cases: policies, attempts.
+//! Rules: I1, I2, I3, I4, I5, I6, I7, I8, A7, A8, A9, A12, A13, A14, A15, A16.
 
 use wf_event_values::RetryState;
 

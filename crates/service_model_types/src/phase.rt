@@ -1,7 +1,6 @@
 //! Where a workflow task and an activity stand.
 //!
-//! Rule: PROFILE, Workflow tasks, Attempts of activities. Definition: Pending. Rows: TaskRows,
-//! ActivityRows. Cases: workflow_tasks, attempts.
+//! Rules: W1.
 
 /// Where a run's workflow task stands.
 #[derive(Clone, Copy)]

@@ -179,7 +179,7 @@ impl Hint {
     }
 }
 
-/// A task that was taken, as a task token names it; the call that bears it says of which kind it is.
+/// A task that was taken, as a task token names it; the call that bears it says which kind it is of.
 #[derive(Clone, Copy)]
 pub struct TakenTask {
     pub shard: u16,

@@ -1,4 +1,4 @@
--- what the tests say of the passes of a service
+-- what the tests say about the passes of a service
 use Rattle.std.specs.Prelude.{◌≡◌, ℕ, List, Some, slice_get}
 use Rattle.gate.specs.Passes.{number}
 use Rattle.service.specs.ServiceViews.{Service}

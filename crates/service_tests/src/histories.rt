@@ -63,7 +63,7 @@ const WRITTEN: &str =
 = 5000
 "##;
 
-/// Whether the first pass, which starts the workflow too, and the three behind it have made all their steps.
+/// Whether the first pass, which starts the workflow too, and the three after it have made all their steps.
 fn are_written(records: &[Record<Request>]) -> bool {
     own_steps(records, 0) == Some(1001)
         && own_steps(records, 1) == Some(1000)

@@ -1,4 +1,4 @@
-//! The service over its calls: what no contract says of them, that they succeed and that threads
+//! The service over its calls: what no contract says about them, that they succeed and that threads
 //! get through. What the calls answer is shown by `cases`.
 //!
 //! What a thread asks is lines, as the program reads them, again and again: see `work`.

@@ -418,7 +418,7 @@ fn activity_call_of(name: &str) -> Option<ActivityCall> {
 }
 
 /// All calls on one shard's workflow, one after another: what is called, an event, an attempt, more, and
-/// what is answered. Behind a task of which nothing comes an activity is completed, one fails, and one is
+/// what is answered. After a task of which nothing comes an activity is completed, one fails, and one is
 /// canceled; then the workflow ends, and its next run begins.
 const CALLS: &str = "start|0|0||started
 take|2|1||task

@@ -42,7 +42,7 @@ pub(crate) fn take_pass<S: KeepsShard>(service: &Service<S>, passes: &mut Vec<Pa
     pass
 }
 
-/// Gives a pass back, behind those with lower numbers.
+/// Gives a pass back, after those with lower numbers.
 pub(crate) fn give_back<S: KeepsShard, R: Abort>(
     rt: &R,
     service: &Service<S>,

@@ -70,8 +70,8 @@ pub(crate) fn two_threads_hand_tasks_on<
     records_of::<S, R>(rt, &settings, &[HANDED_ON]);
 }
 
-/// Runs of one workflow close at once, and are kept for five milliseconds. While they come, turns take all
-/// away that closed so long before the last one, and then the others, each once.
+/// Runs of one workflow close at once, and are kept for five milliseconds. While they come, turns delete
+/// all that closed so long before the last one, and then the others, each once.
 const COMING_AND_GOING: &str =
     r##"1000|1000|terminated|started|{"at":#,"op":"start","reuse":"AllowDuplicateFailedOnly","task_queue":"main","workflow_id":"a","workflow_type":"w"}&{"at":#,"op":"terminate","workflow_id":"a"}
 100000000|995|fired|none|{"op":"timer_turn","shard":0}

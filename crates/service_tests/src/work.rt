@@ -23,7 +23,7 @@ use step_record::Record;
 struct Work<'a> {
     /// In so many rounds at most.
     rounds: u64,
-    /// It ends behind the round by which so many answers have counted.
+    /// It ends after the round by which so many answers have counted.
     enough: u64,
     /// The answer that counts.
     wanted: &'a str,

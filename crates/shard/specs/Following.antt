@@ -18,7 +18,7 @@ following from c a request = record {
   facts = first_task (unwrap_or c.task_queue a.task_queue) ∷ [];
 }
 
--- what a completion's commands say of it, where none has a fault
+-- what a completion's commands say about it, where none has a fault
 abbrev pub continuing : Option Cause → List Command → Option ContinueAsNew
 continuing None commands = latest continue_part commands
 continuing (Some cause) commands = None

@@ -1,6 +1,6 @@
 //! Taking the attempt of an activity.
 //!
-//! Rule: PROFILE, Attempts of activities. Definition: Tasks. Rows: ActivityRows. Cases: attempts.
+//! Rules: A2.
 
 ghost use Rattle.std.specs.Prelude.{◌≡◌, ◌<◌, ◌∷◌, [], length, true, IfOk, IfSome};
 ghost use Rattle.wf_event.specs.declared.role.Class.TheVariants.{Activity};

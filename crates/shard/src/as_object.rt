@@ -1,6 +1,7 @@
 //! The shard as an object of the gate.
 
-ghost use Rattle.service_model.specs.Growth.{KeepsHistories, keeps-on, keeps-same};
+ghost use Rattle.service_model.specs.Growth.{KeepsHistories};
+ghost use Rattle.service_model.specs.GrowthLaws.{keeps-on, keeps-same};
 ghost use Rattle.service_model.specs.Service.{after, answer};
 ghost use Rattle.shard_gate.specs.Grounding.{grounds};
 ghost use Rattle.shard_gate.specs.GroundsOn.{grounds-on};

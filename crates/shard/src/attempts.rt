@@ -1,7 +1,6 @@
 //! The running attempts that tokens name, and the ends of activities that workers report.
 //!
-//! Rule: PROFILE, Attempts of activities. Definition: Activities. Rows: ActivityRows. Cases:
-//! attempts, activity_ends.
+//! Rules: A1, A5.
 
 ghost use Rattle.std.specs.Prelude.{◌≡◌, ◌<◌, Some, length, true, option_map, IfOk, IfSome};
 ghost use Rattle.service_model.specs.Activities.{cancel_activity, complete_activity, ends_activity, keep_running, running_attempt};

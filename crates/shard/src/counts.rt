@@ -1,6 +1,6 @@
 //! Reading and counting the dispatches.
 //!
-//! Rule: PROFILE, Task queues and polls. Definition: Counts. Rows: -. Cases: dispatch_turns.
+//! Rules: Q2, Q3.
 
 ghost use Rattle.std.specs.Prelude.{◌≡◌, IfOk};
 ghost use Rattle.service_model.specs.Outcome.{answered};

@@ -1,6 +1,6 @@
 //! Asking a run to cancel, and terminating it.
 //!
-//! Rule: PROFILE, Cancel and terminate. Definition: Cancels. Rows: PolicyRows. Cases: workflow_ids.
+//! Rules: C1, C2, C3, C4, F4.
 
 ghost use Rattle.std.specs.Prelude.{◌≡◌, ◌<◌, length, IfOk, Some, true};
 ghost use Rattle.service_model.specs.Cancels.{request_cancel, cancel_open, cancel_again, terminate, terminate_at};

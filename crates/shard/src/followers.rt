@@ -1,6 +1,6 @@
 //! The run that follows one which continues as new.
 //!
-//! Rule: PROFILE, Workflow tasks. Definition: Tasks. Rows: PolicyRows. Cases: continued_runs.
+//! Rules: W12, D2.
 
 ghost use Rattle.std.specs.Prelude.{◌≡◌, ◌<◌, length, IfOk, OnOk, option_copied, true};
 ghost use Rattle.service_model.specs.RunState.{is_there};
@@ -144,7 +144,7 @@ fn last_continuing(commands: &[Command]) -> Option<&ContinueAsNew>
     found
 }
 
-/// What a command says of the run that follows, if it continues as new.
+/// What a command says about the run that follows, if it continues as new.
 fn continue_part(command: &Command) -> Option<&ContinueAsNew>
     ensures { option_copied result ≡ continue_part command.now }
 {

@@ -1,7 +1,6 @@
 //! Heartbeats of activities, and notes on their running attempts.
 //!
-//! Rule: PROFILE, Attempts of activities. Definition: Activities. Rows: ActivityRows. Cases:
-//! attempts, activity_timeouts.
+//! Rules: A1, A2, A6.
 
 ghost use Rattle.std.specs.Prelude.{◌≡◌, ◌∷◌, [], IfOk};
 ghost use Rattle.service_model.specs.Activities.{heartbeat};

@@ -29,6 +29,10 @@ impl<T: KeepsRun> ShardObject for Shard<T> {
     fn waiting(&self, alloc: Global) -> Result<Vec<Dispatch>, AllocError> {
         self.store.waiting_tasks(alloc)
     }
+
+    fn counted_tasks(&mut self, alloc: Global) -> Result<Vec<Dispatch>, AllocError> {
+        self.store.counted_tasks(alloc)
+    }
 }
 
 impl<T: KeepsRun> KeepsShard for Shard<T> {}

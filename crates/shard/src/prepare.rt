@@ -1,6 +1,6 @@
 //! The first half of a step: what each request needs made.
 //!
-//! Rule: PROFILE, Numbers and texts. Definition: Service. Rows: TaskRows. Cases: signals.
+//! Rules: N3.
 
 ghost use Rattle.std.specs.Prelude.{◌≡◌, max, IfOk};
 ghost use Rattle.shard_store.specs.ShardView.{state};

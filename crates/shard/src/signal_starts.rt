@@ -1,6 +1,6 @@
 //! Signaling a workflow ID's open run, or starting one that is signaled.
 //!
-//! Rule: PROFILE, Workflow IDs. Definition: Signals, Starts. Rows: PolicyRows. Cases: workflow_ids.
+//! Rules: I5, I9, I10.
 
 ghost use Rattle.std.specs.Prelude.{◌≡◌, ◌<◌, length, IfOk, None, Some, true};
 ghost use Rattle.service_model.specs.Outcome.{latest_run, open_run};

@@ -1,6 +1,6 @@
 //! Signaling a run.
 //!
-//! Rule: PROFILE, Histories. Definition: Signals. Rows: TaskRows. Cases: signals.
+//! Rules: H3.
 
 ghost use Rattle.std.specs.Prelude.{◌≡◌, ◌<◌, length, IfOk, None, Some, true};
 ghost use Rattle.std.specs.Option.{option_map_or};

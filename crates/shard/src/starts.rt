@@ -1,8 +1,7 @@
 //! Starting a run. Each function is a layer of the definition: what is refused before the workflow
 //! ID's runs are looked at, what the latest of them decides, the run that is made.
 //!
-//! Rule: PROFILE, Workflow IDs. Definition: Starts, IdPolicy. Rows: TaskRows, PolicyRows. Cases:
-//! starts, policies, continued_runs.
+//! Rules: I1, I2, I3, I4, I5, I6, I7, I8, I10.
 
 ghost use Rattle.std.specs.Prelude.{◌≡◌, ◌<◌, length, IfOk, Some, None, ◌∷◌, [], true};
 ghost use Rattle.service_model.specs.IdPolicy.{TerminateThenNew, decide, is_same_request};

@@ -1,7 +1,6 @@
 //! Taking a workflow task, and its end.
 //!
-//! Rule: PROFILE, Workflow tasks. Definition: Tasks, Completion. Rows: TaskRows. Cases:
-//! workflow_tasks, tokens.
+//! Rules: W2, W4, W5, W6, W13, W14, W15, D16.
 
 ghost use Rattle.std.specs.Prelude.{◌≡◌, ◌<◌, [], length, map, true, is_some, IfOk, IfSome};
 ghost use Rattle.wf_event_values.specs.declared.policies.Cause.TheVariants.{WorkflowWorkerUnhandledFailure};

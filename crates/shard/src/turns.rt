@@ -1,7 +1,6 @@
 //! Timer turns: the first deadline of the shard fires, if it is due.
 //!
-//! Rule: PROFILE, Deadlines and timer turns, Runs that are taken away. Definition: TimerTurns,
-//! Deadlines. Rows: TimerRows, RetentionRows. Cases: timer_turns, retention.
+//! Rules: D1, D2, D3, D4, D11, D12, D13, D14, R1, R2, R6.
 
 ghost use Rattle.std.specs.Prelude.{◌≡◌, IfOk, Some};
 ghost use Rattle.service_model.specs.TimerTurns.{all_dues, due_now, fire_due, is_retention, least, timer_turn};
@@ -35,7 +34,7 @@ pub(crate) fn timer_turn<T: KeepsRun>(
     }
 }
 
-/// Whether a deadline of this class takes its run away.
+/// Whether a deadline of this class deletes its run.
 fn is_retention(class: DeadlineClass) -> bool
     ensures { result ≡ is_retention class }
 {
@@ -45,7 +44,7 @@ fn is_retention(class: DeadlineClass) -> bool
     }
 }
 
-/// The first deadline fires: it takes its run away, or adds to it.
+/// The first deadline fires: it deletes its run, or adds to it.
 fn fire_first<T: KeepsRun>(
     store: &mut Store<T>,
     moment: Moment,

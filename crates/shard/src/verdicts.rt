@@ -1,7 +1,6 @@
 //! The failures of attempts that workers report, and the verdicts on them.
 //!
-//! Rule: PROFILE, Attempts of activities. Definition: Activities, Retry. Rows: ActivityRows. Cases:
-//! attempts.
+//! Rules: A1, A7, A8, A9, A11, A12, A13, A14, A15, A16.
 
 ghost use Rattle.std.specs.Prelude.{◌≡◌, IfOk};
 ghost use Rattle.service_model.specs.Activities.{by_verdict, fail_activity};

@@ -39,7 +39,7 @@ fits-event s a more h =
       first_signal = ap (was_signaled s.signal_requests) h.unsigned;
     }
 
--- an event from outside, and a workflow task behind it where there is none
+-- an event from outside, and a workflow task after it where there is none
 pub outside-fits : (at : ℕ) (s : RunState) (a : Attributes) → IsFromOutside s a → FitStep at s (outside s (plain a ∷ []))
 unfolding role opens settles closing_status
 outside-fits at s a h = by_task s.task refl

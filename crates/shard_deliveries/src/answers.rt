@@ -1,8 +1,7 @@
 //! Transfers that answer a request of one of this shard's runs. They have an effect only while the
 //! request is pending.
 //!
-//! Rule: PROFILE, Children and other workflows. Definition: Deliveries. Rows: ChildRows,
-//! ExternalRows. Cases: children, externals.
+//! Rules: X2, X5.
 
 ghost use Rattle.std.specs.Prelude.{◌≡◌, IfOk, None};
 ghost use Rattle.service_model.specs.Deliveries.{effect, external_class};

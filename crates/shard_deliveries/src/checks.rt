@@ -1,6 +1,6 @@
 //! Whether a transfer may be delivered to a shard at all.
 //!
-//! Rule: PROFILE, Children and other workflows. Definition: Deliveries. Rows: -. Cases: records.
+//! Rules: X8.
 
 ghost use Rattle.std.specs.Prelude.{◌≡◌, ◌==◌, ◌&&◌};
 ghost use Rattle.service_model.specs.Deliveries.{comes_from, is_for_shard};

@@ -1,8 +1,7 @@
 //! What a parent that closed does to its children, by their parent close policy (Temporal, Parent close
 //! policy).
 //!
-//! Rule: PROFILE, Children and other workflows. Definition: Deliveries. Rows: ShardRows. Cases:
-//! children.
+//! Rules: X4.
 
 ghost use Rattle.std.specs.Prelude.{◌≡◌, ◌<◌, IfOk, length, true};
 ghost use Rattle.service_model.specs.Deliveries.{asked_before, close_by_policy, effect, is_child_of};

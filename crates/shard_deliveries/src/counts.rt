@@ -1,6 +1,6 @@
 //! Reading and counting the transfers that a shard issued.
 //!
-//! Rule: PROFILE, Children and other workflows. Definition: Counts. Rows: -. Cases: transfer_turns.
+//! Rules: X7, Q4.
 
 ghost use Rattle.std.specs.Prelude.{◌≡◌, ◌<◌, IfOk};
 ghost use Rattle.shard_issued.specs.Sending.{count_to, next_to};

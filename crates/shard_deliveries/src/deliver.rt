@@ -1,7 +1,6 @@
 //! A transfer is delivered.
 //!
-//! Rule: PROFILE, Children and other workflows. Definition: Deliveries. Rows: TransferRows. Cases:
-//! transfer_turns.
+//! Rules: X7.
 
 ghost use Rattle.std.specs.Prelude.{◌≡◌, ◌<◌, IfOk};
 ghost use Rattle.service_model.specs.Deliveries.{by_delivery, deliver, delivery_of, accepted_from, effect};

@@ -1,7 +1,6 @@
 //! What a run gets by a transfer.
 //!
-//! Rule: PROFILE, Children and other workflows. Definition: Deliveries. Rows: ChildRows. Cases:
-//! children, externals.
+//! Rules: X3, X6.
 
 ghost use Rattle.std.specs.Prelude.{◌≡◌, ◌∷◌, [], IfOk, codes};
 ghost use Rattle.service_model.specs.Deliveries.{child_closed_event, external_event};

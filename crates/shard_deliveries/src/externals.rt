@@ -1,7 +1,6 @@
 //! Signals and requests to cancel from other workflows.
 //!
-//! Rule: PROFILE, Children and other workflows. Definition: Deliveries. Rows: TransferRows,
-//! ExternalRows. Cases: externals.
+//! Rules: R7, X5.
 
 ghost use Rattle.std.specs.Prelude.{◌≡◌, ◌<◌, IfOk, Some, length, true, option_to_list};
 ghost use Rattle.service_model.specs.Deliveries.{cancel_external, effect, external_done, signal_external};

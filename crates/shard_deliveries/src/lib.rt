@@ -1,7 +1,7 @@
 //! Transfers between shards, as a shard serves them: it tells the next one that it issued, takes one
 //! that is delivered, and counts one that was.
 //!
-//! A delivery has an effect only under the number behind the last one that was accepted from its
+//! A delivery has an effect only under the number after the last one that was accepted from its
 //! source. Then all that it does is one step: what a run gets, the run that is made, the transfer that
 //! answers, and the count.
 //!

@@ -1,6 +1,6 @@
 //! The requests of this shard's runs that wait for an answer.
 //!
-//! Rule: PROFILE, Children and other workflows. Definition: Deliveries. Rows: -. Cases: externals.
+//! Rules: R7, X6.
 
 ghost use Rattle.std.specs.Prelude.{◌≡◌, IfOk, IfSome, option_map};
 ghost use Rattle.service_model.specs.Deliveries.{own_run, pending_id};

@@ -1,7 +1,6 @@
 //! Starting a child.
 //!
-//! Rule: PROFILE, Children and other workflows. Definition: Deliveries. Rows: TransferRows,
-//! ChildRows. Cases: children.
+//! Rules: X2.
 
 ghost use Rattle.std.specs.Prelude.{◌≡◌, IfOk, true};
 ghost use Rattle.service_model.specs.Deliveries.{effect};

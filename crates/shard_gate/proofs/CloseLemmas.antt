@@ -63,6 +63,6 @@ one-left all done rest next x e f =
 pub one-more : {A : Type 0} (done : List A) (x : A) → length (done ++ x ∷ []) ≡ length done + 1
 one-more done x = length-append done (x ∷ [])
 
--- and what is left is what comes behind that one
+-- and what is left is what comes after that one
 pub goes-on : {A : Type 0} (all done rest next : List A) (x : A) → all ≡ done ++ rest → rest ≡ x ∷ next → all ≡ (done ++ x ∷ []) ++ next
 goes-on all done rest next x e f = e ∙ ap (λ l. done ++ l) f ∙ sym (append_assoc done (x ∷ []) next)

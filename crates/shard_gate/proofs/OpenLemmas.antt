@@ -20,7 +20,7 @@ pub replay-as : (goes : Content → Request → Content) → goes ≡ after → 
 replay-as goes is S setup opened log given same =
     ap (λ g. replay g S log) is ∙ ap (λ c. replay after c log) opened ∙ ap (replay after (opening setup)) same ∙ replay-same (opening setup) given
 
--- one more task list behind the others
+-- one more task list after the others
 pub flat-push : {A B : Type 0} (f : A → List B) (xs : List A) (x : A) → flat_map f (xs ++ x ∷ []) ≡ flat_map f xs ++ f x
 flat-push {B = B} f [] x = ends (f x)
   where

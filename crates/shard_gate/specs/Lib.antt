@@ -1,4 +1,5 @@
 pub mod GateViews
+pub mod Sources
 pub mod Opening
 pub mod Grounding
 pub mod GroundsOn

@@ -24,4 +24,8 @@ impl<S: ShardObject> ShardObject for Handing<S> {
     fn waiting(&self, alloc: Global) -> Result<Vec<Dispatch>, AllocError> {
         self.object.waiting(alloc)
     }
+
+    fn counted_tasks(&mut self, alloc: Global) -> Result<Vec<Dispatch>, AllocError> {
+        self.object.counted_tasks(alloc)
+    }
 }

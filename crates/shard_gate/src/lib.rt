@@ -13,6 +13,7 @@ mod held;
 mod open;
 mod shard_gate;
 mod shard_object;
+mod source;
 
 pub use close::Closed;
 pub use gate::{Handing, HandsOut, KeepsRecord, Refused, Tail};
@@ -20,3 +21,4 @@ pub use held::HeldShard;
 pub use open::Opened;
 pub use shard_gate::{ShardGate, ShardPass};
 pub use shard_object::{KeepsShard, ShardObject};
+pub use source::Source;

@@ -4,15 +4,17 @@ ghost use Rattle.std.specs.Prelude.{◌≡◌, ◌≤◌, List, length, map, IfO
 ghost use Rattle.std.specs.List.{AllByRecursion};
 ghost use Rattle.gate.specs.Passes.{view as seen_by};
 ghost use Rattle.gate.specs.Records.{Each, KeepsAll, replay};
+ghost use Rattle.service_model_types.specs.declared.content.Content.{Content};
 ghost use Rattle.service_model_types.specs.declared.content.Setup.{Setup as TheSetup};
 ghost use Rattle.service_model.specs.Service.{Entry as TheEntry, opening, replay as replayed_by};
-ghost use Rattle.service_model.specs.Waiting.{waiting};
 ghost use Rattle.shard_gate.specs.Opening.{IsSetup, Opens, opened_with, records_in, waiting_in};
+ghost use Rattle.shard_gate.specs.Sources.{hinted};
 ghost use Rattle.shard_gate.specs.GateViews.{PassView};
 
 use crate::close::{Closed, GatePasses};
 use crate::shard_gate::{ShardGate, ShardPass};
 use crate::shard_object::ShardObject;
+use crate::source::Source;
 use gate::{Gate, replayed};
 use service_model_types::content::{Dispatch, Setup};
 use service_model_types::request::Request;
@@ -20,7 +22,7 @@ use std::alloc::{AllocError, Global};
 use std::sync::Mutex;
 use step_record::Record;
 
-/// A gate that was opened, its passes, and the tasks that wait on its shards.
+/// A gate that was opened, its passes, and the tasks whose hints are to be pushed again.
 #[derive(Drop)]
 pub struct Opened<S: ShardObject> {
     pub gate: ShardGate<S>,
@@ -30,7 +32,7 @@ pub struct Opened<S: ShardObject> {
     pub waiting: Vec<Dispatch>,
 }
 
-/// A shard as its record left it, with that record, and the tasks that wait there.
+/// A shard as its record left it, with that record, and the tasks whose hints are to be pushed again.
 #[derive(Drop)]
 struct Reopened<S: ShardObject> {
     shard: S,
@@ -38,16 +40,34 @@ struct Reopened<S: ShardObject> {
     waiting: Vec<Dispatch>,
 }
 
-/// The shards with their records, and the tasks that wait on them.
+/// The shards with their records, and the tasks whose hints are to be pushed again.
 #[derive(Drop)]
 struct Laid<S: ShardObject> {
     objects: Vec<(S, Record<Request>)>,
     waiting: Vec<Dispatch>,
 }
 
+/// The tasks of a shard whose hints are pushed again.
+fn hinted<S: ShardObject>(
+    alloc: Global,
+    source: Source,
+    shard: &mut S,
+) -> Result<Vec<Dispatch>, AllocError>
+    ensures same { (c : Content) → S.stands shard.old c → S.stands shard.new c }
+    ensures same_opening { S.opening shard.new ≡ S.opening shard.old }
+    ensures tasks { IfOk result (λ tasks.
+        (c : Content) → S.stands shard.old c → tasks.items ≡ hinted source c) }
+{
+    match source {
+        Source::Records => shard.waiting(alloc),
+        Source::Journal => shard.counted_tasks(alloc),
+    }
+}
+
 /// One shard, as its record left it.
 fn reopen<S: ShardObject>(
     alloc: Global,
+    source: Source,
     setup: Setup,
     log: Record<Request>,
 ) -> Result<Reopened<S>, AllocError>
@@ -57,11 +77,11 @@ fn reopen<S: ShardObject>(
     ensures stands { IfOk result (λ r.
         S.stands r.shard (replay S.after (S.opening r.shard) r.log)) }
     ensures keeping { IfOk result (λ r. KeepsAll S.after S.keeps (S.opening r.shard) r.log) }
-    ensures waiting { IfOk result (λ r. r.waiting.items ≡ waiting (replayed_by setup log)) }
+    ensures waiting { IfOk result (λ r. r.waiting.items ≡ hinted source (replayed_by setup log)) }
 {
     let fresh = S::open(alloc, setup)?;
-    let (shard, log) = replayed(alloc, fresh, log)?;
-    let waiting = shard.waiting(alloc)?;
+    let (mut shard, log) = replayed(alloc, fresh, log)?;
+    let waiting = hinted(alloc, source, &mut shard)?;
     Ok(Reopened {
         shard,
         log,
@@ -72,6 +92,7 @@ fn reopen<S: ShardObject>(
 /// All shards, each as its record left it.
 fn lay<S: ShardObject>(
     alloc: Global,
+    source: Source,
     given: Vec<(Setup, Record<Request>)>,
 ) -> Result<Laid<S>, AllocError>
     requires { AllByRecursion (λ (g : TheSetup × List TheEntry). IsSetup g.0) given.items }
@@ -82,7 +103,7 @@ fn lay<S: ShardObject>(
         S.stands x.0 (replay S.after (S.opening x.0) x.1))) }
     ensures keeping { IfOk result (λ l. Each l.objects.items (λ k x.
         KeepsAll S.after S.keeps (S.opening x.0) x.1)) }
-    ensures waiting { IfOk result (λ l. l.waiting.items ≡ waiting_in given.items) }
+    ensures waiting { IfOk result (λ l. l.waiting.items ≡ waiting_in source given.items) }
 {
     let mut objects = Vec::new(alloc);
     let mut all = Vec::new(alloc);
@@ -91,7 +112,7 @@ fn lay<S: ShardObject>(
             shard,
             log,
             mut waiting,
-        } = reopen(alloc, setup, log)?;
+        } = reopen(alloc, source, setup, log)?;
         objects.push((shard, log))?;
         all.append(&mut waiting)?;
     }
@@ -127,6 +148,7 @@ impl<S: ShardObject> ShardGate<S> {
     pub fn open(
         alloc: Global,
         given: Vec<(Setup, Record<Request>)>,
+        source: Source,
         passes: usize,
     ) -> Result<Opened<S>, AllocError>
         requires slots { (1 ≤ length given.items) × (length given.items ≤ 64) }
@@ -134,9 +156,9 @@ impl<S: ShardObject> ShardGate<S> {
         requires setups { AllByRecursion
             (λ (g : TheSetup × List TheEntry). IsSetup g.0) given.items }
         ensures { IfOk result (λ r.
-            Opens given.items passes r.gate r.passes.items r.waiting.items) }
+            Opens source given.items passes r.gate r.passes.items r.waiting.items) }
     {
-        let Laid { objects, waiting } = lay(alloc, given)?;
+        let Laid { objects, waiting } = lay(alloc, source, given)?;
         let count = objects.len();
         let (gate, inner) = Gate::open(alloc, objects, passes)?;
         let passes = as_shard_passes(alloc, inner)?;

@@ -3,7 +3,7 @@
 ghost use Rattle.std.specs.Prelude.{◌≡◌, ◌<◌, ◌^◌, IfOk};
 ghost use Rattle.service_model.specs.Growth.{KeepsHistories};
 ghost use Rattle.service_model.specs.Service.{after, answer, opening};
-ghost use Rattle.service_model.specs.Waiting.{waiting};
+ghost use Rattle.service_model.specs.Waiting.{waiting, waiting_counted};
 ghost use Rattle.shard_gate.specs.Grounding.{grounds};
 
 use gate::{KeepsRecord, Object};
@@ -37,6 +37,17 @@ pub trait ShardObject: Object<Request = Request, Reply = Reply, Content = Conten
     fn waiting(&self, alloc: Global) -> Result<Vec<Dispatch>, AllocError>
         ensures { IfOk result (λ tasks.
             (c : Content) → Self.stands self.now c → tasks.items ≡ waiting c) };
+
+    /// Those whose dispatches were counted: the hints of the others come by dispatch turns. The shard
+    /// stands for the same contents, whatever the result.
+    ///
+    /// # Errors
+    /// Where memory was refused.
+    fn counted_tasks(&mut self, alloc: Global) -> Result<Vec<Dispatch>, AllocError>
+        ensures same { (c : Content) → Self.stands self.old c → Self.stands self.new c }
+        ensures same_opening { Self.opening self.new ≡ Self.opening self.old }
+        ensures tasks { IfOk result (λ tasks.
+            (c : Content) → Self.stands self.old c → tasks.items ≡ waiting_counted c) };
 
     // Its replies are the sequential service's,
     ghost answers: { Self.answer ≡ answer };

@@ -1,4 +1,4 @@
--- what a step issues, by what is looked up behind it
+-- what a step issues, by what is looked up after it
 use Rattle.std.proofs.Common.{◌≡◌, ℕ, ◌+◌, ◌-◌, ◌<◌, ◌≤◌, Bool, true, false, cond, List, [], ◌∷◌, ◌++◌, length, append-nil, refl, sym, ap, ◌∙◌, arith, zero, suc, slice_index_or, slice_set, Option, Some, None, IfSome}
 use Rattle.std.proofs.lemmas.List.{get_or-set_same, length-drop}
 use Rattle.std.specs.Prelude.{drop, filter_map, option_and_then, option_to_list, slice_get}
@@ -26,7 +26,7 @@ use Rattle.shard_issued.specs.Outstanding.{AreCaughtUp, HasShown, unchanged}
 use Rattle.shard_issued.specs.declared.changed.Changed.{Changed}
 use Rattle.shard_issued.proofs.EachLemmas.{index-push, shown-at}
 
--- at the end of a step no event that is held back settles what none settled before
+-- at the end of a step no event that is buffered settles what none settled before
 pending-at-end : (id : ℕ) (s : RunState) → is_settled Activity id (held_attributes s) ≡ false → pending_row (step_ended s) id ≡ row_of (step_ended s) id
 pending-at-end id s none = by_task (is_started_task s.task)
   where
@@ -80,7 +80,7 @@ ready-facts setup run at p s (a_note n ∷ g ∷ facts) fits =
     by_note Ended may again = again
     by_note (Beat details) may again = again
 
--- what a step issues for a run is found behind it
+-- what a step issues for a run is found after it
 pub issued-behind : (setup : Setup) (run at : ℕ) (s : RunState) (facts : List Fact) → FitStep at s facts →
     dispatches_of setup run s (after_step at facts s) facts ≡ issued_since setup (length s.shown) (readied facts) run (after_step at facts s)
 issued-behind setup run at s facts fits = ap (λ l. filter_map (task_dispatch setup run) (drop (length s.shown) (after_step at facts s).shown) ++ l) (ready-facts setup run at IsFirst s facts fits)
@@ -141,7 +141,7 @@ still-there d [] x n h = absurd (omega arith)
 still-there d (y ∷ xs) x zero h = refl
 still-there d (y ∷ xs) x (suc n) h = still-there d xs x n (omega arith)
 
--- what the run that grew issued is the same, where a run was added behind it
+-- what the run that grew issued is the same, where a run was added after it
 grown-behind : (setup : Setup) (d d' : DispatchesView) (grown : Option ℕ) (runs : List RunState) (s : RunState) → d'.shown ≡ d.shown ++ 0 ∷ [] → d'.ready ≡ d.ready → IfSome grown (λ n. n < length runs) → of_grown setup d' grown (runs ++ s ∷ []) ≡ of_grown setup d grown runs
 grown-behind setup d d' None runs s counts readies low = refl
 grown-behind setup d d' (Some n) runs s counts readies low =

@@ -1,4 +1,4 @@
--- what a step sends, by what is looked up behind it
+-- what a step sends, by what is looked up after it
 use Rattle.std.proofs.Common.{◌≡◌, ℕ, ◌+◌, ◌<◌, ◌≤◌, cond, map, List, [], ◌∷◌, ◌++◌, length, append-nil, refl, sym, ap, ◌∙◌, arith, suc, slice_index_or, slice_set, Option, Some, None, IfSome}
 use Rattle.std.proofs.lemmas.List.{get_or-set_same, length-set}
 use Rattle.std.specs.Prelude.{nat_lt, option_to_list, slice_get}

@@ -1,4 +1,4 @@
--- what is kept, waits and is sent where a run is taken away
+-- what is kept, waits and is sent where a run is deleted
 use Rattle.std.proofs.Common.{◌≡◌, ℕ, ◌+◌, ◌<◌, List, [], length, refl, sym, ◌∙◌, slice_set, Option, None}
 use Rattle.service_model_types.specs.declared.content.Setup.{Setup}
 use Rattle.service_model.specs.Deadlines.{dues}

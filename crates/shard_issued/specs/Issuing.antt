@@ -1,4 +1,4 @@
--- PROOF: what a shard issued and has not counted yet, and what of it is looked up behind the step that issued it
+-- PROOF: what a shard issued and has not counted yet, and what of it is looked up after the step that issued it
 use Rattle.std.specs.Prelude.{ℕ, ◌+◌, List, [], ◌++◌, drop, filter_map, slice_get, slice_index_or, option_to_list, Option, None, Some, option_and_then}
 use Rattle.service_model_types.specs.declared.content.Content.{Content}
 use Rattle.service_model_types.specs.declared.content.Dispatch.{Dispatch}

@@ -2,3 +2,4 @@ pub mod Awaiting
 pub mod Issuing
 pub mod Outstanding
 pub mod Sending
+pub mod HandedOver

@@ -1,4 +1,4 @@
--- PROOF: the transfers that a shard sent and accepted, and what of it is looked up behind the step that sends it
+-- PROOF: the transfers that a shard sent and accepted, and what of it is looked up after the step that sends it
 use Rattle.std.specs.Prelude.{◌≡◌, ℕ, ◌+◌, ◌<◌, List, [], ◌++◌, if◌then◌else◌, drop, length, nat_lt, option_to_list, slice_get, slice_index_or, Option, None, Some, IfSome}
 use Rattle.wf_event_values.specs.declared.field.Field.TheVariants as field
 use Rattle.wf_event_values.specs.declared.refusal.Refusal.TheVariants.{InvalidArgument}
@@ -31,7 +31,7 @@ abbrev pub of_unsent : Setup → Option Unsent → List RunState → List Sent
 of_unsent setup None runs = []
 of_unsent setup (Some u) runs = sent_since setup u.shown (u.index + 1) (slice_index_or runs u.index no_run)
 
--- what waits for each destination, with those that were not looked up, and the answer behind them
+-- what waits for each destination, with those that were not looked up, and the answer after them
 abbrev pub all_outgoing : Setup → TransfersView → List RunState → List (Waiting TransferContent)
 all_outgoing setup t runs = with_all_sent (of_unsent setup t.unsent runs ++ option_to_list t.answer) 0 t.sent
 

@@ -1,6 +1,6 @@
 //! The tasks of a run that wait to be taken.
 //!
-//! Rule: PROFILE, Record lines. Definition: Waiting. Rows: -. Cases: records.
+//! Rules: S1.
 
 ghost use Rattle.std.specs.Prelude.{◌≡◌, IfOk};
 ghost use Rattle.service_model.specs.Tasks.{is_queued};

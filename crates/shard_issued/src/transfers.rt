@@ -1,7 +1,6 @@
 //! The transfers that a shard issued to the others, and those that it accepted from them.
 //!
-//! Rule: PROFILE, Children and other workflows. Definition: Issued, Counts, Deliveries. Rows:
-//! TransferRows. Cases: transfer_turns.
+//! Rules: X7.
 
 ghost use Rattle.std.specs.Prelude.{◌≡◌, ◌+◌, ◌<◌, ◌^◌, None, Some, IfOk, IfSome, OnErr, OnOk, length, option_map, option_to_list, replicate, slice_get, slice_index_or, slice_set};
 ghost use Rattle.service_model.specs.Counts.{acknowledgement_of};
@@ -33,7 +32,7 @@ pub struct Transfers {
     /// The events that the last step added. What they send is looked up by the next step, since it
     /// takes memory.
     unsent: Option<Unsent>,
-    /// What the last step answers to a transfer, to be issued behind what its events send.
+    /// What the last step answers to a transfer, to be issued after what its events send.
     answer: Option<Sent>,
 }
 
@@ -163,7 +162,7 @@ impl Transfers {
         self.outbox.acknowledge_next(to);
     }
 
-    /// What the shard would say of a transfer.
+    /// What the shard would say about a transfer.
     pub fn judge_delivery(&self, transfer: &Transfer) -> Delivery
         requires { transfer.now.from < length self.now.accepted }
         ensures value { result

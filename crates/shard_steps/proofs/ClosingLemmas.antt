@@ -62,7 +62,7 @@ with-closing at (a ∷ F) s h = by_test (is_closing_role (role a)) refl (with-cl
     by_test true is later g = let t = with_event at None a s in with-closed at F t (closed-status t (status-closed a s.status is))
     by_test false is later g = later g
 
--- the run has closed behind the step
+-- the run has closed after the step
 pub closed-behind : (at : ℕ) (F : List Attributes) (s : RunState) → closes F ≡ true → is_open (after_step at (map plain F) s) ≡ false
 closed-behind at F s h = by_task (with_facts at (map plain F) s) (with-closing at F s h)
   where
@@ -124,7 +124,7 @@ judged-closes setup next s F c G h =
     let given = not-fault (is_some_held s F) UnhandledCommand event G (not-fault (not (knows_queue setup queue)) BadContinueAsNewAttributes last G good) in
     ap closes (sym (same-ok _ G given))
 
--- nothing comes behind a closing command
+-- nothing comes after a closing command
 closed-stops : (setup : Setup) (next : Run) (s : RunState) (F G : List Attributes) (cs : List Command) → closes F ≡ true → judge_all setup next s F cs ≡ Ok G → closes G ≡ true
 unfolding judge_all judge
 closed-stops setup next s F G [] closed h = ap closes (sym (same-ok F G h)) ∙ closed

@@ -79,7 +79,7 @@ pending-named id s r h = by_test (is_settled Activity id (held_attributes s)) re
     by_test true is g = absurd (cc)
     by_test false is g = (row-named id s.activities r g, row-pending id (held_attributes s) s.activities r is g)
 
--- an attempt's start that is held back settles nothing
+-- an attempt's start that is buffered settles nothing
 settled-more : (id : ℕ) (held : List NewEvent) (at : ℕ) (a : StartedFields) → is_settled Activity id (map (λ (e : NewEvent). e.attributes) (held ++ record { at = at; attributes = ActivityTaskStarted a } ∷ [])) ≡ is_settled Activity id (map (λ (e : NewEvent). e.attributes) held)
 unfolding settles
 settled-more id [] at a = refl
@@ -128,7 +128,7 @@ open-after at s (ActivityTaskTimedOut a) id ends = (refl, refl)
 open-after at s (ActivityTaskCanceled a) id ends = (refl, refl)
 open-after at s _ id ends = absurd (cc)
 
--- it may come, and behind it a workflow task where there is none
+-- it may come, and after it a workflow task where there is none
 last-fits : (p : Place) (at : ℕ) (s : RunState) (last : Attributes) (id : ℕ) (w : ScheduledTask) (t : Task) → s.task ≡ t → is_open s ≡ true → has_id id (pending Activity s) ≡ true → ended_activity last ≡ Some id → FitFrom p at s (plain last ∷ cond (is_no_task t) (plain (WorkflowTaskScheduled w) ∷ []) [])
 unfolding role opens settles
 last-fits p at s last id w NoTask is opened there ends =
@@ -164,7 +164,7 @@ has-used id held (e ∷ es) h = by_test (not (is_settled Activity e.id held)) h 
     by_test true g again = by_both (e.id == id) g again
     by_test false g again = or-right (e.id == id) (has_id id es) (again g)
 
--- nothing that settles a pending activity is held back
+-- nothing that settles a pending activity is buffered
 pending-free : (id : ℕ) (held : List Attributes) (es : List Event) → has_id id (filter (λ (e : Event). not (is_settled Activity e.id held)) es) ≡ true → is_settled Activity id held ≡ false
 pending-free id held [] h = absurd (cc)
 pending-free id held (e ∷ es) h = by_test (is_settled Activity e.id held) refl h (pending-free id held es)

@@ -130,7 +130,7 @@ cancel-fits at s request opened = by_task s.task refl
     by_task IsScheduled is = (now [], tt)
     by_task IsStarted is = (now [], tt)
 
--- and of a termination, behind which the run has closed
+-- and of a termination, after which the run has closed
 pub terminate-fits : (at : ℕ) (s : RunState) (reason : List ℕ) → is_open s ≡ true → FitStep at s (plain (WorkflowExecutionTerminated reason) ∷ [])
 unfolding role opens settles closing_status
 terminate-fits at s reason opened = (record { open_run = opened; fits_role = (tt, refl); begins_none = refl; may_settle = tt; may_ask = refl; first_signal = refl }, tt)

@@ -1,6 +1,6 @@
 //! The task of an activity's attempt that waits to be taken.
 //!
-//! Rule: PROFILE, Attempts of activities. Definition: Tasks. Rows: ActivityRows. Cases: attempts.
+//! Rules: A2.
 
 ghost use Rattle.std.specs.Prelude.{◌≡◌, IfOk};
 ghost use Rattle.mutable_state.specs.Activities.{row_said};

@@ -1,7 +1,6 @@
 //! What the deadlines of activities do to their runs.
 //!
-//! Rule: PROFILE, Deadlines and timer turns. Definition: TimerTurns. Rows: ActivityRows. Cases:
-//! activity_timeouts.
+//! Rules: D5, D6, D7, D8, D9, D17.
 
 ghost use Rattle.std.specs.Prelude.{◌≡◌, cond, ◌∷◌, [], IfOk};
 ghost use Rattle.service_model.specs.Activities.{attempt_started};

@@ -1,7 +1,6 @@
 //! The attempt of an activity that a worker has, and what its end adds to the run.
 //!
-//! Rule: PROFILE, Attempts of activities. Definition: Activities. Rows: ActivityRows. Cases:
-//! attempts.
+//! Rules: A1, A3, A5, A6, D16.
 
 ghost use Rattle.std.specs.Prelude.{◌≡◌, IfOk};
 ghost use Rattle.service_model.specs.Activities.{attempt_started, ends_activity};

@@ -1,6 +1,6 @@
 //! What a request to cancel and a termination add to a run.
 //!
-//! Rule: PROFILE, Cancel and terminate. Definition: Cancels. Rows: PolicyRows. Cases: workflow_ids.
+//! Rules: C1, C2, C3.
 
 ghost use Rattle.std.specs.Prelude.{◌≡◌, ◌∷◌, [], ◌&&◌, IfOk, codes};
 ghost use Rattle.wf_event.specs.declared.attributes.Attributes.TheVariants.{WorkflowExecutionCancelRequested, WorkflowExecutionTerminated};

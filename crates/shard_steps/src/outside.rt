@@ -1,6 +1,6 @@
 //! Facts from outside a worker.
 //!
-//! Rule: PROFILE, Workflow tasks. Definition: Outcome. Rows: TaskRows. Cases: workflow_tasks.
+//! Rules: W1, A4.
 
 ghost use Rattle.std.specs.Prelude.{◌≡◌, IfOk};
 ghost use Rattle.service_model.specs.Outcome.{outside, is_no_task};

@@ -1,6 +1,6 @@
 //! What a signal adds to its run.
 //!
-//! Rule: PROFILE, Histories. Definition: Signals. Rows: TaskRows. Cases: signals.
+//! Rules: H3.
 
 ghost use Rattle.std.specs.Prelude.{◌≡◌, ◌∷◌, [], IfOk};
 ghost use Rattle.service_model.specs.Outcome.{outside};

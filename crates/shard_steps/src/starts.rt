@@ -1,7 +1,6 @@
 //! The runs that steps make.
 //!
-//! Rule: PROFILE, Histories, Workflow IDs. Definition: Starts, Signals. Rows: TaskRows, PolicyRows.
-//! Cases: starts, workflow_ids.
+//! Rules: H2, H3, I5.
 
 ghost use Rattle.std.specs.Prelude.{◌≡◌, IfOk};
 ghost use Rattle.service_model.specs.Signals.{start_in};

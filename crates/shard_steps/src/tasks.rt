@@ -1,7 +1,6 @@
 //! The start of a workflow task, and what its end asks and answers.
 //!
-//! Rule: PROFILE, Workflow tasks. Definition: Tasks, Completion. Rows: TaskRows. Cases:
-//! workflow_tasks.
+//! Rules: W2, W4, W5, W6, W13, W15.
 
 ghost use Rattle.std.specs.Prelude.{◌≡◌, ◌∷◌, [], IfOk};
 ghost use Rattle.wf_event.specs.declared.attributes.Attributes.TheVariants.{WorkflowTaskStarted};

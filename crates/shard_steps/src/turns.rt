@@ -1,7 +1,6 @@
 //! What a deadline that fires writes.
 //!
-//! Rule: PROFILE, Deadlines and timer turns. Definition: TimerTurns. Rows: TimerRows,
-//! ExecutionRows. Cases: timer_turns, firings.
+//! Rules: D1, D10, D13, D15.
 
 ghost use Rattle.std.specs.Prelude.{◌≡◌, ℕ, ◌∷◌, [], IfOk};
 ghost use Rattle.wf_event.specs.declared.attributes.Attributes.TheVariants.{WorkflowExecutionTimedOut};

@@ -1,7 +1,6 @@
 //! The verdicts on attempts that ended without success.
 //!
-//! Rule: PROFILE, Attempts of activities. Definition: Retry, Activities. Rows: ActivityRows. Cases:
-//! attempts, activity_timeouts.
+//! Rules: A1, A2, A3, A7, A8, A9, A10, A11, A12, A13, A14, A15, A16.
 
 ghost use Rattle.std.specs.Prelude.{◌≡◌, ◌==◌, ◌+◌, cond, None, Some, option_map, IfOk, IfSome};
 ghost use Rattle.wf_event.specs.declared.attributes.Attributes.TheVariants.{ActivityTaskFailed as a_failure};

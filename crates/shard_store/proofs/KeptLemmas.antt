@@ -54,7 +54,7 @@ one-open v S h = subst (λ l. IsOneOpen l) (sym (ap (λ s. s.runs) h.says)) (of-
 pub are-aged : (v : ShardView) (S : Content) → StandsFor v S → AreAged v.last (states v.runs)
 are-aged v S h = subst (λ (s : ShardState). AreAged s.last s.runs) (sym h.says) h.aged
 
--- a run that it takes away may go
+-- a run that it deletes may go
 taken-may : {T : Type 0} (S : Content) (v : ShardView) (moment : ℕ) (c : Change T) (i : Option ℕ) (o : Outcome) → StandsFor v S → FitsAdded v moment c.added o.added → FitsTaken v c i o.removed →
     MayTake (with_added (S.steps + 1) moment o.added S.runs) o.removed
 taken-may S v moment c None o h added none = subst (MayTake (with_added (S.steps + 1) moment o.added S.runs)) (sym none) tt
@@ -67,7 +67,7 @@ taken-may {T} S v moment c (Some i) o h added (removed, may, alone) =
     (subst (λ (a : Option Added). IsOldestRun (map state_of (with_added (S.steps + 1) moment a S.runs)) (i + 1 - 1)) (sym none)
     (subst (λ k. IsOldestRun (map state_of S.runs) k) (sym place) (subst (λ l. IsOldestRun l i) (sym before) oldest)))
 
--- a step that makes a run takes none away
+-- a step that makes a run deletes none
 none-taken : {T : Type 0} (v : ShardView) (c : Change T) (n : NewRun T) (i o : Option ℕ) → c.created ≡ Some n → FitsTaken v c i o → o ≡ None
 none-taken v c n None o is none = none
 none-taken {T} v c n (Some i) o is (removed, may, alone) = let clash = sym is ∙ ap (λ (x : Change T). x.created) alone in absurd (cc)

@@ -37,7 +37,7 @@ stays-prepared v w at i facts m same caught_up made = record {
   change = made.change;
 }
 
--- a run that may be taken away is, alone
+-- a run that may be deleted is, alone
 pub fits-taking : {T : Type 0} (v : ShardView) (at i : ℕ) (a : Answer) → MayTake v i → FitsStep {T = T} v (record { moment = at; change = taking i; reply = Ok a }) at (takes_away (ordinal_of i) a)
 fits-taking v at i a may = record {
   moment = refl;

@@ -125,7 +125,7 @@ module _ (slots places : List ℕ) (kept : List RunView) (k last : ℕ) (h : Are
       owner : (j : ℕ) → j < length slots → slot_of slots j ≡ last → j ≡ m
       owner j inside same = sym (h.own j inside (subst (λ s. 0 < s) (sym same) positive)) ∙ ap (λ s. slice_index_or places s 0) same ∙ sym named
 
-  -- the slots behind it
+  -- the slots after it
   module _ (now : List ℕ) (freed : IsFreed slots now k last) (fewer : List RunView) (moved : IsMoved kept fewer (slot_of slots k)) (left : List ℕ) (moved_places : IsMoved places left (slot_of slots k)) where
     end_is : length kept - 1 ≡ last
     end_is = omega (arith, end)

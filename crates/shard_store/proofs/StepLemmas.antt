@@ -126,7 +126,7 @@ added-done S v moment (Some m) o h (facts, added, fits) =
       formed = subst P (sym is) (all-set (IsFormed (S.steps + 1)) S.runs n K (all-later S.steps S.runs h.formed) stands.formed);
     }
 
--- where a step takes a run away, its journal is the one without facts
+-- where a step deletes a run, its journal is the one without facts
 none-stands : state_of [] ≡ no_run
 unfolding no_run
 none-stands = refl
@@ -492,7 +492,7 @@ stays-taken (Some i) runs k s there = in_set runs i k there
     in_set (x ∷ runs) (suc i) zero h = (s, h, inr refl)
     in_set (x ∷ runs) (suc i) (suc k) h = in_set runs i k h
 
--- each older run showed before what it shows first after, or was taken away
+-- each older run showed before what it shows first after, or was deleted
 pub grows-after : {T : Type 0} (v : ShardView) (at : ℕ) (plan : Plan T) (o : Outcome) (w : ShardView) → FitsChange v at plan.change o → state w ≡ state_after plan (state v) → Grows (states v.runs) (states w.runs)
 grows-after v at plan o w fits did =
     let now = runs_added plan.change.added (states v.runs) in

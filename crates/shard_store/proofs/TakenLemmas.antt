@@ -1,4 +1,4 @@
--- a run that is taken away leaves its place empty
+-- a run that is deleted leaves its place empty
 use Rattle.std.proofs.Common.{◌≡◌, ◌≢◌, ℕ, ◌+◌, ◌<◌, ◌≤◌, ⊎_elim, Bool, true, false, cond, List, [], ◌∷◌, length, length-set, refl, sym, ap, ◌∙◌, arith, Option, Some, None, IfSome, zero, suc, slice_set, subst}
 use Rattle.std.specs.Prelude.{◌==◌, bytes_eq, option_map, slice_get}
 use Rattle.std.proofs.lemmas.Slice.Eq.{bytes_eq-Decides}
@@ -31,7 +31,7 @@ one-latest k id runs (Some x) (Some y) h g =
     let e : x ≡ y = omega (arith, at_x, at_y, first, second) in
     ap (λ n. Some n) e
 
--- what is there once a run was taken away was there, elsewhere
+-- what is there once a run was deleted was there, elsewhere
 else-there : (runs : List RunState) (i m : ℕ) (s : RunState) → slice_get (slice_set runs i no_run) m ≡ Some s → is_there s ≡ true → (slice_get runs m ≡ Some s) × (m ≢ i)
 else-there runs i m s at there =
     let (t, was, how) = get-set runs i no_run s m at in
@@ -71,7 +71,7 @@ stays-latest id runs i o h apart = record {
       );
 }
 
--- the oldest run of an ID that is its latest leaves none behind
+-- the oldest run of an ID that is its latest leaves none
 none-latest : (runs : List RunState) (i : ℕ) → i < length runs → is_there (state_at runs i) ≡ true → IsOldestRun runs i
     → ((m : ℕ) (s : RunState) → slice_get runs m ≡ Some s → is_there s ≡ true → id_of s ≡ id_of (state_at runs i) → m ≤ i)
     → IsLatest 1 (id_of (state_at runs i)) (slice_set runs i no_run) None
@@ -94,7 +94,7 @@ latest-is : (runs : List RunState) (id : List ℕ) → IsLatest 1 id runs (lates
 unfolding latest_run latest_from
 latest-is runs id = is-latest 1 id runs
 
--- the latest run of an ID once one of its runs, the oldest, was taken away
+-- the latest run of an ID once one of its runs, the oldest, was deleted
 latest-taken : (runs : List RunState) (i : ℕ) (o : Option ℕ) → i < length runs → is_there (state_at runs i) ≡ true → IsOldestRun runs i
     → option_map ordinal_of o ≡ latest_run runs (id_of (state_at runs i)) → option_map ordinal_of (without i o) ≡ latest_run (slice_set runs i no_run) (id_of (state_at runs i))
 latest-taken runs i None low begun oldest is =
@@ -142,7 +142,7 @@ indexed-taken look now runs i id low begun named oldest is h = record {
         ∙ ap (latest_run (slice_set (states runs) i no_run)) (sym named ∙ (bytes_eq-Decides id w).0 same)
     by_id w false other = h.latest w ∙ latest-else (states runs) i w within (λ e. not_from_Decides (bytes_eq id w) (bytes_eq-Decides id w) other (named ∙ e))
 
--- where of two runs of one workflow ID the older has closed, and closed no later, a run that is taken away is the oldest of its
+-- where of two runs of one workflow ID the older has closed, and closed no later, a run that is deleted is the oldest of its
 pub oldest-taken : {T : Type 0} (v : ShardView) (c : Change T) (i o : Option ℕ) → IsOneOpen (states v.runs) → AreAged v.last (states v.runs) → FitsTaken v c i o → IfSome i (IsOldestRun (states v.runs))
 oldest-taken v c None o one aged fits = tt
 oldest-taken v c (Some i) o one aged (removed, may, alone) = may.oldest one aged

@@ -91,7 +91,7 @@ pub record CountsAcknowledged (v : ShardView) (to : ℕ) : Type 0 where
   pub there : to < v.setup.shards
   pub some : 0 < length (waiting_to v.outgoing to).items
 
--- the run at that place may be taken away: it is there and has closed, all was looked up, and the older runs of its workflow ID went before
+-- the run at that place may be deleted: it is there and has closed, all was looked up, and the older runs of its workflow ID went before
 pub record MayTake (v : ShardView) (index : ℕ) : Type 0 where
   pub begun : is_there (state_at (states v.runs) index) ≡ true
   pub over : is_open (state_at (states v.runs) index) ≡ false
@@ -108,7 +108,7 @@ abbrev pub FitsCreated : {T : Type 0} → ShardView → ℕ → Option (NewRun T
 FitsCreated v at None o = o ≡ None
 FitsCreated v at (Some n) o = (b : Beginning) × (o ≡ Some (first_facts b)) × IsMade v at n b
 
--- a change that takes a run away alone
+-- a change that deletes a run alone
 abbrev pub taking : {T : Type 0} → ℕ → Change T
 taking index = record { added = None; created = None; taken = Some index; count = count.Nothing; answer = None }
 
@@ -129,7 +129,7 @@ abbrev pub FitsAnswer : ShardView → Option Sent → List Sent → Type 0
 FitsAnswer v None o = o ≡ []
 FitsAnswer v (Some a) o = (o ≡ a ∷ []) × (v.changed.answer ≡ None)
 
--- the state of the run to which a step adds, behind it
+-- the state of the run to which a step adds, after it
 abbrev pub grown : MoreOf → List RunState → RunState
 grown m runs = after_step m.plan.change.moment m.plan.change.facts (state_at runs m.index)
 
@@ -143,7 +143,7 @@ abbrev pub runs_created : {T : Type 0} → Option (NewRun T) → List RunState �
 runs_created None runs = runs
 runs_created (Some n) runs = runs ++ n.run.state ∷ []
 
--- the runs without one that is taken away: its place stays
+-- the runs without one that is deleted: its place stays
 abbrev pub runs_taken : Option ℕ → List RunState → List RunState
 runs_taken None runs = runs
 runs_taken (Some index) runs = slice_set runs index no_run
@@ -238,7 +238,7 @@ after_added m s = record s { runs = runs_added m s.runs; waiting = waiting_added
 abbrev pub after_answer : Option Sent → ShardState → ShardState
 after_answer a s = record s { outgoing = outgoing_answered a s.outgoing }
 
--- and once a run was taken away
+-- and once a run was deleted
 abbrev pub after_taken : Option ℕ → ShardState → ShardState
 after_taken i s = record s { runs = runs_taken i s.runs }
 

@@ -1,4 +1,4 @@
--- PROOF: a shard as contracts see it: what it says of its journals, its dispatches and its transfers, what was not
+-- PROOF: a shard as contracts see it: what it says about its journals, its dispatches and its transfers, what was not
 -- looked up since the last step, and for how many more runs there is room
 use Rattle.std.specs.Prelude.{◌≡◌, ℕ, ◌+◌, ◌<◌, ◌^◌, List, map, Option, option_map}
 use Rattle.service_model_types.specs.declared.content.Dispatch.{Dispatch}
@@ -10,8 +10,8 @@ use Rattle.mutable_state.specs.RunView.{RunView}
 use Rattle.transfer.specs.Logs.{Waiting}
 use Rattle.shard_issued.specs.Outstanding.{Outstanding}
 
--- a shard: its setup, its runs in the order of their ordinals, with that of no run at the place of one that was taken
--- away, what was not looked up since the last step, its last moment, for how many more runs there is room, its
+-- a shard: its setup, its runs in the order of their ordinals, with that of no run at the place of one that was
+-- deleted, what was not looked up since the last step, its last moment, for how many more runs there is room, its
 -- dispatches and its transfers to each shard that wait, and how many it accepted from each
 pub record ShardView : Type 0 where
   pub setup : Setup

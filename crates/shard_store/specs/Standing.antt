@@ -33,7 +33,7 @@ pub record StandsFor (v : ShardView) (S : Content) : Type 0 where
   pub one : HasOneOpen S
   pub aged : IsAged S
 
--- each run showed before what it shows first after, or was taken away
+-- each run showed before what it shows first after, or was deleted
 pub record Grows (old new : List RunState) : Type 0 where
   pub runs : (n : ℕ) (s : RunState) → slice_get old n ≡ Some s
       → (t : RunState) × (more : List Event) × (slice_get new n ≡ Some t) × ((t ≡ no_run) ⊎ (t.shown ≡ s.shown ++ more))

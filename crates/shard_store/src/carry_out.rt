@@ -17,7 +17,7 @@ use wf_event::Boxed;
 use wf_event_values::Id;
 
 impl<T: KeepsRun> Store<T> {
-    /// Takes a run away, or does all else.
+    /// Deletes a run, or does all else.
     pub(crate) fn carry_out(&mut self, change: Change<T>)
         requires fits { (at : ℕ) × (o : Outcome) × FitsChange self.old at change o }
         requires oldest { IfSome change.taken (IsOldestRun (states self.old.runs)) }
@@ -139,7 +139,7 @@ impl<T: KeepsRun> Store<T> {
         self.changed.made = Some(index);
     }
 
-    /// Takes a run away. Its place stays.
+    /// Deletes a run. Its place stays.
     fn take_away(&mut self, index: usize)
         requires may { MayTake self.old index }
         requires oldest { IsOldestRun (states self.old.runs) index }

@@ -38,7 +38,7 @@ pub enum Count {
 }
 
 /// What a step does to a shard: what an older run gets, the run that is made, the place of the run
-/// that is taken away, the count that is moved on, and the transfer that answers another one. That
+/// that is deleted, the count that is moved on, and the transfer that answers another one. That
 /// is large, and few steps have one, so it lies elsewhere.
 #[derive(Drop)]
 pub struct Change<T: KeepsRun> {
@@ -126,7 +126,7 @@ pub fn adding<T: KeepsRun>(moment: Moment, more: MoreOf, answer: Answer) -> Plan
     }
 }
 
-/// A step that takes away the run at a place, and answers.
+/// A step that deletes the run at a place, and answers.
 pub fn taking<T: KeepsRun>(moment: Moment, index: usize, answer: Answer) -> Plan<T>
     ensures { result ≡ record { moment = moment; change = taking index; reply = Ok answer } }
 {

@@ -1,4 +1,4 @@
-//! The places of a shard's runs. One whose run was taken away takes four bytes.
+//! The places of a shard's runs. One whose run was deleted takes four bytes.
 
 ghost use Rattle.std.specs.Borrow.{sem};
 ghost use Rattle.std.specs.Prelude.{◌≡◌, ◌≢◌, ◌<◌, ◌≤◌, ◌++◌, ◌∷◌, [], IfOk, OnOk, length, slice_index_or, slice_set};
@@ -98,7 +98,7 @@ impl<T: KeepsRun> Runs<T> {
         self.slots.push_reserved(slot);
     }
 
-    /// Takes away what is at a place. It takes no memory.
+    /// Deletes what is at a place. It takes no memory.
     pub(crate) fn clear(&mut self, index: usize)
         requires { index < length self.old.items }
         ensures { self.new.items ≡ slice_set self.old.items index empty_place }

@@ -206,7 +206,7 @@ impl<T: KeepsRun> Store<T> {
         requires aged { AreAged self.old.last (states self.old.runs) }
         ensures state { state self.new ≡ state_after plan (state self.old) }
 
-        // Each older run showed before what it shows first after, or was taken away.
+        // Each older run showed before what it shows first after, or was deleted.
         ensures grows { Grows (states self.old.runs) (states self.new.runs) }
 
         ensures reply { result ≡ plan.reply }

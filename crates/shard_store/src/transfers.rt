@@ -69,7 +69,7 @@ impl<T: KeepsRun> Store<T> {
         self.transfers.judge_acknowledgement(to, number)
     }
 
-    /// What the shard would say of a transfer.
+    /// What the shard would say about a transfer.
     pub fn judge_delivery(&self, transfer: &Transfer) -> Delivery
         requires { transfer.now.from < self.now.setup.shards }
         ensures value { result

@@ -1,8 +1,8 @@
 //! The tasks of a shard that wait to be taken.
 
 ghost use Rattle.std.specs.Prelude.{◌≡◌, ◌<◌, ◌^◌, IfOk, length};
-ghost use Rattle.service_model.specs.Waiting.{all_waiting};
-ghost use Rattle.shard_store.specs.ShardView.{states};
+ghost use Rattle.service_model.specs.Waiting.{all_waiting, not_handed_over};
+ghost use Rattle.shard_store.specs.ShardView.{state, states};
 
 use crate::runs::Runs;
 use crate::store::Store;
@@ -17,6 +17,17 @@ impl<T: KeepsRun> Store<T> {
             waiting.items ≡ all_waiting self.now.setup (states self.now.runs)) }
     {
         waiting_in(alloc, &self.setup, &self.runs)
+    }
+
+    /// Those whose dispatches were counted: the others are handed over by dispatch turns.
+    pub fn counted_tasks(&mut self, alloc: Global) -> Result<Vec<Dispatch>, AllocError>
+        ensures same { state self.new ≡ state self.old }
+        ensures counted { IfOk result (λ tasks. tasks.items ≡ not_handed_over
+            self.old.waiting.items (all_waiting self.old.setup (states self.old.runs))) }
+    {
+        self.catch_up()?;
+        let tasks = self.waiting_tasks(alloc)?;
+        self.dispatches.not_handed_over(alloc, tasks)
     }
 }
 

@@ -41,7 +41,7 @@ use Rattle.task_completion.specs.Outward.{child_asked, external_signal, external
 use Rattle.task_completion.proofs.SoFarLemmas.{next_event, Comes, uses-more, so-far-more, so-far-none, left-settled, comes-pending, comes-quiet, comes-cancel, id-low, found-in, used-ids, length-push, all-in-use}
 use Rattle.mutable_state.proofs.SoFarLemmas.{settled-more}
 
--- a run in the course of a completion, behind the task's end and the facts so far
+-- a run in the course of a completion, after the task's end and the facts so far
 record Now (s : RunState) (F : List Attributes) (t : RunState) : Type 0 where
   so_far : IsSoFar s F
   still_open : list_any (λ a. is_closing_role (role a)) F ≡ false
@@ -102,7 +102,7 @@ shown-next at a t none is =
     by_role new (TimerCancels k) = length-append t.shown _
     by_role new _ = length-append t.shown _
 
--- no more is held back
+-- no more is buffered
 unheld-less : (c : Class) (id started : ℕ) (l : List NewEvent) → is_settled c id (carried (filter (λ (e : NewEvent). not (fires started e.attributes)) l)) ≡ true → is_settled c id (carried l) ≡ true
 unheld-less c id started l h = left-settled c id (λ a. not (fires started a)) (carried l) (ap (is_settled c id) (filter-map (λ a. not (fires started a)) (λ (e : NewEvent). e.attributes) l) ∙ h)
 
@@ -225,7 +225,7 @@ stays-behind Follows = refl
 stays-behind (TimerFires k) = refl
 stays-behind (TimerCancels k) = refl
 
--- the rest of the facts G may come behind the facts F, and then a task, where the run goes on
+-- the rest of the facts G may come after the facts F, and then a task, where the run goes on
 abbrev Goes : ℕ → RunState → List Attributes → List Attributes → RunState → Type 0
 Goes at s G F t = (rest : List Attributes) × (G ≡ F ++ rest) × FitFrom IsBehindEnd at t (map plain (rest ++ cond (goes_on s G) (schedule_task s 1 ∷ []) []))
 
@@ -235,7 +235,7 @@ goes-plain at s G F a t now is may asks again =
     let tail = rest ++ cond (goes_on s G) (schedule_task s 1 ∷ []) [] in
     (a ∷ rest, all ∙ append_assoc F (a ∷ []) rest, (fits-plain s F a t (map plain tail) now is may asks, subst (λ p. FitFrom p at (with_event at None a t) (map plain tail)) (sym (stays-behind (role a))) fit))
 
--- nothing comes behind the end of the run
+-- nothing comes after the end of the run
 closed-stops : (setup : Setup) (next : Run) (s : RunState) (H G : List Attributes) (cs : List Command) → list_any (λ a. is_closing_role (role a)) H ≡ true → judge_all setup next s H cs ≡ Ok G → H ≡ G
 unfolding judge_all judge
 closed-stops setup next s H G [] closed h = cc

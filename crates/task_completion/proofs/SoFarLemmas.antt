@@ -1,4 +1,4 @@
--- what is in use and what is held back after the commands so far, with one more fact
+-- what is in use and what is buffered after the commands so far, with one more fact
 use Rattle.std.proofs.Common.{◌≡◌, ℕ, suc, ◌+◌, ◌≤◌, Bool, true, false, not, cond, ◌&&◌, ◌||◌, ◌==◌, List, [], ◌∷◌, ◌++◌, length, refl, sym, ap, ◌∙◌, subst, arith, Option, Some, None, append_assoc, append-nil}
 use Rattle.std.specs.Prelude.{filter, map, find}
 use Rattle.std.specs.List.{AllByRecursion, list_any}
@@ -122,7 +122,7 @@ filter-agree : (p q : Attributes → Bool) → ((a : Attributes) → p a ≡ q a
 filter-agree p q f [] = refl
 filter-agree p q f (x ∷ l) = ap (λ t. cond t (x ∷ filter p l) (filter p l)) (f x) ∙ ap (λ t. cond (q x) (x ∷ t) t) (filter-agree p q f l)
 
--- what is left of what is held back settles no more than all of it
+-- what is left of what is buffered settles no more than all of it
 pub left-settled : (c : Class) (id : ℕ) (q : Attributes → Bool) (l : List Attributes) → is_settled c id (filter q l) ≡ true → is_settled c id l ≡ true
 left-settled c id q [] h = h
 left-settled c id q (x ∷ l) h = by_test (q x) (is_settling c id (settles x)) refl h (left-settled c id q l)
@@ -184,7 +184,7 @@ still-outside s F h =
     carry [] k = tt
     carry (e ∷ l) k = (k.0, carry l k.1)
 
--- its firings are held back no more
+-- its firings are buffered no more
 pub still-cancel : (s : RunState) (F : List Attributes) (name : List ℕ) (started : ℕ) → still_held s (F ++ TimerCanceled (record { timer_id = name; started = started }) ∷ []) ≡ filter (λ a. not (fires started a)) (still_held s F)
 unfolding fires role
 still-cancel s F name started =
@@ -255,7 +255,7 @@ nothing-taken (a ∷ l) = ap (λ b. cond (not b) (a ∷ filter (λ x. not (is_ta
     none (TimerFires n) = refl
     none _ = refl
 
--- before any command all that is held back still is, and all that is used is in use so far
+-- before any command all that is buffered still is, and all that is used is in use so far
 pub all-held : (s : RunState) → still_held s [] ≡ held_attributes s
 all-held s = nothing-taken (held_attributes s)
 

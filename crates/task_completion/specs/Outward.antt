@@ -50,6 +50,6 @@ one_more Signal o = record o { signals = o.signals + 1 }
 one_more Cancel o = record o { cancels = o.cancels + 1 }
 one_more _ o = o
 
--- the counts are those of what is pending behind the facts so far
+-- the counts are those of what is pending after the facts so far
 abbrev pub Counts : RunState → List Attributes → Outward → Type 0
 Counts s F o = (c : Class) → is_outward c ≡ true → count_of c o ≡ length (pending_so_far c s F)

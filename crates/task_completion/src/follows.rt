@@ -1,6 +1,6 @@
 //! What the run that follows one that continues as new is like: what the command leaves out is as it was.
 //!
-//! Rule: PROFILE, Workflow tasks. Definition: Tasks. Rows: PolicyRows. Cases: continued_runs.
+//! Rules: W12.
 
 ghost use Rattle.std.specs.Prelude.{◌≡◌, IfOk, unwrap_or};
 ghost use Rattle.task_completion.specs.Judging.{continued_as_new};

@@ -84,7 +84,7 @@ impl<'a> NamedRows<'a> {
         }
     }
 
-    /// One more row, behind all others.
+    /// One more row, after all others.
     pub fn push(&mut self, row: Used<'a>) -> Result<(), AllocError>
         ensures { OnOk result (self.new ≡ self.old ++ row.entry ∷ []) }
     {

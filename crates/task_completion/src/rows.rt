@@ -1,4 +1,4 @@
-//! Questions about what is in use, about the notes on it, and about what is held back.
+//! Questions about what is in use, about the notes on it, and about what is buffered.
 
 ghost use Rattle.std.specs.Prelude.{◌≡◌, ◌==◌, find};
 ghost use Rattle.task_completion.specs.Judging.{event_named, is_firing_of, pending_rows, note_on, has_row, has_pending_row};

@@ -1,7 +1,6 @@
 //! What is kept while commands are judged.
 //!
-//! Rule: PROFILE, Workflow tasks. Definition: Completion. Rows: TaskRows, TimerRows, ActivityRows.
-//! Cases: commands, activity_commands, firings.
+//! Rules: W4, W5, W6, W7, W9, W10, W11, X1.
 
 ghost use Rattle.std.specs.Prelude.{◌≡◌, ◌+◌, [], false, length, IfOk, IsTrue, OnOk};
 ghost use Rattle.std.specs.List.{list_any};
@@ -39,7 +38,7 @@ use wf_event_values::{Cause, Id, RunId, Text};
 /// names are collected first.
 const FEW: usize = 16;
 
-/// The facts of the commands so far, and what is in use and held back behind them.
+/// The facts of the commands so far, and what is in use and buffered after them.
 pub struct SoFar<'a> {
     alloc: Global,
     setup: &'a Setup,
@@ -56,7 +55,7 @@ pub struct SoFar<'a> {
     activities: NamedRows<'a>,
     /// What was noted of activities before the commands.
     notes: Vec<NotedActivity>,
-    /// Of each event that is still held back the timer that it fires.
+    /// Of each event that is still buffered the timer that it fires.
     held: Vec<Option<u64>>,
     outward: Outward,
 }
@@ -299,7 +298,7 @@ impl<'a> SoFar<'a> {
         Ok(Ok(()))
     }
 
-    /// A timer whose firing is held back may be canceled: the firing is taken away.
+    /// A timer whose firing is buffered may be canceled: the firing is removed.
     fn cancel_timer(&mut self, timer_id: &Id) -> Result<Result<(), Cause>, AllocError>
         ensures { IfOk result (Leaves self.new (timer_canceled timer_id.now
             (event_named timer_id.now self.old.timers) self.old)) }
@@ -324,7 +323,7 @@ impl<'a> SoFar<'a> {
         Ok(Ok(()))
     }
 
-    /// A run isn't closed while an event is held back, of which the worker does not know.
+    /// A run isn't closed while an event is buffered, of which the worker does not know.
     fn close(&mut self, attributes: Attributes) -> Result<Result<(), Cause>, AllocError>
         ensures { IfOk result (Leaves self.new (closed attributes self.old)) }
     {
@@ -392,7 +391,7 @@ impl<'a> SoFar<'a> {
         Ok(Ok(()))
     }
 
-    /// Whether an event is still held back.
+    /// Whether an event is still buffered.
     pub fn is_some_held(&self) -> bool
         ensures { result ≡ has_members self.now.held }
     {

@@ -62,7 +62,7 @@ fn bytes_of(token: &TaskToken) -> [u8; 24]
     ]
 }
 
-/// The number in the first two bytes, and the bytes behind them.
+/// The number in the first two bytes, and the bytes after them.
 fn split_u16(bytes: &[u8]) -> (u16, &[u8])
     requires { 2 ≤ length bytes.now }
     ensures number { result.0 ≡ from_be_bytes w16 (take 2 bytes.now) }
@@ -72,7 +72,7 @@ fn split_u16(bytes: &[u8]) -> (u16, &[u8])
     (u16::from_be_bytes([front[0], front[1]]), rest)
 }
 
-/// The number in the first four bytes, and the bytes behind them.
+/// The number in the first four bytes, and the bytes after them.
 fn split_u32(bytes: &[u8]) -> (u32, &[u8])
     requires { 4 ≤ length bytes.now }
     ensures number { result.0 ≡ from_be_bytes w32 (take 4 bytes.now) }
@@ -83,7 +83,7 @@ fn split_u32(bytes: &[u8]) -> (u32, &[u8])
     (number, rest)
 }
 
-/// The number in the first eight bytes, and the bytes behind them.
+/// The number in the first eight bytes, and the bytes after them.
 fn split_u64(bytes: &[u8]) -> (u64, &[u8])
     requires { 8 ≤ length bytes.now }
     ensures number { result.0 ≡ from_be_bytes w64 (take 8 bytes.now) }

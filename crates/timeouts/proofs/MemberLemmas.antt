@@ -43,7 +43,7 @@ holds-same m ps qs n same h = record {
   none = λ q free. h.none q (λ k within e. free k within (ap (λ (x : Place). x.number) (same k within) ∙ e));
 }
 
--- the number behind the members is free
+-- the number after the members is free
 pub next-free : (m : FinMap nat_cmp Due) (ps : List Place) (ns : List ℕ) (n : ℕ) → IsNamed ps ns → n < length ps → Holds m ps n → get m (number_in ps n) ≡ None
 next-free m ps ns n named within h = h.none (number_in ps n) (λ k before. apart ps ns k n named (omega arith) within (λ e. omega arith))
 
@@ -146,7 +146,7 @@ top-least m h kept holds some = record {
 pub none-least : (m : FinMap nat_cmp Due) (ps : List Place) (n : ℕ) → Holds m ps n → n ≡ 0 → (k : ℕ) → get m k ≡ None
 none-least m ps n holds is k = holds.none k (λ j before. absurd (omega arith))
 
--- one enters behind the members
+-- one enters after the members
 pub entered : (m : FinMap nat_cmp Due) (ps qs rs : List Place) (ns ms : List ℕ) (n number : ℕ) (d : Due) → IsNamed qs ns → n < length qs → ((k : ℕ) → k < n → place_in qs k ≡ place_in ps k)
     → IsNamed rs ms → n < length rs → number ≡ number_in qs n → place_in rs n ≡ record { due = d; number = number } → ((k : ℕ) → k ≢ n → place_in rs k ≡ place_in qs k) → Holds m ps n
     → (get m number ≡ None) × Holds (insert m number d) rs (n + 1)

@@ -47,7 +47,7 @@ module _ (m : FinMap nat_cmp Due) (ids : List (Option DueId)) (k : ℕ) (kept : 
   other-at : (o : Option DueId) (j : ℕ) → j ≢ k → slice_index_or (slice_set ids k o) j None ≡ slice_index_or ids j None
   other-at o j other = get_or-set_other ids k j o None other
 
-  -- what is at the number is taken away
+  -- what is at the number is removed
   module _ (id : DueId) (is : slice_index_or ids k None ≡ Some id) where
     away-other : (j : ℕ) (jd : DueId) → slice_index_or (slice_set ids k None) j None ≡ Some jd → (j ≢ k) × (slice_index_or ids j None ≡ Some jd)
     away-other j jd at = by (cases_eq j k)
@@ -252,7 +252,7 @@ ids-set notes k note o is = map-set noted notes k note ∙ ap (slice_set (ids_of
 pub noted-so : (o : Option ℕ) (note : ℕ) (id : DueId) → o ≡ Some note → IfSome o (λ n. noted n ≡ Some id) → noted note ≡ Some id
 noted-so o note id is so = subst (λ x. IfSome x (λ n. noted n ≡ Some id)) is so
 
--- one was added and taken away again
+-- one was added and removed again
 pub added-removed : (m : FinMap nat_cmp Due) (k : ℕ) (d : Due) → get m k ≡ None → remove (insert m k d) k ≡ m
 added-removed m k d free = same_map nat_cmp_total nat_cmp-IsAntisymmetric _ _ (λ q. by q (cases_eq q k))
   where

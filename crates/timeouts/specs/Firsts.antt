@@ -1,4 +1,4 @@
--- MEANING: the first deadlines of runs
+-- INNER: the first deadlines of runs
 use Rattle.std.specs.Prelude.{◌≡◌, ℕ, ◌+◌, ◌-◌, ◌≤◌, List, [], ◌∷◌, ◌++◌, length, map, option_map, option_to_list, slice_get, slice_index_or, Option, Some, None}
 use Rattle.wf_event.specs.declared.event.Event.{Event}
 use Rattle.wf_event.specs.declared.attributes.Attributes.TheVariants.{TimerStarted}

@@ -1,4 +1,4 @@
--- MEANING: deadlines, each known by a number
+-- INNER: deadlines, each known by a number
 use Rattle.std.specs.Prelude.{ℕ, refl}
 use Rattle.std.specs.FinMap.{FinMap, code}
 use Rattle.std.specs.Coded.{Coded, code_by, coded×, coded_ℕ}

@@ -79,7 +79,7 @@ impl ByPlace {
         }
     }
 
-    /// Takes away what is at a number. It takes no memory.
+    /// Removes what is at a number. It takes no memory.
     pub fn clear(&mut self, number: usize)
         requires { number < length self.old.slots }
         ensures slots { self.new.slots ≡ slice_set self.old.slots number None }

@@ -49,7 +49,7 @@ with_all_sent-from s sent base (suc n) (o ∷ os) at =
 pub with_all_sent-cons : (s : Sent) (sent : List Sent) (all : List (Waiting TransferContent)) → with_all_sent (s ∷ sent) 0 all ≡ with_all_sent sent 0 (issued_to all s.to s.content)
 with_all_sent-cons s sent all = with_all_sent-from s sent 0 s.to all (omega arith)
 
--- those that are sent behind others
+-- those that are sent after others
 pub with_all_sent-behind : (sent more : List Sent) (all : List (Waiting TransferContent)) → with_all_sent (sent ++ more) 0 all ≡ with_all_sent more 0 (with_all_sent sent 0 all)
 with_all_sent-behind [] more all = ap (with_all_sent more 0) (sym (with_all_sent-nil 0 all))
 with_all_sent-behind (s ∷ sent) more all =

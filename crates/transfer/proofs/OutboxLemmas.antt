@@ -94,7 +94,7 @@ module _ (logs items : List (Log TransferContent)) (to at : ℕ) (old new : Log 
   pub room_to-kept : old.room ≤ new.room → (k : ℕ) → room_to logs k ≤ room_to (slice_set items at new) k
   room_to-kept less k = nothing-less _ _ (k == to) (room_to-less 0 (omega arith) k)
 
--- where all had room, those behind the first still have room once it was issued
+-- where all had room, those after the first still have room once it was issued
 pub room-behind : (logs now : List (Log TransferContent)) (s : Sent) (rest : List Sent) → length now ≡ length logs → ((k : ℕ) → room_to logs k ≤ room_to now k + (if k == s.to then 1 else 0)) → HasRoomFor logs (s ∷ rest) → HasRoomFor now rest
 room-behind logs now s rest count less has = λ k within. by_test k (s.to == k) refl (has k (omega (arith, within, count))) (less k)
   where

@@ -1,4 +1,4 @@
--- MEANING: the transfers that a shard accepted from each source
+-- INNER: the transfers that a shard accepted from each source
 use Rattle.std.specs.Prelude.{ℕ, ◌+◌, List, slice_set}
 use Rattle.service_model.specs.Deliveries.{accepted_from}
 use Rattle.service_model_types.specs.declared.transfer.Delivery.{Delivery}

@@ -1,7 +1,6 @@
 //! The transfers that a shard accepted.
 //!
-//! Rule: PROFILE, Children and other workflows. Definition: Deliveries. Rows: TransferRows. Cases:
-//! transfer_turns, records.
+//! Rules: X7.
 
 ghost use Rattle.std.specs.Prelude.{◌≡◌, ◌+◌, ◌<◌, ◌^◌, length, replicate, slice_set, IfOk};
 ghost use Rattle.service_model.specs.Deliveries.{accepted_from, delivery_of};
@@ -41,7 +40,7 @@ impl Inbox {
         Ok(Inbox { accepted })
     }
 
-    /// What the shard would say of a transfer.
+    /// What the shard would say about a transfer.
     pub fn judge(&self, transfer: &Transfer) -> Delivery
         requires { transfer.now.from < length self.now }
         ensures value { result

@@ -7,7 +7,7 @@
 //! `--load` it goes on from the records in that folder, one file of each shard, and with `--save` it
 //! writes them there at the end. With `--journal` it goes on from the journal in that folder, and
 //! prints the replies to what one read gave once their steps are on the disk. With `--trace` it
-//! prints, behind the last reply, a line for each step of any shard, in the order of their tickets.
+//! prints, after the last reply, a line for each step of any shard, in the order of their tickets.
 //! Its exit status is 0, or 1 where a reply was a refusal, or 2 for a fault, whose text goes to
 //! standard error. Faults are looked for in this order: the command line, the file, the folder to
 //! save in, the records, the settings' ranges, the opening, and then reading, writing and memory, and

@@ -1,4 +1,4 @@
-//! What is said of records that took long to restore.
+//! What is said about records that took long to restore.
 
 use service_model_types::request::Request;
 use std::io;

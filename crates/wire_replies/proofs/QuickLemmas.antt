@@ -13,7 +13,7 @@ use Rattle.task_token.specs.TokenTexts.{token_text}
 use Rattle.wf_event_values.specs.declared.policies.TaskKind.TheVariants.{Workflow}
 use Rattle.service_model_types.specs.declared.answer.WorkflowTask.{WorkflowTask}
 
--- pieces, one behind another, and as they are put at the end of a text
+-- pieces, one after another, and as they are put at the end of a text
 abbrev flat : List (List ℕ) → List ℕ
 flat [] = []
 flat (p ∷ ps) = p ++ flat ps

@@ -1,6 +1,6 @@
 //! The members of a reply, by its answer, in the order of their keys.
 //!
-//! Rule: PROFILE, Lines. Definition: wire_replies/Answers. Rows: -. Cases: starts, fields.
+//! Rules: L7, L10.
 #![tactic(auto, unfolding(wire_events::specs::Pages::add_members, crate::specs::Answers::history_members, crate::specs::Answers::count_members, crate::specs::Answers::description_members, crate::specs::Answers::fired_members))]
 
 ghost use Rattle.std.specs.Prelude.{◌≡◌, OnOk};

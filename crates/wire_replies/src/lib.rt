@@ -1,7 +1,7 @@
 //! Replies as lines of compact JSON, each with the number of the line that it answers. What can be
 //! answered stands in `service_model_types`; events are written by `wire_events`.
 //!
-//! Rule: PROFILE, Lines. Definition: wire_replies/Replies. Rows: -. Cases: starts.
+//! Rules: L10.
 #![tactic(auto)]
 
 mod answers;

@@ -1,7 +1,7 @@
 //! The replies that are given most, by pieces of text. Any other is left to the page, and so is one
 //! with a text that needs escapes.
 //!
-//! Rule: PROFILE, Lines. Definition: wire_replies/Replies. Rows: -. Cases: starts, dispatch_turns.
+//! Rules: L10.
 
 ghost use Rattle.std.specs.Prelude.{◌≡◌, [], ◌++◌, decimal, IfOk, OnOk, string_bytes};
 ghost use Rattle.std.specs.Bool.{OnTrue};
@@ -17,7 +17,7 @@ use std::alloc::AllocError;
 use task_token::{RUN_TEXT_LENGTH, RunText, TOKEN_TEXT_LENGTH, TaskToken};
 use wf_event_values::{RunId, TaskKind};
 
-/// A piece of text, and another behind it.
+/// A piece of text, and another after it.
 #[inline(always)]
 fn put_both(page: &mut String, piece: &str, text: &str) -> Result<(), AllocError>
     ensures { OnOk result (string_bytes page.new
@@ -27,7 +27,7 @@ fn put_both(page: &mut String, piece: &str, text: &str) -> Result<(), AllocError
     page.push_str(text)
 }
 
-/// A piece of text, and a number behind it.
+/// A piece of text, and a number after it.
 #[inline(always)]
 fn put_number(page: &mut String, piece: &str, number: u64) -> Result<(), AllocError>
     ensures { OnOk result (string_bytes page.new

@@ -1,7 +1,7 @@
 //! The line of a reply: an answer with its members, or a refusal with its name and its number, and
 //! what it names besides.
 //!
-//! Rule: PROFILE, Lines. Definition: wire_replies/Replies. Rows: -. Cases: starts.
+//! Rules: L10.
 
 ghost use Rattle.std.specs.Prelude.{◌≡◌, ◌++◌, ◌∷◌, [], OnOk, IfOk, string_bytes};
 ghost use Rattle.wire_events.specs.Pages.{sheet_of, text_of, add_members, add_value};

@@ -1,6 +1,6 @@
 //! Tasks that were taken, with the tokens that their outcomes are handed back under.
 //!
-//! Rule: PROFILE, Lines. Definition: wire_replies/Tasks. Rows: -. Cases: dispatch_turns, attempts.
+//! Rules: L10.
 #![tactic(auto, unfolding(wire_events::specs::Pages::add_members, crate::specs::Tasks::workflow_task_members, crate::specs::Tasks::activity_members, crate::specs::Tasks::activity_task_members))]
 
 ghost use Rattle.std.specs.Prelude.{◌≡◌, OnOk, codes};

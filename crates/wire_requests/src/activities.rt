@@ -1,6 +1,6 @@
 //! What is asked of a running activity, each line by the token of its task.
 //!
-//! Rule: PROFILE, Lines. Definition: wire_requests/Activities. Rows: -. Cases: activity_lines.
+//! Rules: L7.
 
 ghost use Rattle.wf_event_values.specs.Gives.{Gives};
 ghost use Rattle.wire_requests.specs.Activities.{activity_text_of, fail_activity_of};

@@ -1,6 +1,6 @@
 //! The commands on activities (Temporal, Commands).
 //!
-//! Rule: PROFILE, Lines. Definition: wire_requests/ActivityCommands. Rows: -. Cases: commands.
+//! Rules: L9.
 
 ghost use Rattle.wf_event_values.specs.Gives.{Gives};
 ghost use Rattle.wire_requests.specs.ActivityCommands.{activity_of};

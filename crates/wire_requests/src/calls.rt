@@ -1,6 +1,6 @@
 //! A line as what it asks of a service.
 //!
-//! Rule: PROFILE, Lines. Definition: wire_requests/Calls. Rows: -. Cases: lines, fields, lanes.
+//! Rules: L2, L3, L5.
 
 ghost use Rattle.std.specs.Prelude.{◌≡◌};
 ghost use Rattle.wf_event_values.specs.Gives.{Gives};

@@ -1,6 +1,6 @@
 //! The commands of a completion (Temporal, Commands).
 //!
-//! Rule: PROFILE, Lines. Definition: wire_requests/Commands. Rows: -. Cases: commands.
+//! Rules: L9.
 
 ghost use Rattle.std.specs.Prelude.{◌≡◌, [], map};
 ghost use Rattle.wf_event_values.specs.Gives.{Gives};

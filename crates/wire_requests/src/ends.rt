@@ -1,6 +1,6 @@
 //! Lines that ask a run to cancel, and that terminate it.
 //!
-//! Rule: PROFILE, Lines. Definition: wire_requests/CancelFields. Rows: -. Cases: workflow_ids.
+//! Rules: L7.
 
 ghost use Rattle.wf_event_values.specs.Gives.{Gives};
 ghost use Rattle.wire_requests.specs.CancelFields.{request_cancel_of, terminate_of};

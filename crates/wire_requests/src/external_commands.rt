@@ -1,6 +1,6 @@
 //! The commands that reach other workflows: children, and runs outside (Temporal, Commands).
 //!
-//! Rule: PROFILE, Lines. Definition: wire_requests/ExternalCommands. Rows: -. Cases: commands.
+//! Rules: L9.
 
 ghost use Rattle.wf_event_values.specs.declared.field.Field.TheVariants as field;
 ghost use Rattle.wf_event_values.specs.Gives.{Gives};

@@ -2,7 +2,7 @@
 //! names its first faulty field. The fields of each operation are read in the order in which PROFILE
 //! lists them.
 //!
-//! Rule: PROFILE, Lines. Definition: wire_requests/Calls. Rows: -. Cases: lines, fields.
+//! Rules: L3, L5.
 #![tactic(auto)]
 
 mod activities;

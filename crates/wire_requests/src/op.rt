@@ -1,6 +1,6 @@
 //! What a line can ask for.
 //!
-//! Rule: PROFILE, Lines. Definition: wire_requests/Ops. Rows: -. Cases: fields.
+//! Rules: L7.
 
 ghost use Rattle.std.specs.Prelude.{◌≡◌};
 ghost use Rattle.wire_requests.specs.Ops.{op_named, op_of};

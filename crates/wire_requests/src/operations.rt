@@ -1,7 +1,6 @@
 //! The fields of each operation, in the order in which their faults are looked for.
 //!
-//! Rule: PROFILE, Lines. Definition: wire_requests/Operations. Rows: -. Cases: fields,
-//! workflow_ids, activity_lines.
+//! Rules: L7.
 
 ghost use Rattle.std.specs.Prelude.{◌≡◌, [], Ok, Err, true};
 ghost use Rattle.service_model_types.specs.Clients.{is_clients};

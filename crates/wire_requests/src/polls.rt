@@ -1,6 +1,6 @@
 //! The lines that ask a task queue for a task.
 //!
-//! Rule: PROFILE, Lines. Definition: wire_requests/Polls. Rows: -. Cases: dispatch_turns.
+//! Rules: L7.
 
 ghost use Rattle.wf_event_values.specs.Gives.{Gives};
 ghost use Rattle.wire_requests.specs.Polls.{poll_of};

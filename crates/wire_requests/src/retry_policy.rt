@@ -1,6 +1,6 @@
 //! A retry policy, as a command has it (Temporal, Retry Policies).
 //!
-//! Rule: PROFILE, Lines. Definition: wire_requests/RetryPolicies. Rows: -. Cases: commands.
+//! Rules: L9.
 
 ghost use Rattle.std.specs.Prelude.{◌≡◌, [], map};
 ghost use Rattle.wf_event_values.specs.Gives.{Gives};

@@ -1,6 +1,6 @@
 //! Lines that start a run.
 //!
-//! Rule: PROFILE, Lines. Definition: wire_requests/Starts. Rows: -. Cases: fields, starts.
+//! Rules: L7.
 
 ghost use Rattle.std.specs.Prelude.{◌≡◌};
 ghost use Rattle.wf_event_values.specs.Gives.{Gives};

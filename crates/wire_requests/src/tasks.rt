@@ -1,7 +1,6 @@
 //! The tasks that tokens name.
 //!
-//! Rule: PROFILE, Refusals. Definition: wire_requests/Tasks. Rows: -. Cases: tokens,
-//! activity_lines.
+//! Rules: F5.
 
 ghost use Rattle.std.specs.Prelude.{◌≡◌};
 ghost use Rattle.wire_requests.specs.Tasks.{is_workflow, shard_is_there, task_in, task_of_kind, workflow_task_in, activity_task_in};

@@ -1,7 +1,6 @@
 //! The lines that ask a shard for a turn.
 //!
-//! Rule: PROFILE, Lines. Definition: wire_requests/Turns. Rows: -. Cases: dispatch_turns,
-//! transfer_turns.
+//! Rules: L8.
 
 ghost use Rattle.std.specs.Prelude.{◌≡◌};
 ghost use Rattle.wf_event_values.specs.Gives.{Gives};

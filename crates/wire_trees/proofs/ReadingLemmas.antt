@@ -51,13 +51,13 @@ scalar-read depth Token.bad rest j is = absurd cc
 pub scalar-value : (depth : ℕ) (t : Token) (rest : List Token) (v : BorrowedValue) → IsScalar t v → IsValue depth (t ∷ rest) v rest
 scalar-value depth t rest v s = record { json = s.0; parsed = scalar-read depth t rest s.0 s.1; is = s.2 }
 
--- fewer tokens are left behind a value
+-- fewer tokens are left after a value
 pub value-shorter : (depth : ℕ) (ts : List Token) (v : BorrowedValue) (rest : List Token) → IsValue depth ts v rest → length rest < length ts
 value-shorter depth ts v rest h = skip_value-shorter depth ts rest (ap left h.parsed)
 
--- ---- the items so far: what is read of the tokens that are left, `front` puts behind them
+-- ---- the items so far: what is read of the tokens that are left, `front` puts after them
 
--- items behind those so far
+-- items after those so far
 abbrev pub before : List BorrowedValue → tree.Items → tree.Items
 before [] rest = rest
 before (v ∷ vs) rest = tree.item (data_of v) (before vs rest)

@@ -27,7 +27,7 @@ pub record BeginsPlainly (text : List ℕ) : Type 0 where
   pub bare : get_or text 0 0 ≡ 43 → ⊥
   pub lead : get_or text 0 0 ≡ 48 → length text ≡ 1
 
--- tokens behind the bracket that opens an array, and behind the brace that opens an object
+-- tokens after the bracket that opens an array, and after the brace that opens an object
 abbrev pub in_list : List Token → List Token
 in_list ts = Token.begin_array ∷ ts
 

@@ -111,7 +111,7 @@ fn value<'a>(
     }
 }
 
-/// Reads an array behind the bracket that opens it.
+/// Reads an array after the bracket that opens it.
 #[cycle(value)]
 #[inline(never)]
 fn list<'a>(
@@ -128,7 +128,7 @@ fn list<'a>(
     Ok(BorrowedValue::Array(found))
 }
 
-/// Reads an object behind the brace that opens it.
+/// Reads an object after the brace that opens it.
 #[cycle(value)]
 #[inline(never)]
 fn object<'a>(

@@ -10,5 +10,5 @@ returns g c =
       own = second.own;
       count = second.count ∙ first.count;
       met = (passes_of c.meet_others.new.lanes, first.met, second.met);
-      kept = record { asked = second.kept.asked ∙ first.kept.asked; replies = second.kept.replies ∙ first.kept.replies; taken = second.kept.taken ∙ first.kept.taken };
+      asked = second.asked ∙ first.asked;
     }

@@ -1,9 +1,10 @@
-use Rattle.std.proofs.Common.{◌≡◌, suc, All, List, ◌∷◌, refl, sym, subst, ◌∙◌, arith}
+use Rattle.std.proofs.Common.{◌≡◌, suc, All, List, ◌∷◌, map, refl, sym, ap₂, subst, ◌∙◌, arith}
 use Rattle.std.proofs.lemmas.List.{get_or-set_other, length-set}
+use Rattle.std.proofs.Math.Seq.{map-set_same}
 use Rattle.lanes.specs.declared.lane.Lane.{Lane}
 use Rattle.lanes.specs.Course.{FirstMet}
-use Rattle.lanes.specs.Lanes.{KeepsReplies, passes_of}
-use Rattle.lanes.proofs.MeetLemmas.{all-set, kept-first, kept-set, met-all, met-one}
+use Rattle.lanes.specs.Lanes.{calls_of, passes_of}
+use Rattle.lanes.proofs.MeetLemmas.{all-set, met-all, met-one}
 use Rattle.lanes.proofs.phase.meet_others.Goals as goal
 
 first-and-rest : {A : Type 0} (P : A → Type 0) (xs : List A) (x : A) (rest : List A) → xs ≡ x ∷ rest → All P xs → P x × All P rest
@@ -20,10 +21,8 @@ loop-other-init g c =
       count = refl;
       met = refl;
       asked = refl;
-      replies = refl;
-      taken = refl;
       rest = λ k d from. refl;
-      kept = record { asked = refl; replies = refl; taken = refl };
+      kept = refl;
     }
 
 pub loop-other-preserved : goal.loop-other-preserved
@@ -38,10 +37,8 @@ loop-other-preserved g c =
       count = length-set ys i _ ∙ h.count;
       met = met-one (g.D.Door.meets c.args.door.now) _ _ _ c.in-Some.rest.now ys i x _ (omega arith) h.count (h.rest i x (omega arith)) c.other-item.is (subst (λ (o : Lane g.row.S.Denot g.row.S-Plan.Denot). g.D.Door.meets c.args.door.now c.loop-other.first.pass o.pass c.meet.new.one c.meet.new.other) (sym c.other-item.is) c.meet.ensures.met) h.met;
       asked = h.asked;
-      replies = h.replies;
-      taken = h.taken;
       rest = λ k d from. get_or-set_other ys i k _ d (λ e. absurd (omega (arith, from, e))) ∙ h.rest k d (omega (arith, from));
-      kept = kept-set _ ys i x _ refl refl refl h.kept;
+      kept = map-set_same calls_of ys i _ x refl ∙ h.kept;
     }
 
 pub returns-after-loop-other-clause-met : goal.returns-after-loop-other-clause-met
@@ -49,7 +46,7 @@ returns-after-loop-other-clause-met g c =
     subst (λ xs. FirstMet (g.D.Door.meets c.args.door.now) (passes_of xs) (passes_of (c.loop-other.first ∷ c.loop-other.other-items))) (sym c.in-Some.ensures.cases.0)
     (met-all (g.D.Door.meets c.args.door.now) c.in-Some.first.now c.loop-other.first c.in-Some.rest.now c.loop-other.other-items c.loop-other.other-index c.loop-other-test.false c.loop-other.invariant.count c.loop-other.invariant.met)
 
-pub returns-after-loop-other-clause-kept : goal.returns-after-loop-other-clause-kept
-returns-after-loop-other-clause-kept g c =
+pub returns-after-loop-other-clause-asked : goal.returns-after-loop-other-clause-asked
+returns-after-loop-other-clause-asked g c =
     let h = c.loop-other.invariant in
-    subst (λ xs. KeepsReplies xs (c.loop-other.first ∷ c.loop-other.other-items)) (sym c.in-Some.ensures.cases.0) (kept-first c.in-Some.first.now c.loop-other.first c.in-Some.rest.now c.loop-other.other-items h.asked h.replies h.taken h.kept)
+    subst (λ xs. map calls_of (c.loop-other.first ∷ c.loop-other.other-items) ≡ map calls_of xs) (sym c.in-Some.ensures.cases.0) (ap₂ (λ x xs. x ∷ xs) h.asked h.kept)

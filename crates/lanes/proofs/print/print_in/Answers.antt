@@ -15,10 +15,10 @@ use Rattle.lanes.proofs.print.print_in.Goals as goal
 pub returns-in_err-print_refusal-clause-begun : goal.returns-in_err-print_refusal-clause-begun
 returns-in_err-print_refusal-clause-begun g c =
     on_any_err c.from_residual.result _
-    (λ rss left. inr (record { reply = _; left = rss; took = took-past c.args.lane rss (omega (arith, left-count c.args.lanes.now rss left, c.if-lane-lanes.true)); written = c.in_err-print_refusal.ensures.begun }))
+    (λ rss left next. inr (record { reply = _; left = rss; took = took-past c.args.lane rss (omega (arith, left-count c.args.lanes.now rss left, c.if-lane-lanes.true)); written = c.in_err-print_refusal.ensures.begun }))
 
 pub returns-then-lane-lanes-clause-printed : goal.returns-then-lane-lanes-clause-printed
-returns-then-lane-lanes-clause-printed g c = λ rss left. record {
+returns-then-lane-lanes-clause-printed g c = λ rss left next. record {
   reply = _;
   left = rss;
   took = took-past c.args.lane rss (omega (arith, left-count c.args.lanes.now rss left, c.if-lane-lanes.true));
@@ -32,12 +32,6 @@ returns-in_default-clause-passes g c = map-set_same (λ l. l.pass) c.args.lanes.
 
 pub returns-in_default-clause-calls : goal.returns-in_default-clause-calls
 returns-in_default-clause-calls g c = map-set_same calls_of c.args.lanes.now c.args.lane c.take.new.self c.index-lanes-lane.result (ap waiting c.take.ensures.asked)
-
-pub returns-then-answer-number-clause-passes : goal.returns-then-answer-number-clause-passes
-returns-then-answer-number-clause-passes g c = map-set_same (λ l. l.pass) c.args.lanes.now c.args.lane c.take.new.self c.index-lanes-lane.result c.take.ensures.pass
-
-pub returns-then-answer-number-clause-calls : goal.returns-then-answer-number-clause-calls
-returns-then-answer-number-clause-calls g c = map-set_same calls_of c.args.lanes.now c.args.lane c.take.new.self c.index-lanes-lane.result (ap waiting c.take.ensures.asked)
 
 pub returns-in_err-print_line-clause-passes : goal.returns-in_err-print_line-clause-passes
 returns-in_err-print_line-clause-passes g c = map-set_same (λ l. l.pass) c.args.lanes.now c.args.lane c.take.new.self c.index-lanes-lane.result c.take.ensures.pass
@@ -63,11 +57,11 @@ returns-in_err-print_line-clause-begun g c =
     let same3 : get_or (set ls c.args.lane m) c.args.lane c.index-lanes-lane-3.result ≡ m = get_or-set_same ls c.args.lane m c.index-lanes-lane-3.result c.if-lane-lanes.false in
     let part = c.line.ensures a (ap (λ l. slice_get l.replies.answers.items c.in-Some.at) same3 ∙ there) ∙ ap (λ l. slice_range l.replies.text.items a.start a.end) same3 in
     on_any_err c.from_residual-in_err-print_line.result _
-    (λ rss left.
+    (λ rss left next.
     let o = left-at ls rss c.args.lane y left at in
     let f = left-first y m c.in-Some.at a o.0 c.in-Some.ensures.first c.take.ensures.answered there o.2 in
-    let text = part ∙ f.line.line ∙ ap (λ n. reply_line n f.reply) c.if-answer-number.false in
-    inr (record { reply = f.reply; left = set rss c.args.lane f.rest; took = took-first c.args.lane rss o.0 f.rest f.reply o.1 f.first; written = subst (AppendsBeginning (g.W.Write.contents c.args.writer.now.inner) (g.W.Write.contents c.print_line.new.writer.inner)) text c.in_err-print_line.ensures.begun }))
+    let text = part ∙ f.line.line ∙ ap (λ n. reply_line n f.reply.reply) (next f.reply f.rest (o.1 ∙ ap Some f.first)) in
+    inr (record { reply = f.reply.reply; left = set rss c.args.lane f.rest; took = took-first c.args.lane rss o.0 f.rest f.reply o.1 f.first; written = subst (AppendsBeginning (g.W.Write.contents c.args.writer.now.inner) (g.W.Write.contents c.print_line.new.writer.inner)) text c.in_err-print_line.ensures.begun }))
 
 pub returns-clause-printed : goal.returns-clause-printed
 returns-clause-printed g c =
@@ -80,12 +74,12 @@ returns-clause-printed g c =
     let there : slice_get m.replies.answers.items c.in-Some.at ≡ Some a = ap (λ l. slice_get l.replies.answers.items c.in-Some.at) (sym same) ∙ c.answer-answer.ensures in
     let same3 : get_or (set ls c.args.lane m) c.args.lane c.index-lanes-lane-3.result ≡ m = get_or-set_same ls c.args.lane m c.index-lanes-lane-3.result c.if-lane-lanes.false in
     let part = c.line.ensures a (ap (λ l. slice_get l.replies.answers.items c.in-Some.at) same3 ∙ there) ∙ ap (λ l. slice_range l.replies.text.items a.start a.end) same3 in
-    λ rss left.
+    λ rss left next.
     let o = left-at ls rss c.args.lane y left at in
     let f = left-first y m c.in-Some.at a o.0 c.in-Some.ensures.first c.take.ensures.answered there o.2 in
-    let text = part ∙ f.line.line ∙ ap (λ n. reply_line n f.reply) c.if-answer-number.false in
+    let text = part ∙ f.line.line ∙ ap (λ n. reply_line n f.reply.reply) (next f.reply f.rest (o.1 ∙ ap Some f.first)) in
     record {
-      reply = f.reply;
+      reply = f.reply.reply;
       left = set rss c.args.lane f.rest;
       took = took-first c.args.lane rss o.0 f.rest f.reply o.1 f.first;
       kept = left-set ls rss c.args.lane m f.rest left f.left;

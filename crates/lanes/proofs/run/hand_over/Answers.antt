@@ -7,7 +7,7 @@ use Rattle.lanes.proofs.SortLemmas.{handed-all, handing-none, handing-one, min-p
 use Rattle.lanes.proofs.run.hand_over.Goals as goal
 
 pub loop-k-init : goal.loop-k-init
-loop-k-init g c = record { handing = handing-none _ _ }
+loop-k-init g c = record { handing = handing-none _ _ _ }
 
 pub returns-in_err-ask_all-clause-passes : goal.returns-in_err-ask_all-clause-passes
 returns-in_err-ask_all-clause-passes g c =
@@ -26,11 +26,11 @@ loop-k-preserved g c =
     let at_l : slice_get ls k ≡ Some l = slice_get_read ls _ k l refl within c.index_mut.ensures.value in
     let at_x : slice_get lists k ≡ Some x = slice_get_read lists _ k x refl beside c.index_mut-in-loop-k.ensures.value in
     record {
-      handing = handing-one c.args.calls.now.items c.args.lanes.now.items k lists ls l c.ask_all.new.self x c.ask_all.new.calls at_l at_x c.in_ok-ask_all.ensures.asked (length-set ls k _) (length-set lists k _)
+      handing = handing-one c.args.first c.args.calls.now.items c.args.lanes.now.items k lists ls l c.ask_all.new.self x c.ask_all.new.calls at_l at_x c.in_ok-ask_all.ensures.asked (length-set ls k _) (length-set lists k _)
           (map-set_same (λ l. l.pass) ls k c.ask_all.new.self l (c.ask_all.ensures.pass ∙ ap (λ l. l.pass) c.index_mut.ensures.value)) h;
     }
 
 pub returns-clause-asked : goal.returns-clause-asked
 returns-clause-asked g c =
-    handed-all c.args.calls.now.items c.args.lanes.now.items c.loop-k.k c.loop-k.calls.items c.loop-k.lanes.items
+    handed-all c.args.first c.args.calls.now.items c.args.lanes.now.items c.loop-k.k c.loop-k.calls.items c.loop-k.lanes.items
     (min-past (length c.args.lanes.now.items) (length c.args.calls.now.items) c.loop-k.k (omega (arith, c.loop-k-test.false, c.min-count.ensures, c.len.ensures, c.len-2.ensures, c.args.lanes.now.ok.0, c.args.calls.now.ok.0))) c.loop-k.invariant.handing

@@ -5,5 +5,5 @@ use Rattle.matching.proofs.held.held.Given as goal
 abbrev pub invariant-loop-dispatch : goal.invariant-loop-dispatch
 invariant-loop-dispatch l = record {
   count : length l.all.items ≡ 2 * length l.names.items;
-  rest : held_by l.names.items l.capacity l.fn.waiting.items ≡ all_pushed l.names.items l.capacity (map (λ v. v.items) l.all.items) l.dispatch-iterator.rest.items;
+  rest : held_by l.names.items l.most l.fn.waiting.items ≡ all_pushed l.names.items l.most (map (λ v. v.items) l.all.items) l.dispatch-iterator.rest.items;
 }

@@ -4,7 +4,7 @@ use Rattle.gate.proofs.Lists.{each_snoc}
 use Rattle.service_model_types.specs.declared.content.Setup.{Setup}
 use Rattle.service_model.specs.Service.{Entry, opening}
 use Rattle.service_model.specs.Service as model
-use Rattle.service_model.specs.Waiting.{waiting}
+use Rattle.shard_gate.specs.Sources.{hinted}
 use Rattle.shard_gate.specs.Opening.{IsSetup, opened_with, records_in, waiting_in}
 use Rattle.service_model.proofs.ListLemmas.{map-push}
 use Rattle.shard_gate.proofs.OpenLemmas.{all-middle, flat-push}
@@ -31,7 +31,7 @@ loop-setup-preserved g c =
           ∙ sym (map-push (λ y. y.1) l.yielded one);
       standing = each_snoc _ l.objects.items _ x is h.standing found.ensures.stands;
       keeping = each_snoc _ l.objects.items _ x is h.keeping found.ensures.keeping;
-      waiting = c.in_ok-append.ensures.items ∙ ap (λ t. t ++ f.waiting.items) h.waiting ∙ ap (λ t. waiting_in l.yielded ++ t) found.ensures.waiting
-          ∙ sym (flat-push (λ y. waiting (model.replay y.0 y.1)) l.yielded one);
+      waiting = c.in_ok-append.ensures.items ∙ ap (λ t. t ++ f.waiting.items) h.waiting ∙ ap (λ t. waiting_in c.args.source l.yielded ++ t) found.ensures.waiting
+          ∙ sym (flat-push (λ y. hinted c.args.source (model.replay y.0 y.1)) l.yielded one);
       rest = h.rest ∙ ap (λ t. l.yielded ++ t) c.in-Some.ensures.steps.0 ∙ sym (append_assoc l.yielded (one ∷ []) c.next.new.self.rest.items);
     }

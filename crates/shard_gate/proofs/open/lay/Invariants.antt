@@ -9,6 +9,6 @@ invariant-loop-setup g l = record {
   records : map (λ x. x.1) l.objects.items ≡ records_in l.yielded;
   standing : Each l.objects.items (λ k x. g.S.Object.stands x.0 (replay g.S.Object.after (g.S.Object.opening x.0) x.1));
   keeping : Each l.objects.items (λ k x. KeepsAll g.S.Object.after g.S.Object.keeps (g.S.Object.opening x.0) x.1);
-  waiting : l.all.items ≡ waiting_in l.yielded;
+  waiting : l.all.items ≡ waiting_in l.source l.yielded;
   rest : l.fn.given.items ≡ l.yielded ++ l.setup-iterator.rest.items;
 }

@@ -36,7 +36,7 @@ swap_remove-requires-2 g c =
     let a = at c.args.self.now t.slots.items t.kept.items c.args.index c.index-slot.result.now (ap (λ (v : RunsView). v.items) c.self.view_is) c.requires c.index-slot.ensures in
     omega (arith, a.is, c.self.invariant.there c.args.index a.low, c.self.invariant.count, t.places.ok.0)
 
--- the slots, and what is at the places, behind it
+-- the slots, and what is at the places, after it
 record Behind (v : RunsView) (now left : List ℕ) (fewer : List RunView) (k : ℕ) : Type 0 where
   are : AreSlots now left fewer
   items : map (in_slot fewer) now ≡ slice_set v.items k empty_place

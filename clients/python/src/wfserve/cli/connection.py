@@ -1,0 +1,32 @@
+"""Where the server is that `wf` asks, and its token."""
+
+from __future__ import annotations
+
+import argparse
+import os
+import pathlib
+from typing import Optional
+
+from wfserve.http import HttpService
+
+URL = "http://127.0.0.1:7233"
+# For how many seconds a call is made again while the server is away: a person waits.
+PATIENCE = 3.0
+
+
+def add_connection(parser: argparse.ArgumentParser) -> None:
+    """The words that say which server is asked."""
+    parser.add_argument("--url", default=os.environ.get("WFSERVE_URL", URL), help=f"the server; WFSERVE_URL, or {URL}")
+    parser.add_argument(
+        "--token-file", default=os.environ.get("WFSERVE_TOKEN_FILE"),
+        help="a file with the server's token, where it wants one; WFSERVE_TOKEN_FILE",
+    )
+
+
+def service_of(args: argparse.Namespace, wait: int = 0, patience: float = PATIENCE) -> HttpService:
+    """The server that the words name. A poll waits for so many milliseconds."""
+    return HttpService(args.url, token_of(args), wait=wait, patience=patience)
+
+
+def token_of(args: argparse.Namespace) -> Optional[str]:
+    return pathlib.Path(args.token_file).read_text(encoding="utf-8").strip() if args.token_file else None

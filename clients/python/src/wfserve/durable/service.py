@@ -1,0 +1,294 @@
+"""A service that survives being killed: each line is in a log on the disk before the program reads it.
+
+With one pass the program's replies are a proved function of the lines that it was given, so the
+lines are all there is to keep. Opened on a log that is there, the service starts a program with the
+log's own settings and gives it the lines again; then it goes on.
+
+    from wfserve.durable import DurableService
+
+    with DurableService(["../../serve"], "orders.log") as service:
+        service.start("order-17", "Order", request_id="order-17-start")
+
+A call returns once its line was synced and the program has answered. Threads may call at once: one
+sync serves all lines that wait for it. A call that was not answered may have taken effect or not;
+one with a request id can be made again, and takes effect once. Reads change nothing, and are no lines.
+
+A log grows by every line. `compact()` puts the records of the shards in the place of its lines: a
+service is opened from them in the place of serving each line again.
+"""
+
+from __future__ import annotations
+
+import json
+import threading
+from collections import deque
+from concurrent.futures import Future
+from dataclasses import dataclass, field
+from types import TracebackType
+from typing import Any, Callable, Deque, Iterable, List, Optional, Sequence, Type
+
+from wfserve.calls import Calls, Clock, HasMoment, answered, request_of, text_of
+from wfserve.errors import Ended, LogFault
+from wfserve.operations import READS
+from wfserve.types import Reply, Request
+
+from .kept import KeptProgram, Replayed, for_read
+from .program import Program
+from .settings import Settings
+
+
+# Told a request and its reply.
+Observe = Callable[[Request, Reply], None]
+
+
+@dataclass
+class Waiting:
+    """A call on its way. Its number is that of its line in the log, or of the last line before a read."""
+
+    line: bytes
+    logged: bool = True
+    number: int = 0
+    reply: "Future[Reply]" = field(default_factory=Future)
+
+
+def waiting_for(request: Request) -> Waiting:
+    """A call that waits for its turn. A read is asked at no moment, so that it sets none."""
+    if request.get("op") not in READS:
+        return Waiting(text_of(request).encode())
+    return Waiting(for_read(request), logged=False)
+
+
+def replayed_as(observe: Optional[Observe]) -> Optional[Replayed]:
+    """Tells an observer each request and its reply."""
+    if observe is None:
+        return None
+    told = observe
+    return lambda number, request, line, text: told(request, json.loads(text))
+
+
+def fail(calls: Iterable[Waiting], fault: Exception) -> None:
+    for call in calls:
+        call.reply.set_exception(fault)
+
+
+class DurableService(Calls):
+    """The calls of Service, kept in a log. It may be called by many threads.
+
+    `settings` are those of a new log; a log that is there has to have the same. None takes the
+    log's own, or the defaults. `most_a_sync` is how many lines one sync serves at most. `replayed`
+    is called with each request of the log and its reply, before the first call; what was done before
+    the log was compacted last is no line of it.
+    """
+
+    def __init__(
+        self,
+        command: Sequence[str],
+        log: str,
+        settings: Optional[Settings] = None,
+        clock: Optional[HasMoment] = None,
+        most_a_sync: int = 1_000,
+        replayed: Optional[Observe] = None,
+    ):
+        self.clock: HasMoment = clock or Clock()
+        self.last_moment = 0
+        self._most = most_a_sync
+        self._changed = threading.Condition()
+        self._asked: Deque[Waiting] = deque()
+        self._sent: Deque[Waiting] = deque()
+        # Why nothing more is asked, and why nothing more is answered.
+        self._closed: Optional[Exception] = None
+        self._over: Optional[Exception] = None
+        self._status: Optional[int] = None
+        # Whether lines are on their way to the program, and whether they have to wait.
+        self._writing = False
+        self._paused = False
+        self._kept = KeptProgram(command, log, settings, replayed_as(replayed))
+        self.last_moment = self._kept.last_moment
+        self._writer = threading.Thread(target=self._write_calls, daemon=True)
+        self._writer.start()
+        self._read_on()
+
+    def __enter__(self) -> "DurableService":
+        return self
+
+    def __exit__(
+        self, kind: Optional[Type[BaseException]], fault: Optional[BaseException], trace: Optional[TracebackType],
+    ) -> None:
+        self.close()
+
+    @property
+    def settings(self) -> Settings:
+        """What the service was opened with. The capacity may have grown since."""
+        return self._kept.settings
+
+    @property
+    def lines(self) -> int:
+        """How many lines the log has for the program."""
+        return self._kept.lines
+
+    @property
+    def size(self) -> int:
+        """How many bytes the log has."""
+        return self._kept.log.size
+
+    @property
+    def records_size(self) -> int:
+        """How many bytes the records have that the log goes on from."""
+        return self._kept.records_size
+
+    def record_files(self) -> List[str]:
+        """The files of the records that the log goes on from, by their shards."""
+        return self._kept.record_files()
+
+    def read_all(self, requests: Sequence[Request]) -> List[Reply]:
+        """The replies to reads, refusals as the replies that they are."""
+        return [reply.result() for reply in [self.send(request) for request in requests]]
+
+    # Calls.
+
+    def call(self, op: str, **fields: Any) -> Reply:
+        request = request_of(op, self.clock.now, fields)
+        return answered(request, self.send(request).result())
+
+    def send(self, request: Request) -> "Future[Reply]":
+        """Asks without waiting: the reply comes to the future, a refusal as the reply that it is."""
+        if request.get("barrier") is True or request.get("lane", 0) != 0:
+            raise ValueError("a service with a log has one lane, and no barriers")
+        waiting = waiting_for(request)
+        # Nobody can call back what is logged.
+        waiting.reply.set_running_or_notify_cancel()
+        with self._changed:
+            if self._closed is not None:
+                raise self._closed
+            self._asked.append(waiting)
+            self._changed.notify_all()
+        return waiting.reply
+
+    def _write_calls(self) -> None:
+        """Logs what is asked, and hands it to the program. One thread does this."""
+        while True:
+            calls = self._next_calls()
+            if not calls:
+                self._kept.program.end_input()
+                return
+            self._hand_over(self._logged(calls))
+            with self._changed:
+                self._writing = False
+                self._changed.notify_all()
+
+    def _logged(self, calls: List[Waiting]) -> List[Waiting]:
+        """Logs the calls, and gives them their numbers. Where that can't be done, only the reads are left."""
+        logged, number = [call for call in calls if call.logged], self.lines
+        try:
+            if logged:
+                self._kept.log.append([call.line for call in logged])
+        except LogFault as fault:
+            fail(logged, fault)
+            calls = [call for call in calls if not call.logged]
+        for call in calls:
+            number += call.logged
+            call.number = number
+        return calls
+
+    def _hand_over(self, calls: List[Waiting]) -> None:
+        with self._changed:
+            over = self._over
+            if over is None:
+                self._sent.extend(calls)
+        if over is None:
+            self._kept.program.write([call.line for call in calls])
+        else:
+            fail(calls, over)
+
+    def _next_calls(self) -> List[Waiting]:
+        """The calls that wait for the next sync, or none where nothing more is asked."""
+        with self._changed:
+            while self._paused or (not self._asked and self._closed is None):
+                self._changed.wait()
+            count = min(len(self._asked), self._most)
+            self._writing = count > 0
+            return [self._asked.popleft() for _ in range(count)]
+
+    def _read_on(self) -> None:
+        """Begins to read the program's replies."""
+        self._reader = threading.Thread(target=self._read_replies, args=(self._kept.program,), daemon=True)
+        self._reader.start()
+
+    def _next_number(self) -> int:
+        """The number of the line whose reply comes next."""
+        with self._changed:
+            return self._sent[0].number if self._sent else self.lines + 1
+
+    def _read_replies(self, program: Program) -> None:
+        """Gives each call its reply. One thread does this for each program."""
+        try:
+            while True:
+                reply = program.reply(self._next_number())
+                with self._changed:
+                    call = self._sent.popleft()
+                    self._changed.notify_all()
+                call.reply.set_result({**reply, "line": call.number})
+        except Exception as fault:
+            with self._changed:
+                replaced = self._kept.program is not program
+            if not replaced:
+                self._end(fault)
+
+    def _end(self, fault: Exception) -> None:
+        """The program has ended: nobody waits for it any longer."""
+        with self._changed:
+            self._over = fault
+            self._closed = self._closed or fault
+            left = [*self._sent, *self._asked]
+            self._sent.clear()
+            self._asked.clear()
+            self._changed.notify_all()
+        fail(left, fault)
+
+    def close(self) -> int:
+        """Answers what was asked, ends the program and gives up the log. The program's status."""
+        if self._status is None:
+            with self._changed:
+                self._closed = self._closed or Ended("the service was closed")
+                self._changed.notify_all()
+            self._writer.join()
+            self._reader.join()
+            self._status = self._kept.close()
+        return self._status
+
+    # Compaction.
+
+    def compact(self, capacity: int = 0) -> None:
+        """Puts the records of the shards in the place of the log's lines, and goes on from them.
+
+        Calls wait meanwhile. The log gives way only after a program that was opened from the records has
+        answered, and it stays beside the new one until the next compaction. The queues get room for
+        `capacity` tasks, and for more where more wait; they keep what they have where that is more. Each
+        task that waits has its hint in its queue again, so a worker may be handed `stale` for one that it
+        was handed before. NotCompacted or NotOpened where it can't be done: the service then goes on as
+        it was.
+        """
+        self._pause()
+        try:
+            former = self._kept.next_generation(capacity)
+            former.end_input()
+            self._reader.join()
+            self._kept.end(former)
+            self._read_on()
+        finally:
+            with self._changed:
+                self._paused = False
+                self._changed.notify_all()
+
+    def _pause(self) -> None:
+        """Waits until every call that was logged is answered; none is logged from then on."""
+        with self._changed:
+            while self._paused:
+                self._changed.wait()
+            self._paused = True
+            while self._closed is None and (self._writing or self._sent):
+                self._changed.wait()
+            if self._closed is not None:
+                self._paused = False
+                self._changed.notify_all()
+                raise self._closed

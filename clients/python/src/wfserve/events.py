@@ -1,0 +1,99 @@
+"""What the types of events mean: which event opens what, which one ends it, and how a run closes.
+
+An event that belongs to an earlier one names it by an attribute, its *key*: `scheduled`, `started` or `initiated`,
+whose value is the earlier event's id.
+"""
+
+from __future__ import annotations
+
+from typing import Any, Dict, FrozenSet, List, NamedTuple, Optional, Tuple
+
+from wfserve.types import Event
+
+SCHEDULED, STARTED, INITIATED = "scheduled", "started", "initiated"
+
+
+class Opening(NamedTuple):
+    """What an event opens: the key by which others name it, its kind, and the attribute that says which one it is."""
+
+    key: str
+    kind: str
+    name: str
+
+
+# What opens a bar of a picture, and something that may be pending.
+OPENINGS: Dict[str, Opening] = {
+    "WorkflowTaskScheduled": Opening(SCHEDULED, "task", "attempt"),
+    "ActivityTaskScheduled": Opening(SCHEDULED, "activity", "activity_id"),
+    "TimerStarted": Opening(STARTED, "timer", "timer_id"),
+    "StartChildWorkflowExecutionInitiated": Opening(INITIATED, "child", "workflow_id"),
+}
+# By which key an event names the workflow task, activity, timer or child that it ends.
+WORKFLOW_TASK_ENDS: Dict[str, str] = dict.fromkeys(
+    ("WorkflowTaskCompleted", "WorkflowTaskFailed", "WorkflowTaskTimedOut"), SCHEDULED
+)
+ACTIVITY_ENDS: Dict[str, str] = dict.fromkeys(
+    ("ActivityTaskCompleted", "ActivityTaskFailed", "ActivityTaskTimedOut", "ActivityTaskCanceled"), SCHEDULED
+)
+TIMER_FIRED, TIMER_CANCELED = "TimerFired", "TimerCanceled"
+CHILD_ENDS: Dict[str, str] = dict.fromkeys(
+    (
+        "ChildWorkflowExecutionCompleted", "ChildWorkflowExecutionFailed", "ChildWorkflowExecutionCanceled",
+        "ChildWorkflowExecutionTimedOut", "ChildWorkflowExecutionTerminated", "StartChildWorkflowExecutionFailed",
+    ),
+    INITIATED,
+)
+WORD_ENDS: Dict[str, str] = dict.fromkeys(
+    (
+        "ExternalWorkflowExecutionSignaled", "ExternalWorkflowExecutionCancelRequested",
+        "SignalExternalWorkflowExecutionFailed", "RequestCancelExternalWorkflowExecutionFailed",
+    ),
+    INITIATED,
+)
+# What ends what a picture has a bar of.
+ENDS: Dict[str, str] = {
+    **WORKFLOW_TASK_ENDS, **ACTIVITY_ENDS, TIMER_FIRED: STARTED, TIMER_CANCELED: STARTED, **CHILD_ENDS,
+}
+# What a workflow's code learns of: the end of what it asked for. A timer that it canceled itself is no news.
+SETTLES: Dict[str, str] = {**ACTIVITY_ENDS, TIMER_FIRED: STARTED, **CHILD_ENDS, **WORD_ENDS}
+
+# The status that each closing event leaves a run with.
+STATUS: Dict[str, str] = {
+    "WorkflowExecutionCompleted": "Completed",
+    "WorkflowExecutionFailed": "Failed",
+    "WorkflowExecutionTimedOut": "TimedOut",
+    "WorkflowExecutionCanceled": "Canceled",
+    "WorkflowExecutionTerminated": "Terminated",
+    "WorkflowExecutionContinuedAsNew": "ContinuedAsNew",
+}
+RUNNING = "Running"
+# A workflow task that failed for this cause says nothing of the code: the next one knows what came meanwhile.
+NOTHING_WRONG = "UnhandledCommand"
+# The cause of a task that its worker failed; other causes are faults that the service found in its commands.
+WORKERS_OWN = "WorkflowWorkerUnhandledFailure"
+PENDING_KINDS: FrozenSet[str] = frozenset(("activity", "timer", "child"))
+
+
+def status_of(events: List[Event]) -> str:
+    """The status of a run with these events."""
+    return STATUS.get(events[-1]["type"], RUNNING)
+
+
+def ended_by(event: Event) -> Optional[Tuple[str, int]]:
+    """The key and the id of the event whose activity, timer, child or task this one ends; None where it ends none."""
+    key = ENDS.get(event["type"])
+    return None if key is None else (key, event["attrs"][key])
+
+
+def pending(events: List[Event]) -> List[Dict[str, Any]]:
+    """The activities, timers and children of a run that have not ended: kind, id, event and since when (ms)."""
+    ended = {ended_by(event) for event in events}
+    found = []
+    for event in events:
+        opening = OPENINGS.get(event["type"])
+        if opening is None or opening.kind not in PENDING_KINDS or (opening.key, event["id"]) in ended:
+            continue
+        found.append({
+            "kind": opening.kind, "id": event["attrs"][opening.name], "event": event["id"], "since": event["at"],
+        })
+    return found

@@ -1,0 +1,500 @@
+"""The one order of lines: all calls that wait are one batch, and are answered once its lines are on the disk.
+
+A batch is written to the log, then to the program, and is synced while the program works; what comes meanwhile
+is the next batch. No timer gathers calls, the sync does. Written to the log first, lines for which the disk has
+no room have no effect; and what a killed server leaves, the next one finds. A reply is let go once the program
+gave it and a sync has covered its line.
+
+One thread does all of this, the server's loop, but for the syncs. Turns and polls go on in the order of replies.
+"""
+
+from __future__ import annotations
+
+import asyncio
+import json
+import logging
+import time
+from collections import deque
+from typing import Any, Callable, Deque, Dict, Iterable, List, Optional, Set
+
+from wfserve.durable.kept import KeptProgram
+from wfserve.durable.program import numbered
+from wfserve.errors import Ended, LogFault
+from wfserve.operations import READS
+from wfserve.types import Json, Request
+
+from .calls import Busy, Draining, KeyReused, wait_of
+from .ledger import TURNS, Ledger, Needed, Turn
+from .lines import Call, Receiver, own_call
+from .metrics import Metrics
+from .moments import Moments
+from .pipes import Pipes, Syncer
+from .polls import Polls
+from .replies import Replies, ended_line
+
+
+LOG = logging.getLogger("wfserve.server")
+REPLIES = json.JSONDecoder()
+MOST_LINES, MOST_BYTES = 4_096, 1 << 20
+# So many bytes of calls may wait.
+MOST_WAITING_BYTES = 64 << 20
+# How many seconds the calls on their way may take once the server is told to stop.
+DRAIN_SECONDS = 10.0
+# So long after its end the program is started again.
+PAUSE_SECONDS = 0.02
+# Polls that wait are looked through so often at most.
+TICK_SECONDS = 0.02
+# So often the program is started, where it ends before it has come to the line at which it ended.
+MOST_STARTS = 3
+# For how many seconds no turns are made where the disk was full.
+REST_SECONDS = 1.0
+
+
+class Core:
+    """A kept program, for the server's one loop. `observe` is told each request and its reply."""
+
+    def __init__(
+        self, kept: KeptProgram, limit: int, observe: Callable[[Json, Json], None], moments: Moments, ledger: Ledger,
+        replies: Replies,
+    ):
+        self.kept = kept
+        self.moments = moments
+        self.ledger = ledger
+        self.metrics = Metrics()
+        self.polls = Polls(self._forget_key)
+        self.closing = False
+        # Set where nothing is served any more, to why.
+        self.over: "asyncio.Future[Exception]" = asyncio.get_running_loop().create_future()
+        # Whether a call that may issue something was made since the last sweep.
+        self.called = True
+        # Until when no turns are made.
+        self.resting = 0.0
+        self._limit = limit
+        self._observe = observe
+        self._replies = replies
+        self._by_key: Dict[str, Call] = {}
+        self._asked: Deque[Call] = deque()
+        self._own: List[Call] = []
+        self._sent: Deque[Call] = deque()
+        self._unsynced: Deque[Call] = deque()
+        self._count, self._bytes = 0, 0
+        # The number of the last line that was answered, and of the last one that a sync covers.
+        self._answered = self._synced = kept.lines
+        # Why no batch is written now: a sync is under way; a compaction, or a program that is started.
+        self._is_syncing = False
+        self._held_by: Set[str] = set()
+        self._planned = False
+        # Whether a poll that was woken could not be asked.
+        self._missed = False
+        self._died_at = -1
+        # When polls are looked through, in ticks.
+        self._ticks: Set[int] = set()
+        self._loop = asyncio.get_running_loop()
+        self._syncer = Syncer(self._loop, self._was_synced)
+        self._speak()
+
+    # What is asked.
+
+    @property
+    def wrong(self) -> str:
+        """Why no call is taken now, in one word; empty where they are."""
+        if self.closing:
+            return "draining"
+        log = self.kept.log
+        if log.broken or self.over.done():
+            return "broken" if log.broken else "ended"
+        return "full" if log.full else "restarting" if "restarting" in self._held_by else ""
+
+    @property
+    def compacting(self) -> bool:
+        """Whether calls wait until the log is compacted."""
+        return "compacting" in self._held_by
+
+    @property
+    def waiting(self) -> int:
+        """How many calls of clients wait for their answers, without the polls that wait for tasks."""
+        return self._count
+
+    def submit(self, request: Request, begin: bytes, receiver: Receiver, key: Optional[str] = None) -> None:
+        """Asks for a client. The receiver gets the reply, or why there is none."""
+        if self.over.done():
+            raise self.over.result()
+        if self.closing:
+            raise Draining("the server is told to stop")
+        call = Call(request, begin, None if request.get("op") in READS else key)
+        call.receivers.append(receiver)
+        if call.is_poll:
+            call.late = call.since + wait_of(request) / 1_000
+        if not self._is_had_again(call, receiver):
+            self._take_in(call)
+
+    def _is_had_again(self, call: Call, receiver: Receiver) -> bool:
+        """Whether the call was made before, with the same key: then its reply is given again, or waited for."""
+        if call.key is not None:
+            reply = self._replies.get(call.key, call.begin)
+            if reply is not None:
+                self.metrics.again += 1
+                receiver.answer(reply)
+                return True
+            former = self._by_key.get(call.key)
+            if former is not None:
+                if former.begin != call.begin:
+                    raise KeyReused(f"another call is being made with the key {call.key}")
+                former.receivers.append(receiver)
+                former.late = max(former.late, call.late)
+                self._end_polls_at(former.late)
+                return True
+        left = self.polls.left_for(call.request) if call.is_poll else None
+        if left is not None:
+            call.take(left.text, left.reply)
+            self._remember(call)
+            receiver.answer(call.text)
+        return left is not None
+
+    def _take_in(self, call: Call) -> None:
+        if self._count >= self._limit or self._bytes >= MOST_WAITING_BYTES:
+            self.metrics.refused["Busy"] += 1
+            raise Busy(f"{self._count} calls wait already")
+        self._count += 1
+        self._bytes += len(call.begin)
+        if call.key is not None:
+            self._by_key[call.key] = call
+        self._asked.append(call)
+        self.plan()
+
+    def ask_turns(self, turns: Iterable[Turn]) -> None:
+        """Asks turns of the server's own."""
+        if time.monotonic() >= self.resting and not self.over.done():
+            self._own += [own_call(turn) for turn in turns]
+            self.plan()
+
+    def plan(self) -> None:
+        """Has what waits written once the loop has taken what else came by now."""
+        if not self._planned and not self._held_by and not self._is_syncing:
+            self._planned = True
+            self._loop.call_soon(self._write)
+
+    # A batch.
+
+    def _write(self) -> None:
+        self._planned = False
+        if self._held_by or self._is_syncing or self.over.done():
+            return
+        calls = self._next_calls()
+        if calls:
+            self._hand_over(self._logged(calls))
+
+    def _logged(self, calls: List[Call]) -> List[Call]:
+        """Writes the lines of a batch to the log. Where that can't be done, only the reads are left."""
+        at = self.moments.now()
+        for call in calls:
+            call.line = self._line_of(call, at)
+        logged, number = [call for call in calls if call.is_logged], self.kept.lines
+        try:
+            if logged:
+                self.kept.log.write([call.line for call in logged])
+        except LogFault as fault:
+            calls = [call for call in calls if not call.is_logged]
+            self._refuse(logged, fault)
+        for call in calls:
+            number += call.is_logged
+            call.number = number
+        return calls
+
+    def _hand_over(self, calls: List[Call]) -> None:
+        """Gives lines to the program, and has the log synced meanwhile."""
+        if self.over.done():
+            for call in calls:
+                self._fail(call, self.over.result())
+            return
+        self._sent.extend(calls)
+        if calls:
+            self._pipes.feed(b"\n".join([*[call.line for call in calls], b""]))
+        written = self.kept.lines - self._synced
+        if written:
+            self._is_syncing = True
+            self.metrics.batches.add(written)
+            self._syncer.sync(self.kept.log, self.kept.lines)
+
+    def _next_calls(self) -> List[Call]:
+        """The calls of the next batch, and after them the turns that they make necessary."""
+        calls, needed, size = self._own, Needed(), 0
+        self._own = []
+        while self._asked and len(calls) < MOST_LINES and size < MOST_BYTES:
+            call = self._asked.popleft()
+            calls.append(call)
+            size += len(call.begin)
+            self.ledger.note(call.request, needed)
+        turns = self.ledger.turns(needed)
+        self.called = self.called or bool(turns)
+        return calls + [own_call(turn) for turn in turns]
+
+    def _line_of(self, call: Call, at: int) -> bytes:
+        if not call.is_logged:
+            return call.begin + b"}"
+        call.request["at"] = at
+        return ended_line(call.begin, at, call.key)
+
+    def _refuse(self, calls: List[Call], fault: LogFault) -> None:
+        """Fails calls that could not be logged. Turns rest meanwhile, and are made up for by a sweep."""
+        if time.monotonic() >= self.resting:
+            LOG.warning("%s (%d calls, the first: %s)", fault, len(calls), calls[0].named())
+        self.resting = time.monotonic() + REST_SECONDS
+        self.called = True
+        if self.kept.log.broken:
+            self._end(fault)
+        for call in calls:
+            self._missed = self._missed or call.is_poll
+            self._fail(call, fault)
+
+    def _was_synced(self, number: int, seconds: float, fault: Optional[LogFault]) -> None:
+        """A sync has covered the lines up to this one."""
+        if fault is not None:
+            self._end(fault)
+            return
+        self.metrics.syncs.add(seconds)
+        self._is_syncing, self._synced = False, number
+        while self._unsynced and self._unsynced[0].number <= number:
+            self._let_go(self._unsynced.popleft())
+        if self._missed:
+            self._missed = False
+            self._wake(self.polls.wake_all())
+        if self._asked or self._own:
+            self._write()
+
+    # Replies.
+
+    def _take(self, replies: List[bytes]) -> None:
+        """Goes through replies in their order: what follows is asked, and calls are answered."""
+        handed = 0
+        for text in replies:
+            if not self._sent:
+                self._end(Ended(f"the program gave a reply to no line: {text[:200]!r}"))
+                return
+            call = self._sent.popleft()
+            try:
+                text = numbered(text, self._pipes.next_reply(), call.number)
+                call.take(text, REPLIES.decode(text.decode()) if call.is_logged else {})
+            except (Ended, ValueError) as wrong:
+                self._sent.appendleft(call)
+                self._end(Ended(f"line {call.number}: {wrong}"))
+                return
+            self._answered = call.number
+            handed += self._go_on(call)
+        if handed:
+            self._wake(self.polls.wake(handed))
+        if self._own or self._asked:
+            self.plan()
+
+    def _go_on(self, call: Call) -> int:
+        """Takes one reply. How many tasks it says were handed over."""
+        request, reply, handed = call.request, call.reply, 0
+        if call.is_logged:
+            self._observe(request, reply)
+        if request.get("op") in TURNS:
+            turns = self.ledger.follow(request, reply, call.turn)
+            self._own += [own_call(turn) for turn in turns]
+            handed = int(request["op"] == "dispatch_turn" and reply.get("ok") in ("dispatched", "pushed"))
+            if call.turn is not None:
+                self.metrics.turns[request["op"], "something" if turns or handed else "nothing"] += 1
+        elif call.is_poll and self._is_asked_again(call):
+            return 0
+        if call.turn is None:
+            if call.number <= self._synced:
+                self._let_go(call)
+            else:
+                self._unsynced.append(call)
+        return handed
+
+    def _is_asked_again(self, call: Call) -> bool:
+        """Whether a poll goes on: after a hint of what is over by now, or where it waits for a task."""
+        said = call.reply.get("ok")
+        if said in ("task", "stale"):
+            self._own += [own_call(turn) for turn in self.ledger.made_room()]
+        if said == "stale" and not self.closing and not call.is_gone():
+            self._asked.appendleft(call)
+            return True
+        left = self.polls.left_for(call.request) if said == "empty" else None
+        if left is not None:
+            call.take(left.text, left.reply)
+        now = time.monotonic()
+        if said != "empty" or left is not None or self.closing or call.late <= now:
+            return False
+        if len(self.polls) >= self._limit:
+            self._fail(call, Busy(f"{len(self.polls)} polls wait already"))
+            return True
+        self._count -= 1
+        self._bytes -= len(call.begin)
+        self.polls.wait(call)
+        self._end_polls_at(call.late)
+        return True
+
+    def _wake(self, calls: Iterable[Call]) -> None:
+        """Has polls look again."""
+        for call in list(calls):
+            self._count += 1
+            self._bytes += len(call.begin)
+            self._asked.append(call)
+        self.plan()
+
+    def _let_go(self, call: Call) -> None:
+        """Answers a call whose line is on the disk."""
+        self._forget(call)
+        self._remember(call)
+        self._note(call)
+        if call.answer() or call.key is not None or not call.has_task:
+            return
+        # A task that was taken for a client that is gone is another one's, and needn't time out.
+        other = self.polls.leave(call)
+        if other is not None:
+            self._forget_key(other)
+            other.take(call.text, call.reply)
+            self._remember(other)
+            other.answer()
+
+    def _remember(self, call: Call) -> None:
+        if call.key is not None and (call.has_task or not call.is_poll):
+            self._replies.add(call.key, call.begin, call.text)
+
+    def _note(self, call: Call) -> None:
+        answer = "ok"
+        if call.text.startswith(b'{"error"'):
+            answer = str(json.loads(call.text)["error"])
+        self.metrics.calls[call.op, answer] += 1
+        if not call.is_poll:
+            self.metrics.latency.add(time.monotonic() - call.since)
+
+    def _forget(self, call: Call) -> None:
+        self._count -= 1
+        self._bytes -= len(call.begin)
+        self._forget_key(call)
+
+    def _forget_key(self, call: Call) -> None:
+        if call.key is not None and self._by_key.get(call.key) is call:
+            del self._by_key[call.key]
+
+    def _fail(self, call: Call, fault: Exception) -> None:
+        if call.turn is None:
+            self._forget(call)
+            self.metrics.refused[type(fault).__name__] += 1
+            call.fail(fault)
+
+    def _end_polls_at(self, late: float) -> None:
+        """Has polls looked through once this moment is over, together with those of about the same one."""
+        tick = int(late / TICK_SECONDS) + 1
+        if tick not in self._ticks:
+            self._ticks.add(tick)
+            self._loop.call_later(tick * TICK_SECONDS - time.monotonic(), self._end_polls_of, tick)
+
+    def _end_polls_of(self, tick: int) -> None:
+        self._ticks.discard(tick)
+        self.end_polls()
+
+    def end_polls(self) -> None:
+        """Answers the polls that waited long enough."""
+        for call in self.polls.over(float("inf") if self.closing else time.monotonic()):
+            self._forget_key(call)
+            self._note(call)
+            call.answer()
+
+    # The program.
+
+    def _program_ended(self) -> None:
+        """Nothing is written now. Ctrl-C in a terminal ends both, and the server learns of it a little later."""
+        self._pipes.close()
+        self._held_by.add("restarting")
+        self._loop.call_later(PAUSE_SECONDS, self._go_on_without)
+
+    def _go_on_without(self) -> None:
+        """Starts the program again, once for a line, and gives it what it has not answered."""
+        number = self._answered + 1
+        fault = self.kept.program.ended(number)
+        is_done = self.closing and not self._count
+        if self.kept.log.broken or self._died_at == number or is_done:
+            self._end(fault)
+            return
+        self._died_at = number
+        asked = f" ({self._sent[0].named()})" if self._sent else ""
+        LOG.warning("%s%s: it is started again, and given the log's lines", fault, asked)
+        self.metrics.restarts += 1
+        self._start_again(1)
+
+    def _start_again(self, tried: int) -> None:
+        starting = self._loop.run_in_executor(None, self.kept.start_again, self._answered)
+        starting.add_done_callback(lambda done: self._was_started(done, tried))
+
+    def _was_started(self, done: "asyncio.Future[Any]", tried: int) -> None:
+        fault = done.exception()
+        if isinstance(fault, Ended) and tried < MOST_STARTS:
+            # It had served these lines before, so they are not why.
+            LOG.warning("%s: it is started once more", fault)
+            self._start_again(tried + 1)
+            return
+        if fault is not None:
+            self._end(fault if isinstance(fault, Exception) else Ended(str(fault)))
+            return
+        self._speak()
+        self._pipes.feed(b"".join(call.line + b"\n" for call in self._sent))
+        self._held_by.discard("restarting")
+        self.plan()
+
+    def _speak(self) -> None:
+        """Takes up the pipes of the program that is kept now."""
+        self._pipes = Pipes(self.kept.program, self._loop, self._take, self._program_ended)
+
+    def _end(self, fault: Exception) -> None:
+        """Nothing is served any more."""
+        if not self.over.done():
+            self.over.set_result(fault)
+        self._pipes.close()
+        left = [*self._sent, *self._unsynced, *self._asked, *self._own]
+        for queue in (self._sent, self._unsynced, self._asked, self._own):
+            queue.clear()
+        for call in left:
+            self._fail(call, fault)
+        for call in self.polls.over(float("inf")):
+            call.fail(fault)
+
+    # Compaction, and the end.
+
+    async def compact(self, capacity: int) -> None:
+        """Puts the records in the place of the log's lines, with that much room in the queues. Calls wait meanwhile."""
+        await self._quiet()
+        self._pipes.close()
+        try:
+            former = await self._loop.run_in_executor(None, self.kept.next_generation, capacity)
+            await self._loop.run_in_executor(None, self.kept.end, former)
+            self._answered = self._synced = self.kept.lines
+            self._died_at = -1
+        finally:
+            self._speak()
+            self._held_by.discard("compacting")
+            self.called = True
+            # Each task that waits is in its queue again.
+            self._wake(self.polls.wake_all())
+
+    async def _quiet(self) -> None:
+        """Has nothing more written, and waits until all that was is synced and answered."""
+        while "compacting" in self._held_by:
+            await asyncio.sleep(0.001)
+        self._held_by.add("compacting")
+        while self._is_syncing or self._sent or "restarting" in self._held_by:
+            if self.over.done():
+                self._held_by.discard("compacting")
+                raise self.over.result()
+            await asyncio.sleep(0.001)
+
+    async def drain(self, seconds: float = DRAIN_SECONDS) -> None:
+        """Takes no more calls, ends the polls that wait, and lets those on their way and a compaction be answered."""
+        self.closing = True
+        self.end_polls()
+        late = time.monotonic() + seconds
+        while (self._count or self.compacting) and time.monotonic() < late and not self.over.done():
+            await asyncio.sleep(0.01)
+            self.end_polls()
+
+    def close(self) -> None:
+        """Leaves the program and the log to who closes them."""
+        self._held_by.add("closed")
+        self._pipes.close()
+        self._syncer.close()

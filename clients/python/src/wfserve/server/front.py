@@ -1,0 +1,281 @@
+"""POST /calls in few steps, by httptools: a call that is as it should be is answered without aiohttp.
+
+Everything else (another path, a header that is not common, a body that is too long, a wrong token) is handed on,
+byte for byte, to aiohttp's own connection, which answers it and keeps the connection from then on.
+"""
+
+from __future__ import annotations
+
+import asyncio
+import email.utils
+import json
+import logging
+import time
+from collections import deque
+from typing import Callable, Deque, Dict, Optional, Set, Tuple, cast
+
+import httptools
+
+from wfserve.errors import WfserveError
+
+from .calls import call_of, key_of
+from .core import Core
+from .http import RETRY_SECONDS, Guard, fault_of
+from .lines import Receiver
+
+
+LOG = logging.getLogger("wfserve.http")
+BODY_LIMIT, HEAD_LIMIT = 1_048_576, 16_384
+# A connection on which nothing is asked is closed after so many seconds.
+IDLE_SECONDS = 75.0
+LOOK_SECONDS = 1.0
+MOST_CONNECTIONS = 10_000
+REASONS = {
+    200: b"OK", 400: b"Bad Request", 408: b"Request Timeout", 422: b"Unprocessable Entity",
+    500: b"Internal Server Error", 503: b"Service Unavailable", 507: b"Insufficient Storage",
+}
+HEAD = (
+    b"HTTP/1.1 %d %s\r\nContent-Type: application/json; charset=utf-8\r\nContent-Length: %d\r\nDate: %s\r\n%s\r\n"
+)
+# Headers that a call may have without being handed on, beside those that say nothing here.
+KNOWN = {b"host", b"content-type", b"content-length", b"authorization", b"idempotency-key"}
+HANDED_ON = {b"transfer-encoding", b"expect", b"upgrade", b"content-encoding", b"cookie"}
+
+
+class HandOn(WfserveError):
+    """A request that is not one for the short way."""
+
+
+class Request(Receiver):
+    """A call of a connection."""
+
+    __slots__ = ("_connection", "headers", "body", "keeps")
+
+    def __init__(self, connection: "Connection"):
+        self._connection = connection
+        self.headers: Dict[bytes, bytes] = {}
+        self.body = b""
+        self.keeps = True
+
+    def header(self, name: bytes) -> Optional[str]:
+        """A header's text."""
+        value = self.headers.get(name)
+        return None if value is None else value.decode("latin-1")
+
+    def answer(self, text: bytes) -> None:
+        self._connection.write(self, 200, text)
+
+    def fail(self, fault: Exception) -> None:
+        status, name, said = fault_of(fault)
+        if name == "Fault":
+            LOG.error("POST /calls: %s: %s", type(fault).__name__, fault)
+        self._connection.write(self, status, json.dumps({"error": name, "said": said}).encode())
+
+    def is_gone(self) -> bool:
+        return self._connection.is_gone()
+
+
+class Front:
+    """The connections of a server. `hand_on` makes aiohttp's protocol of a connection."""
+
+    def __init__(self, core: Core, guard: Guard, hand_on: Callable[[], asyncio.Protocol], read_seconds: float):
+        self.core = core
+        self.guard = guard
+        self.hand_on = hand_on
+        self.date = b""
+        self.connections: Set[Connection] = set()
+        self._read_seconds = read_seconds
+        self._tell_date()
+
+    def _tell_date(self) -> None:
+        self.date = email.utils.formatdate(usegmt=True).encode()
+
+    def connect(self) -> asyncio.Protocol:
+        """The protocol of a connection that comes in."""
+        return Connection(self)
+
+    async def run(self) -> None:
+        """Closes connections that say nothing for too long, until it is cancelled."""
+        while True:
+            await asyncio.sleep(LOOK_SECONDS)
+            self._tell_date()
+            now = time.monotonic()
+            for connection in list(self.connections):
+                connection.look(now, self._read_seconds)
+
+    def close(self) -> None:
+        """Closes all connections."""
+        for connection in list(self.connections):
+            connection.close()
+
+
+class Connection(asyncio.Protocol):
+    """One client. One of its calls is on its way at a time; what it sends meanwhile waits."""
+
+    def __init__(self, front: Front):
+        self._front = front
+        self._transport: Optional[asyncio.Transport] = None
+        self._parser = httptools.HttpRequestParser(self)
+        self._reading: Optional[Request] = None
+        self._raw = b""
+        self._is_whole = False
+        self._asked: Deque[Request] = deque()
+        self._serving: Optional[Request] = None
+        self._since = time.monotonic()
+        self._was_asked = False
+        # The headers by which a request of this connection was let through last.
+        self._let_in: Optional[Tuple[Optional[bytes], Optional[bytes]]] = None
+
+    # The socket.
+
+    def connection_made(self, transport: asyncio.BaseTransport) -> None:
+        # A socket's, whatever loop made it.
+        self._transport = cast(asyncio.Transport, transport)
+        if len(self._front.connections) >= MOST_CONNECTIONS:
+            self._transport.abort()
+            return
+        self._front.connections.add(self)
+
+    def connection_lost(self, fault: Optional[Exception]) -> None:
+        self._front.connections.discard(self)
+        self._transport = None
+
+    def is_gone(self) -> bool:
+        """Whether the client has hung up."""
+        return self._transport is None or self._transport.is_closing()
+
+    def eof_received(self) -> bool:
+        return False
+
+    def close(self) -> None:
+        """Closes it once what was written is sent."""
+        if self._transport is not None:
+            self._transport.close()
+
+    def look(self, now: float, read_seconds: float) -> None:
+        """Closes it where a request doesn't come, or none any more."""
+        waited = now - self._since
+        if self._serving is not None or self._transport is None:
+            return
+        if self._reading is not None and self._is_whole and waited > read_seconds:
+            said = f"the body did not come within {read_seconds:g} seconds"
+            self._reading.keeps = False
+            self.write(self._reading, 408, json.dumps({"error": "SlowBody", "said": said}).encode())
+        elif waited > (IDLE_SECONDS if self._was_asked and self._reading is None else read_seconds):
+            self._transport.abort()
+
+    # Requests.
+
+    def data_received(self, data: bytes) -> None:
+        if self._reading is None:
+            self._raw, self._since = b"", time.monotonic()
+        if not self._is_whole:
+            self._raw += data
+        try:
+            self._parser.feed_data(data)
+            if not self._is_whole and self._reading is not None and len(self._raw) > HEAD_LIMIT:
+                raise HandOn
+        except (HandOn, httptools.HttpParserError, httptools.HttpParserUpgrade):
+            self._hand_on()
+        if self._asked and self._transport is not None:
+            self._transport.pause_reading()
+
+    def on_message_begin(self) -> None:
+        if self._reading is not None or self._asked or self._serving is not None:
+            self._raw = b""
+        self._reading, self._is_whole = Request(self), False
+
+    def _now_read(self) -> Request:
+        """The request whose parts come in."""
+        assert self._reading is not None
+        return self._reading
+
+    def on_url(self, url: bytes) -> None:
+        headers = self._now_read().headers
+        headers[b":path"] = headers.get(b":path", b"") + url
+
+    def on_header(self, name: bytes, value: bytes) -> None:
+        name, headers = name.lower(), self._now_read().headers
+        if name in HANDED_ON or (name in KNOWN and name in headers):
+            raise HandOn
+        if name in KNOWN:
+            headers[name] = value
+
+    def on_headers_complete(self) -> None:
+        reading = self._now_read()
+        length = reading.headers.get(b"content-length", b"")
+        if (
+            self._parser.get_method() != b"POST" or reading.headers[b":path"] != b"/calls"
+            or reading.headers.get(b"content-type") != b"application/json"
+            or not length.isdigit() or int(length) > BODY_LIMIT or not self._is_let_in(reading)
+        ):
+            raise HandOn
+        self._is_whole = True
+
+    def _is_let_in(self, request: Request) -> bool:
+        said = request.headers.get(b"host"), request.headers.get(b"authorization")
+        if said == self._let_in:
+            return True
+        if not self._front.guard.takes(request.header(b"host") or "", request.header(b"authorization") or ""):
+            return False
+        self._let_in = said
+        return True
+
+    def on_body(self, body: bytes) -> None:
+        self._now_read().body += body
+
+    def on_message_complete(self) -> None:
+        reading = self._now_read()
+        self._reading, self._is_whole, self._raw = None, False, b""
+        reading.keeps = self._parser.should_keep_alive()
+        self._was_asked = True
+        if self._serving is None and not self._asked:
+            self._serve(reading)
+        else:
+            self._asked.append(reading)
+
+    def _serve(self, request: Request) -> None:
+        self._serving = request
+        try:
+            call, begin = call_of(request.body)
+            key = key_of(request.header(b"idempotency-key"))
+            self._front.core.submit(call, begin, request, key)
+        except Exception as fault:
+            request.fail(fault)
+
+    def _hand_on(self) -> None:
+        """Gives the connection to aiohttp, from this request on."""
+        transport, raw = self._transport, self._raw
+        if transport is None or self._serving is not None or not raw:
+            # A request behind one that is not answered: nobody sends these but to see what happens.
+            self.close()
+            return
+        self._front.connections.discard(self)
+        self._transport = None
+        protocol = self._front.hand_on()
+        transport.set_protocol(protocol)
+        protocol.connection_made(transport)
+        protocol.data_received(raw)
+
+    # Answers.
+
+    def write(self, request: Request, status: int, text: bytes) -> None:
+        """Answers a request, and goes on with the next one."""
+        if self._transport is None or self.is_gone():
+            return
+        more = b"" if request.keeps else b"Connection: close\r\n"
+        more += b"Retry-After: %d\r\n" % RETRY_SECONDS if status == 503 else b""
+        self._transport.write(HEAD % (status, REASONS[status], len(text), self._front.date, more) + text)
+        self._serving, self._since = None, time.monotonic()
+        if not request.keeps:
+            self.close()
+        elif self._asked:
+            asyncio.get_running_loop().call_soon(self._serve_next)
+
+    def _serve_next(self) -> None:
+        """Serves what came while another call was on its way."""
+        if self._transport is not None and self._serving is None and self._asked and not self.is_gone():
+            request = self._asked.popleft()
+            if not self._asked:
+                self._transport.resume_reading()
+            self._serve(request)

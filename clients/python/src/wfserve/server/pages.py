@@ -1,0 +1,161 @@
+"""The pages: the list of workflows, a workflow's history, and what their scripts ask for.
+
+A workflow's texts go to the page as JSON, and its script puts them there as text; the picture of a
+history is an image, in which no script runs.
+"""
+
+from __future__ import annotations
+
+import asyncio
+import json
+import pathlib
+from typing import List, Optional, Tuple
+
+from aiohttp import web
+
+from wfserve import picture
+from wfserve.events import pending
+from wfserve.types import Event, Json, Reply
+
+from .attempts import Attempts
+from .core import Core
+from .lines import Waiter
+from .listing import Entry, Workflows
+
+
+HERE = pathlib.Path(__file__).resolve().parent
+MOST_ROWS = 200
+# So many runs are read for one request of the list; the next request goes on.
+MOST_READS = 2_000
+POLICY = (
+    "default-src 'none'; script-src 'self'; style-src 'self'; img-src 'self'; connect-src 'self'; "
+    "form-action 'none'; frame-ancestors 'none'; base-uri 'none'"
+)
+PICTURE_POLICY = "default-src 'none'; style-src 'unsafe-inline'"
+KINDS = {"js": "text/javascript", "css": "text/css", "html": "text/html"}
+
+
+class Pages:
+    """What the server answers a browser."""
+
+    def __init__(self, core: Core, workflows: Workflows, attempts: Attempts):
+        self._core = core
+        self._workflows = workflows
+        self._attempts = attempts
+
+    def routes(self) -> List[web.RouteDef]:
+        return [
+            web.get("/", self.index),
+            web.get("/page/{file}", self.file),
+            web.get("/workflows/{workflow_id}/{run}", self.workflow),
+            web.get("/workflows/{workflow_id}/{run}/picture.svg", self.picture),
+            web.get("/api/workflows", self.rows),
+            web.get("/api/workflows/{workflow_id}/{run}", self.history),
+        ]
+
+    # Files.
+
+    async def index(self, request: web.Request) -> web.Response:
+        return self._answer_file("index.html")
+
+    async def workflow(self, request: web.Request) -> web.Response:
+        return self._answer_file("workflow.html")
+
+    async def file(self, request: web.Request) -> web.Response:
+        return self._answer_file(request.match_info["file"])
+
+    def _answer_file(self, name: str) -> web.Response:
+        files = {path.name: path for path in (HERE / "page").iterdir()}
+        if name not in files:
+            raise web.HTTPNotFound()
+        kind = KINDS[name.rpartition(".")[2]]
+        headers = {"Content-Security-Policy": POLICY, "X-Content-Type-Options": "nosniff", "Cache-Control": "no-cache"}
+        return web.Response(
+            text=files[name].read_text(encoding="utf-8"), content_type=kind, charset="utf-8", headers=headers
+        )
+
+    # What the scripts ask for.
+
+    async def rows(self, request: web.Request) -> web.Response:
+        """The latest workflows of a search, with their status."""
+        text, status = request.query.get("search", ""), request.query.get("status", "")
+        await self._look_for_begun()
+        entries = self._workflows.search(text, status, MOST_ROWS)
+        left = MOST_READS
+        # One whose history was read may not be of this status, and then the next ones are looked at.
+        while left > 0 and (stale := [entry for entry in entries if self._workflows.is_stale(entry)]):
+            await self._read_all(stale)
+            left -= len(stale)
+            entries = self._workflows.search(text, status, MOST_ROWS)
+        return web.json_response({"workflows": [entry.row() for entry in entries if entry.is_shown(status)]})
+
+    async def history(self, request: web.Request) -> web.Response:
+        """A history, or only that it is as long as before."""
+        entry, events = await self._entry(request)
+        row = entry.row()
+        if request.query.get("length") == str(entry.length):
+            return web.json_response({"workflow": row})
+        events = events or await self._events(entry)
+        found = [] if row["status"] != "Running" else self._pending(entry.run, events)
+        parent = self._workflows.find_run(events[0]["attrs"].get("parent_run"))
+        named = {} if parent is None else {"parent": {"workflow_id": parent.workflow_id, "run": parent.run}}
+        return web.json_response({"workflow": row, "events": events, "pending": found, **named})
+
+    def _pending(self, run: str, events: List[Event]) -> List[Json]:
+        """What has not ended, and of activities what was seen of their attempts."""
+        return [{**it, **self._attempts.of(run, it["event"])} for it in pending(events)]
+
+    async def picture(self, request: web.Request) -> web.Response:
+        entry, events = await self._entry(request)
+        events = events or await self._events(entry)
+        now = self._core.moments.now() if entry.status == "Running" else None
+        return web.Response(
+            text=picture.picture_file(events, now), content_type="image/svg+xml",
+            headers={"Content-Security-Policy": PICTURE_POLICY, "Cache-Control": "no-cache"},
+        )
+
+    async def _entry(self, request: web.Request) -> Tuple[Entry, List[Event]]:
+        """The run that a path names, as it is now, and its history where it was read for that."""
+        workflow_id, run = request.match_info["workflow_id"], request.match_info["run"]
+        entry = self._workflows.find(workflow_id, run)
+        if entry is not None and not self._workflows.is_stale(entry):
+            return entry, []
+        entry = entry or Entry(workflow_id, run, "", 0)
+        events = await self._read(entry)
+        return self._workflows.find(workflow_id, run) or entry, events
+
+    async def _events(self, entry: Entry) -> List[Json]:
+        """The history of a run. A run that is gone leaves the list."""
+        reply = await self._ask("history", entry.workflow_id, entry.run)
+        if "error" in reply:
+            self._workflows.remove(entry.run)
+            raise web.HTTPNotFound(text=f"there is no run {entry.run} of {entry.workflow_id}")
+        events: List[Event] = reply["events"]
+        return events
+
+    async def _read(self, entry: Entry) -> List[Json]:
+        """Reads a history that may have changed, for the list."""
+        self._workflows.reading(entry)
+        events = await self._events(entry)
+        self._workflows.take(self._workflows.add(entry.workflow_id, entry.run), events)
+        return events
+
+    async def _read_all(self, entries: List[Entry]) -> None:
+        """Reads the histories of these runs. Some may be gone by now."""
+        for found in await asyncio.gather(*[self._read(entry) for entry in entries], return_exceptions=True):
+            if isinstance(found, Exception) and not isinstance(found, web.HTTPNotFound):
+                raise found
+
+    async def _look_for_begun(self) -> None:
+        """Asks for the runs that others began: children, and those that continue a run."""
+        wanted = self._workflows.looked_for()[:MOST_READS]
+        replies = await asyncio.gather(*[self._ask("describe", workflow_id) for workflow_id in wanted])
+        for workflow_id, reply in zip(wanted, replies):
+            self._workflows.found(workflow_id, reply.get("run"))
+
+    async def _ask(self, op: str, workflow_id: str, run: Optional[str] = None) -> Json:
+        named = {} if run is None else {"run": run}
+        request, waiter = {"op": op, "workflow_id": workflow_id, **named}, Waiter()
+        self._core.submit(request, json.dumps(request).encode()[:-1], waiter)
+        reply: Reply = json.loads(await waiter.future)
+        return reply

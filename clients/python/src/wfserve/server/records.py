@@ -1,0 +1,112 @@
+"""Which runs there are, by the records that a compacted log goes on from.
+
+A record has the requests of a shard and not their replies: what may have begun a run stands in it, and
+whether it did is asked of the service. Runs have the ordinals 1, 2, 3 .. of their shard in the order in which
+they began, so the run of the next ordinal is that of the first request that it can be of.
+"""
+
+from __future__ import annotations
+
+import json
+from dataclasses import dataclass
+from typing import Dict, Iterable, Iterator, List, Optional, Union
+
+from wfserve.durable import DurableService
+from wfserve.durable.kept import KeptProgram
+from wfserve.ids import run_id, run_of_token
+from wfserve.types import Request
+
+from .listing import Workflows, commands_in
+
+
+# Only lines with one of these may begin a run.
+MARKS = (b'"op":"start"', b'"op":"signal_with_start"', b'"kind":"start_child"', b'"ContinueAsNewWorkflowExecution"')
+ASKED_AT_ONCE = 1_000
+
+
+@dataclass
+class Beginning:
+    """A request that may have begun a run. One that continues a run names that in the place of its workflow ID."""
+
+    workflow_id: Optional[str]
+    workflow_type: str
+    at: int
+    continues: Optional[str] = None
+
+
+def beginning_in(request: Request, service: int) -> Optional[Beginning]:
+    """What a record's request may have begun."""
+    op, at = request["op"], request["at"]
+    if op in ("start", "signal_with_start"):
+        return Beginning(request["workflow_id"], request["workflow_type"], at)
+    if op == "deliver" and request["transfer"]["kind"] == "start_child":
+        child = request["transfer"]["content"]
+        return Beginning(child["workflow_id"], child["workflow_type"], at)
+    for command in commands_in(request):
+        if command["type"] == "ContinueAsNewWorkflowExecution":
+            return Beginning(None, command.get("workflow_type", ""), at, run_of_token(request["token"], service))
+    return None
+
+
+def beginnings(path: str, service: int) -> Iterator[Beginning]:
+    """What may have begun a run, in the order of a shard's record."""
+    with open(path, "rb") as record:
+        for line in record:
+            if not any(mark in line for mark in MARKS):
+                continue
+            found = beginning_in(json.loads(line)["request"], service)
+            if found is not None:
+                yield found
+
+
+class Recorded:
+    """Finds the runs of the records, and adds them to the list."""
+
+    def __init__(self, service: Union[DurableService, KeptProgram], workflows: Workflows):
+        self._service = service
+        self._workflows = workflows
+        # The workflow ID of each run that is known.
+        self._known: Dict[str, str] = {}
+
+    def add_all(self) -> None:
+        for shard, path in enumerate(self._service.record_files()):
+            found = list(beginnings(path, self._service.settings.service))
+            self._ask_latest({it.workflow_id for it in found if it.workflow_id is not None})
+            if self._service.settings.retention:
+                self._add_latest(found)
+            else:
+                self._add_in_order(shard, found)
+
+    def _ask_latest(self, workflow_ids: Iterable[str]) -> None:
+        """Learns the latest run of each workflow ID."""
+        asked: List[str] = list(workflow_ids)
+        for begin in range(0, len(asked), ASKED_AT_ONCE):
+            part = asked[begin:begin + ASKED_AT_ONCE]
+            replies = self._service.read_all([{"op": "describe", "workflow_id": it} for it in part])
+            for workflow_id, reply in zip(part, replies):
+                if "run" in reply:
+                    self._known[reply["run"]] = workflow_id
+
+    def _add_latest(self, found: List[Beginning]) -> None:
+        """Of what a retention deleted nothing is known, and so not whose ordinals these were."""
+        latest = {workflow_id: run for run, workflow_id in self._known.items()}
+        for it in found:
+            if it.workflow_id in latest:
+                self._workflows.add(it.workflow_id, latest[it.workflow_id], it.workflow_type, it.at)
+
+    def _add_in_order(self, shard: int, found: List[Beginning]) -> None:
+        ordinal = 1
+        for it in found:
+            run = run_id(self._service.settings.service, shard, ordinal)
+            workflow_id = it.workflow_id if it.continues is None else self._known.get(it.continues)
+            if workflow_id is not None and self._is_of(run, workflow_id):
+                self._known[run] = workflow_id
+                self._workflows.add(workflow_id, run, it.workflow_type, it.at)
+                ordinal += 1
+
+    def _is_of(self, run: str, workflow_id: str) -> bool:
+        """Whether a run is one of this workflow ID."""
+        if run in self._known:
+            return self._known[run] == workflow_id
+        asked = {"op": "describe", "workflow_id": workflow_id, "run": run}
+        return "error" not in self._service.read_all([asked])[0]

@@ -1,0 +1,68 @@
+"""The programs that the tests speak with: wfserve where it is built, and one that gives counted replies.
+
+WFSERVE names another program than the one that ./serve builds.
+"""
+
+import os
+import pathlib
+import socket
+import subprocess
+import sys
+import tempfile
+import unittest
+
+from support import ROOT
+
+BUILT = pathlib.Path(os.environ.get("WFSERVE", ROOT / "out/build/crates/wfserve/out/wfserve"))
+needs_program = unittest.skipUnless(BUILT.exists(), "wfserve is not built: ./serve builds it")
+
+
+def memory_folder():
+    """A folder for logs of tests that kill programs but not the machine: in memory where that can be had."""
+    return tempfile.TemporaryDirectory(dir="/dev/shm" if os.access("/dev/shm", os.W_OK) else None)
+
+
+def program_file(folder, text):
+    """A program of these lines, as a file that can be started."""
+    path = pathlib.Path(folder) / "program"
+    path.write_text(text, encoding="utf-8")
+    path.chmod(0o755)
+    return str(path)
+
+
+# A program that answers each line with its number, and the line itself. Turns have nothing to do, polls
+# find nothing, and a line that says "slow" takes a while.
+COUNTING = [sys.executable, "-S", "-c", """
+import json, sys, time
+for number, line in enumerate(sys.stdin, 1):
+    ok = "none" if '_turn"' in line else "empty" if '"poll_' in line else "signaled"
+    time.sleep(0.3 if "slow" in line else 0)
+    print(json.dumps({"line": number, "ok": ok, "said": line.strip()}), flush=True)
+"""]
+
+
+def python_with_aiohttp():
+    """The first Python that the server can run on, or None."""
+    for python in (sys.executable, "/usr/bin/python3"):
+        try:
+            ran = subprocess.run([python, "-c", "import aiohttp"], stderr=subprocess.DEVNULL)
+        except OSError:
+            continue
+        if ran.returncode == 0:
+            return python
+    return None
+
+
+def has_loopback():
+    """Whether a client here can speak with a server here."""
+    try:
+        with socket.create_server(("127.0.0.1", 0)) as server, socket.create_connection(server.getsockname()):
+            return True
+    except OSError:
+        return False
+
+
+# What that Python is asked to run.
+SERVER = ["-m", "wfserve.server"]
+SERVER_PYTHON = python_with_aiohttp() if has_loopback() else None
+needs_server = unittest.skipUnless(SERVER_PYTHON, "no loopback, or no Python with aiohttp (clients/python/setup.sh installs it)")

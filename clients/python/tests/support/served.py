@@ -1,0 +1,67 @@
+"""A server for tests: started on a free port, and ended or killed."""
+
+import http.client
+import json
+import pathlib
+import re
+import subprocess
+
+from support.programs import SERVER, SERVER_PYTHON
+from wfserve.http import HttpService
+
+
+class Server:
+    """A server over a log, on a port of its own. Killed and started again it has the same port."""
+
+    def __init__(self, program, log, *options):
+        self._clients, self.port = [], 0
+        self.said = pathlib.Path(f"{log}.said")
+        self._command = [
+            SERVER_PYTHON, *SERVER, "--program", program, "--log", str(log), *options
+        ]
+        self.start()
+
+    def start(self):
+        with open(self.said, "w", encoding="utf-8") as said:
+            self.process = subprocess.Popen(
+                [*self._command, "--port", str(self.port)], stdout=subprocess.PIPE, stderr=said, text=True
+            )
+        line = self.process.stdout.readline()
+        found = re.fullmatch(r"serving (http://(.*):(\d+)/)\n", line)
+        if found is None:
+            self.process.kill()
+            self.process.communicate()
+            raise AssertionError(f"the server did not start: {line}{self.said.read_text()}")
+        self.url, self.host, self.port = found[1], found[2], int(found[3])
+
+    def client(self, **more):
+        client = HttpService(self.url, **more)
+        self._clients.append(client)
+        return client
+
+    def asked(self, method, path, body=None, headers=None):
+        """The status, the headers and the text of an answer."""
+        connection = http.client.HTTPConnection(self.host, self.port, timeout=30)
+        try:
+            connection.request(method, path, body, {"Content-Type": "application/json", **(headers or {})})
+            answer = connection.getresponse()
+            return answer.status, answer.headers, answer.read().decode()
+        finally:
+            connection.close()
+
+    def read(self, path):
+        return json.loads(self.asked("GET", path)[2])
+
+    def kill(self):
+        self.process.kill()
+        self.process.wait()
+        self.process.stdout.close()
+
+    def stop(self):
+        """Ends the server as a person does. Its status."""
+        self.process.terminate()
+        status = self.process.wait()
+        self.process.stdout.close()
+        for client in self._clients:
+            client.close()
+        return status

@@ -1,0 +1,136 @@
+"""What makes the service go on by itself: full queues, a server that starts again, and clocks that are set."""
+
+import threading
+import time
+import unittest
+
+from support.programs import BUILT, needs_program, needs_server
+from wfserve.calls import Clock
+from wfserve.durable import DurableService
+from wfserve.server.moments import Moments
+from wfserve.workflows import Worker, seconds, workflow
+from test_server import WithAServer
+
+DAY = 86_400_000
+
+
+@workflow
+async def naps(ctx):
+    await ctx.timer(seconds(1))
+    return "awake"
+
+
+class Clocks(unittest.TestCase):
+    """The server's moments over a wall clock and a steady one that the test sets."""
+
+    def setUp(self):
+        self.wall, self.steady = 1_000_000, 500
+
+    def moments(self, last=0):
+        return Moments(last, lambda: self.wall, lambda: self.steady)
+
+    def wait(self, milliseconds):
+        self.wall += milliseconds
+        self.steady += milliseconds
+
+    def test_moments_are_the_wall_clocks(self):
+        moments = self.moments()
+        self.assertEqual(moments.now(), 1_000_000)
+        self.wait(7)
+        self.assertEqual((moments.now(), moments.ahead), (1_000_007, 0))
+
+    def test_time_goes_on_from_a_last_moment_that_is_ahead(self):
+        with self.assertLogs("wfserve.moments", "WARNING") as said:
+            moments = self.moments(last=1_000_000 + DAY)
+        self.assertIn("86400.0 s ahead of this machine's clock", said.output[0])
+        for _ in range(3):
+            before = moments.now()
+            self.wait(1_000)
+            self.assertEqual(moments.now(), before + 1_000)
+        self.assertEqual(moments.ahead, DAY)
+
+    def test_time_goes_on_where_the_wall_clock_is_set_back_and_follows_where_it_is_there_again(self):
+        moments = self.moments()
+        moments.now()
+        self.wall -= 3_600_000
+        with self.assertLogs("wfserve.moments", "WARNING") as said:
+            self.assertEqual(moments.now(), 1_000_000)
+        self.assertIn("was set back by 3600.0 s", said.output[0])
+        self.wait(10)
+        self.assertEqual((moments.now(), moments.ahead), (1_000_010, 3_600_000))
+        self.wall += 3_600_005
+        with self.assertLogs("wfserve.moments", "WARNING") as said:
+            self.assertEqual((moments.now(), moments.ahead), (1_000_015, 0))
+        self.assertIn("was set ahead by 3600.0 s", said.output[0])
+
+    def test_moments_never_go_back(self):
+        moments = self.moments()
+        found = []
+        for step in (5, -3, 0, -100, 40, 2):
+            self.wall += step
+            self.steady += 1
+            found.append(moments.now())
+        self.assertEqual(found, sorted(found))
+
+
+@needs_server
+@needs_program
+class GoingOn(WithAServer):
+    def test_a_poll_finds_what_waits_after_hints_of_what_is_over(self):
+        server = self.serve("--capacity", "2")
+        client = server.client(wait=10_000)
+        for name in "abcde":
+            client.start(name, "naps", request_id=name)
+        for name in "abcd":
+            client.terminate(name)
+        # All that has room is in the queue by now, and nothing else is asked.
+        time.sleep(0.3)
+        begun = time.monotonic()
+        self.assertEqual(client.poll_workflow_task().workflow_id, "e")
+        self.assertLess(time.monotonic() - begun, 5)
+
+    def test_a_full_queue_is_emptied_by_polls_alone(self):
+        server = self.serve("--capacity", "2")
+        client = server.client(wait=10_000)
+        for number in range(9):
+            client.start(f"w{number}", "naps")
+        time.sleep(0.3)
+        self.assertTrue(server.read("/health/ready")["queue_full"])
+        found = {client.poll_workflow_task().workflow_id for _ in range(9)}
+        self.assertEqual(found, {f"w{number}" for number in range(9)})
+        self.assertFalse(server.read("/health/ready")["queue_full"])
+
+    def test_what_was_not_handed_over_before_a_kill_is_so_after_it(self):
+        with DurableService([str(BUILT)], str(self.log), clock=Clock(int(time.time() * 1_000))) as service:
+            service.start("w", "naps")
+        task = self.serve().client(wait=10_000).poll_workflow_task()
+        self.assertEqual(task.workflow_id, "w")
+
+    def test_timers_fire_after_a_call_while_the_clock_was_a_day_ahead(self):
+        ahead = int(time.time() * 1_000) + DAY
+        with DurableService([str(BUILT)], str(self.log), clock=Clock(ahead)) as service:
+            service.start("before", "naps")
+            service.compact()
+        server, stop = self.serve(), threading.Event()
+        self.assertIn("ahead of this machine's clock", server.said.read_text())
+        self.assertGreater(server.read("/health/ready")["clock_ahead"], DAY - 60_000)
+        client = server.client(wait=100)
+        worker = threading.Thread(target=Worker(client, workflows=[naps]).run, args=(stop,))
+        worker.start()
+        try:
+            late = time.monotonic() + 15
+            while client.describe("before")["status"] == "Running" and time.monotonic() < late:
+                time.sleep(0.1)
+        finally:
+            stop.set()
+            worker.join()
+        events = client.history("before")
+        self.assertEqual(events[-1]["type"], "WorkflowExecutionCompleted")
+        self.assertLess(abs(events[-1]["at"] - ahead), 60_000)
+        begun = next(event["at"] for event in events if event["type"] == "TimerStarted")
+        fired = next(event["at"] for event in events if event["type"] == "TimerFired")
+        self.assertGreaterEqual(fired - begun, 1_000)
+
+
+if __name__ == "__main__":
+    unittest.main()

@@ -1,0 +1,159 @@
+#!/usr/bin/env python3
+"""The page of a compiled edge: the list of workflows and their histories, as clients/python shows them.
+
+    page.py SOCKET EDGE LINES
+
+wfedge starts it, hands the requests for pages on to SOCKET, and answers on the sockets EDGE, by HTTP, and LINES, by
+JSON lines, what the page asks. What changed since the list was shown last the page learns from the edge's feed; which
+runs there were before, it learns from the records of a log that was compacted. It ends with its input.
+"""
+
+from __future__ import annotations
+
+import asyncio
+import json
+import os
+import signal
+import socket as sockets
+import sys
+import threading
+from dataclasses import dataclass
+from typing import List, Optional
+
+import python_client  # noqa: F401 (it says where the next ones lie)
+from aiohttp import ClientSession, UnixConnector, web
+from wfserve.server.http import answer_faults
+from wfserve.server.listing import Workflows
+from wfserve.server.pages import Pages
+from wfserve.server.records import Recorded
+
+HERE = "http://localhost"
+
+
+class Moment:
+    """The edge's moment, as it was told last."""
+
+    def __init__(self):
+        self.last = 0
+
+    def now(self) -> int:
+        return self.last
+
+
+@dataclass
+class RecordSettings:
+    """What the ids of runs in records need."""
+
+    service: int
+    retention: int
+
+
+class Records:
+    """The records that the edge's log goes on from, and the edge, which is asked by lines."""
+
+    def __init__(self, said: dict, lines: str):
+        self.settings = RecordSettings(said["service"], said["retention"])
+        self._files, self._lines = said["files"], lines
+
+    def record_files(self) -> List[str]:
+        return self._files
+
+    def read_all(self, requests: List[dict]) -> List[dict]:
+        """The replies to reads."""
+        with sockets.socket(sockets.AF_UNIX) as socket:
+            socket.connect(self._lines)
+            lines = b"".join(json.dumps(request).encode() + b"\n" for request in requests)
+            # A socket holds only so much, and the edge reads no further where nobody takes its replies.
+            asking = threading.Thread(target=socket.sendall, args=(lines,), daemon=True)
+            asking.start()
+            with socket.makefile("rb") as replies:
+                found = [json.loads(replies.readline()) for _ in requests]
+            asking.join()
+            return found
+
+
+class Edge:
+    """The edge, as the pages ask it: they hand in calls, and want its moment."""
+
+    def __init__(self, session: ClientSession, workflows: Workflows, lines: str):
+        self.moments = Moment()
+        self._session, self._workflows, self._lines = session, workflows, lines
+        # Until where the runs that began were told; None before the records were read.
+        self._next: Optional[int] = None
+        self._asking = asyncio.Lock()
+        self._tasks: set = set()
+
+    def submit(self, request: dict, begin: bytes, receiver) -> None:
+        """Asks a call. The receiver gets the reply, or why there is none."""
+        task = asyncio.create_task(self._ask(begin + b"}", receiver))
+        self._tasks.add(task)
+        task.add_done_callback(self._tasks.discard)
+
+    async def _ask(self, body: bytes, receiver) -> None:
+        try:
+            asked = self._session.post(f"{HERE}/calls", data=body, headers={"Content-Type": "application/json"})
+            async with asked as answer:
+                text = await answer.read()
+                if answer.status != 200:
+                    raise OSError(f"status {answer.status}: {text[:200]!r}")
+            receiver.answer(text)
+        except Exception as fault:
+            receiver.fail(fault)
+
+    async def catch_up(self) -> None:
+        """Tells the list what changed since it was told last."""
+        async with self._asking:
+            if self._next is None:
+                await self._read_records()
+            async with self._session.get(f"{HERE}/feed?from={self._next}") as answer:
+                said = await answer.json()
+        self.moments.last, self._next = said["moment"], said["next"]
+        for request, reply in said["pairs"]:
+            self._workflows.observe(request, reply)
+        if said["all"]:
+            for entry in self._workflows.search("", "", sys.maxsize):
+                entry.changed = True
+
+    async def _read_records(self) -> None:
+        """Learns which runs the records have."""
+        async with self._session.get(f"{HERE}/records") as answer:
+            records = Records(await answer.json(), self._lines)
+        if records.record_files():
+            await asyncio.get_running_loop().run_in_executor(None, Recorded(records, self._workflows).add_all)
+        self._next = 0
+
+
+def application(edge: Edge, workflows: Workflows) -> web.Application:
+    @web.middleware
+    async def catch_up(request: web.Request, handler):
+        if not request.path.startswith("/page/"):
+            await edge.catch_up()
+        return await handler(request)
+
+    app = web.Application(middlewares=[answer_faults, catch_up])
+    app.router.add_routes(Pages(edge, workflows).routes())
+    return app
+
+
+async def end_of_input() -> None:
+    """Returns once the edge, which holds this process's input, has ended."""
+    loop = asyncio.get_running_loop()
+    await loop.run_in_executor(None, sys.stdin.buffer.read)
+
+
+async def serve(socket: str, edge_socket: str, lines: str) -> None:
+    workflows = Workflows()
+    async with ClientSession(connector=UnixConnector(edge_socket, limit=0)) as session:
+        runner = web.AppRunner(application(Edge(session, workflows, lines), workflows))
+        await runner.setup()
+        os.umask(0o177)
+        await web.UnixSite(runner, socket).start()
+        await end_of_input()
+        # Nobody asks any more.
+        os._exit(0)
+
+
+if __name__ == "__main__":
+    # Ctrl-C in a terminal is the edge's, which ends this process.
+    signal.signal(signal.SIGINT, signal.SIG_IGN)
+    asyncio.run(serve(*sys.argv[1:4]))

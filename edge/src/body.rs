@@ -1,0 +1,237 @@
+//! What the edge makes of a body: the beginning of a line that the log and the program get, and what it says.
+//!
+//! A body is read once. What it says is not written anew, so that edge and program can't read one line in two ways:
+//! it gets the edge's moment, and its key where it has one, in the place of its last brace. Only a body with keys
+//! that its operation doesn't have is written anew, without them.
+
+use crate::facts::Facts;
+use crate::fault::Fault;
+use crate::json::{quoted, Object, Value};
+use crate::operations::Op;
+use crate::shards::Shard;
+
+/// A poll may wait so many milliseconds.
+const MOST_WAIT: u64 = 60_000;
+/// A completion's commands are four deep at most.
+const DEEPEST: usize = 20;
+const LONGEST_KEY: usize = 200;
+/// The member by which a line on a socket bears its key.
+const CALL: &str = "call";
+
+/// A body that was read.
+#[derive(Clone, Debug, PartialEq)]
+pub struct Asked {
+    /// The line's text without its last brace, its moment and its key.
+    pub begin: Vec<u8>,
+    pub facts: Facts,
+    /// For how many milliseconds a poll may wait.
+    pub wait: u64,
+}
+
+/// Reads the body of a call.
+pub fn asked(body: &[u8], shards: Shard) -> Result<Asked, Fault> {
+    asked_of(body, object_in(body)?, shards)
+}
+
+/// Reads a line of a socket, which may bear its key as a member.
+pub fn asked_by_line(line: &[u8], shards: Shard) -> Result<(Asked, Option<Box<str>>), Fault> {
+    let request = object_in(line)?;
+    let key = match request.get(CALL) {
+        None => None,
+        Some(Value::Text(key)) => Some(call_key(key)?),
+        Some(_) => return Err(Fault::BadCall(KEY_RULE.to_string())),
+    };
+    Ok((asked_of(line, request, shards)?, key))
+}
+
+fn object_in(body: &[u8]) -> Result<Object<'_>, Fault> {
+    match Value::of(body) {
+        Ok(Value::Object(request)) => Ok(request),
+        Ok(_) => Err(Fault::BadCall("the body is no object".to_string())),
+        Err(fault) if fault.is_data() => Err(Fault::BadCall(fault.to_string())),
+        Err(_) => Err(Fault::BadCall("the body is no JSON".to_string())),
+    }
+}
+
+fn asked_of(body: &[u8], mut request: Object<'_>, shards: Shard) -> Result<Asked, Fault> {
+    let op = request.text("op").map_or(Op::Unknown, Op::of);
+    let (before, is_named) = (request.0.len(), request.text("op").map_or(false, |name| !name.is_empty()));
+    request.0.retain(|member| op.has_key(&member.0) || (member.0 == "op" && is_named));
+    if is_any_too_deep(&request) {
+        return Err(Fault::BadCall(format!("its values lie more than {DEEPEST} deep")));
+    }
+    let facts = Facts::of(op, &request, shards);
+    let wait = if op.is_poll() { wait_of(&request)? } else { 0 };
+    let begin = if request.0.len() == before && is_named { begin_of(body) } else { written(&request, is_named) };
+    Ok(Asked { begin, facts, wait })
+}
+
+fn is_any_too_deep(request: &Object<'_>) -> bool {
+    request.0.iter().any(|member| member.1.is_deeper(DEEPEST - 1))
+}
+
+/// The body without its last brace, in one line.
+fn begin_of(body: &[u8]) -> Vec<u8> {
+    let end = body.iter().rposition(|byte| *byte == b'}').unwrap_or(body.len());
+    let mut begin = Vec::with_capacity(end + 64);
+    begin.extend(body[..end].iter().map(|byte| if matches!(byte, b'\n' | b'\r') { b' ' } else { *byte }));
+    begin
+}
+
+/// A request written anew, with the keys that it may have.
+fn written(request: &Object<'_>, is_named: bool) -> Vec<u8> {
+    if !is_named {
+        return b"{\"op\":null".to_vec();
+    }
+    let mut text = Vec::new();
+    Value::Object(request.clone()).write(&mut text);
+    text.pop();
+    text
+}
+
+/// For how many milliseconds a poll may wait.
+fn wait_of(request: &Object<'_>) -> Result<u64, Fault> {
+    let wait = request.get("wait").map_or(Some(0), Value::whole);
+    let fault = || Fault::BadCall(format!("wait is a whole number of milliseconds, at most {MOST_WAIT}"));
+    wait.filter(|wait| *wait <= MOST_WAIT).ok_or_else(fault)
+}
+
+const KEY_RULE: &str = "a call's key has 1 to 200 visible ASCII characters, without \" and \\";
+
+/// The key by which a call's reply is had again: what can stand in a header and in a line without escapes.
+pub fn call_key(text: &str) -> Result<Box<str>, Fault> {
+    let is_plain = |byte: u8| byte.is_ascii_graphic() && byte != b'"' && byte != b'\\';
+    if text.is_empty() || text.len() > LONGEST_KEY || !text.bytes().all(is_plain) {
+        return Err(Fault::BadCall(KEY_RULE.to_string()));
+    }
+    Ok(text.into())
+}
+
+/// Ends a line of this beginning.
+pub fn end_line(line: &mut Vec<u8>, at: u64, key: Option<&str>) {
+    if let Some(key) = key {
+        line.extend_from_slice(b",\"call\":\"");
+        line.extend_from_slice(key.as_bytes());
+        line.push(b'"');
+    }
+    line.extend_from_slice(b",\"at\":");
+    line.extend_from_slice(at.to_string().as_bytes());
+    line.push(b'}');
+}
+
+/// The beginning and the key of a line that `end_line` ended with one.
+pub fn keyed_begin(line: &[u8]) -> Option<(&[u8], &str)> {
+    let rest = line.strip_suffix(b"}")?;
+    let digits = rest.iter().rev().take_while(|byte| byte.is_ascii_digit()).count();
+    let rest = rest[..rest.len() - digits].strip_suffix(b"\",\"at\":")?;
+    let quote = rest.iter().rposition(|byte| *byte == b'"')?;
+    let key = std::str::from_utf8(&rest[quote + 1..]).ok()?;
+    let begin = rest[..quote].strip_suffix(b",\"call\":")?;
+    (digits > 0 && call_key(key).is_ok()).then_some((begin, key))
+}
+
+/// What a line of a log says that is opened. One that can't be read was refused when it was made.
+pub fn facts_of_line(line: &[u8], shards: Shard) -> (Facts, Option<u64>) {
+    match Value::of(line) {
+        Ok(Value::Object(request)) => {
+            let op = request.text("op").map_or(Op::Unknown, Op::of);
+            (Facts::of(op, &request, shards), request.get("at").and_then(Value::whole))
+        }
+        _ => (Facts::unknown(), None),
+    }
+}
+
+/// What the program is given for a line of the log when it is served again.
+///
+/// A log of an earlier time has reads, and a history is long. A description sets the same moment on the same shard,
+/// and changes as little.
+pub fn for_replay(line: &[u8]) -> Option<Vec<u8>> {
+    let marked = line.windows(9).any(|nine| nine == b"\"history\"");
+    let request = match marked.then(|| Value::of(line)) {
+        Some(Ok(Value::Object(request))) if request.text("op") == Some("history") => request,
+        _ => return None,
+    };
+    let at = request.get("at").and_then(Value::whole).unwrap_or(0);
+    let mut text = format!("{{\"op\":\"describe\",\"at\":{at}");
+    for name in ["workflow_id", "run"] {
+        if let Some(named) = request.text(name) {
+            text += &format!(",\"{name}\":{}", quoted(named));
+        }
+    }
+    Some((text + "}").into_bytes())
+}
+
+#[cfg(test)]
+mod tests {
+    use super::*;
+
+    fn line_of(body: &str) -> String {
+        let mut line = asked(body.as_bytes(), 4).unwrap().begin;
+        end_line(&mut line, 17, None);
+        String::from_utf8(line).unwrap()
+    }
+
+    #[test]
+    fn a_body_gets_the_edges_moment_and_is_not_written_anew() {
+        assert_eq!(
+            line_of("{\"op\":\"signal\",\r\n \"workflow_id\":\"w\", \"input\":\"1.50\"}\n"),
+            "{\"op\":\"signal\",   \"workflow_id\":\"w\", \"input\":\"1.50\",\"at\":17}"
+        );
+    }
+
+    #[test]
+    fn keys_that_an_operation_has_not_are_dropped() {
+        let body = r#"{"lane":3,"op":"signal","at":9,"workflow_id":"w","barrier":true,"wait":1}"#;
+        assert_eq!(line_of(body), r#"{"op":"signal","workflow_id":"w","at":17}"#);
+        for body in ["{}", r#"{"op":null,"run":"r"}"#, r#"{"op":[[]]}"#, r#"{"op":7}"#, r#"{"op":""}"#] {
+            assert_eq!(line_of(body), r#"{"op":null,"at":17}"#, "{body}");
+        }
+        assert_eq!(line_of(r#"{"op":"query","run":"r"}"#), r#"{"op":"query","at":17}"#);
+        assert_eq!(asked(br#"{"op":"poll_activity_task","wait":5}"#, 4).unwrap().wait, 5);
+    }
+
+    #[test]
+    fn what_is_no_call_is_refused() {
+        let deep = format!(r#"{{"op":"signal","input":{}{}}}"#, "[".repeat(22), "]".repeat(22));
+        for (body, said) in [
+            ("{", "no JSON"),
+            ("[1]", "no object"),
+            (r#"{"op":"signal","run":"r","run":"s"}"#, "comes twice"),
+            (r#"{"op":"poll_activity_task","wait":60001}"#, "wait is"),
+            (r#"{"op":"poll_activity_task","wait":true}"#, "wait is"),
+            (r#"{"op":"poll_activity_task","wait":-1}"#, "wait is"),
+            (&deep, "20 deep"),
+        ] {
+            let fault = asked(body.as_bytes(), 4).unwrap_err();
+            assert!(fault.name() == "BadCall" && fault.to_string().contains(said), "{body}: {fault}");
+        }
+    }
+
+    #[test]
+    fn a_key_is_found_again_at_the_end_of_its_line() {
+        let mut line = asked(br#"{"op":"signal","name":"\",\"call\":\"x\",\"at\":1}"}"#, 4).unwrap().begin;
+        let begin = line.clone();
+        end_line(&mut line, 17, Some("k-1"));
+        assert_eq!(keyed_begin(&line), Some((begin.as_slice(), "k-1")));
+        let mut plain = begin.clone();
+        end_line(&mut plain, 17, None);
+        assert_eq!(keyed_begin(&plain), None);
+        for wrong in ["", "a b", "a\"", "\\", "ü", &"k".repeat(201)] {
+            assert!(call_key(wrong).is_err(), "{wrong}");
+        }
+    }
+
+    #[test]
+    fn a_line_of_a_socket_bears_its_key() {
+        let (found, key) = asked_by_line(br#"{"op":"signal","call":"k","name":"n"}"#, 1).unwrap();
+        assert_eq!((found.begin.as_slice(), key.as_deref()), (&br#"{"op":"signal","name":"n""#[..], Some("k")));
+        assert!(asked_by_line(br#"{"op":"signal","call":7}"#, 1).is_err());
+    }
+
+    #[test]
+    fn a_history_of_an_earlier_log_is_served_again_as_a_description() {
+        let line = br#"{"op":"history","workflow_id":"w","run":[],"at":5}"#;
+        assert_eq!(for_replay(line).unwrap(), br#"{"op":"describe","at":5,"workflow_id":"w"}"#);
+        assert_eq!(for_replay(br#"{"op":"signal","name":"history"}"#), None);
+    }
+}

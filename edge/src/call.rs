@@ -1,0 +1,149 @@
+//! A call on its way through the edge: its line, who waits for it, and how it is answered.
+
+use crate::body::end_line;
+use crate::facts::Facts;
+use crate::fault::Fault;
+use crate::ledger::Turn;
+use crate::operations::Op;
+use crate::replies::{mark_of, Mark};
+use hyper::body::Bytes;
+use std::time::{Duration, Instant};
+use tokio::sync::oneshot;
+
+/// Who waits for a reply: it is told the reply's text, or why there is none.
+pub type Receiver = oneshot::Sender<Result<Bytes, Fault>>;
+
+/// Who asked for a call.
+pub enum Asker {
+    /// A client without a key, or nobody where its receiver is gone.
+    Client(Option<Receiver>),
+    /// Clients with this key: those who wait are listed by it.
+    Keyed(Box<str>, Mark),
+    /// The edge itself.
+    Edge(Turn),
+}
+
+/// A line that the log and the program get, or one that the program alone gets, as a read.
+pub struct Call {
+    /// The line's text. Until it is made, and after its first bytes, its moment and key are not there.
+    pub text: Vec<u8>,
+    begin: usize,
+    pub facts: Facts,
+    pub asker: Asker,
+    pub since: Instant,
+    /// Until when a poll waits.
+    pub late: Instant,
+    pub was_woken: bool,
+    /// Of a line its number in the log, and of a read that of the last line before it.
+    pub number: u64,
+    /// Of a line its moment.
+    pub at: u64,
+}
+
+impl Call {
+    /// A client's call.
+    pub fn of(begin: Vec<u8>, facts: Facts, wait: u64, asker: Asker) -> Call {
+        let since = Instant::now();
+        let late = since + Duration::from_millis(wait);
+        Call { begin: begin.len(), text: begin, facts, asker, since, late, was_woken: false, number: 0, at: 0 }
+    }
+
+    /// The call of a turn of the edge's own.
+    pub fn own(turn: Turn) -> Call {
+        let facts = Facts { op: turn.op(), ..Facts::unknown() };
+        Call::of(turn.begin(), facts, 0, Asker::Edge(turn))
+    }
+
+    pub fn op(&self) -> Op {
+        self.facts.op
+    }
+
+    /// Whether the log gets it.
+    pub fn is_logged(&self) -> bool {
+        !self.op().is_read()
+    }
+
+    /// The line's text without its last brace, its moment and its key.
+    pub fn begin(&self) -> &[u8] {
+        &self.text[..self.begin]
+    }
+
+    /// How many bytes wait while it does.
+    pub fn size(&self) -> usize {
+        self.begin
+    }
+
+    pub fn key(&self) -> Option<&str> {
+        match &self.asker {
+            Asker::Keyed(key, _) => Some(key),
+            _ => None,
+        }
+    }
+
+    pub fn turn(&self) -> Option<&Turn> {
+        match &self.asker {
+            Asker::Edge(turn) => Some(turn),
+            _ => None,
+        }
+    }
+
+    /// Makes its line, at this moment.
+    pub fn end(&mut self, at: u64) {
+        self.at = at;
+        self.text.truncate(self.begin);
+        if !self.is_logged() {
+            self.text.push(b'}');
+            return;
+        }
+        let key = match &self.asker {
+            Asker::Keyed(key, _) => Some(key.as_ref()),
+            _ => None,
+        };
+        end_line(&mut self.text, at, key);
+    }
+
+    /// What is said of it on standard error: its operation and the beginning of its line.
+    pub fn named(&self) -> String {
+        let begin = String::from_utf8_lossy(self.begin());
+        let key = self.key().map_or_else(String::new, |key| format!(", key {key}"));
+        format!("{}: {}{key}", self.op().name(), begin.chars().take(200).collect::<String>())
+    }
+}
+
+/// The asker of a client's call, by whether it has a key.
+pub fn asker_of(key: Option<Box<str>>, begin: &[u8]) -> Asker {
+    match key {
+        Some(key) => Asker::Keyed(key, mark_of(begin)),
+        None => Asker::Client(None),
+    }
+}
+
+#[cfg(test)]
+mod tests {
+    use super::*;
+    use crate::body::asked;
+
+    fn call(text: &str, key: Option<&str>) -> Call {
+        let asked = asked(text.as_bytes(), 1).unwrap();
+        let asker = asker_of(key.map(Into::into), &asked.begin);
+        Call::of(asked.begin, asked.facts, asked.wait, asker)
+    }
+
+    #[test]
+    fn a_line_is_made_again_at_a_later_moment() {
+        let mut poll = call(r#"{"op":"poll_workflow_task","task_queue":"main","wait":7}"#, Some("k"));
+        for at in [17, 5_000_000] {
+            poll.end(at);
+            let wanted = r#"{"op":"poll_workflow_task","task_queue":"main","wait":7,"call":"k","at":"#;
+            assert_eq!(String::from_utf8_lossy(&poll.text), format!("{wanted}{at}}}"));
+        }
+        assert_eq!(poll.size(), r#"{"op":"poll_workflow_task","task_queue":"main","wait":7"#.len());
+    }
+
+    #[test]
+    fn a_read_has_no_moment() {
+        let mut read = call(r#"{"op":"describe","at":9,"workflow_id":"w"}"#, None);
+        read.end(17);
+        assert_eq!((read.text.as_slice(), read.is_logged()), (&br#"{"op":"describe","workflow_id":"w"}"#[..], false));
+    }
+}

@@ -1,0 +1,181 @@
+//! What changed for the list of workflows: pairs of a request and a reply, as far as a list needs them.
+//!
+//! The page asks for them before it shows a list, and tells them its list as if they had just been made. Runs that
+//! began are kept; what changed since they were asked last is kept once for each run, up to so many.
+
+use crate::facts::{commands_in, Facts, Subject};
+use crate::json::{quoted, Object, Value};
+use crate::operations::Op;
+use crate::reply::Reply;
+use std::collections::{BTreeMap, HashMap, HashSet};
+
+/// Beyond so many changes all runs count as changed.
+const MOST_CHANGED: usize = 100_000;
+/// Of a token's letters those that say which run it is of.
+const RUN_LETTERS: usize = 16;
+/// Commands that begin runs.
+const BEGINS_RUNS: [&str; 2] = ["StartChildWorkflowExecution", "ContinueAsNewWorkflowExecution"];
+
+/// What a list has to be told.
+#[derive(Default)]
+pub struct Changes {
+    /// The pairs of runs that began, by their numbers from 1 on, and the number of each run.
+    begun: BTreeMap<usize, Box<str>>,
+    numbers: HashMap<Box<str>, usize>,
+    last: usize,
+    changed: HashSet<Box<str>>,
+    has_transferred: bool,
+    is_all: bool,
+}
+
+impl Changes {
+    /// Notes what a line and its reply changed.
+    pub fn observe(&mut self, facts: &Facts, line: &[u8], at: u64, reply: &Reply<'_>) {
+        if reply.error.is_some() || facts.op.is_read() {
+            return;
+        }
+        let run = reply.run.as_deref();
+        match (facts.op, run) {
+            (Op::Start | Op::SignalWithStart, Some(run)) if reply.is("started") => self.begin(line, at, run),
+            (Op::TransferTurn, _) if reply.is("accepted") => self.has_transferred = true,
+            (Op::TimerTurn, Some(run)) if reply.class.as_deref() == Some("retention") => return self.remove(run),
+            (Op::CompleteWorkflowTask, _) => self.note_commands(line),
+            _ => {}
+        }
+        if let Some(run) = run {
+            self.change(format!("[{{}},{{\"ok\":\"\",\"run\":{}}}]", quoted(run)));
+        }
+        match &facts.subject {
+            Subject::Workflow(workflow_id) => {
+                self.change(format!("[{{\"op\":\"signal\",\"workflow_id\":{}}},{{\"ok\":\"\"}}]", quoted(workflow_id)));
+            }
+            Subject::Token(token) => {
+                let letters: String = token.chars().take(RUN_LETTERS).collect();
+                let token = quoted(&format!("{letters:A<32}"));
+                self.change(format!("[{{\"op\":\"heartbeat\",\"token\":{token}}},{{\"ok\":\"\"}}]"));
+            }
+            Subject::Nothing => {}
+        }
+    }
+
+    fn begin(&mut self, line: &[u8], at: u64, run: &str) {
+        let request = match Value::of(line) {
+            Ok(Value::Object(request)) => request,
+            _ => return,
+        };
+        let text = |key: &str| quoted(request.text(key).unwrap_or(""));
+        let (workflow_id, kind) = (text("workflow_id"), text("workflow_type"));
+        let asked = format!("{{\"op\":\"start\",\"workflow_id\":{workflow_id},\"workflow_type\":{kind},\"at\":{at}}}");
+        let pair = format!("[{asked},{{\"ok\":\"started\",\"run\":{}}}]", quoted(run));
+        self.last += 1;
+        self.begun.insert(self.last, pair.into());
+        self.numbers.insert(run.into(), self.last);
+    }
+
+    /// Forgets a run that was deleted.
+    fn remove(&mut self, run: &str) {
+        if let Some(number) = self.numbers.remove(run) {
+            self.begun.remove(&number);
+        }
+        let told = format!("{{\"ok\":\"fired\",\"class\":\"retention\",\"run\":{}}}", quoted(run));
+        self.change(format!("[{{\"op\":\"timer_turn\"}},{told}]"));
+    }
+
+    /// Notes the workflows of which the commands of a completion begin a run.
+    fn note_commands(&mut self, line: &[u8]) {
+        if !BEGINS_RUNS.iter().any(|name| line.windows(name.len()).any(|window| window == name.as_bytes())) {
+            return;
+        }
+        let request = match Value::of(line) {
+            Ok(Value::Object(request)) => request,
+            _ => return,
+        };
+        let named: Vec<String> = commands_in(&request).filter_map(beginning).collect();
+        if !named.is_empty() {
+            let token = quoted(request.text("token").unwrap_or(""));
+            let commands = named.join(",");
+            let asked = format!("{{\"op\":\"complete_workflow_task\",\"token\":{token},\"commands\":[{commands}]}}");
+            self.change(format!("[{asked},{{\"ok\":\"completed\"}}]"));
+        }
+    }
+
+    fn change(&mut self, pair: String) {
+        if self.changed.len() < MOST_CHANGED {
+            self.changed.insert(pair.into());
+        } else {
+            self.is_all = true;
+        }
+    }
+
+    /// The runs that began after the one of this number, and what changed since this was asked last, as JSON.
+    pub fn text(&mut self, from: usize) -> String {
+        let begun = self.begun.range(from + 1..).map(|(_, pair)| pair.as_ref());
+        let mut pairs: Vec<&str> = begun.collect();
+        pairs.extend(self.changed.iter().map(AsRef::as_ref));
+        if self.has_transferred {
+            pairs.push("[{\"op\":\"transfer_turn\"},{\"ok\":\"accepted\"}]");
+        }
+        let text = format!("{{\"next\":{},\"all\":{},\"pairs\":[{}]}}", self.last, self.is_all, pairs.join(","));
+        self.changed.clear();
+        self.has_transferred = false;
+        self.is_all = false;
+        text
+    }
+}
+
+/// A command that begins a run, as far as a list needs it.
+fn beginning(command: &Object<'_>) -> Option<String> {
+    let kind = command.text("type").filter(|kind| BEGINS_RUNS.contains(kind))?;
+    let named = command.text("workflow_id").map(|workflow_id| format!(",\"workflow_id\":{}", quoted(workflow_id)));
+    Some(format!("{{\"type\":\"{kind}\"{}}}", named.unwrap_or_default()))
+}
+
+#[cfg(test)]
+mod tests {
+    use super::*;
+    use crate::body::facts_of_line;
+
+    fn observe(changes: &mut Changes, line: &str, reply: &str) {
+        let (facts, at) = facts_of_line(line.as_bytes(), 1);
+        changes.observe(&facts, line.as_bytes(), at.unwrap_or(0), &Reply::of(reply.as_bytes()).unwrap());
+    }
+
+    #[test]
+    fn runs_that_began_are_told_by_their_numbers_and_changes_once() {
+        let mut changes = Changes::default();
+        let start = r#"{"op":"start","workflow_id":"w\"","workflow_type":"T","input":"long","at":5}"#;
+        observe(&mut changes, start, r#"{"ok":"started","run":"r1"}"#);
+        for _ in 0..3 {
+            observe(&mut changes, r#"{"op":"signal","workflow_id":"w","at":6}"#, r#"{"ok":"signaled"}"#);
+            observe(&mut changes, r#"{"op":"signal","workflow_id":"x","at":6}"#, r#"{"error":"NotFound"}"#);
+        }
+        let text = changes.text(0);
+        assert!(text.starts_with(r#"{"next":1,"all":false,"pairs":[[{"op":"start","workflow_id":"w\"","workflow_type":"T","at":5},{"ok":"started","run":"r1"}],"#));
+        assert_eq!(text.matches(r#""workflow_id":"w"}"#).count(), 1);
+        assert!(!text.contains("\"x\""));
+        assert_eq!(changes.text(1), r#"{"next":1,"all":false,"pairs":[]}"#);
+        assert!(changes.text(0).contains("started"));
+    }
+
+    #[test]
+    fn what_is_deleted_is_told_and_forgotten() {
+        let mut changes = Changes::default();
+        observe(&mut changes, r#"{"op":"start","workflow_id":"w","at":5}"#, r#"{"ok":"started","run":"r1"}"#);
+        let fired = r#"{"class":"retention","ok":"fired","run":"r1"}"#;
+        observe(&mut changes, r#"{"op":"timer_turn","shard":0,"at":9}"#, fired);
+        assert!(changes.text(0).contains("retention"));
+        assert_eq!(changes.text(0), r#"{"next":1,"all":false,"pairs":[]}"#);
+    }
+
+    #[test]
+    fn commands_name_what_they_begin() {
+        let mut changes = Changes::default();
+        let line = r#"{"op":"complete_workflow_task","token":"t","at":1,"commands":[{"type":"StartTimer"},
+            {"type":"StartChildWorkflowExecution","workflow_id":"c","input":"i"},{"type":"ContinueAsNewWorkflowExecution"}]}"#;
+        observe(&mut changes, line, r#"{"ok":"completed"}"#);
+        let wanted = r#""commands":[{"type":"StartChildWorkflowExecution","workflow_id":"c"},{"type":"ContinueAsNewWorkflowExecution"}]"#;
+        assert!(changes.text(0).contains(wanted));
+        observe(&mut changes, r#"{"op":"transfer_turn","from":0,"to":0,"at":1}"#, r#"{"ok":"accepted"}"#);
+        assert_eq!(changes.text(0), r#"{"next":0,"all":false,"pairs":[[{"op":"transfer_turn"},{"ok":"accepted"}]]}"#);
+    }
+}

@@ -1,0 +1,304 @@
+//! The one order of lines: all calls that wait are one batch, and are answered once its lines are on the disk.
+//!
+//! A batch is written to the log, then to the program, and is synced while the program works; what comes meanwhile is
+//! the next batch. No timer gathers calls, the sync does. Written to the log first, lines for which the disk has no
+//! room have no effect; and what a killed edge leaves, the next one finds. A reply is let go once the program gave it
+//! and a sync has covered its line.
+//!
+//! Three threads do this. The *sequencer* makes batches, and owns the log. The *reader* goes through replies in their
+//! order, and owns the program. The *clock* makes the turns that time asks for, and ends polls. What they share is one
+//! `State`, behind one lock that nobody holds while a disk or a pipe is waited for.
+
+mod clock;
+mod reader;
+mod sequencer;
+mod state;
+#[cfg(test)]
+mod tests;
+
+use crate::body::Asked;
+use crate::call::{asker_of, Call, Receiver};
+use crate::changes::Changes;
+use crate::compaction::record_files;
+use crate::fault::Fault;
+use crate::json::quoted;
+use crate::kept::{Kept, Origin};
+use crate::line_log::LineLog;
+use crate::metrics::{resident_bytes, Gauge};
+use crate::moments::Moments;
+use crate::opening::Opened;
+use crate::program::Program;
+use crate::shards::Shard;
+use crate::system;
+use hyper::body::Bytes;
+use state::{Answers, State};
+use std::process::ChildStdin;
+use std::sync::{Arc, Condvar, Mutex, MutexGuard, PoisonError};
+use std::thread::{Builder, JoinHandle};
+use std::time::{Duration, Instant};
+use tokio::sync::{oneshot, Notify};
+
+/// What becomes of a call: the reply's text, or why there is none.
+pub type Outcome = oneshot::Receiver<Result<Bytes, Fault>>;
+
+/// The program's input, and which of the programs that were started it is of.
+struct Input {
+    generation: u64,
+    pipe: Option<ChildStdin>,
+}
+
+/// A kept program, which many clients call.
+pub struct Core {
+    state: Mutex<State>,
+    /// Told where the sequencer, or who waits for it, may go on.
+    wake: Condvar,
+    /// Told where the clock has to look again.
+    clock: Condvar,
+    input: Mutex<Input>,
+    moments: Mutex<Moments>,
+    /// Told once nothing is served any more.
+    over: Notify,
+    shards: Shard,
+    limit: usize,
+}
+
+/// The threads of a core, for who ends it.
+pub struct Threads(Vec<JoinHandle<()>>);
+
+impl Threads {
+    /// Waits until all have ended, which they do once the core is closed or over, and the program has ended. False where
+    /// that takes longer: a program may hang.
+    pub fn join(&self, most: Duration) -> bool {
+        let late = Instant::now() + most;
+        while Instant::now() < late {
+            if self.0.iter().all(JoinHandle::is_finished) {
+                return true;
+            }
+            std::thread::sleep(Duration::from_millis(2));
+        }
+        false
+    }
+}
+
+/// How things are, for `GET /health/ready`.
+pub struct Health {
+    /// Why no call is taken now, in one word; empty where they are.
+    pub wrong: &'static str,
+    pub lines: u64,
+    pub bytes: u64,
+    pub clock_ahead: i64,
+    pub is_queue_full: bool,
+    pub is_compacting: bool,
+}
+
+/// What a compaction came to.
+pub struct Compacted {
+    pub lines: u64,
+    pub bytes: u64,
+    pub records: u64,
+    pub capacity: u32,
+}
+
+impl Core {
+    /// Takes up an opened service, and starts the threads.
+    pub fn start(opened: Opened, moments: Moments, limit: usize) -> std::io::Result<(Arc<Core>, Threads)> {
+        let Opened { kept, observed } = opened;
+        let Kept { origin, log, mut program, .. } = kept;
+        let pipe = program.take_input();
+        let shards = origin.settings.shards;
+        let state = State::new(origin.clone(), &log, program.pid(), observed);
+        let core = Arc::new(Core {
+            state: Mutex::new(state),
+            wake: Condvar::new(),
+            clock: Condvar::new(),
+            input: Mutex::new(Input { generation: 0, pipe }),
+            moments: Mutex::new(moments),
+            over: Notify::new(),
+            shards,
+            limit,
+        });
+        let threads = core.clone().spawn(log, origin, program)?;
+        Ok((core, threads))
+    }
+
+    fn spawn(self: Arc<Core>, log: LineLog, origin: Origin, program: Program) -> std::io::Result<Threads> {
+        let (sequencer, reader, clock) = (self.clone(), self.clone(), self);
+        let named = |name: &str| Builder::new().name(name.to_string());
+        Ok(Threads(vec![
+            named("sequencer").spawn(move || sequencer.sequence(log, origin))?,
+            named("reader").spawn(move || reader.read(program))?,
+            named("clock").spawn(move || clock.run_clock())?,
+        ]))
+    }
+
+    fn lock(&self) -> MutexGuard<'_, State> {
+        self.state.lock().unwrap_or_else(PoisonError::into_inner)
+    }
+
+    fn lock_input(&self) -> MutexGuard<'_, Input> {
+        self.input.lock().unwrap_or_else(PoisonError::into_inner)
+    }
+
+    fn now(&self) -> u64 {
+        self.moments.lock().unwrap_or_else(PoisonError::into_inner).now()
+    }
+
+    /// Gives the state back, and tells what was found out under the lock.
+    fn release(&self, mut state: MutexGuard<'_, State>) {
+        let answers = std::mem::take(&mut state.answers);
+        let look = std::mem::take(&mut state.look);
+        let wakes = state.flags.is_idle && state.has_work();
+        state.flags.is_idle &= !wakes;
+        drop(state);
+        if wakes {
+            self.wake.notify_all();
+        }
+        if look {
+            self.clock.notify_one();
+        }
+        tell(answers);
+    }
+
+    pub fn shards(&self) -> Shard {
+        self.shards
+    }
+
+    /// Asks for a client. An outcome that is dropped says that the client has hung up.
+    pub fn submit(&self, asked: Asked, key: Option<Box<str>>) -> Result<Outcome, Fault> {
+        let (receiver, outcome) = oneshot::channel();
+        let Asked { begin, facts, wait } = asked;
+        let asker = asker_of(key.filter(|_| !facts.op.is_read()), &begin);
+        let call = Call::of(begin, facts, wait, asker);
+        let mut state = self.lock();
+        let taken = state.take_in(call, receiver, self.limit);
+        if let Err(fault) = &taken {
+            state.metrics.note_refused(fault.name());
+        }
+        self.release(state);
+        taken.map(|()| outcome)
+    }
+
+    /// How things are.
+    pub fn health(&self) -> Health {
+        let clock_ahead = self.moments.lock().unwrap_or_else(PoisonError::into_inner).ahead();
+        let state = self.lock();
+        Health {
+            wrong: state.wrong(),
+            lines: state.log.lines,
+            bytes: state.log.bytes,
+            clock_ahead,
+            is_queue_full: state.ledger.is_full(),
+            is_compacting: state.flags.is_compacting,
+        }
+    }
+
+    /// Counts and times, as Prometheus reads them.
+    pub fn metrics(&self) -> String {
+        let ahead = self.moments.lock().unwrap_or_else(PoisonError::into_inner).ahead();
+        let state = self.lock();
+        let gauges: [Gauge; 8] = [
+            ("calls_waiting", "Calls of clients that wait for their answers.", state.count as f64),
+            ("polls_waiting", "Polls that wait for a task.", state.polls.len() as f64),
+            ("log_lines", "Lines of the log.", state.log.lines as f64),
+            ("log_bytes", "Bytes of the log.", state.log.bytes as f64),
+            ("program_bytes", "Memory of the program.", resident_bytes(state.pid) as f64),
+            ("clock_ahead_seconds", "How far moments are ahead of the wall clock.", ahead as f64 / 1_000.0),
+            ("sweeps_found", "Turns of a sweep that found what no call had told of.", state.ledger.missed() as f64),
+            ("ready", "Whether calls are taken.", if state.wrong().is_empty() { 1.0 } else { 0.0 }),
+        ];
+        state.metrics.text(&gauges)
+    }
+
+    /// What changed for the list of workflows since it was asked last.
+    pub fn changes(&self, from: usize) -> Option<String> {
+        self.lock().changes.as_mut().map(|changes: &mut Changes| changes.text(from))
+    }
+
+    /// The records that the log goes on from, and what their runs' ids need, as JSON for the page.
+    pub fn records(&self) -> String {
+        let origin = self.lock().origin.clone();
+        let files = record_files(&origin.log, origin.generation).unwrap_or_default();
+        let files: Vec<String> = files.iter().map(|file| quoted(&file.to_string_lossy())).collect();
+        let (service, retention) = (origin.settings.service, origin.settings.retention);
+        format!("{{\"service\":{service},\"retention\":{retention},\"files\":[{}]}}", files.join(","))
+    }
+
+    /// The moment of now.
+    pub fn moment(&self) -> u64 {
+        self.now()
+    }
+
+    /// Puts the records in the place of the log's lines, with that much room in the queues. Calls wait meanwhile.
+    pub fn compact(&self, capacity: u32) -> Result<oneshot::Receiver<Result<Compacted, Fault>>, Fault> {
+        let (done, outcome) = oneshot::channel();
+        let mut state = self.lock();
+        if state.flags.is_compacting || state.flags.is_closing {
+            let said = "the log is being compacted, or the server is told to stop";
+            return Err(Fault::Busy(said.to_string()));
+        }
+        if let Some(fault) = &state.over {
+            return Err(fault.clone());
+        }
+        state.flags.is_compacting = true;
+        state.compaction = Some((capacity, done));
+        drop(state);
+        self.wake.notify_all();
+        Ok(outcome)
+    }
+
+    /// Returns once nothing is served any more: why.
+    pub async fn ended(&self) -> Fault {
+        loop {
+            let told = self.over.notified();
+            if let Some(fault) = self.lock().over.clone() {
+                return fault;
+            }
+            told.await;
+        }
+    }
+
+    /// Takes no more calls, ends the polls that wait, and lets those on their way and a compaction be answered.
+    pub async fn drain(&self, most: Duration) {
+        let late = Instant::now() + most;
+        self.lock().flags.is_closing = true;
+        self.clock.notify_one();
+        while !self.is_drained() && Instant::now() < late {
+            tokio::time::sleep(Duration::from_millis(5)).await;
+        }
+    }
+
+    fn is_drained(&self) -> bool {
+        let state = self.lock();
+        (state.count == 0 && state.polls.len() == 0 && !state.flags.is_compacting) || state.over.is_some()
+    }
+
+    /// Ends the program's input, and with it the program and the threads.
+    pub fn close(&self) {
+        self.lock().flags.is_closed = true;
+        self.lock_input().pipe = None;
+        self.wake.notify_all();
+        self.clock.notify_all();
+    }
+
+    /// Kills a program that doesn't end by itself.
+    pub fn kill_program(&self) {
+        system::kill(self.lock().pid);
+    }
+
+    /// Nothing is served any more.
+    fn end(&self, fault: Fault) {
+        let mut state = self.lock();
+        state.end(fault);
+        self.release(state);
+        self.wake.notify_all();
+        self.clock.notify_all();
+        self.over.notify_one();
+    }
+}
+
+/// Tells who waits.
+fn tell(answers: Answers) {
+    for (receiver, outcome) in answers {
+        let _ = Receiver::send(receiver, outcome);
+    }
+}

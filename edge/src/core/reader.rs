@@ -1,0 +1,300 @@
+//! Goes through replies in their order: what follows is asked, and calls are answered.
+
+use super::state::{Answered, Said, State};
+use super::{Core, Input};
+use crate::call::Call;
+use crate::fault::Fault;
+use crate::kept::{start_again, NotServed};
+use crate::operations::Op;
+use crate::polls::Queue;
+use crate::program::Program;
+use crate::reply::Reply;
+use crate::say::say;
+use hyper::body::Bytes;
+use std::collections::VecDeque;
+use std::io::Write;
+use std::sync::{Arc, PoisonError};
+use std::time::Duration;
+
+/// So long after its end the program is started again. Ctrl-C in a terminal ends both, and the edge learns of it a
+/// little later.
+const PAUSE: Duration = Duration::from_millis(20);
+/// So often the program is started, where it ends before it has come to the line at which it ended.
+const MOST_STARTS: u32 = 3;
+/// So many replies are gone through under one lock.
+const MOST_AT_ONCE: usize = 256;
+
+/// What takes the place of a program that has ended.
+enum Next {
+    /// The program that a compaction has opened.
+    Opened(Program),
+    /// It ended by itself, and is started again.
+    Again,
+    /// Nothing is served any more.
+    Nothing,
+}
+
+impl Core {
+    /// Takes the program's replies until the core is closed or over.
+    pub(super) fn read(self: Arc<Core>, mut program: Program) {
+        loop {
+            if program.output.wait() {
+                if let Err(fault) = self.take_replies(&mut program) {
+                    self.end(fault);
+                    program.kill();
+                    return;
+                }
+                continue;
+            }
+            program = match self.next_program(program) {
+                Some(next) => next,
+                None => return,
+            };
+        }
+    }
+
+    /// Goes through the replies that were read.
+    fn take_replies(&self, program: &mut Program) -> Result<(), Fault> {
+        let mut calls = self.lock().taken(MOST_AT_ONCE);
+        let (mut replies, mut result) = (Vec::with_capacity(calls.len()), Ok(()));
+        while let (Some(number), true) = (calls.front().map(|call| call.number), result.is_ok()) {
+            match program.output.take(number) {
+                Some(Ok(text)) => replies.extend(calls.pop_front().map(|call| (call, Bytes::from(text)))),
+                Some(Err(fault)) => result = Err(fault),
+                None => break,
+            }
+        }
+        if replies.is_empty() && result.is_ok() {
+            result = Err(Fault::Ended("the program gave a reply to no line".to_string()));
+        }
+        let mut state = self.lock();
+        state.give_back(calls.into_iter());
+        let gone_through = state.go_through(replies, self.limit);
+        state.flags.is_taking = false;
+        self.release(state);
+        result.and(gone_through)
+    }
+
+    /// The program that takes the place of one that has ended; None where nothing is served any more.
+    fn next_program(self: &Arc<Core>, mut program: Program) -> Option<Program> {
+        match self.exchanged() {
+            Next::Nothing => program.end(),
+            Next::Opened(next) => {
+                program.end();
+                return Some(next);
+            }
+            Next::Again => {
+                std::thread::sleep(PAUSE);
+                let number = self.lock().answered + 1;
+                let fault = program.ended(number);
+                let starts_again = self.lock().starts_again(number, &fault);
+                if starts_again {
+                    return self.started_again();
+                }
+                self.end(fault);
+            }
+        }
+        None
+    }
+
+    /// Starts the program, which has ended, and gives it what it had not answered.
+    fn started_again(self: &Arc<Core>) -> Option<Program> {
+        let (origin, answered) = {
+            let state = self.lock();
+            (state.origin.clone(), state.answered)
+        };
+        for tried in 1.. {
+            match start_again(&origin, answered) {
+                Ok(next) => return Some(self.go_on_with(next)),
+                // It had served these lines before, so they are not why.
+                Err(NotServed::Program(fault)) if tried < MOST_STARTS => say!("{fault}: it is started once more"),
+                Err(fault) => {
+                    self.end(Fault::Ended(fault.to_string()));
+                    break;
+                }
+            }
+        }
+        None
+    }
+
+    /// What takes the place of a program that has ended.
+    fn exchanged(&self) -> Next {
+        let mut state = self.lock();
+        while state.flags.is_exchanging && state.over.is_none() && !state.flags.is_closed {
+            state = self.wake.wait(state).unwrap_or_else(PoisonError::into_inner);
+        }
+        if state.flags.is_closed || state.over.is_some() {
+            return Next::Nothing;
+        }
+        let next = state.next_program.take();
+        state.flags.is_restarting = next.is_none();
+        drop(state);
+        self.wake.notify_all();
+        next.map_or(Next::Again, Next::Opened)
+    }
+
+    /// Gives a program that has served the log what the one before has not answered, by a thread of its own: the
+    /// pipes hold only so much, and this one reads the replies.
+    fn go_on_with(self: &Arc<Core>, mut program: Program) -> Program {
+        let pipe = program.take_input();
+        let mut state = self.lock();
+        state.generation += 1;
+        state.pid = program.pid();
+        let generation = state.generation;
+        let mut lines = Vec::new();
+        for call in &state.sent {
+            lines.extend_from_slice(&call.text);
+            lines.push(b'\n');
+        }
+        drop(state);
+        let core = self.clone();
+        std::thread::spawn(move || {
+            let mut input = core.lock_input();
+            *input = Input { generation, pipe };
+            let _ = input.pipe.as_mut().map(|pipe| pipe.write_all(&lines));
+            drop(input);
+            core.lock().flags.is_restarting = false;
+            core.wake.notify_all();
+        });
+        program
+    }
+}
+
+impl State {
+    /// Whether the program, which has ended before it answered this line, is started again: once for a line.
+    fn starts_again(&mut self, number: u64, fault: &Fault) -> bool {
+        let is_done = self.flags.is_closing && self.count == 0;
+        if self.log.is_broken || self.died_at == Some(number) || is_done {
+            return false;
+        }
+        let asked = self.sent.front().map_or_else(String::new, |call| format!(" ({})", call.named()));
+        say!("{fault}{asked}: it is started again, and given the log's lines");
+        self.died_at = Some(number);
+        self.metrics.restarts += 1;
+        true
+    }
+
+    /// Takes so many calls off those that the program has.
+    fn taken(&mut self, most: usize) -> VecDeque<Call> {
+        self.flags.is_taking = true;
+        let count = most.min(self.sent.len());
+        self.sent.drain(..count).collect()
+    }
+
+    /// Puts calls back that were not answered.
+    fn give_back(&mut self, calls: impl DoubleEndedIterator<Item = Call>) {
+        for call in calls.rev() {
+            self.sent.push_front(call);
+        }
+    }
+
+    fn go_through(&mut self, replies: Vec<(Call, Bytes)>, limit: usize) -> Result<(), Fault> {
+        let (mut replies, mut handed) = (replies.into_iter(), 0);
+        while let Some((call, text)) = replies.next() {
+            let number = call.number;
+            match self.take_reply(call, text, limit) {
+                Ok(count) => handed += count,
+                Err(call) => {
+                    self.give_back(std::iter::once(*call).chain(replies.map(|(call, _)| call)));
+                    return Err(Fault::Ended(format!("line {number}: its reply is no JSON")));
+                }
+            }
+            self.answered = number;
+        }
+        if handed > 0 {
+            self.wake_polls(handed);
+        }
+        Ok(())
+    }
+
+    /// Takes one reply. How many tasks it says were handed over; the call again where the reply can't be read.
+    fn take_reply(&mut self, call: Call, text: Bytes, limit: usize) -> Result<usize, Box<Call>> {
+        if !call.is_logged() {
+            let said = Said { error: error_in(&text), has_task: false };
+            self.answer_when_synced(Answered { call, reply: text, said });
+            return Ok(0);
+        }
+        let reply = text.clone();
+        let told = match Reply::of(&text) {
+            Some(told) => told,
+            None => return Err(Box::new(call)),
+        };
+        self.observe(&call, &told);
+        let handed = self.follow(&call, &told);
+        if call.turn().is_some() {
+            return Ok(handed);
+        }
+        let has_task = call.op().is_poll() && told.is("task");
+        let answered = Answered { call, reply, said: Said { error: told.error.as_deref().map(Into::into), has_task } };
+        if answered.call.op().is_poll() {
+            self.take_poll(answered, &told, limit);
+        } else {
+            self.answer_when_synced(answered);
+        }
+        Ok(handed)
+    }
+
+    /// Notes what a line and its reply tell of deadlines and of the list of workflows.
+    fn observe(&mut self, call: &Call, said: &Reply<'_>) {
+        if self.deadlines.observe(&call.facts, call.at, said) {
+            self.look = true;
+        }
+        if let Some(changes) = &mut self.changes {
+            changes.observe(&call.facts, &call.text, call.at, said);
+        }
+    }
+
+    /// Asks the turns that follow a turn. How many tasks it handed over.
+    fn follow(&mut self, call: &Call, said: &Reply<'_>) -> usize {
+        if !call.op().is_turn() {
+            return 0;
+        }
+        let turns = match call.turn() {
+            Some(turn) => self.ledger.follow(turn, said),
+            None => self.ledger.follow_clients(&call.facts, said),
+        };
+        let handed = call.op() == Op::DispatchTurn && (said.is("dispatched") || said.is("pushed"));
+        if call.turn().is_some() {
+            self.metrics.note_turn(call.op(), handed || !turns.is_empty());
+        }
+        self.own.extend(turns);
+        usize::from(handed)
+    }
+
+    /// Takes a poll's reply: after a hint of what is over by now it is asked again, and it waits where it found nothing.
+    fn take_poll(&mut self, mut answered: Answered, said: &Reply<'_>, limit: usize) {
+        if said.is("task") || said.is("stale") {
+            let turns = self.ledger.made_room();
+            self.own.extend(turns);
+        }
+        if said.is("stale") && !self.flags.is_closing && !self.is_gone(&answered.call) {
+            self.asked.push_front(answered.call);
+            return;
+        }
+        if said.is("empty") {
+            let queue = Queue::of(&answered.call);
+            if let Some(task) = self.polls.left_for(&queue) {
+                answered.reply = task;
+                answered.said.has_task = true;
+            } else if !self.flags.is_closing && !self.is_late(&answered.call) {
+                self.wait(answered.call, answered.reply, limit);
+                return;
+            }
+        }
+        self.answer_when_synced(answered);
+    }
+
+    fn answer_when_synced(&mut self, answered: Answered) {
+        if answered.call.number <= self.synced {
+            self.let_go(answered);
+        } else {
+            self.unsynced.push_back(answered);
+        }
+    }
+}
+
+/// The refusal that a read's reply is. A reply that is none is long, and not looked into.
+fn error_in(text: &[u8]) -> Option<Box<str>> {
+    let refusal = if text.starts_with(b"{\"error\"") { Reply::of(text) } else { None };
+    refusal.and_then(|told| told.error).map(|error| error.as_ref().into())
+}

@@ -1,0 +1,451 @@
+//! What the core's threads share: calls by where they are on their way, and all that is known of them.
+
+use crate::call::{Asker, Call, Receiver};
+use crate::changes::Changes;
+use crate::core::Compacted;
+use crate::deadlines::Deadlines;
+use crate::fault::Fault;
+use crate::kept::Origin;
+use crate::ledger::{Ledger, Turn};
+use crate::line_log::LineLog;
+use crate::metrics::Metrics;
+use crate::opening::Observed;
+use crate::polls::{Polls, Queue, Waiting, Woken};
+use crate::program::Program;
+use crate::replies::{Mark, Replies};
+use crate::say::say;
+use hyper::body::Bytes;
+use std::collections::{HashMap, VecDeque};
+use std::time::{Duration, Instant};
+use tokio::sync::oneshot;
+
+/// So many bytes of calls may wait.
+const MOST_WAITING_BYTES: usize = 64 << 20;
+/// For so long no turns are made where the disk was full.
+const REST: Duration = Duration::from_secs(1);
+
+/// Who is told what, once the lock is given back.
+pub type Answers = Vec<(Receiver, Result<Bytes, Fault>)>;
+
+/// Those who wait for the call of a key.
+struct UnderWay {
+    mark: Mark,
+    receivers: Vec<Receiver>,
+    late: Instant,
+}
+
+/// A call that the program has answered, and what its reply says.
+pub struct Answered {
+    pub call: Call,
+    pub reply: Bytes,
+    pub said: Said,
+}
+
+/// What a reply says, as far as it is looked at once the call is answered.
+#[derive(Clone, Debug, Default)]
+pub struct Said {
+    pub error: Option<Box<str>>,
+    pub has_task: bool,
+}
+
+/// How the log is, which the sequencer has.
+#[derive(Clone, Copy, Default)]
+pub struct LogState {
+    pub lines: u64,
+    pub bytes: u64,
+    pub is_full: bool,
+    pub is_broken: bool,
+}
+
+impl LogState {
+    pub fn of(log: &LineLog) -> LogState {
+        let lines = log.len().saturating_sub(1);
+        LogState { lines, bytes: log.size(), is_full: log.is_full(), is_broken: log.is_broken() }
+    }
+}
+
+/// What goes on.
+#[derive(Default)]
+pub struct Flags {
+    /// Whether the edge was told to stop, and whether it has stopped.
+    pub is_closing: bool,
+    pub is_closed: bool,
+    /// Whether the program is started again.
+    pub is_restarting: bool,
+    /// Whether a compaction was asked, and whether log and program are being exchanged for it.
+    pub is_compacting: bool,
+    pub is_exchanging: bool,
+    /// Whether the sequencer waits to be woken.
+    pub is_idle: bool,
+    /// Whether the reader has taken calls off `sent` and not gone through them.
+    pub is_taking: bool,
+    /// Whether a poll that was woken could not be asked.
+    pub has_missed: bool,
+}
+
+/// All that the threads share.
+pub struct State {
+    // Calls: those that wait for a batch, those that the program has, and those that wait for a sync.
+    pub asked: VecDeque<Call>,
+    pub own: Vec<Turn>,
+    pub sent: VecDeque<Call>,
+    pub unsynced: VecDeque<Answered>,
+    /// The number of the last line that was answered, and of the last one that a sync covers.
+    pub answered: u64,
+    pub synced: u64,
+    /// How many calls of clients wait for their answers, without the polls that wait for tasks, and their bytes.
+    pub count: usize,
+    bytes: usize,
+    under_way: HashMap<Box<str>, UnderWay>,
+    pub replies: Replies,
+    pub polls: Polls,
+    pub ledger: Ledger,
+    pub deadlines: Deadlines,
+    pub changes: Option<Changes>,
+    pub metrics: Metrics,
+    pub log: LogState,
+    pub origin: Origin,
+    pub pid: u32,
+    /// Which of the programs that were started is fed, and the one that takes its place once it has ended.
+    pub generation: u64,
+    pub next_program: Option<Program>,
+    /// The line at which the program ended last.
+    pub died_at: Option<u64>,
+    pub flags: Flags,
+    pub compaction: Option<(u32, oneshot::Sender<Result<Compacted, Fault>>)>,
+    pub over: Option<Fault>,
+    /// Whether a call that may issue something was made since the last sweep.
+    pub called: bool,
+    /// Until when no turns are made.
+    pub resting: Instant,
+    /// Whether the clock has to look again.
+    pub look: bool,
+    /// When the next poll's time is over, as far as the clock knows.
+    pub next_late: Option<Instant>,
+    pub answers: Answers,
+}
+
+/// Whether all who asked for a call have hung up.
+fn is_gone(call: &Call, under_way: &HashMap<Box<str>, UnderWay>) -> bool {
+    match &call.asker {
+        Asker::Edge(_) => false,
+        Asker::Client(receiver) => receiver.as_ref().map_or(true, Receiver::is_closed),
+        Asker::Keyed(key, _) => under_way.get(key).map_or(true, |one| one.receivers.iter().all(Receiver::is_closed)),
+    }
+}
+
+/// Until when a poll waits, where somebody does.
+fn late_of(call: &Call, under_way: &HashMap<Box<str>, UnderWay>) -> Option<Instant> {
+    if is_gone(call, under_way) {
+        return None;
+    }
+    let joined = call.key().and_then(|key| under_way.get(key)).map(|one| one.late);
+    Some(joined.map_or(call.late, |late| late.max(call.late)))
+}
+
+impl State {
+    pub fn new(origin: Origin, log: &LineLog, pid: u32, observed: Observed) -> State {
+        let Observed { ledger, deadlines, replies, changes, .. } = observed;
+        let log = LogState::of(log);
+        State {
+            asked: VecDeque::new(),
+            own: Vec::new(),
+            sent: VecDeque::new(),
+            unsynced: VecDeque::new(),
+            answered: log.lines,
+            synced: log.lines,
+            count: 0,
+            bytes: 0,
+            under_way: HashMap::new(),
+            replies,
+            polls: Polls::default(),
+            ledger,
+            deadlines,
+            changes,
+            metrics: Metrics::default(),
+            log,
+            origin,
+            pid,
+            generation: 0,
+            next_program: None,
+            died_at: None,
+            flags: Flags::default(),
+            compaction: None,
+            over: None,
+            called: true,
+            resting: Instant::now(),
+            look: false,
+            next_late: None,
+            answers: Vec::new(),
+        }
+    }
+
+    /// Why no call is taken now, in one word; empty where they are.
+    pub fn wrong(&self) -> &'static str {
+        match self {
+            State { flags: Flags { is_closing: true, .. }, .. } => "draining",
+            State { log: LogState { is_broken: true, .. }, .. } => "broken",
+            State { over: Some(_), .. } => "ended",
+            State { log: LogState { is_full: true, .. }, .. } => "full",
+            State { flags: Flags { is_restarting: true, .. }, .. } => "restarting",
+            _ => "",
+        }
+    }
+
+    /// Whether something waits for a batch.
+    pub fn has_work(&self) -> bool {
+        !self.asked.is_empty() || !self.own.is_empty() || self.flags.is_compacting
+    }
+
+    // What is asked.
+
+    /// Takes a client's call in, or answers it at once where it was made before.
+    pub fn take_in(&mut self, call: Call, receiver: Receiver, limit: usize) -> Result<(), Fault> {
+        if let Some(fault) = &self.over {
+            return Err(fault.clone());
+        }
+        if self.flags.is_closing {
+            return Err(Fault::Draining);
+        }
+        let receiver = match self.had_again(&call, receiver)? {
+            Some(receiver) => receiver,
+            None => return Ok(()),
+        };
+        if self.count >= limit || self.bytes >= MOST_WAITING_BYTES {
+            return Err(Fault::Busy(format!("{} calls wait already", self.count)));
+        }
+        self.add(call, receiver);
+        Ok(())
+    }
+
+    fn add(&mut self, mut call: Call, receiver: Receiver) {
+        self.count += 1;
+        self.bytes += call.size();
+        if let Asker::Keyed(key, mark) = &call.asker {
+            let one = UnderWay { mark: *mark, receivers: vec![receiver], late: call.late };
+            self.under_way.insert(key.clone(), one);
+        } else {
+            call.asker = Asker::Client(Some(receiver));
+        }
+        self.asked.push_back(call);
+    }
+
+    /// Gives the receiver back where the call was not made before with the same key, and no task is left for it.
+    fn had_again(&mut self, call: &Call, receiver: Receiver) -> Result<Option<Receiver>, Fault> {
+        if let Asker::Keyed(key, mark) = &call.asker {
+            if let Some(reply) = self.replies.get(key, *mark)? {
+                self.metrics.again += 1;
+                self.answers.push((receiver, Ok(reply)));
+                return Ok(None);
+            }
+            if let Some(one) = self.under_way.get_mut(key) {
+                if one.mark != *mark {
+                    return Err(Fault::KeyReused(format!("another call is being made with the key {key}")));
+                }
+                one.receivers.push(receiver);
+                one.late = one.late.max(call.late);
+                let late = one.late;
+                self.look_at(late);
+                return Ok(None);
+            }
+        }
+        let left = if call.op().is_poll() { self.polls.left_for(&Queue::of(call)) } else { None };
+        match left {
+            None => Ok(Some(receiver)),
+            Some(task) => {
+                self.remember(call, &task);
+                self.answers.push((receiver, Ok(task)));
+                Ok(None)
+            }
+        }
+    }
+
+    /// Asks turns of the edge's own.
+    pub fn ask_turns(&mut self, turns: Vec<Turn>) {
+        if Instant::now() >= self.resting && self.over.is_none() {
+            self.own.extend(turns);
+        }
+    }
+
+    /// Has the clock look at polls once this moment is over.
+    pub fn look_at(&mut self, late: Instant) {
+        if self.next_late.map_or(true, |next| late < next) {
+            self.next_late = Some(late);
+            self.look = true;
+        }
+    }
+
+    // How calls are answered.
+
+    /// Answers a call whose line is on the disk.
+    pub fn let_go(&mut self, answered: Answered) {
+        let Answered { call, reply, said } = answered;
+        self.count -= 1;
+        self.bytes -= call.size();
+        let has_receiver = !is_gone(&call, &self.under_way);
+        if said.has_task || !call.op().is_poll() {
+            self.remember(&call, &reply);
+        }
+        self.note(&call, &said);
+        let (queue, is_left) = (Queue::of(&call), said.has_task && call.key().is_none() && !has_receiver);
+        self.answer(call, Ok(reply.clone()));
+        if is_left {
+            self.leave(queue, reply);
+        }
+    }
+
+    /// A task that was taken for a client that is gone is another one's, and needn't time out.
+    fn leave(&mut self, queue: Queue, task: Bytes) {
+        let State { polls, under_way, .. } = self;
+        let (other, dropped) = polls.leave(queue, task.clone(), |call| is_gone(call, under_way));
+        self.drop_all(dropped);
+        if let Some(other) = other {
+            self.remember(&other, &task);
+            self.answer(other, Ok(task));
+        }
+    }
+
+    fn remember(&mut self, call: &Call, reply: &Bytes) {
+        if let Asker::Keyed(key, mark) = &call.asker {
+            self.replies.add(key, *mark, reply.clone());
+        }
+    }
+
+    fn note(&mut self, call: &Call, said: &Said) {
+        self.metrics.note_call(call.op(), said.error.as_deref());
+        if !call.op().is_poll() {
+            self.metrics.latency.add(call.since.elapsed().as_secs_f64());
+        }
+    }
+
+    /// Tells all who wait for a call, once the lock is given back.
+    fn answer(&mut self, call: Call, outcome: Result<Bytes, Fault>) {
+        match call.asker {
+            Asker::Edge(_) | Asker::Client(None) => {}
+            Asker::Client(Some(receiver)) => self.answers.push((receiver, outcome)),
+            Asker::Keyed(key, _) => {
+                let receivers = self.under_way.remove(&key).map(|one| one.receivers).unwrap_or_default();
+                self.answers.extend(receivers.into_iter().map(|receiver| (receiver, outcome.clone())));
+            }
+        }
+    }
+
+    /// Fails a call that is counted.
+    pub fn fail(&mut self, call: Call, fault: &Fault) {
+        if call.turn().is_none() {
+            self.count -= 1;
+            self.bytes -= call.size();
+            self.fail_waiting(call, fault);
+        }
+    }
+
+    fn fail_waiting(&mut self, call: Call, fault: &Fault) {
+        self.metrics.note_refused(fault.name());
+        self.answer(call, Err(fault.clone()));
+    }
+
+    /// Forgets polls whose clients have hung up.
+    fn drop_all(&mut self, dropped: Vec<Call>) {
+        for call in dropped {
+            self.answer(call, Err(Fault::Draining));
+        }
+    }
+
+    // Polls.
+
+    /// Has a poll that found nothing wait.
+    pub fn wait(&mut self, call: Call, reply: Bytes, limit: usize) {
+        if self.polls.len() >= limit {
+            let fault = Fault::Busy(format!("{} polls wait already", self.polls.len()));
+            self.fail(call, &fault);
+            return;
+        }
+        self.count -= 1;
+        self.bytes -= call.size();
+        let late = late_of(&call, &self.under_way).unwrap_or(call.late);
+        self.polls.wait(Waiting { call, reply });
+        self.look_at(late);
+    }
+
+    /// Whether a poll's time is over, or nobody waits for it.
+    pub fn is_late(&self, call: &Call) -> bool {
+        late_of(call, &self.under_way).map_or(true, |late| late <= Instant::now())
+    }
+
+    pub fn is_gone(&self, call: &Call) -> bool {
+        is_gone(call, &self.under_way)
+    }
+
+    /// Has polls look again: the first ones of each queue, since so many tasks were handed over.
+    pub fn wake_polls(&mut self, count: usize) {
+        let State { polls, under_way, .. } = self;
+        let woken = polls.wake(count, |call| is_gone(call, under_way));
+        self.ask_again(woken);
+    }
+
+    /// Has all polls look again.
+    pub fn wake_all_polls(&mut self) {
+        let State { polls, under_way, .. } = self;
+        let woken = polls.wake_all(|call| is_gone(call, under_way));
+        self.ask_again(woken);
+    }
+
+    fn ask_again(&mut self, woken: Woken) {
+        self.drop_all(woken.dropped);
+        for call in woken.polls {
+            self.count += 1;
+            self.bytes += call.size();
+            self.asked.push_back(call);
+        }
+    }
+
+    /// Answers the polls that waited long enough; all of them where the edge is told to stop.
+    pub fn end_polls(&mut self, now: Instant) {
+        let State { polls, under_way, .. } = self;
+        let over = polls.over(|call| late_of(call, under_way), (!self.flags.is_closing).then_some(now));
+        self.next_late = over.next;
+        self.drop_all(over.dropped);
+        for Waiting { call, reply } in over.polls {
+            self.note(&call, &Said::default());
+            self.answer(call, Ok(reply));
+        }
+    }
+
+    // Faults.
+
+    /// Fails calls that could not be logged. Turns rest meanwhile, and are made up for by a sweep.
+    pub fn refuse(&mut self, calls: Vec<Call>, fault: &Fault) {
+        let now = Instant::now();
+        if let (true, Some(first)) = (now >= self.resting, calls.first()) {
+            say!("{fault} ({} calls, the first: {})", calls.len(), first.named());
+        }
+        self.resting = now + REST;
+        self.called = true;
+        for call in calls {
+            self.flags.has_missed |= call.op().is_poll();
+            self.fail(call, fault);
+        }
+    }
+
+    /// Nothing is served any more: fails all that waits.
+    pub fn end(&mut self, fault: Fault) {
+        let left: Vec<Call> = self.sent.drain(..).chain(self.asked.drain(..)).collect();
+        for call in left {
+            self.fail(call, &fault);
+        }
+        let unsynced: Vec<Answered> = self.unsynced.drain(..).collect();
+        for answered in unsynced {
+            self.fail(answered.call, &fault);
+        }
+        self.own.clear();
+        let over = self.polls.over(|call| Some(call.late), None);
+        for Waiting { call, .. } in over.polls {
+            self.fail_waiting(call, &fault);
+        }
+        if let Some((_, done)) = self.compaction.take() {
+            let _ = done.send(Err(fault.clone()));
+        }
+        self.flags.is_compacting = false;
+        self.over.get_or_insert(fault);
+    }
+}

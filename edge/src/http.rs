@@ -1,0 +1,273 @@
+//! HTTP/1.1: POST /calls and /compact, health, metrics, and the page, which another process answers.
+
+use crate::body::{asked, call_key};
+use crate::core::Core;
+use crate::fault::Fault;
+use crate::guard::{Guard, Verdict};
+use crate::json::{quoted, Object, Value};
+use crate::page::Page;
+use crate::settings::MOST_CAPACITY;
+use hyper::body::{Bytes, HttpBody};
+use hyper::header::{HeaderName, HeaderValue, ALLOW, CONNECTION, CONTENT_LENGTH, CONTENT_TYPE};
+use hyper::header::{LOCATION, RETRY_AFTER, SET_COOKIE, TRANSFER_ENCODING};
+use hyper::{Body, Method, Request, Response, StatusCode};
+use std::sync::Arc;
+use std::time::Duration;
+
+const BODY_LIMIT: usize = 1_048_576;
+/// Of a body that is too long so much is read and dropped, so that its client reads why it is refused.
+const DROPPED: usize = 16 << 20;
+/// After so many seconds a call that was not taken may be made again.
+const RETRY_SECONDS: u16 = 1;
+const JSON: &str = "application/json; charset=utf-8";
+
+/// What answers requests.
+pub struct Front {
+    pub core: Arc<Core>,
+    pub guard: Guard,
+    pub page: Option<Arc<Page>>,
+    /// Whether the one who asks is the page, which may ask what changed.
+    pub is_private: bool,
+    /// How long a request may take to come.
+    pub read_timeout: Duration,
+}
+
+/// A request that is answered by a fault.
+struct Refusal {
+    status: u16,
+    name: &'static str,
+    said: String,
+}
+
+impl Refusal {
+    fn new(status: u16, name: &'static str, said: impl Into<String>) -> Refusal {
+        Refusal { status, name, said: said.into() }
+    }
+}
+
+impl From<Fault> for Refusal {
+    fn from(fault: Fault) -> Refusal {
+        Refusal::new(fault.status(), fault.name(), fault.to_string())
+    }
+}
+
+type Answer = Result<Response<Body>, Refusal>;
+
+/// An answer of this status and type.
+fn answer(status: u16, kind: &'static str, text: impl Into<Body>) -> Response<Body> {
+    let mut response = Response::new(text.into());
+    *response.status_mut() = StatusCode::from_u16(status).unwrap_or(StatusCode::INTERNAL_SERVER_ERROR);
+    response.headers_mut().insert(CONTENT_TYPE, HeaderValue::from_static(kind));
+    response
+}
+
+/// A fault's answer as JSON.
+pub fn fault_text(name: &str, said: &str) -> String {
+    format!("{{\"error\": {}, \"said\": {}}}", quoted(name), quoted(said))
+}
+
+fn refused(refusal: &Refusal) -> Response<Body> {
+    let mut response = answer(refusal.status, JSON, fault_text(refusal.name, &refusal.said));
+    if refusal.status == 503 {
+        response.headers_mut().insert(RETRY_AFTER, RETRY_SECONDS.into());
+    }
+    response
+}
+
+/// Has the connection closed after an answer.
+fn closing(mut response: Response<Body>) -> Response<Body> {
+    response.headers_mut().insert(CONNECTION, HeaderValue::from_static("close"));
+    response
+}
+
+impl Front {
+    /// Answers a request.
+    pub async fn answer(&self, request: Request<Body>) -> Response<Body> {
+        let is_chunked = request.headers().contains_key(TRANSFER_ENCODING);
+        if is_chunked && request.headers().contains_key(CONTENT_LENGTH) {
+            // Its body is read by the one length, so that its client reads why it is refused.
+            let _ = tokio::time::timeout(self.read_timeout, read_body(request.into_body())).await;
+            return closing(refused(&Refusal::new(400, "BadRequest", "a body has one length")));
+        }
+        let response = match self.guarded(&request) {
+            Some(response) => response,
+            None => self.route(request).await.unwrap_or_else(|refusal| refused(&refusal)),
+        };
+        // Where something in front of the edge reads a chunked body otherwise, nothing follows it.
+        let is_slow = response.status() == StatusCode::REQUEST_TIMEOUT;
+        if is_chunked || is_slow {
+            closing(response)
+        } else {
+            response
+        }
+    }
+
+    /// The answer to a request that is not let in.
+    fn guarded(&self, request: &Request<Body>) -> Option<Response<Body>> {
+        match self.guard.check(request.method(), request.uri(), request.headers()) {
+            Verdict::LetIn => None,
+            Verdict::WrongHost => Some(refused(&Refusal::new(403, "WrongHost", "this name is not served here"))),
+            Verdict::NoToken => Some(refused(&Refusal::new(401, "NoToken", "this server wants its token"))),
+            Verdict::KeepToken { path, cookie } => {
+                let mut response = answer(303, "text/plain; charset=utf-8", "303: See Other");
+                for (name, value) in [(LOCATION, path), (SET_COOKIE, cookie)] {
+                    // What can't be a header's value is left out, and the browser asks for the token again.
+                    if let Ok(value) = HeaderValue::from_str(&value) {
+                        response.headers_mut().insert::<HeaderName>(name, value);
+                    }
+                }
+                Some(response)
+            }
+        }
+    }
+
+    async fn route(&self, request: Request<Body>) -> Answer {
+        let (is_get, is_post) = (request.method() == Method::GET, request.method() == Method::POST);
+        match request.uri().path() {
+            "/calls" if is_post => self.call(request).await,
+            "/compact" if is_post => self.compact(request).await,
+            "/health/live" if is_get => Ok(answer(200, JSON, "{\"status\": \"live\"}")),
+            "/health/ready" if is_get => Ok(self.ready()),
+            "/metrics" if is_get => Ok(answer(200, "text/plain; charset=utf-8", self.core.metrics())),
+            "/feed" if is_get && self.is_private => self.feed(&request),
+            "/records" if is_get && self.is_private => Ok(answer(200, JSON, self.core.records())),
+            "/calls" | "/compact" => Ok(not_allowed("POST")),
+            "/health/live" | "/health/ready" | "/metrics" => Ok(not_allowed("GET")),
+            _ => match &self.page {
+                Some(page) if is_get => page.answer(request).await.map_err(|said| Refusal::new(503, "NoPage", said)),
+                _ => Err(Refusal::new(404, "NotFound", "404: Not Found")),
+            },
+        }
+    }
+
+    /// Answers a call by its reply.
+    async fn call(&self, request: Request<Body>) -> Answer {
+        let key = match request.headers().get("idempotency-key") {
+            None => None,
+            Some(value) => Some(call_key(value.to_str().unwrap_or("")).map_err(Refusal::from)?),
+        };
+        let body = self.body_of(request).await?;
+        let outcome = self.core.submit(asked(&body, self.core.shards())?, key)?;
+        match outcome.await {
+            Ok(reply) => Ok(answer(200, JSON, reply?)),
+            Err(_) => Err(Fault::Ended("the call was dropped".to_string()).into()),
+        }
+    }
+
+    /// Compacts the log while it is served, with room for so many tasks in its queues. Calls wait meanwhile.
+    async fn compact(&self, request: Request<Body>) -> Answer {
+        let body = self.body_of(request).await?;
+        let outcome = self.core.compact(capacity_of(&body)?)?;
+        let done = outcome.await.unwrap_or(Err(Fault::Draining))?;
+        let text = format!(
+            "{{\"ok\": \"compacted\", \"lines\": {}, \"bytes\": {}, \"records\": {}, \"capacity\": {}}}",
+            done.lines, done.bytes, done.records, done.capacity
+        );
+        Ok(answer(200, JSON, text))
+    }
+
+    /// Whether calls are taken now. A clock that is ahead is told by how many milliseconds.
+    fn ready(&self) -> Response<Body> {
+        let health = self.core.health();
+        let (status, said) = if health.wrong.is_empty() { (200, "ready") } else { (503, health.wrong) };
+        let text = format!(
+            "{{\"status\": \"{said}\", \"lines\": {}, \"bytes\": {}, \"clock_ahead\": {}, \"queue_full\": {}, \
+             \"compacting\": {}}}",
+            health.lines, health.bytes, health.clock_ahead, health.is_queue_full, health.is_compacting
+        );
+        answer(status, JSON, text)
+    }
+
+    /// What changed for the list of workflows, for the page alone.
+    fn feed(&self, request: &Request<Body>) -> Answer {
+        let from =
+            request.uri().query().and_then(|query| query.strip_prefix("from=")).and_then(|from| from.parse().ok());
+        let text = from.and_then(|from| self.core.changes(from));
+        let text = text.ok_or_else(|| Refusal::new(400, "BadCall", "from is a number"))?;
+        let moment = self.core.moment();
+        Ok(answer(200, JSON, format!("{{\"moment\":{moment},{}", &text[1..])))
+    }
+
+    /// The body of a call, which has to come within so many seconds.
+    async fn body_of(&self, request: Request<Body>) -> Result<Bytes, Refusal> {
+        // A page of another site can't send this type without asking first.
+        let kind = request.headers().get(CONTENT_TYPE).and_then(|kind| kind.to_str().ok()).unwrap_or("");
+        let kind = kind.split(';').next().unwrap_or("").trim();
+        if !kind.eq_ignore_ascii_case("application/json") {
+            return Err(Refusal::new(415, "NotJson", "a call is application/json"));
+        }
+        match tokio::time::timeout(self.read_timeout, read_body(request.into_body())).await {
+            Ok(body) => body,
+            Err(_) => {
+                let seconds = self.read_timeout.as_secs_f64();
+                Err(Refusal::new(408, "SlowBody", format!("the body did not come within {seconds} seconds")))
+            }
+        }
+    }
+}
+
+fn not_allowed(method: &'static str) -> Response<Body> {
+    let mut response = refused(&Refusal::new(405, "MethodNotAllowed", "405: Method Not Allowed"));
+    response.headers_mut().insert(ALLOW, HeaderValue::from_static(method));
+    response
+}
+
+/// Reads a body, which may have so many bytes.
+async fn read_body(mut body: Body) -> Result<Bytes, Refusal> {
+    let hung_up = |_| Refusal::new(400, "BadCall", "the client hung up");
+    let first = match body.data().await {
+        Some(first) => first.map_err(hung_up)?,
+        None => return Ok(Bytes::new()),
+    };
+    if body.is_end_stream() && first.len() <= BODY_LIMIT {
+        return Ok(first);
+    }
+    let (mut whole, mut read) = (first.to_vec(), first.len());
+    while let Some(piece) = body.data().await {
+        let piece = piece.map_err(hung_up)?;
+        read += piece.len();
+        if read > DROPPED {
+            break;
+        }
+        if read <= BODY_LIMIT {
+            whole.extend_from_slice(&piece);
+        }
+    }
+    if read > BODY_LIMIT {
+        return Err(Refusal::new(413, "RequestEntityTooLarge", format!("a body has at most {BODY_LIMIT} bytes")));
+    }
+    Ok(whole.into())
+}
+
+/// For how many tasks a request to compact wants room in the queues; 0 where it doesn't say.
+fn capacity_of(body: &[u8]) -> Result<u32, Refusal> {
+    let request: Object<'_> = match Value::of(body) {
+        Ok(Value::Object(request)) => request,
+        _ => return Err(Refusal::new(400, "BadCall", "the body is no JSON object")),
+    };
+    let capacity = request.get("capacity").map_or(Some(0), Value::whole);
+    let capacity = capacity.and_then(|capacity| u32::try_from(capacity).ok()).filter(|it| *it <= MOST_CAPACITY);
+    capacity.ok_or_else(|| Refusal::new(400, "BadCall", format!("capacity is a whole number, at most {MOST_CAPACITY}")))
+}
+
+#[cfg(test)]
+mod tests {
+    use super::*;
+
+    #[test]
+    fn a_capacity_is_a_whole_number() {
+        assert_eq!(capacity_of(b"{}").ok(), Some(0));
+        assert_eq!(capacity_of(br#"{"capacity":65536}"#).ok(), Some(65_536));
+        for body in ["", "[]", r#"{"capacity":true}"#, r#"{"capacity":-1}"#, r#"{"capacity":65537}"#] {
+            assert_eq!(capacity_of(body.as_bytes()).map_err(|refusal| refusal.status).unwrap_err(), 400, "{body}");
+        }
+    }
+
+    #[test]
+    fn a_fault_is_json() {
+        let text = fault_text("BadCall", "the key \"a\"\n");
+        assert_eq!(text, r#"{"error": "BadCall", "said": "the key \"a\"\n"}"#);
+        let busy = refused(&Fault::Busy(String::new()).into());
+        assert_eq!((busy.status().as_u16(), busy.headers().get(RETRY_AFTER).is_some()), (503, true));
+    }
+}

@@ -1,0 +1,253 @@
+//! A program and the log of its lines: how they are opened, and how the program is started again.
+//!
+//! With one pass the program's replies are a proved function of the lines that it was given, so the log is all there
+//! is to keep. Opened on a log that is there, the program is started with the log's own settings and given its lines
+//! again. Who hands in calls from then on writes each line to the log before the program reads it.
+
+use crate::body::for_replay;
+use crate::compaction;
+use crate::fault::Fault;
+use crate::line_log::{LineLog, Lines};
+use crate::log_fault::LogFault;
+use crate::program::Program;
+use crate::say::say;
+use crate::settings::{Named, Settings};
+use std::io::{BufWriter, Write};
+use std::process::{ChildStdin, Command, Stdio};
+use std::thread::JoinHandle;
+
+/// Why a service is not opened, or not opened again.
+#[derive(Clone, Debug)]
+pub enum NotServed {
+    Log(LogFault),
+    Program(Fault),
+}
+
+impl std::fmt::Display for NotServed {
+    fn fmt(&self, out: &mut std::fmt::Formatter<'_>) -> std::fmt::Result {
+        match self {
+            NotServed::Log(fault) => fault.fmt(out),
+            NotServed::Program(fault) => fault.fmt(out),
+        }
+    }
+}
+
+impl From<LogFault> for NotServed {
+    fn from(fault: LogFault) -> NotServed {
+        NotServed::Log(fault)
+    }
+}
+
+impl From<Fault> for NotServed {
+    fn from(fault: Fault) -> NotServed {
+        NotServed::Program(fault)
+    }
+}
+
+/// What a program is started with: its path, the log, the service's settings, and how often the log was compacted.
+#[derive(Clone, Debug)]
+pub struct Origin {
+    pub program: String,
+    pub log: String,
+    pub settings: Settings,
+    pub generation: u64,
+}
+
+impl Origin {
+    /// The program's words.
+    pub fn words(&self) -> Vec<String> {
+        let mut words = vec![self.program.clone()];
+        words.extend(self.settings.options());
+        words.extend(compaction::load_options(&self.log, self.generation));
+        words
+    }
+
+    /// The program, started from the records where the log has some. With more room in its queues where the records
+    /// have more tasks: then the settings have it too.
+    fn start(&mut self) -> Result<Program, NotServed> {
+        if self.generation == 0 {
+            return Ok(Program::start(&self.words(), None)?);
+        }
+        compaction::keep_private(&self.log, self.generation)?;
+        Ok(compaction::open_program(self)?)
+    }
+}
+
+/// Told each line of the log as it is served again: the line and its reply.
+pub trait Observe {
+    fn line(&mut self, line: &[u8], reply: &[u8]);
+}
+
+/// An opened service.
+pub struct Kept {
+    pub origin: Origin,
+    pub log: LineLog,
+    pub program: Program,
+    /// The greatest moment of the records that the log goes on from.
+    pub last_moment: u64,
+}
+
+/// Opens a log, or begins one, and has the program serve its lines again.
+pub fn open<O: Observe>(
+    program: &str,
+    path: &str,
+    named: &Named,
+    observer: impl FnOnce(&Settings) -> O,
+) -> Result<(Kept, O), NotServed> {
+    let mut log = LineLog::open(path)?;
+    let (settings, generation) = settled(program, &mut log, named)?;
+    compaction::remove_leftovers(path, generation)?;
+    let mut origin = Origin { program: program.to_string(), log: path.to_string(), settings, generation };
+    let room = origin.settings.capacity;
+    let mut started = origin.start()?;
+    if origin.settings.capacity != room {
+        take_room(&mut log, &origin, room, &mut started)?;
+    }
+    let last_moment = compaction::last_moment_in(path, generation)?;
+    let mut observer = observer(&origin.settings);
+    replay(&mut started, &mut log.lines()?, log.len().saturating_sub(1), &mut observer)?;
+    let mut kept = Kept { origin, log, program: started, last_moment };
+    kept.grow(named)?;
+    Ok((kept, observer))
+}
+
+/// Has the log say that its queues have more room from now on.
+fn take_room(log: &mut LineLog, origin: &Origin, room: u32, program: &mut Program) -> Result<(), NotServed> {
+    if log.len() > 1 {
+        // With other queues these lines may be answered otherwise than they were.
+        program.kill();
+        let said = "more tasks wait in its records than its queues hold, and it has lines after them";
+        return Err(LogFault::NotOpened(format!("{}: {said}", origin.log)).into());
+    }
+    log.replace(&origin.settings.header(origin.generation))?;
+    tell_growth(&origin.log, room, origin.settings.capacity);
+    Ok(())
+}
+
+/// Says that the queues have more room.
+pub fn tell_growth(log: &str, former: u32, capacity: u32) {
+    say!("{log}: the queues have room for {capacity} tasks from now on, and had for {former}");
+}
+
+/// The log's settings, and how often it was compacted; a new log gets the settings that are wanted.
+fn settled(program: &str, log: &mut LineLog, named: &Named) -> Result<(Settings, u64), NotServed> {
+    let header = log.lines()?.next()?.map(<[u8]>::to_vec);
+    if let Some(header) = header {
+        let (found, generation) = Settings::of_header(&header, &log.path)?;
+        found.check(&found.clone().with(named), &log.path)?;
+        return Ok((found, generation));
+    }
+    let settings = Settings::default().with(named);
+    check(program, &settings)?;
+    log.append([settings.header(0).as_slice()])?;
+    Ok((settings, 0))
+}
+
+/// Has the program serve an empty script: a log can't change the settings that it was begun with.
+fn check(program: &str, settings: &Settings) -> Result<(), LogFault> {
+    let options = settings.options();
+    let ran = Command::new(program).args(&options).stdin(Stdio::null()).stdout(Stdio::null()).status();
+    let status = match ran {
+        Ok(status) if status.success() => return Ok(()),
+        Ok(status) => format!("status {}", status.code().unwrap_or(-1)),
+        Err(fault) => fault.to_string(),
+    };
+    Err(LogFault::Other(format!("the program refuses {}: {status}", options.join(" "))))
+}
+
+/// Gives the program so many lines of the log, and takes its replies.
+fn replay(program: &mut Program, lines: &mut Lines, count: u64, observer: &mut impl Observe) -> Result<(), NotServed> {
+    let mut given = Lines::of(lines.path())?.ok_or_else(|| LogFault::Io("the log is gone".to_string()))?;
+    let mut input = program.take_input();
+    let feeder = std::thread::spawn(move || {
+        // That the program has ended shows where its replies are read.
+        let _ = input.as_mut().map(|input| feed(input, &mut given, count));
+        input
+    });
+    let result = take_replies(program, lines, count, observer);
+    if result.is_err() {
+        program.kill();
+    }
+    program.give_input(joined(feeder));
+    result
+}
+
+fn joined(feeder: JoinHandle<Option<ChildStdin>>) -> Option<ChildStdin> {
+    feeder.join().unwrap_or(None)
+}
+
+/// Writes so many lines of a log to the program.
+fn feed(input: &mut ChildStdin, lines: &mut Lines, count: u64) -> std::io::Result<()> {
+    let mut out = BufWriter::with_capacity(1 << 16, input);
+    let is_there = |lines: &mut Lines| matches!(lines.next(), Ok(Some(_)));
+    if !is_there(lines) {
+        return Ok(());
+    }
+    for _ in 0..count {
+        let line = match lines.next() {
+            Ok(Some(line)) => line,
+            _ => break,
+        };
+        match for_replay(line) {
+            Some(other) => out.write_all(&other)?,
+            None => out.write_all(line)?,
+        }
+        out.write_all(b"\n")?;
+    }
+    out.flush()
+}
+
+fn take_replies(
+    program: &mut Program,
+    lines: &mut Lines,
+    count: u64,
+    observer: &mut impl Observe,
+) -> Result<(), NotServed> {
+    lines.next()?;
+    for number in 1..=count {
+        let line = match lines.next()? {
+            Some(line) => line,
+            None => return Err(LogFault::Io(format!("line {number} of the log is gone")).into()),
+        };
+        match program.output.reply(number) {
+            Some(reply) => observer.line(line, &reply?),
+            None => return Err(program.ended(number).into()),
+        }
+    }
+    Ok(())
+}
+
+/// A program in the place of one that has ended, once it has served so many lines of the log.
+pub fn start_again(origin: &Origin, count: u64) -> Result<Program, NotServed> {
+    let mut origin = origin.clone();
+    let mut program = origin.start()?;
+    let mut lines = Lines::of(&origin.log)?.ok_or_else(|| LogFault::Io(format!("{}: the log is gone", origin.log)))?;
+    replay(&mut program, &mut lines, count, &mut Nobody)?;
+    Ok(program)
+}
+
+/// Looks at nothing.
+struct Nobody;
+
+impl Observe for Nobody {
+    fn line(&mut self, _: &[u8], _: &[u8]) {}
+}
+
+impl Kept {
+    /// Gives the queues the room that is wanted, where that is more than they have.
+    fn grow(&mut self, named: &Named) -> Result<(), NotServed> {
+        let has = self.origin.settings.capacity;
+        let wanted = named.capacity.unwrap_or(has);
+        if wanted < has {
+            say!(
+                "{}: the queues keep their room for {has} tasks: it never falls, so {wanted} is not taken",
+                self.log.path
+            );
+        } else if wanted > has {
+            let program = compaction::compact(&mut self.origin, &mut self.log, wanted)?;
+            std::mem::replace(&mut self.program, program).end();
+            compaction::remove_leftovers(&self.log.path, self.origin.generation)?;
+        }
+        Ok(())
+    }
+}

@@ -1,0 +1,69 @@
+//! Opens a service, and learns from its log what an edge has to know.
+
+use crate::body::facts_of_line;
+use crate::changes::Changes;
+use crate::deadlines::Deadlines;
+use crate::kept::{self, Kept, NotServed, Observe};
+use crate::ledger::Ledger;
+use crate::replies::Replies;
+use crate::reply::Reply;
+use crate::settings::Named;
+
+/// A service that was opened, and all that was learned of its log.
+pub struct Opened {
+    pub kept: Kept,
+    pub observed: Observed,
+}
+
+/// What is learned of the lines of a log, and of their replies.
+pub struct Observed {
+    pub ledger: Ledger,
+    pub deadlines: Deadlines,
+    pub replies: Replies,
+    /// What a page has to be told, where there is one.
+    pub changes: Option<Changes>,
+    pub last_moment: u64,
+}
+
+impl Observed {
+    fn new(shards: u16, has_page: bool) -> Observed {
+        Observed {
+            ledger: Ledger::new(shards),
+            deadlines: Deadlines::default(),
+            replies: Replies::default(),
+            changes: has_page.then(Changes::default),
+            last_moment: 0,
+        }
+    }
+}
+
+impl Observe for Observed {
+    fn line(&mut self, line: &[u8], reply: &[u8]) {
+        let (facts, at) = facts_of_line(line, self.ledger.shards());
+        self.last_moment = self.last_moment.max(at.unwrap_or(0));
+        if facts.op.is_read() {
+            return;
+        }
+        if let Some(said) = Reply::of(reply) {
+            self.ledger.observe(&facts, &said);
+            self.deadlines.observe(&facts, at.unwrap_or(0), &said);
+            self.replies.replayed(facts.op, line, &said, reply);
+            if let Some(changes) = &mut self.changes {
+                changes.observe(&facts, line, at.unwrap_or(0), &said);
+            }
+        }
+    }
+}
+
+impl Opened {
+    /// Opens the service of a log.
+    pub fn of(program: &str, log: &str, named: &Named, has_page: bool) -> Result<Opened, NotServed> {
+        let (kept, observed) = kept::open(program, log, named, |settings| Observed::new(settings.shards, has_page))?;
+        Ok(Opened { kept, observed })
+    }
+
+    /// The last moment that the log and its records have.
+    pub fn last_moment(&self) -> u64 {
+        self.observed.last_moment.max(self.kept.last_moment)
+    }
+}

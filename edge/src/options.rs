@@ -1,0 +1,142 @@
+//! The command line.
+
+use crate::settings::Named;
+use std::time::Duration;
+
+/// The address on which no token is wanted.
+pub const LOCAL: &str = "127.0.0.1";
+
+pub const HELP: &str = "\
+usage: wfedge --program PROGRAM [OPTIONS]
+
+Serves a workflow service to many clients: HTTP, and JSON lines on a Unix socket.
+
+  --program PROGRAM      wfserve
+  --log FILE             the file that keeps the service; without it nothing is kept
+  --host ADDRESS         the address to listen on, 127.0.0.1 by default; another one needs a token
+  --port PORT            the port, 7233 by default; 0 takes a free one
+  --socket PATH          a Unix socket for JSON lines, which its owner alone can use
+  --token-file FILE      a file with the token that every request has to bear
+  --queue-limit N        how many calls may wait, and as many polls; 10,000 by default
+  --read-timeout SECONDS how long a request may take to come, 30 by default
+  --shards N             how many shards a new log's service has, 1 by default
+  --queues NAMES         the names of a new log's task queues, with commas between them, main by default
+  --capacity N           how many tasks wait in a queue at most, 1,024 by default; a log's may grow
+  --retention MS         for how long a new log's service keeps what has closed, for ever by default
+  --page WORD            a word of the command that starts the page, once for each; without it there is none
+";
+
+/// What the command line says.
+#[derive(Debug, PartialEq)]
+pub struct Options {
+    pub program: String,
+    pub log: Option<String>,
+    pub host: String,
+    pub port: u16,
+    pub socket: Option<String>,
+    pub token_file: Option<String>,
+    pub queue_limit: usize,
+    pub read_timeout: Duration,
+    pub named: Named,
+    pub page: Vec<String>,
+}
+
+impl Default for Options {
+    fn default() -> Options {
+        Options {
+            program: String::new(),
+            log: None,
+            host: LOCAL.to_string(),
+            port: 7233,
+            socket: None,
+            token_file: None,
+            queue_limit: 10_000,
+            read_timeout: Duration::from_secs(30),
+            named: Named::default(),
+            page: Vec::new(),
+        }
+    }
+}
+
+impl Options {
+    /// Reads the words of a command line, or says which is wrong.
+    pub fn of(words: impl IntoIterator<Item = String>) -> Result<Options, String> {
+        let (mut options, mut words) = (Options::default(), words.into_iter());
+        while let Some(word) = words.next() {
+            let (name, value) = match word.split_once('=') {
+                Some((name, value)) => (name.to_string(), Some(value.to_string())),
+                None => (word, None),
+            };
+            let value = value.or_else(|| words.next()).ok_or_else(|| format!("{name} takes a value"))?;
+            options.take(&name, value)?;
+        }
+        if options.program.is_empty() {
+            return Err("--program is missing".to_string());
+        }
+        Ok(options)
+    }
+
+    fn take(&mut self, name: &str, value: String) -> Result<(), String> {
+        match name {
+            "--program" => self.program = value,
+            "--log" => self.log = Some(value),
+            "--host" => self.host = value,
+            "--port" => self.port = number(name, &value)?,
+            "--socket" => self.socket = Some(value),
+            "--token-file" => self.token_file = Some(value),
+            "--queue-limit" => self.queue_limit = number(name, &value)?,
+            "--read-timeout" => self.read_timeout = seconds(name, &value)?,
+            "--shards" => self.named.shards = Some(number(name, &value)?),
+            "--queues" => self.named.queues = Some(value.split(',').map(str::to_string).collect()),
+            "--capacity" => self.named.capacity = Some(number(name, &value)?),
+            "--retention" => self.named.retention = Some(number(name, &value)?),
+            "--page" => self.page.push(value),
+            _ => return Err(format!("there is no option {name}: --help lists them")),
+        }
+        Ok(())
+    }
+}
+
+fn number<T: std::str::FromStr>(name: &str, value: &str) -> Result<T, String> {
+    value.parse().map_err(|_| format!("{name} takes a whole number, and not {value}"))
+}
+
+fn seconds(name: &str, value: &str) -> Result<Duration, String> {
+    let seconds: f64 = value.parse().map_err(|_| format!("{name} takes a number, and not {value}"))?;
+    if !(0.001..=86_400.0).contains(&seconds) {
+        return Err(format!("{name} takes from 0.001 to 86400 seconds"));
+    }
+    Ok(Duration::from_secs_f64(seconds))
+}
+
+#[cfg(test)]
+mod tests {
+    use super::*;
+
+    fn options(text: &str) -> Result<Options, String> {
+        Options::of(text.split_whitespace().map(str::to_string))
+    }
+
+    #[test]
+    fn options_are_read() {
+        let found =
+            options("--program p --log=a.log --port 0 --shards 3 --queues a,b --page python3 --page x.py").unwrap();
+        assert_eq!((found.program.as_str(), found.log.as_deref(), found.port), ("p", Some("a.log"), 0));
+        assert_eq!((found.named.shards, found.named.queues), (Some(3), Some(vec!["a".into(), "b".into()])));
+        assert_eq!(found.page, ["python3", "x.py"]);
+        assert_eq!(options("--program p").unwrap(), Options { program: "p".into(), ..Options::default() });
+    }
+
+    #[test]
+    fn what_is_wrong_is_named() {
+        for (text, said) in [
+            ("", "--program is missing"),
+            ("--program", "--program takes a value"),
+            ("--program p --port 65536", "--port takes a whole number"),
+            ("--program p --read-timeout 0", "--read-timeout takes from"),
+            ("--program p --nothing 3", "there is no option --nothing"),
+        ] {
+            assert!(options(text).unwrap_err().contains(said), "{text}");
+        }
+    }
+}

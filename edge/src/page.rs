@@ -1,0 +1,72 @@
+//! The page: a process of its own, in Python, which the edge starts, hands its requests on to, and starts again.
+//!
+//! It listens on a private socket, and asks the edge on another one. What it shows it learns from `GET /feed`, so a
+//! slow page holds nobody up. It ends with its input, which the edge holds.
+
+use crate::say::say;
+use hyper::client::conn;
+use hyper::{Body, Request, Response};
+use std::process::Stdio;
+use std::sync::Arc;
+use std::time::{Duration, Instant};
+use tokio::net::UnixStream;
+use tokio::process::Command;
+
+/// So long a request waits for a page that was just started.
+const MOST_WAIT: Duration = Duration::from_secs(10);
+const PAUSE: Duration = Duration::from_millis(20);
+/// So long after its end a page is started again.
+const REST: Duration = Duration::from_secs(1);
+
+/// A page's process, by its command and the socket on which it answers.
+pub struct Page {
+    words: Vec<String>,
+    socket: String,
+}
+
+impl Page {
+    /// A page that listens on `socket`, and asks the edge on `edge` by HTTP and on `lines` by lines.
+    pub fn new(command: &[String], socket: String, edge: &str, lines: &str) -> Page {
+        let mut words = command.to_vec();
+        words.extend([socket.clone(), edge.to_string(), lines.to_string()]);
+        Page { words, socket }
+    }
+
+    /// Keeps the process running, until this is dropped: that ends it.
+    pub async fn run(self: Arc<Page>) {
+        loop {
+            let _ = std::fs::remove_file(&self.socket);
+            let mut command = Command::new(&self.words[0]);
+            command.args(&self.words[1..]).stdin(Stdio::piped()).stdout(Stdio::null()).kill_on_drop(true);
+            match command.spawn() {
+                Ok(mut child) => {
+                    let input = child.stdin.take();
+                    let status = child.wait().await;
+                    drop(input);
+                    let said = status.map_or_else(|fault| fault.to_string(), |status| status.to_string());
+                    say!("the page ended ({said}), and is started again");
+                }
+                Err(fault) => say!("the page: {}: {fault}", self.words[0]),
+            }
+            tokio::time::sleep(REST).await;
+        }
+    }
+
+    /// Has the page answer a request.
+    pub async fn answer(&self, request: Request<Body>) -> Result<Response<Body>, String> {
+        let socket = self.connected().await.map_err(|fault| format!("the page is not there: {fault}"))?;
+        let (mut sender, connection) = conn::handshake(socket).await.map_err(|fault| format!("the page: {fault}"))?;
+        tokio::spawn(connection);
+        sender.send_request(request).await.map_err(|fault| format!("the page: {fault}"))
+    }
+
+    async fn connected(&self) -> std::io::Result<UnixStream> {
+        let late = Instant::now() + MOST_WAIT;
+        loop {
+            match UnixStream::connect(&self.socket).await {
+                Err(_) if Instant::now() < late => tokio::time::sleep(PAUSE).await,
+                result => return result,
+            }
+        }
+    }
+}

@@ -1,0 +1,145 @@
+//! Replies that can be had again: the last ones of calls that bore a key.
+//!
+//! A client whose connection was lost makes its call again with the key that it had, and is given the reply of the
+//! call that it made. The key stands in the line of the log, so an edge that opens the log knows these replies too.
+
+use crate::body::keyed_begin;
+use crate::fault::Fault;
+use crate::operations::Op;
+use crate::reply::Reply;
+use hyper::body::Bytes;
+use std::collections::hash_map::DefaultHasher;
+use std::collections::{HashMap, VecDeque};
+use std::hash::Hasher;
+use std::sync::Arc;
+
+const MOST_REPLIES: usize = 100_000;
+const MOST_BYTES: usize = 128 << 20;
+
+/// What two calls with one key have to have in common.
+#[derive(Clone, Copy, Debug, PartialEq, Eq)]
+pub struct Mark(u64);
+
+/// The mark of a line's beginning.
+pub fn mark_of(begin: &[u8]) -> Mark {
+    let mut hasher = DefaultHasher::new();
+    hasher.write(begin);
+    Mark(hasher.finish())
+}
+
+struct Kept {
+    mark: Mark,
+    reply: Bytes,
+    /// Which of the replies by this key it is: an older one is not there any more.
+    number: u64,
+}
+
+/// The last replies by their keys, at most so many and of so many bytes together.
+pub struct Replies {
+    most: usize,
+    most_bytes: usize,
+    bytes: usize,
+    added: u64,
+    found: HashMap<Arc<str>, Kept>,
+    order: VecDeque<(u64, Arc<str>)>,
+}
+
+impl Default for Replies {
+    fn default() -> Replies {
+        Replies::of(MOST_REPLIES, MOST_BYTES)
+    }
+}
+
+impl Replies {
+    fn of(most: usize, most_bytes: usize) -> Replies {
+        Replies { most, most_bytes, bytes: 0, added: 0, found: HashMap::new(), order: VecDeque::new() }
+    }
+
+    /// The reply to the call of this key. KeyReused where that was another call.
+    pub fn get(&self, key: &str, mark: Mark) -> Result<Option<Bytes>, Fault> {
+        match self.found.get(key) {
+            None => Ok(None),
+            Some(kept) if kept.mark == mark => Ok(Some(kept.reply.clone())),
+            Some(_) => Err(Fault::KeyReused(format!("another call was made with the key {key}"))),
+        }
+    }
+
+    /// Keeps a reply in the place of the oldest ones.
+    pub fn add(&mut self, key: &str, mark: Mark, reply: Bytes) {
+        self.added += 1;
+        let key: Arc<str> = key.into();
+        self.bytes += reply.len();
+        let kept = Kept { mark, reply, number: self.added };
+        if let Some(former) = self.found.insert(key.clone(), kept) {
+            self.bytes -= former.reply.len();
+        }
+        self.order.push_back((self.added, key));
+        while self.found.len() > self.most || self.bytes > self.most_bytes || self.order.len() > 2 * self.most {
+            self.drop_oldest();
+        }
+    }
+
+    fn drop_oldest(&mut self) {
+        if let Some((number, key)) = self.order.pop_front() {
+            if self.found.get(&key).map_or(false, |kept| kept.number == number) {
+                self.bytes -= self.found.remove(&key).map_or(0, |kept| kept.reply.len());
+            }
+        }
+    }
+
+    /// Takes a line of a log that is opened, and its reply.
+    pub fn replayed(&mut self, op: Op, line: &[u8], said: &Reply<'_>, reply: &[u8]) {
+        // A poll that took nothing is made anew.
+        if op.is_poll() && !said.is("task") {
+            return;
+        }
+        if let Some((begin, key)) = keyed_begin(line) {
+            self.add(key, mark_of(begin), Bytes::copy_from_slice(reply));
+        }
+    }
+}
+
+#[cfg(test)]
+mod tests {
+    use super::*;
+
+    fn reply(text: &'static str) -> Bytes {
+        Bytes::from_static(text.as_bytes())
+    }
+
+    #[test]
+    fn the_last_replies_are_kept() {
+        let mut replies = Replies::of(2, 100);
+        for (key, text) in [("a", "1"), ("b", "2"), ("a", "3"), ("c", "4")] {
+            replies.add(key, mark_of(b"call"), reply(text));
+        }
+        assert_eq!(replies.get("a", mark_of(b"call")), Ok(Some(reply("3"))));
+        assert_eq!(replies.get("b", mark_of(b"call")), Ok(None));
+        assert!(matches!(replies.get("c", mark_of(b"other")), Err(Fault::KeyReused(_))));
+        assert_eq!(replies.bytes, 2);
+    }
+
+    #[test]
+    fn they_have_so_many_bytes_together() {
+        let mut replies = Replies::of(100, 10);
+        for number in 0..50 {
+            replies.add(&format!("{number}"), mark_of(b""), reply("four"));
+        }
+        assert_eq!((replies.found.len(), replies.bytes), (2, 8));
+        for _ in 0..1_000 {
+            replies.add("one", mark_of(b""), reply("four"));
+        }
+        assert!(replies.order.len() <= 200 && replies.found.len() == 1);
+    }
+
+    #[test]
+    fn a_logs_lines_tell_them() {
+        let mut replies = Replies::default();
+        let task = Reply::of(br#"{"ok":"task"}"#).unwrap();
+        let empty = Reply::of(br#"{"ok":"empty"}"#).unwrap();
+        replies.replayed(Op::PollActivityTask, br#"{"op":"p","call":"k","at":7}"#, &task, b"the task");
+        replies.replayed(Op::PollActivityTask, br#"{"op":"p","call":"l","at":7}"#, &empty, b"nothing");
+        assert_eq!(replies.get("k", mark_of(br#"{"op":"p""#)), Ok(Some(reply("the task"))));
+        assert_eq!(replies.get("l", mark_of(br#"{"op":"p""#)), Ok(None));
+    }
+}

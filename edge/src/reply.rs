@@ -1,0 +1,78 @@
+//! What the edge has to know of a reply of the program.
+
+use serde::Deserialize;
+use std::borrow::Cow;
+
+/// A reply's members, as far as the edge looks at them.
+#[derive(Debug, Default, Deserialize)]
+pub struct Reply<'a> {
+    #[serde(borrow, default)]
+    pub ok: Option<Cow<'a, str>>,
+    #[serde(borrow, default)]
+    pub error: Option<Cow<'a, str>>,
+    /// Of a timer that fired its class; of another reply the moment at which something is due.
+    #[serde(borrow, default)]
+    pub class: Option<Cow<'a, str>>,
+    #[serde(default)]
+    pub ready: Option<u64>,
+    #[serde(borrow, default)]
+    pub run: Option<Cow<'a, str>>,
+}
+
+impl<'a> Reply<'a> {
+    /// Reads a reply's text; None where it is no object.
+    pub fn of(text: &'a [u8]) -> Option<Reply<'a>> {
+        serde_json::from_slice(text).ok()
+    }
+
+    /// Whether it says so.
+    pub fn is(&self, ok: &str) -> bool {
+        self.ok.as_deref() == Some(ok)
+    }
+}
+
+const LINE: &[u8] = b"\"line\":";
+
+/// Where a reply has the number of its line. A text has its quotes escaped, so only a key looks so; and no event has
+/// such a key.
+fn line_in(text: &[u8]) -> Option<(usize, usize)> {
+    let found = text.windows(LINE.len()).position(|window| window == LINE)? + LINE.len();
+    let begin = found + usize::from(text.get(found) == Some(&b' '));
+    let digits = text[begin..].iter().take_while(|byte| byte.is_ascii_digit()).count();
+    (digits > 0).then(|| (begin, begin + digits))
+}
+
+/// A reply's text with its line's number in the log, in the place of the number that the program gave it. None where
+/// the program gave another number than was expected.
+pub fn numbered(text: &[u8], expected: u64, line: u64) -> Option<Vec<u8>> {
+    let (begin, end) = line_in(text)?;
+    let given: u64 = std::str::from_utf8(&text[begin..end]).ok()?.parse().ok()?;
+    if given != expected {
+        return None;
+    }
+    if line == expected {
+        return Some(text.to_vec());
+    }
+    let number = line.to_string();
+    Some([&text[..begin], number.as_bytes(), &text[end..]].concat())
+}
+
+#[cfg(test)]
+mod tests {
+    use super::*;
+
+    #[test]
+    fn a_reply_gets_its_lines_number_in_the_log() {
+        assert_eq!(numbered(br#"{"line":7,"ok":"none"}"#, 7, 12).unwrap(), br#"{"line":12,"ok":"none"}"#);
+        assert_eq!(numbered(br#"{"line": 7, "ok": "none"}"#, 7, 7).unwrap(), br#"{"line": 7, "ok": "none"}"#);
+        assert_eq!(numbered(br#"{"line":8,"ok":"none"}"#, 7, 12), None);
+        assert_eq!(numbered(br#"{"ok":"\"line\":7"}"#, 7, 12), None);
+    }
+
+    #[test]
+    fn a_reply_is_read_with_and_without_spaces() {
+        let reply = Reply::of(br#"{"class": "run_timeout", "line": 3, "ok": "fired", "events": [{"a": 1}]}"#).unwrap();
+        assert!(reply.is("fired") && reply.class.as_deref() == Some("run_timeout") && reply.error.is_none());
+        assert!(Reply::of(b"[1]").is_none() && Reply::of(b"{").is_none());
+    }
+}

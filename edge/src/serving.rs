@@ -1,0 +1,170 @@
+//! Opens a service, serves it until a signal says to stop, and ends it.
+
+use crate::core::{Core, Threads};
+use crate::guard::Guard;
+use crate::http::Front;
+use crate::lines;
+use crate::listen::{self, Connections};
+use crate::moments::{MachineClocks, Moments};
+use crate::opening::Opened;
+use crate::options::{Options, LOCAL};
+use crate::page::Page;
+use crate::say::say;
+use crate::system;
+use std::fs;
+use std::io::Write;
+use std::os::unix::fs::DirBuilderExt;
+use std::path::PathBuf;
+use std::sync::Arc;
+use std::time::Duration;
+use tokio::net::TcpListener;
+use tokio::runtime::Builder;
+use tokio::signal::unix::{signal, SignalKind};
+use tokio::task::JoinHandle;
+
+const SHORTEST_TOKEN: usize = 16;
+/// How long the calls on their way may take once the edge is told to stop.
+const DRAIN: Duration = Duration::from_secs(10);
+/// How long the program may take to end then. It frees all that it has.
+const ENDING: Duration = Duration::from_secs(10);
+/// And how long their answers may take to be written.
+const SHUTDOWN: Duration = Duration::from_secs(2);
+
+/// A folder of this process, which goes with it.
+struct Folder(PathBuf);
+
+impl Folder {
+    fn new() -> Result<Folder, String> {
+        let folder = std::env::temp_dir().join(format!("wfedge-{}-{}", std::process::id(), system::drawn()));
+        let made = fs::DirBuilder::new().mode(0o700).create(&folder);
+        made.map_err(|fault| format!("{}: {fault}", folder.display()))?;
+        Ok(Folder(folder))
+    }
+
+    fn path(&self, name: &str) -> String {
+        self.0.join(name).to_string_lossy().into_owned()
+    }
+}
+
+impl Drop for Folder {
+    fn drop(&mut self) {
+        let _ = fs::remove_dir_all(&self.0);
+    }
+}
+
+/// Serves until it is told to stop; says why where that was not why it ended.
+pub fn run(options: Options) -> Result<(), String> {
+    system::outlive_file_limits();
+    system::raise_open_files();
+    let guard = guard_of(&options)?;
+    let folder = Folder::new()?;
+    let log = options.log.clone().unwrap_or_else(|| folder.path("log"));
+    let opened = Opened::of(&options.program, &log, &options.named, !options.page.is_empty());
+    let opened = opened.map_err(|fault| fault.to_string())?;
+    let moments = Moments::new(opened.last_moment(), Box::new(MachineClocks::new()));
+    // Sockets are one thread's: a second one gives nothing beside the program, the log and the clients.
+    let runtime =
+        Builder::new_multi_thread().worker_threads(1).enable_all().build().map_err(|fault| fault.to_string())?;
+    let (core, threads) = Core::start(opened, moments, options.queue_limit).map_err(|fault| fault.to_string())?;
+    let result = runtime.block_on(serve(&options, guard, core.clone(), &folder));
+    finish(&core, threads);
+    result
+}
+
+/// Ends the program and the threads.
+fn finish(core: &Core, threads: Threads) {
+    core.close();
+    if !threads.join(ENDING) {
+        say!("the program did not end with its input, and is killed: the log has all");
+        core.kill_program();
+        threads.join(SHUTDOWN);
+    }
+}
+
+/// Refuses other addresses without a token.
+fn guard_of(options: &Options) -> Result<Guard, String> {
+    let token = match &options.token_file {
+        None => None,
+        Some(path) => {
+            let text = fs::read_to_string(path).map_err(|fault| format!("{path}: {fault}"))?;
+            let token = text.trim().to_string();
+            if token.chars().count() < SHORTEST_TOKEN {
+                return Err(format!("the token of {path} has less than {SHORTEST_TOKEN} characters"));
+            }
+            Some(token)
+        }
+    };
+    let is_local = options.host == LOCAL;
+    if !is_local && token.is_none() {
+        return Err(format!("--host {} needs a --token-file", options.host));
+    }
+    let names = || vec![LOCAL.to_string(), "localhost".to_string()];
+    Ok(Guard::new(token, is_local.then(names)))
+}
+
+async fn serve(options: &Options, guard: Guard, core: Arc<Core>, folder: &Folder) -> Result<(), String> {
+    let text = |fault: std::io::Error| fault.to_string();
+    let connections = Connections::new();
+    let mut tasks = Vec::new();
+    let page = match options.page.is_empty() {
+        true => None,
+        false => Some(serve_page(options, &core, folder, &connections, &mut tasks).map_err(text)?),
+    };
+    let front = front_of(options, guard, core.clone(), page);
+    let address = (options.host.as_str(), options.port);
+    let listener = TcpListener::bind(address).await.map_err(|fault| format!("{}:{}: {fault}", address.0, address.1))?;
+    let port = listener.local_addr().map_err(text)?.port();
+    tasks.push(tokio::spawn(listen::serve_tcp(listener, front, connections.clone())));
+    if let Some(path) = &options.socket {
+        let listener = lines::bind(path).map_err(|fault| format!("{path}: {fault}"))?;
+        tasks.push(tokio::spawn(lines::serve(listener, core.clone(), connections.clone())));
+    }
+    let result = wait(&core, &options.host, port).await;
+    for task in &tasks {
+        task.abort();
+    }
+    connections.stop(SHUTDOWN).await;
+    if let Some(path) = &options.socket {
+        let _ = fs::remove_file(path);
+    }
+    result
+}
+
+/// Starts the page, and serves what it asks on private sockets.
+fn serve_page(
+    options: &Options,
+    core: &Arc<Core>,
+    folder: &Folder,
+    connections: &Arc<Connections>,
+    tasks: &mut Vec<JoinHandle<()>>,
+) -> std::io::Result<Arc<Page>> {
+    let (edge, asked) = (folder.path("edge"), folder.path("lines"));
+    let page = Arc::new(Page::new(&options.page, folder.path("page"), &edge, &asked));
+    let front = front_of(options, Guard::default(), core.clone(), None);
+    tasks.push(tokio::spawn(listen::serve_private(lines::bind(&edge)?, front, connections.clone())));
+    tasks.push(tokio::spawn(lines::serve(lines::bind(&asked)?, core.clone(), connections.clone())));
+    tasks.push(tokio::spawn(page.clone().run()));
+    Ok(page)
+}
+
+fn front_of(options: &Options, guard: Guard, core: Arc<Core>, page: Option<Arc<Page>>) -> Arc<Front> {
+    let is_private = page.is_none() && !options.page.is_empty();
+    Arc::new(Front { core, guard, page, is_private, read_timeout: options.read_timeout })
+}
+
+/// Says where it serves, and waits until it is told to stop or nothing is served any more.
+async fn wait(core: &Core, host: &str, port: u16) -> Result<(), String> {
+    let text = |fault: std::io::Error| fault.to_string();
+    let mut terminate = signal(SignalKind::terminate()).map_err(text)?;
+    let mut interrupt = signal(SignalKind::interrupt()).map_err(text)?;
+    let shown = if host.contains(':') { format!("[{host}]") } else { host.to_string() };
+    let mut out = std::io::stdout();
+    writeln!(out, "serving http://{shown}:{port}/").and_then(|()| out.flush()).map_err(text)?;
+    tokio::select! {
+        fault = core.ended() => return Err(fault.to_string()),
+        _ = terminate.recv() => {}
+        _ = interrupt.recv() => {}
+    }
+    core.drain(DRAIN).await;
+    Ok(())
+}

@@ -1,0 +1,69 @@
+//! What the standard library of Rust 1.63 doesn't have: a lock on a file, the size of a pipe, a private socket.
+#![allow(unsafe_code)]
+
+use std::fs::File;
+use std::io;
+use std::os::unix::io::AsRawFd;
+
+/// A number that nobody else draws, for the name of a folder.
+pub fn drawn() -> u64 {
+    use std::collections::hash_map::RandomState;
+    use std::hash::{BuildHasher, Hasher};
+    RandomState::new().build_hasher().finish()
+}
+
+/// Takes a file for this process alone. False where another one has it.
+pub fn lock(file: &File) -> io::Result<bool> {
+    // SAFETY: the file is open while it is borrowed, and the call has no other condition.
+    let result = unsafe { libc::flock(file.as_raw_fd(), libc::LOCK_EX | libc::LOCK_NB) };
+    if result == 0 {
+        return Ok(true);
+    }
+    let fault = io::Error::last_os_error();
+    if fault.raw_os_error() == Some(libc::EWOULDBLOCK) {
+        return Ok(false);
+    }
+    Err(fault)
+}
+
+/// Has a pipe hold so many bytes. A user may have only so many in pipes: then it keeps what it has.
+pub fn widen_pipe(pipe: &impl AsRawFd, bytes: i32) {
+    // SAFETY: the pipe is open while it is borrowed, and its size is all that is changed.
+    let _ = unsafe { libc::fcntl(pipe.as_raw_fd(), libc::F_SETPIPE_SZ, bytes) };
+}
+
+/// Has a write beyond a limit on the sizes of files fail, as on a full disk, in the place of ending the process.
+pub fn outlive_file_limits() {
+    // SAFETY: no handler of ours is run: the signal is ignored.
+    unsafe { libc::signal(libc::SIGXFSZ, libc::SIG_IGN) };
+}
+
+/// Has this process open as many files as it may: each connection is one.
+pub fn raise_open_files() {
+    let mut limit = libc::rlimit { rlim_cur: 0, rlim_max: 0 };
+    // SAFETY: the limit lies here while it is read and written.
+    unsafe {
+        if libc::getrlimit(libc::RLIMIT_NOFILE, &mut limit) == 0 {
+            limit.rlim_cur = limit.rlim_max;
+            libc::setrlimit(libc::RLIMIT_NOFILE, &limit);
+        }
+    }
+}
+
+/// Kills a child of this process, which nobody has waited for: so its number is no other's.
+pub fn kill(child: u32) {
+    // SAFETY: a signal is all that is sent.
+    unsafe { libc::kill(child as libc::pid_t, libc::SIGKILL) };
+}
+
+/// Runs `make` while files and sockets that are made can be read and written by their owner alone.
+///
+/// The mask is the whole process's: no other thread may make files meanwhile that others should read.
+pub fn privately<T>(make: impl FnOnce() -> T) -> T {
+    // SAFETY: umask takes any mask, and cannot fail.
+    let former = unsafe { libc::umask(0o177) };
+    let made = make();
+    // SAFETY: as above.
+    unsafe { libc::umask(former) };
+    made
+}

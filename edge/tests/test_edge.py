@@ -1,0 +1,198 @@
+"""What the compiled edge refuses by name, its page as a process beside it, and how it stops."""
+
+import json
+import os
+import pathlib
+import signal
+import socket
+import subprocess
+import time
+import unittest
+
+from the_edge import WFEDGE, needs_edge, program_of
+
+from support.programs import BUILT, needs_program
+from test_server import TOKEN, WithAServer
+
+CALL = b'{"op":"signal","name":"a"}'
+
+
+def answer_to(server, data):
+    """The status and the text of the answer to bytes, on a connection of its own."""
+    with socket.create_connection((server.host, server.port), timeout=20) as connection:
+        connection.sendall(data)
+        text = b""
+        try:
+            while (piece := connection.recv(1 << 16)):
+                text += piece
+        except ConnectionResetError:
+            # What it was sent beyond its answer was not read.
+            pass
+    head, _, body = text.partition(b"\r\n\r\n")
+    return int(head.split()[1]) if head else 0, body.decode()
+
+
+def posted(body, *headers, path="/calls", length=None):
+    """A request with these headers."""
+    lines = [f"POST {path} HTTP/1.1", "Connection: close", f"Content-Length: {len(body) if length is None else length}", *headers]
+    return "\r\n".join(lines).encode() + b"\r\n\r\n" + body
+
+
+@needs_edge
+class Refused(WithAServer):
+    HOST, JSON = "Host: 127.0.0.1", "Content-Type: application/json"
+
+    def test_what_a_page_of_another_site_could_send_is_refused_by_name(self):
+        server = self.serve(program=self.double())
+        for headers, status, name in (
+            ((self.HOST, self.JSON), 200, "signaled"),
+            ((self.HOST, "Content-Type: text/plain"), 415, "NotJson"),
+            ((self.HOST, "Content-Type: application/x-www-form-urlencoded"), 415, "NotJson"),
+            ((self.HOST,), 415, "NotJson"),
+            (("Host: evil.test", self.JSON), 403, "WrongHost"),
+            ((self.JSON,), 403, "WrongHost"),
+            ((self.HOST, "Host: evil.test", self.JSON), 403, "WrongHost"),
+        ):
+            self.assertEqual((status, name in (text := answer_to(server, posted(CALL, *headers))[1])), (status, True), text)
+        status, text = answer_to(server, posted(CALL, self.HOST, self.JSON, path="http://evil.test/calls"))
+        self.assertEqual((status, json.loads(text)["error"]), (403, "WrongHost"))
+
+    def test_bodies_that_two_readers_could_take_in_two_ways_are_refused(self):
+        server = self.serve(program=self.double())
+        deep = "[" * 22 + "]" * 22
+        for body, said in (
+            ('{"op":"signal","name":"a","name":"b"}', "comes twice"),
+            ('{"op":"signal","name":"a","n\\u0061me":"b"}', "comes twice"),
+            ('{"op":"complete_workflow_task","commands":[{"type":"a","type":"b"}]}', "comes twice"),
+            (f'{{"op":"signal","input":{deep}}}', "20 deep"),
+            ('{"op":"signal","input":NaN}', "no JSON"),
+            ('{"op":"signal"}{"op":"signal"}', "no JSON"),
+            ('[{"op":"signal"}]', "no object"),
+        ):
+            status, _, text = server.asked("POST", "/calls", body.encode())
+            self.assertEqual((status, json.loads(text)["error"], said in text), (400, "BadCall", True), text)
+        self.assertNotIn(b'"signal"', self.log.read_bytes())
+
+    def test_heads_that_are_too_long_or_no_http_are_refused(self):
+        server = self.serve(program=self.double())
+        long = posted(CALL, self.HOST, self.JSON, "X: " + "x" * 60_000)
+        self.assertEqual(answer_to(server, long)[0], 431)
+        for data in (b"PRI * HTTP/2.0\r\n\r\nSM\r\n\r\n", b"\x16\x03\x01\x00\r\n\r\n", b"GET / HTTP/9.9\r\n\r\n"):
+            self.assertIn(answer_to(server, data)[0], (0, 400), data)
+        self.assertEqual(server.asked("POST", "/calls", CALL)[0], 200)
+
+    def test_what_the_page_asks_nobody_else_may(self):
+        server = self.serve(program=self.double())
+        for path in ("/feed?from=0", "/records"):
+            self.assertEqual(server.asked("GET", path)[0], 404, path)
+
+    def test_a_token_is_wanted_of_the_page_too(self):
+        server = self.serve("--host", "0.0.0.0", "--token-file", self.token_file(), program=self.double())
+        self.assertEqual(server.asked("GET", "/api/workflows")[0], 401)
+        bearer = {"Authorization": f"Bearer {TOKEN}"}
+        self.assertEqual(server.asked("GET", "/api/workflows", headers=bearer)[0], 200)
+
+    def test_options_that_are_wrong_are_named(self):
+        for words, said in (
+            (["--port", "x", "--program", "p"], "--port takes a whole number"),
+            (["--nothing", "x"], "there is no option --nothing"), ([], "--program is missing"),
+            (["--program", str(self.folder / "none"), "--port", "0"], "the program refuses --shards 1"),
+        ):
+            ran = subprocess.run([str(WFEDGE), *words], capture_output=True, text=True, timeout=20)
+            self.assertEqual((ran.returncode, ran.stdout), (2, ""))
+            self.assertIn(said, ran.stderr)
+
+
+def children_of(pid):
+    found = []
+    for children in pathlib.Path(f"/proc/{pid}/task").glob("*/children"):
+        found += [int(child) for child in children.read_text(encoding="utf-8").split()]
+    return found
+
+
+def page_of(pid):
+    """The page of an edge, once it is there."""
+    late = time.monotonic() + 20
+    while time.monotonic() < late:
+        for child in children_of(pid):
+            if b"page.py" in pathlib.Path(f"/proc/{child}/cmdline").read_bytes():
+                return child
+        time.sleep(0.05)
+    raise AssertionError("there is no page")
+
+
+@needs_edge
+@needs_program
+class PageProcess(WithAServer):
+    def rows(self, server):
+        return [row["workflow_id"] for row in server.read("/api/workflows")["workflows"]]
+
+    def test_a_page_that_ends_is_started_again_and_knows_all(self):
+        server = self.serve("--shards", "2")
+        client = server.client()
+        for number in range(3):
+            client.start(f"before-{number}", "T")
+        server.asked("POST", "/compact", b"{}")
+        server.kill()
+        server.start()
+        client.start("after", "T", request_id="after")
+        self.assertEqual(sorted(self.rows(server)), ["after", "before-0", "before-1", "before-2"])
+        former = page_of(server.process.pid)
+        os.kill(former, signal.SIGKILL)
+        client.signal("after", "s", request_id="s")
+        time.sleep(0.2)
+        self.assertEqual(sorted(self.rows(server)), ["after", "before-0", "before-1", "before-2"])
+        self.assertNotEqual(page_of(server.process.pid), former)
+        self.assertIn("the page ended", server.said.read_text())
+
+    def test_what_changed_is_shown_at_once(self):
+        server = self.serve()
+        client = server.client()
+        for number in range(20):
+            client.start("w", "T", request_id=f"{number}")
+            found = server.read("/api/workflows")["workflows"]
+            self.assertEqual((len(found), found[0]["status"]), (number + 1, "Running"))
+            client.terminate("w")
+            self.assertEqual(server.read("/api/workflows")["workflows"][0]["status"], "Terminated")
+
+    def test_it_ends_with_the_edge(self):
+        for end in ("kill", "stop"):
+            server = self.serve()
+            page = page_of(server.process.pid)
+            getattr(server, end)()
+            late = time.monotonic() + 10
+            while pathlib.Path(f"/proc/{page}").exists() and time.monotonic() < late:
+                time.sleep(0.05)
+            self.assertFalse(pathlib.Path(f"/proc/{page}").exists(), end)
+
+    def test_an_edge_without_a_page_serves_calls(self):
+        words = [str(WFEDGE), "--program", str(BUILT), "--log", str(self.log), "--port", "0"]
+        process = subprocess.Popen(words, stdout=subprocess.PIPE, text=True)
+        self.addCleanup(process.stdout.close)
+        self.addCleanup(process.wait)
+        self.addCleanup(process.terminate)
+        port = int(process.stdout.readline().rstrip("/\n").rpartition(":")[2])
+        with socket.create_connection(("127.0.0.1", port), timeout=20) as connection:
+            connection.sendall(b"GET / HTTP/1.1\r\nHost: localhost\r\nConnection: close\r\n\r\n")
+            self.assertTrue(connection.recv(100).startswith(b"HTTP/1.1 404"))
+
+
+@needs_edge
+@needs_program
+class Stopped(WithAServer):
+    def test_a_program_that_hangs_is_killed_where_the_edge_is_told_to_stop(self):
+        server = self.serve()
+        server.client().start("w", "T")
+        program = program_of(server.process.pid)
+        os.kill(program, signal.SIGSTOP)
+        begun = time.monotonic()
+        self.assertEqual(server.stop(), 0)
+        self.assertLess(time.monotonic() - begun, 20)
+        self.assertFalse(pathlib.Path(f"/proc/{program}").exists())
+        self.assertIn("did not end with its input", server.said.read_text())
+        server.start()
+        self.assertEqual(server.client().describe("w")["status"], "Running")
+
+
+if __name__ == "__main__":
+    unittest.main()

@@ -1,0 +1,224 @@
+"""The log of an edge that is killed under load, given to a program by hand, gives the replies that clients had.
+
+WFSERVE_SEED draws other points, and WFEDGE_KILLS more of them.
+"""
+
+import http.client
+import json
+import os
+import pathlib
+import random
+import resource
+import signal
+import socket
+import sys
+import threading
+import time
+import unittest
+from concurrent.futures import ThreadPoolExecutor
+
+from the_edge import needs_edge, program_of
+
+from by_hand import left_undone, lines_of, replies_of, sweep_of
+from support.programs import BUILT, needs_program
+from wfserve.durable.log import LineLog
+from wfserve.durable.service import DurableService
+from test_server import WithAServer
+
+SEED = int(os.environ.get("WFSERVE_SEED", random.randrange(1 << 32)))
+KILLS = int(os.environ.get("WFEDGE_KILLS", 15))
+CLIENTS, SHARDS = 8, 4
+HOUR = 3_600_000
+
+
+class ByLines:
+    """Asks by lines, and connects again where the edge is away. A call that was not answered is made again."""
+
+    def __init__(self, path):
+        self._path, self._replies = path, None
+
+    def ask(self, body, key):
+        if self._replies is None:
+            self._connect()
+        self._socket.sendall(json.dumps({**body, "call": key}).encode() + b"\n")
+        text = self._replies.readline()
+        if not text.endswith(b"\n"):
+            raise OSError("the edge hung up")
+        return None if b'"status":' in text and "status" in json.loads(text) else text[:-1]
+
+    def _connect(self):
+        self._socket = socket.socket(socket.AF_UNIX)
+        self._socket.settimeout(20)
+        try:
+            self._socket.connect(self._path)
+        except OSError:
+            self._socket.close()
+            raise
+        self._replies = self._socket.makefile("rb")
+
+    def close(self):
+        if self._replies is not None:
+            self._replies.close()
+            self._socket.close()
+        self._replies = None
+
+
+class ByHttp:
+    """The same by HTTP."""
+
+    def __init__(self, server):
+        self._server, self._connection = server, None
+
+    def ask(self, body, key):
+        if self._connection is None:
+            self._connection = http.client.HTTPConnection(self._server.host, self._server.port, timeout=20)
+        headers = {"Content-Type": "application/json", "Idempotency-Key": key}
+        self._connection.request("POST", "/calls", json.dumps(body), headers)
+        answer = self._connection.getresponse()
+        text = answer.read()
+        if answer.status not in (200, 500, 503, 507):
+            raise AssertionError(f"{answer.status}: {text}")
+        return text if answer.status == 200 else None
+
+    def close(self):
+        if self._connection is not None:
+            self._connection.close()
+        self._connection = None
+
+
+class Client:
+    """Runs workflows, and keeps each reply's text."""
+
+    def __init__(self, way, number, stop):
+        self._way, self._number, self._stop = way, number, stop
+        self._draw = random.Random(f"{SEED} {number}")
+        self.had, self.again = [], 0
+
+    def call(self, key, **request):
+        late = time.monotonic() + 60
+        while True:
+            try:
+                text = self._way.ask(request, f"{self._number}-{key}")
+                if text is not None:
+                    self.had.append(text)
+                    return json.loads(text)
+            except (OSError, http.client.HTTPException):
+                self._way.close()
+            if time.monotonic() > late:
+                raise AssertionError(f"{request}: no answer in a minute")
+            self.again += 1
+            time.sleep(0.005 + self._draw.random() / 50)
+
+    def run(self):
+        """Starts workflows and completes tasks until it is told to stop. Some workflows begin a child elsewhere."""
+        count = 0
+        while not self._stop.is_set():
+            count += 1
+            name = f"{self._number}-{count}"
+            self.call(f"start-{count}", op="start", workflow_id=name, workflow_type="T",
+                      task_queue="main", task_timeout=HOUR)
+            self.call(f"signal-{count}", op="signal", workflow_id=name, name="s", input="x" * self._draw.randrange(200))
+            for part in range(2):
+                task = self.call(f"poll-{count}-{part}", op="poll_workflow_task", task_queue="main", wait=500)
+                if task["ok"] == "task":
+                    commands = self.commands(task["workflow_id"])
+                    self.call(f"done-{count}-{part}", op="complete_workflow_task", token=task["token"], commands=commands)
+        self._way.close()
+        return self
+
+    def commands(self, workflow_id):
+        done = {"type": "CompleteWorkflowExecution", "result": workflow_id}
+        if workflow_id.startswith("child") or self._draw.random() < 0.5:
+            return [done]
+        return [{"type": "StartChildWorkflowExecution", "workflow_id": f"child-{workflow_id}-{self._draw.randrange(1 << 30)}",
+                 "workflow_type": "T", "task_queue": "main", "parent_close_policy": "Abandon"}, done]
+
+
+@needs_edge
+@needs_program
+class ByHand(WithAServer):
+    def disturb(self, server, draw, stop):
+        """Kills the edge or its program at drawn moments."""
+        counts = {"edge": 0, "program": 0}
+        for _ in range(KILLS):
+            time.sleep(0.1 + draw.random() / 3)
+            kind = draw.choice(["edge", "edge", "program"])
+            counts[kind] += 1
+            if kind == "edge":
+                server.kill()
+                server.start()
+                continue
+            program = program_of(server.process.pid)
+            if program is not None:
+                os.kill(program, signal.SIGKILL)
+        time.sleep(0.5)
+        stop.set()
+        return counts
+
+    def test_what_clients_had_is_what_the_log_gives(self):
+        print(f"\nlogs by hand: seed {SEED}", file=sys.stderr)
+        path = str(self.folder / "lines")
+        server = self.serve("--shards", str(SHARDS), "--socket", path, "--capacity", "65536")
+        stop = threading.Event()
+        ways = [ByLines(path) if number % 2 else ByHttp(server) for number in range(CLIENTS)]
+        with ThreadPoolExecutor(CLIENTS + 1) as pool:
+            working = [pool.submit(Client(way, number, stop).run) for number, way in enumerate(ways)]
+            counts = self.disturb(server, random.Random(SEED), stop)
+            clients = [it.result() for it in working]
+        time.sleep(1)
+        self.assertEqual(server.stop(), 0)
+        had, again = [text for client in clients for text in client.had], sum(client.again for client in clients)
+        print(f"logs by hand: {counts}, {len(had)} replies, {again} calls made again", file=sys.stderr)
+        self.assertGreater(len(had), 10 * KILLS)
+        settings, lines = lines_of(self.log)
+        turns = sweep_of(settings, lines)
+        replies = replies_of(BUILT, settings, [*lines, *turns])
+        for text in had:
+            self.assertEqual(text, replies[json.loads(text)["line"] - 1])
+        # Moments never go back, and no turn is missing.
+        moments = [json.loads(line)["at"] for line in lines]
+        self.assertEqual((moments, left_undone(turns, replies)), (sorted(moments), []))
+        # Each call that has a key, but polls, is in the log once.
+        keys = [line.rpartition(b'"call":')[2].partition(b",")[0] for line in lines if b'"call":' in line]
+        once = [key for key in keys if b"-poll-" not in key]
+        self.assertEqual(len(once), len(set(once)))
+
+    def test_a_log_is_the_clients_and_the_edges_in_turn(self):
+        """Each goes on where the other one ended, and the edge gives its replies again by their keys."""
+        server = self.serve()
+        first = server.asked("POST", "/calls", b'{"op":"start","workflow_id":"w","workflow_type":"T","task_queue":"main"}',
+                             {"Idempotency-Key": "k"})
+        server.stop()
+        with DurableService([str(BUILT)], str(self.log)) as service:
+            self.assertEqual(service.describe("w")["status"], "Running")
+            service.call("signal", workflow_id="w", name="by the client", at=int(time.time() * 1_000))
+        server.start()
+        again = server.asked("POST", "/calls", b'{"op":"start","workflow_id":"w","workflow_type":"T","task_queue":"main"}',
+                             {"Idempotency-Key": "k"})
+        self.assertEqual((first[0], again[2]), (200, first[2]))
+        self.assertEqual(server.client().history("w")[-1]["attrs"]["name"], "by the client")
+
+
+@needs_edge
+class FullDisk(WithAServer):
+    def test_a_disk_that_is_full_at_any_byte_keeps_whole_lines_or_none(self):
+        server = self.serve(program=self.double())
+        server.asked("POST", "/calls", b'{"op":"signal","name":"first"}')
+        begun = self.log.stat().st_size
+        refused = served = 0
+        for more in range(0, 300, 7):
+            resource.prlimit(server.process.pid, resource.RLIMIT_FSIZE, (begun + more, resource.RLIM_INFINITY))
+            status = server.asked("POST", "/calls", f'{{"op":"signal","name":"n{more}"}}'.encode())[0]
+            self.assertIn(status, (200, 507))
+            refused, served = refused + (status == 507), served + (status == 200)
+        resource.prlimit(server.process.pid, resource.RLIMIT_FSIZE, (resource.RLIM_INFINITY, resource.RLIM_INFINITY))
+        self.assertEqual(server.asked("POST", "/calls", b'{"op":"signal","name":"last"}')[0], 200)
+        self.assertGreater(refused, 0)
+        self.assertEqual(server.stop(), 0)
+        text = pathlib.Path(self.log).read_bytes()
+        self.assertEqual((text.count(b'"name":"n'), text.count(b'"last"')), (served, 1))
+        LineLog(self.log).close()
+
+
+if __name__ == "__main__":
+    unittest.main()

@@ -1,0 +1,57 @@
+"""The compiled edge for tests, in the place of the Python server that the client's tests start."""
+
+import os
+import pathlib
+import sys
+import unittest
+
+HERE = pathlib.Path(__file__).resolve().parent
+sys.path.insert(0, str(HERE.parent))
+
+import python_client  # noqa: E402
+
+python_client.add_paths(python_client.TESTS)
+
+from support import programs, served  # noqa: E402
+import test_server  # noqa: E402
+import test_server_edge  # noqa: E402
+import test_server_replies  # noqa: E402
+
+# Another edge than the one that setup.sh builds.
+WFEDGE = pathlib.Path(os.environ.get("WFEDGE", python_client.EDGE / "target/release/wfedge"))
+# The client's tests run this in the place of a Python, with the words that run its server.
+LAUNCHER = str(HERE / "server")
+needs_edge = unittest.skipUnless(WFEDGE.exists(), "wfedge is not built: edge/setup.sh builds it")
+
+
+def is_program(pid):
+    """Whether a process is a program that the edge serves by, and no page."""
+    try:
+        words = pathlib.Path(f"/proc/{pid}/cmdline").read_bytes().split(b"\0")
+    except OSError:
+        return False
+    return b"--capacity" in words and b"--save" not in words
+
+
+def program_of(pid):
+    """The program of an edge: its threads start it, and the page too."""
+    found = []
+    for children in pathlib.Path(f"/proc/{pid}/task").glob("*/children"):
+        try:
+            found += [int(child) for child in children.read_text(encoding="utf-8").split()]
+        except OSError:
+            pass
+    return next((child for child in found if is_program(child)), None)
+
+
+def take_the_edge():
+    """Has the client's tests start the compiled edge."""
+    for module in (served, test_server, test_server_edge):
+        module.SERVER_PYTHON = LAUNCHER
+    test_server_replies.child_of = program_of
+
+
+if WFEDGE.exists() and programs.SERVER_PYTHON:
+    os.environ["WFEDGE"] = str(WFEDGE)
+    os.environ["WFEDGE_PYTHON"] = programs.SERVER_PYTHON
+    take_the_edge()

@@ -1,0 +1,57 @@
+"""The gate's phase for the compiled edge: built, laid out, looked over and tested, where cargo and its crates are there."""
+from __future__ import annotations
+
+import os
+import shutil
+import subprocess
+import sys
+import time
+from pathlib import Path
+
+TOP = Path(__file__).resolve().parent.parent
+EDGE = TOP / "edge"
+REGISTRY = Path("/usr/share/cargo/registry")
+CRATES = ("tokio", "hyper", "serde", "serde_derive", "serde_json", "crc32fast", "libc")
+# Ten times what each takes on a quiet machine.
+SECONDS = 600
+CARGO = (
+    ("the build", ["cargo", "build", "--release", "--offline"], ""),
+    ("the layout", ["cargo", "fmt", "--check"], "cargo-fmt"),
+    ("what clippy finds", ["cargo", "clippy", "-q", "--offline", "--all-targets", "--", "-D", "warnings"], "cargo-clippy"),
+    ("its own tests", ["cargo", "test", "-q", "--offline"], ""),
+)
+
+
+def missing() -> list[str]:
+    """What has to be installed before the edge can be built."""
+    found = {path.name.rpartition("-")[0] for path in REGISTRY.glob("*")} if REGISTRY.is_dir() else set()
+    return ([] if shutil.which("cargo") else ["cargo"]) + [f"the crate {name}" for name in CRATES if name not in found]
+
+
+def run(title: str, command: list[str], folder: Path, environment: dict[str, str]) -> bool:
+    """Runs a part with a limit on its time, and says how long it took."""
+    print(f"== {title}", flush=True)
+    begun = time.monotonic()
+    ran = subprocess.run(["timeout", str(SECONDS), *command], cwd=folder, env={**os.environ, **environment})
+    print(f"gate: {title}: {time.monotonic() - begun:.0f} s, {'passed' if ran.returncode == 0 else 'FAILED'}", flush=True)
+    return ran.returncode == 0
+
+
+def phase(program: Path) -> int:
+    """Builds and tests the edge with this program. 0 where all passed, or the edge can't be built here."""
+    lacking = missing()
+    if lacking:
+        print(f"gate: skipped: the compiled edge: there is no {', no '.join(lacking)}: edge/setup.sh installs it")
+        return 0
+    failed = []
+    for title, command, tool in CARGO:
+        if tool and not shutil.which(tool):
+            print(f"gate: skipped: {title}: there is no {tool}")
+        elif not run(title, command, EDGE, {}):
+            failed.append(title)
+    named = os.environ.get("WFSERVE", str(program))
+    tests = [sys.executable, "-m", "unittest", "discover", "-q", "-s", "."]
+    if not run("tests over sockets", tests, EDGE / "tests", {"WFSERVE": named}):
+        failed.append("tests over sockets")
+    print(f"gate: FAILED: {', '.join(failed)}" if failed else "gate: the compiled edge passed", flush=True)
+    return 1 if failed else 0
