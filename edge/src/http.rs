@@ -15,6 +15,8 @@ use std::sync::Arc;
 use std::time::Duration;
 
 const BODY_LIMIT: usize = 1_048_576;
+/// So many bytes the first line of a request and its headers may have, with their line ends.
+pub const HEAD_LIMIT: usize = 16_384;
 /// Of a body that is too long so much is read and dropped, so that its client reads why it is refused.
 const DROPPED: usize = 16 << 20;
 /// After so many seconds a call that was not taken may be made again.
@@ -83,6 +85,10 @@ fn closing(mut response: Response<Body>) -> Response<Body> {
 impl Front {
     /// Answers a request.
     pub async fn answer(&self, request: Request<Body>) -> Response<Body> {
+        if head_bytes(&request) > HEAD_LIMIT {
+            let said = format!("a request's head has at most {HEAD_LIMIT} bytes");
+            return closing(refused(&Refusal::new(431, "HeadTooLong", said)));
+        }
         let is_chunked = request.headers().contains_key(TRANSFER_ENCODING);
         if is_chunked && request.headers().contains_key(CONTENT_LENGTH) {
             // Its body is read by the one length, so that its client reads why it is refused.
@@ -204,6 +210,15 @@ impl Front {
             }
         }
     }
+}
+
+/// How many bytes a request's head has, without blanks that mean nothing.
+fn head_bytes(request: &Request<Body>) -> usize {
+    let path = request.uri().path_and_query().map_or(0, |path| path.as_str().len());
+    let place = request.uri().authority().map_or(0, |place| "http://".len() + place.as_str().len());
+    let first = request.method().as_str().len() + place + path + "  HTTP/1.1\r\n\r\n".len();
+    let headers = request.headers().iter();
+    first + headers.map(|(name, value)| name.as_str().len() + value.len() + ": \r\n".len()).sum::<usize>()
 }
 
 fn not_allowed(method: &'static str) -> Response<Body> {

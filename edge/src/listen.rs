@@ -1,6 +1,6 @@
 //! The edge's sockets: HTTP over TCP, and over a private socket for the page.
 
-use crate::http::Front;
+use crate::http::{Front, HEAD_LIMIT};
 use hyper::server::conn::Http;
 use hyper::service::service_fn;
 use std::convert::Infallible;
@@ -11,7 +11,8 @@ use tokio::io::{AsyncRead, AsyncWrite};
 use tokio::net::{TcpListener, UnixListener};
 use tokio::sync::watch;
 
-const HEAD_LIMIT: usize = 16_384;
+/// A head beyond this, with a piece that one read brings, is not read to its end. A shorter one that is too long is told so.
+const HEAD_BUFFER: usize = 2 * HEAD_LIMIT;
 const MOST_CONNECTIONS: usize = 10_000;
 /// A connection on which nothing is asked is closed after so long.
 const IDLE: Duration = Duration::from_secs(75);
@@ -147,7 +148,7 @@ where
         }
     });
     let mut http = Http::new();
-    http.http1_only(true).max_buf_size(HEAD_LIMIT).http1_header_read_timeout(read_timeout);
+    http.http1_only(true).max_buf_size(HEAD_BUFFER).http1_header_read_timeout(read_timeout);
     let connection = http.serve_connection(socket, service);
     tokio::pin!(connection);
     loop {

@@ -16,6 +16,8 @@ from test_server import TOKEN, WithAServer
 
 CALL = b'{"op":"signal","name":"a"}'
 HOUR = 3_600_000
+# So many bytes a request's head may have.
+HEAD = 16_384
 # So many seconds a process may take that does its work at once where the machine has nothing else to do.
 PATIENCE = 60
 
@@ -78,8 +80,13 @@ class Refused(WithAServer):
 
     def test_heads_that_are_too_long_or_no_http_are_refused(self):
         server = self.serve(program=self.double())
-        long = posted(CALL, self.HOST, self.JSON, "X: " + "x" * 60_000)
-        self.assertEqual(answer_to(server, long)[0], 431)
+        begun = posted(CALL, self.HOST, self.JSON, "X: ")
+        room = HEAD - (len(begun) - len(CALL))
+        for more, status in ((0, 200), (1, 431), (100, 431), (60_000, 431), (200_000, 431)):
+            asked = posted(CALL, self.HOST, self.JSON, "X: " + "x" * (room + more))
+            self.assertEqual(answer_to(server, asked)[0], status, more)
+        said = json.loads(answer_to(server, posted(CALL, self.HOST, self.JSON, "X: " + "x" * (room + 1)))[1])
+        self.assertEqual(said["error"], "HeadTooLong")
         for data in (b"PRI * HTTP/2.0\r\n\r\nSM\r\n\r\n", b"\x16\x03\x01\x00\r\n\r\n", b"GET / HTTP/9.9\r\n\r\n"):
             self.assertIn(answer_to(server, data)[0], (0, 400), data)
         self.assertEqual(server.asked("POST", "/calls", CALL)[0], 200)
