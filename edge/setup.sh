@@ -1,14 +1,23 @@
 #!/usr/bin/env bash
 # Builds wfedge, the compiled edge: target/release/wfedge beside this file. As root it installs what is missing by
 # apt: cargo, and the crates that it stands on, as Debian packages. It builds offline, in one to six minutes.
+#   edge/setup.sh             the edge; with a client of PostgreSQL where the crate for that is installed
+#   edge/setup.sh postgres    installs that crate too
 set -eu
 cd "$(dirname "$0")"
 packages=(librust-tokio-dev librust-hyper-dev librust-serde-dev librust-serde-derive-dev librust-serde-json-dev
     librust-crc32fast-dev librust-libc-dev)
+client=librust-tokio-postgres-dev
+is_there() {
+    dpkg-query -W -f '${Status}' "$1" 2> /dev/null | grep -q 'ok installed'
+}
 command -v cargo > /dev/null || packages+=(cargo)
+if [ "${1:-}" = postgres ]; then
+    packages+=("$client")
+fi
 missing=()
 for package in "${packages[@]}"; do
-    dpkg-query -W -f '${Status}' "$package" 2> /dev/null | grep -q 'ok installed' || missing+=("$package")
+    is_there "$package" || missing+=("$package")
 done
 if [ "${#missing[@]}" -gt 0 ]; then
     if [ "$(id -u)" -ne 0 ]; then
@@ -17,5 +26,10 @@ if [ "${#missing[@]}" -gt 0 ]; then
     fi
     apt-get update -q
     apt-get install -q -y --no-install-recommends "${missing[@]}"
+fi
+export CARGO_TARGET_DIR="$PWD/target"
+if is_there "$client"; then
+    cd postgres
+    exec cargo build --release --offline --bin wfedge
 fi
 exec cargo build --release --offline

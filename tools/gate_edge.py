@@ -12,25 +12,40 @@ TOP = Path(__file__).resolve().parent.parent
 EDGE = TOP / "edge"
 REGISTRY = Path("/usr/share/cargo/registry")
 CRATES = ("tokio", "hyper", "serde", "serde_derive", "serde_json", "crc32fast", "libc")
+CLIENT = "tokio-postgres"
 # Ten times what each takes on a quiet machine.
 SECONDS = 600
 # The tests over sockets run class by class. So long each of these may take, and all of them.
-CLASS_SECONDS, SOCKETS_SECONDS = 150, 900
+CLASS_SECONDS, SOCKETS_SECONDS = 240, 1_200
 # What the client's own tests draw at full length against the Python server is drawn shorter here. By hand more of it is
 # drawn, by these names.
-DRAWN = {"WFSERVE_KILLS": "12", "WFSERVE_ORDERS": "50", "WFEDGE_KILLS": "10"}
+DRAWN = {"WFSERVE_KILLS": "12", "WFSERVE_ORDERS": "50", "WFEDGE_KILLS": "10", "WFEDGE_TAKEOVERS": "6"}
+BUILD = ["cargo", "build", "--release", "--offline"]
+LOOKED_OVER = ["cargo", "clippy", "-q", "--offline", "--all-targets", "--", "-D", "warnings"]
+# A part's title, its command, and what has to be there for it.
 CARGO = (
-    ("the build", ["cargo", "build", "--release", "--offline"], ""),
+    ("the build", BUILD, ""),
     ("the layout", ["cargo", "fmt", "--check"], "cargo-fmt"),
-    ("what clippy finds", ["cargo", "clippy", "-q", "--offline", "--all-targets", "--", "-D", "warnings"], "cargo-clippy"),
+    ("what clippy finds", LOOKED_OVER, "cargo-clippy"),
     ("its own tests", ["cargo", "test", "-q", "--offline"], ""),
+)
+# The edge with a client of PostgreSQL, in the place of the one without, and one with a fault that its tests find.
+POSTGRES = (
+    ("the build with PostgreSQL", [*BUILD, "--bin", "wfedge"], ""),
+    ("a build with a planted fault", [*BUILD, "--features", "planted", "--bin", "wfedge-planted"], ""),
+    ("the layout of the client", ["cargo", "fmt", "--check"], "cargo-fmt"),
+    ("what clippy finds in the client", LOOKED_OVER, "cargo-clippy"),
 )
 
 
 def missing() -> list[str]:
     """What has to be installed before the edge can be built."""
-    found = {path.name.rpartition("-")[0] for path in REGISTRY.glob("*")} if REGISTRY.is_dir() else set()
-    return ([] if shutil.which("cargo") else ["cargo"]) + [f"the crate {name}" for name in CRATES if name not in found]
+    return ([] if shutil.which("cargo") else ["cargo"]) + [f"the crate {name}" for name in CRATES if not has_crate(name)]
+
+
+def has_crate(name: str) -> bool:
+    """Whether a crate is installed."""
+    return REGISTRY.is_dir() and any(path.name.rpartition("-")[0] == name for path in REGISTRY.glob(f"{name}-*"))
 
 
 def run(title: str, command: list[str], folder: Path, environment: dict[str, str], seconds: int = SECONDS) -> bool:
@@ -42,18 +57,28 @@ def run(title: str, command: list[str], folder: Path, environment: dict[str, str
     return ran.returncode == 0
 
 
+def failed_in(parts: tuple[tuple[str, list[str], str], ...], folder: Path) -> list[str]:
+    """Runs these parts in a folder. The titles of those that failed."""
+    failed = []
+    for title, command, tool in parts:
+        if tool and not shutil.which(tool):
+            print(f"gate: skipped: {title}: there is no {tool}")
+        elif not run(title, command, folder, {"CARGO_TARGET_DIR": str(EDGE / "target")}):
+            failed.append(title)
+    return failed
+
+
 def phase(program: Path) -> int:
     """Builds and tests the edge with this program. 0 where all passed, or the edge can't be built here."""
     lacking = missing()
     if lacking:
         print(f"gate: skipped: the compiled edge: there is no {', no '.join(lacking)}: edge/setup.sh installs it")
         return 0
-    failed = []
-    for title, command, tool in CARGO:
-        if tool and not shutil.which(tool):
-            print(f"gate: skipped: {title}: there is no {tool}")
-        elif not run(title, command, EDGE, {}):
-            failed.append(title)
+    failed = failed_in(CARGO, EDGE)
+    if has_crate(CLIENT):
+        failed += failed_in(POSTGRES, EDGE / "postgres")
+    else:
+        print(f"gate: skipped: the edge over PostgreSQL: there is no crate {CLIENT}: edge/setup.sh postgres installs it")
     named = os.environ.get("WFSERVE", str(program))
     limits = ["--each", str(CLASS_SECONDS), "--all", str(SOCKETS_SECONDS)]
     tests = [sys.executable, "by_class.py", *limits]

@@ -8,10 +8,13 @@ use crate::body::for_replay;
 use crate::compaction;
 use crate::fault::Fault;
 use crate::line_log::{LineLog, Lines};
+use crate::log::Log;
 use crate::log_fault::LogFault;
 use crate::program::Program;
 use crate::say::say;
 use crate::settings::{Named, Settings};
+use crate::table::Connect;
+use crate::table_log;
 use std::io::{BufWriter, Write};
 use std::process::{ChildStdin, Command, Stdio};
 use std::thread::JoinHandle;
@@ -51,9 +54,22 @@ pub struct Origin {
     pub log: String,
     pub settings: Settings,
     pub generation: u64,
+    /// The table that has the lines, where no file has them.
+    table: Option<Connect>,
 }
 
 impl Origin {
+    /// Of a table.
+    pub fn of_table(program: &str, connect: &Connect, settings: Settings) -> Origin {
+        let (program, log, table) = (program.to_string(), connect.shown.clone(), Some(connect.clone()));
+        Origin { program, log, settings, generation: 0, table }
+    }
+
+    /// A program that has served nothing.
+    pub fn start_new(&self) -> Result<Program, NotServed> {
+        Ok(Program::start(&self.words(), None)?)
+    }
+
     /// The program's words.
     pub fn words(&self) -> Vec<String> {
         let mut words = vec![self.program.clone()];
@@ -62,11 +78,11 @@ impl Origin {
         words
     }
 
-    /// The program, started from the records where the log has some. With more room in its queues where the records
+    /// The program, started from the records where the log's file has some. With more room in its queues where the records
     /// have more tasks: then the settings have it too.
     fn start(&mut self) -> Result<Program, NotServed> {
         if self.generation == 0 {
-            return Ok(Program::start(&self.words(), None)?);
+            return self.start_new();
         }
         compaction::keep_private(&self.log, self.generation)?;
         Ok(compaction::open_program(self)?)
@@ -81,13 +97,13 @@ pub trait Observe {
 /// An opened service.
 pub struct Kept {
     pub origin: Origin,
-    pub log: LineLog,
+    pub log: Log,
     pub program: Program,
     /// The greatest moment of the records that the log goes on from.
     pub last_moment: u64,
 }
 
-/// Opens a log, or begins one, and has the program serve its lines again.
+/// Opens a log in a file, or begins one, and has the program serve its lines again.
 pub fn open<O: Observe>(
     program: &str,
     path: &str,
@@ -97,7 +113,7 @@ pub fn open<O: Observe>(
     let mut log = LineLog::open(path)?;
     let (settings, generation) = settled(program, &mut log, named)?;
     compaction::remove_leftovers(path, generation)?;
-    let mut origin = Origin { program: program.to_string(), log: path.to_string(), settings, generation };
+    let mut origin = Origin { program: program.to_string(), log: path.to_string(), settings, generation, table: None };
     let room = origin.settings.capacity;
     let mut started = origin.start()?;
     if origin.settings.capacity != room {
@@ -106,9 +122,8 @@ pub fn open<O: Observe>(
     let last_moment = compaction::last_moment_in(path, generation)?;
     let mut observer = observer(&origin.settings);
     replay(&mut started, &mut log.lines()?, log.len().saturating_sub(1), &mut observer)?;
-    let mut kept = Kept { origin, log, program: started, last_moment };
-    kept.grow(named)?;
-    Ok((kept, observer))
+    grow(&mut origin, &mut log, &mut started, named)?;
+    Ok((Kept { origin, log: Log::File(log), program: started, last_moment }, observer))
 }
 
 /// Has the log say that its queues have more room from now on.
@@ -144,7 +159,7 @@ fn settled(program: &str, log: &mut LineLog, named: &Named) -> Result<(Settings,
 }
 
 /// Has the program serve an empty script: a log can't change the settings that it was begun with.
-fn check(program: &str, settings: &Settings) -> Result<(), LogFault> {
+pub fn check(program: &str, settings: &Settings) -> Result<(), LogFault> {
     let options = settings.options();
     let ran = Command::new(program).args(&options).stdin(Stdio::null()).stdout(Stdio::null()).status();
     let status = match ran {
@@ -219,6 +234,9 @@ fn take_replies(
 
 /// A program in the place of one that has ended, once it has served so many lines of the log.
 pub fn start_again(origin: &Origin, count: u64) -> Result<Program, NotServed> {
+    if let Some(connect) = &origin.table {
+        return table_log::serve_again(origin.start_new()?, connect, count, &mut Nobody);
+    }
     let mut origin = origin.clone();
     let mut program = origin.start()?;
     let mut lines = Lines::of(&origin.log)?.ok_or_else(|| LogFault::Io(format!("{}: the log is gone", origin.log)))?;
@@ -233,21 +251,16 @@ impl Observe for Nobody {
     fn line(&mut self, _: &[u8], _: &[u8]) {}
 }
 
-impl Kept {
-    /// Gives the queues the room that is wanted, where that is more than they have.
-    fn grow(&mut self, named: &Named) -> Result<(), NotServed> {
-        let has = self.origin.settings.capacity;
-        let wanted = named.capacity.unwrap_or(has);
-        if wanted < has {
-            say!(
-                "{}: the queues keep their room for {has} tasks: it never falls, so {wanted} is not taken",
-                self.log.path
-            );
-        } else if wanted > has {
-            let program = compaction::compact(&mut self.origin, &mut self.log, wanted)?;
-            std::mem::replace(&mut self.program, program).end();
-            compaction::remove_leftovers(&self.log.path, self.origin.generation)?;
-        }
-        Ok(())
+/// Gives the queues the room that is wanted, where that is more than they have.
+fn grow(origin: &mut Origin, log: &mut LineLog, program: &mut Program, named: &Named) -> Result<(), NotServed> {
+    let has = origin.settings.capacity;
+    let wanted = named.capacity.unwrap_or(has);
+    if wanted < has {
+        say!("{}: the queues keep their room for {has} tasks: it never falls, so {wanted} is not taken", log.path);
+    } else if wanted > has {
+        let opened = compaction::compact(origin, log, wanted)?;
+        std::mem::replace(program, opened).end();
+        compaction::remove_leftovers(&log.path, origin.generation)?;
     }
+    Ok(())
 }

@@ -7,7 +7,9 @@ use crate::kept::{self, Kept, NotServed, Observe};
 use crate::ledger::Ledger;
 use crate::replies::Replies;
 use crate::reply::Reply;
-use crate::settings::Named;
+use crate::settings::{Named, Settings};
+use crate::table::Connect;
+use crate::table_log;
 
 /// A service that was opened, and all that was learned of its log.
 pub struct Opened {
@@ -56,9 +58,15 @@ impl Observe for Observed {
 }
 
 impl Opened {
-    /// Opens the service of a log.
+    /// Opens the service of a log in a file.
     pub fn of(program: &str, log: &str, named: &Named, has_page: bool) -> Result<Opened, NotServed> {
-        let (kept, observed) = kept::open(program, log, named, |settings| Observed::new(settings.shards, has_page))?;
+        let (kept, observed) = kept::open(program, log, named, observed(has_page))?;
+        Ok(Opened { kept, observed })
+    }
+
+    /// Follows the log of a table, and opens its service once this edge leads.
+    pub fn of_table(program: &str, connect: &Connect, named: &Named, has_page: bool) -> Result<Opened, NotServed> {
+        let (kept, observed) = table_log::open(program, connect, named, observed(has_page))?;
         Ok(Opened { kept, observed })
     }
 
@@ -66,4 +74,9 @@ impl Opened {
     pub fn last_moment(&self) -> u64 {
         self.observed.last_moment.max(self.kept.last_moment)
     }
+}
+
+/// What learns of a log that has these settings.
+fn observed(has_page: bool) -> impl FnOnce(&Settings) -> Observed {
+    move |settings| Observed::new(settings.shards, has_page)
 }

@@ -13,6 +13,9 @@ Serves a workflow service to many clients: HTTP, and JSON lines on a Unix socket
 
   --program PROGRAM      wfserve
   --log FILE             the file that keeps the service; without it nothing is kept
+  --log postgres://..    a table of PostgreSQL that keeps it; an edge that another one leads before follows, and listens
+                         once it takes over
+  --silence MS           for how long a leader may be silent before a follower takes over, 2,000 by default
   --host ADDRESS         the address to listen on, 127.0.0.1 by default; another one needs a token
   --port PORT            the port, 7233 by default; 0 takes a free one
   --socket PATH          a Unix socket for JSON lines, which its owner alone can use
@@ -38,6 +41,8 @@ pub struct Options {
     pub queue_limit: usize,
     pub read_timeout: Duration,
     pub named: Named,
+    /// For how many milliseconds the leader of a table may be silent.
+    pub silence: u64,
     pub page: Vec<String>,
 }
 
@@ -53,6 +58,7 @@ impl Default for Options {
             queue_limit: 10_000,
             read_timeout: Duration::from_secs(30),
             named: Named::default(),
+            silence: 2_000,
             page: Vec::new(),
         }
     }
@@ -90,6 +96,7 @@ impl Options {
             "--queues" => self.named.queues = Some(value.split(',').map(str::to_string).collect()),
             "--capacity" => self.named.capacity = Some(number(name, &value)?),
             "--retention" => self.named.retention = Some(number(name, &value)?),
+            "--silence" => self.silence = number(name, &value)?,
             "--page" => self.page.push(value),
             _ => return Err(format!("there is no option {name}: --help lists them")),
         }

@@ -11,6 +11,7 @@ use crate::options::{Options, LOCAL};
 use crate::page::Page;
 use crate::say::say;
 use crate::system;
+use crate::table::{is_address, Connect, OpenTable};
 use std::fs;
 use std::io::Write;
 use std::os::unix::fs::DirBuilderExt;
@@ -53,14 +54,13 @@ impl Drop for Folder {
 }
 
 /// Serves until it is told to stop; says why where that was not why it ended.
-pub fn run(options: Options) -> Result<(), String> {
+pub fn run(options: Options, tables: Option<OpenTable>) -> Result<(), String> {
     system::outlive_file_limits();
     system::raise_open_files();
     let guard = guard_of(&options)?;
     let folder = Folder::new()?;
     let log = options.log.clone().unwrap_or_else(|| folder.path("log"));
-    let opened = Opened::of(&options.program, &log, &options.named, !options.page.is_empty());
-    let opened = opened.map_err(|fault| fault.to_string())?;
+    let opened = opened(&options, &log, tables)?;
     let moments = Moments::new(opened.last_moment(), Box::new(MachineClocks::new()));
     // Sockets are one thread's: a second one gives nothing beside the program, the log and the clients.
     let runtime =
@@ -69,6 +69,24 @@ pub fn run(options: Options) -> Result<(), String> {
     let result = runtime.block_on(serve(&options, guard, core.clone(), &folder));
     finish(&core, threads);
     result
+}
+
+/// Opens the service of a log.
+fn opened(options: &Options, log: &str, tables: Option<OpenTable>) -> Result<Opened, String> {
+    let has_page = !options.page.is_empty();
+    let opened = match (is_address(log), tables) {
+        (false, _) => Opened::of(&options.program, log, &options.named, has_page),
+        (true, Some(open)) => {
+            let connect = Connect::new(open, log, options.silence);
+            Opened::of_table(&options.program, &connect, &options.named, has_page)
+        }
+        (true, None) => {
+            return Err(
+                "this edge was built without a client of PostgreSQL: edge/setup.sh postgres builds it".to_string()
+            )
+        }
+    };
+    opened.map_err(|fault| fault.to_string())
 }
 
 /// Ends the program and the threads.

@@ -23,7 +23,7 @@ use crate::compaction::record_files;
 use crate::fault::Fault;
 use crate::json::quoted;
 use crate::kept::{Kept, Origin};
-use crate::line_log::LineLog;
+use crate::log::Log;
 use crate::metrics::{resident_bytes, Gauge};
 use crate::moments::Moments;
 use crate::opening::Opened;
@@ -121,7 +121,7 @@ impl Core {
         Ok((core, threads))
     }
 
-    fn spawn(self: Arc<Core>, log: LineLog, origin: Origin, program: Program) -> std::io::Result<Threads> {
+    fn spawn(self: Arc<Core>, log: Log, origin: Origin, program: Program) -> std::io::Result<Threads> {
         let (sequencer, reader, clock) = (self.clone(), self.clone(), self);
         let named = |name: &str| Builder::new().name(name.to_string());
         Ok(Threads(vec![

@@ -7,7 +7,7 @@ use crate::compaction;
 use crate::fault::Fault;
 use crate::kept::Origin;
 use crate::ledger::Needed;
-use crate::line_log::LineLog;
+use crate::log::Log;
 use crate::log_fault::LogFault;
 use crate::program::Program;
 use crate::say::say;
@@ -36,7 +36,7 @@ fn fault_of(fault: LogFault) -> Fault {
 
 impl Core {
     /// Makes batches until the core is closed or over.
-    pub(super) fn sequence(&self, mut log: LineLog, mut origin: Origin) {
+    pub(super) fn sequence(&self, mut log: Log, mut origin: Origin) {
         let mut piped = Vec::new();
         loop {
             match self.next_work() {
@@ -71,17 +71,16 @@ impl Core {
     }
 
     /// Serves a batch.
-    fn serve(&self, mut calls: Vec<Call>, log: &mut LineLog, piped: &mut Vec<u8>) {
+    fn serve(&self, mut calls: Vec<Call>, log: &mut Log, piped: &mut Vec<u8>) {
         let at = self.now();
         for call in &mut calls {
             call.end(at);
         }
         let before = log.len();
         let logged = calls.iter().filter(|call| call.is_logged()).map(|call| call.text.as_slice());
-        if logged.clone().next().is_some() {
-            if let Err(fault) = log.write(logged) {
-                calls = self.refuse(calls, log, fault);
-            }
+        let kept = if logged.clone().next().is_some() { log.write(logged) } else { log.confirm() };
+        if let Err(fault) = kept {
+            calls = self.refuse(calls, log, fault);
         }
         let mut number = before.saturating_sub(1);
         piped.clear();
@@ -101,7 +100,7 @@ impl Core {
     }
 
     /// Fails the calls that the log did not take. The reads are left.
-    fn refuse(&self, calls: Vec<Call>, log: &LineLog, fault: LogFault) -> Vec<Call> {
+    fn refuse(&self, calls: Vec<Call>, log: &Log, fault: LogFault) -> Vec<Call> {
         let (refused, left) = calls.into_iter().partition(Call::is_logged);
         let fault = fault_of(fault);
         let mut state = self.lock();
@@ -115,7 +114,7 @@ impl Core {
     }
 
     /// Notes calls as sent. The program that they are for; None where nothing is served any more.
-    fn hand_over(&self, calls: Vec<Call>, log: &LineLog, written: u64) -> Option<u64> {
+    fn hand_over(&self, calls: Vec<Call>, log: &Log, written: u64) -> Option<u64> {
         let mut state = self.lock();
         while state.flags.is_restarting && state.over.is_none() && !state.flags.is_closed {
             state = self.wait(state);
@@ -145,7 +144,7 @@ impl Core {
     }
 
     /// Has the disk keep what was written, and answers the calls that waited for it.
-    fn sync(&self, log: &mut LineLog) {
+    fn sync(&self, log: &mut Log) {
         let begun = Instant::now();
         if let Err(fault) = log.sync() {
             self.lock().log = LogState::of(log);
@@ -167,7 +166,7 @@ impl Core {
         &self,
         capacity: u32,
         done: oneshot::Sender<Result<Compacted, Fault>>,
-        log: &mut LineLog,
+        log: &mut Log,
         origin: &mut Origin,
     ) {
         if let Err(fault) = self.wait_until_quiet() {
@@ -175,7 +174,10 @@ impl Core {
             return;
         }
         let (lines, bytes) = (log.len().saturating_sub(1), log.size());
-        let result = compaction::compact(origin, log, capacity);
+        let result = match log {
+            Log::File(file) => compaction::compact(origin, file, capacity),
+            Log::Table(_) => Err(LogFault::NotCompacted("a log in a table is not compacted".to_string())),
+        };
         let outcome = match result {
             Ok(program) => {
                 self.take_up(program, log, origin);
@@ -215,7 +217,7 @@ impl Core {
     }
 
     /// Has calls served by the program that was opened from the records, once the one before has ended.
-    fn take_up(&self, mut program: Program, log: &LineLog, origin: &Origin) {
+    fn take_up(&self, mut program: Program, log: &Log, origin: &Origin) {
         let pipe = program.take_input();
         let mut state = self.lock();
         state.generation += 1;

@@ -7,7 +7,7 @@ use crate::deadlines::Deadlines;
 use crate::fault::Fault;
 use crate::kept::Origin;
 use crate::ledger::{Ledger, Turn};
-use crate::line_log::LineLog;
+use crate::log::Log;
 use crate::metrics::Metrics;
 use crate::opening::Observed;
 use crate::polls::{Polls, Queue, Waiting, Woken};
@@ -58,7 +58,7 @@ pub struct LogState {
 }
 
 impl LogState {
-    pub fn of(log: &LineLog) -> LogState {
+    pub fn of(log: &Log) -> LogState {
         let lines = log.len().saturating_sub(1);
         LogState { lines, bytes: log.size(), is_full: log.is_full(), is_broken: log.is_broken() }
     }
@@ -144,7 +144,7 @@ fn late_of(call: &Call, under_way: &HashMap<Box<str>, UnderWay>) -> Option<Insta
 }
 
 impl State {
-    pub fn new(origin: Origin, log: &LineLog, pid: u32, observed: Observed) -> State {
+    pub fn new(origin: Origin, log: &Log, pid: u32, observed: Observed) -> State {
         let Observed { ledger, deadlines, replies, changes, .. } = observed;
         let log = LogState::of(log);
         State {

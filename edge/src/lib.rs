@@ -1,0 +1,68 @@
+//! `wfedge`: an edge of a workflow service. Many clients over sockets, one program over its pipes, one synced log.
+//!
+//! A call's way: `http` or `lines` take a body; `body` makes the beginning of a line of it, and `facts` what it may
+//! cause; `core` puts it into the one order, writes it to the `log` and to the `program`, and answers it once both are
+//! done. A log is a file (`line_log`) or a `table` of a database (`table_log`). Around that stand the `ledger` of turns, `deadlines` and `moments`, `polls` that wait, `replies` that
+//! can be had again, and `changes` for the `page`. `kept`, `opening` and `compaction` open a log and exchange it.
+#![deny(unsafe_code)]
+
+mod attempts;
+mod body;
+mod call;
+mod changes;
+mod compaction;
+mod core;
+mod deadlines;
+mod facts;
+mod fault;
+mod guard;
+mod http;
+mod json;
+mod kept;
+mod ledger;
+mod line_log;
+mod lines;
+mod listen;
+mod log;
+pub mod log_fault;
+mod metrics;
+mod moments;
+mod numbered;
+mod opening;
+mod operations;
+mod options;
+mod page;
+mod polls;
+mod program;
+mod replies;
+mod reply;
+pub mod say;
+#[cfg(test)]
+mod scratch;
+mod serving;
+mod settings;
+mod shards;
+mod system;
+pub mod table;
+mod table_log;
+
+use crate::say::say;
+use options::{Options, HELP};
+use table::OpenTable;
+
+/// Serves by the words of a command line until it is told to stop. The status with which the process ends. A log in a
+/// database's table is opened by `tables`, where this edge was built with a client of one.
+pub fn run(words: impl Iterator<Item = String>, tables: Option<OpenTable>) -> i32 {
+    let words: Vec<String> = words.collect();
+    if words.iter().any(|word| word == "--help" || word == "-h") {
+        print!("{HELP}");
+        return 0;
+    }
+    match Options::of(words).and_then(|options| serving::run(options, tables)) {
+        Ok(()) => 0,
+        Err(fault) => {
+            say!("{fault}");
+            2
+        }
+    }
+}

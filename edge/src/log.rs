@@ -1,0 +1,73 @@
+//! What keeps the calls: a file of lines, or a table of a database.
+//!
+//! Both are written before the program reads the lines. A file is synced while the program works; what a table has
+//! taken is kept by then. A file is one edge's; of a table another edge may have become the leader, so an answer that
+//! no line covers is given only once the table has confirmed that this edge leads.
+
+use crate::line_log::LineLog;
+use crate::log_fault::LogFault;
+use crate::table_log::TableLog;
+
+/// An open log.
+pub enum Log {
+    File(LineLog),
+    Table(TableLog),
+}
+
+impl Log {
+    /// How many lines it has, with its header.
+    pub fn len(&self) -> u64 {
+        match self {
+            Log::File(log) => log.len(),
+            Log::Table(log) => log.len(),
+        }
+    }
+
+    /// How many bytes it has.
+    pub fn size(&self) -> u64 {
+        match self {
+            Log::File(log) => log.size(),
+            Log::Table(log) => log.size(),
+        }
+    }
+
+    /// Whether a fault left it unknown what is kept, so that nothing more is written.
+    pub fn is_broken(&self) -> bool {
+        match self {
+            Log::File(log) => log.is_broken(),
+            Log::Table(log) => log.is_broken(),
+        }
+    }
+
+    /// Whether there was no room for the last lines.
+    pub fn is_full(&self) -> bool {
+        match self {
+            Log::File(log) => log.is_full(),
+            Log::Table(_) => false,
+        }
+    }
+
+    /// Writes lines, which count once `sync` has returned. All are written, or none.
+    pub fn write<'a>(&mut self, lines: impl IntoIterator<Item = &'a [u8]>) -> Result<(), LogFault> {
+        match self {
+            Log::File(log) => log.write(lines),
+            Log::Table(log) => log.write(lines),
+        }
+    }
+
+    /// Has what was written kept.
+    pub fn sync(&mut self) -> Result<(), LogFault> {
+        match self {
+            Log::File(log) => log.sync(),
+            Log::Table(_) => Ok(()),
+        }
+    }
+
+    /// Refuses where another edge has become the leader.
+    pub fn confirm(&mut self) -> Result<(), LogFault> {
+        match self {
+            Log::File(_) => Ok(()),
+            Log::Table(log) => log.confirm(),
+        }
+    }
+}

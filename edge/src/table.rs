@@ -1,0 +1,103 @@
+//! A log in a table of a database, as an edge uses it. A client of the database implements it (`postgres/` has one).
+//!
+//! The table has batches of lines, numbered from 1; the first one is the log's header. Any number of edges follow it,
+//! each of which gives the batches to its own program, and one of them leads: it alone adds batches. A leader has an
+//! *epoch*, which is raised by who takes over; a batch of an earlier epoch is refused. That is the fence. What makes a
+//! takeover quick, a lock and a time for which a leader may be silent, decides nothing.
+
+use crate::log_fault::LogFault;
+use std::sync::Arc;
+
+/// Some lines of the table, with a line's end between two of them.
+#[derive(Clone, Debug, PartialEq, Eq)]
+pub struct Batch {
+    pub number: u64,
+    pub lines: Vec<u8>,
+}
+
+/// A table, by a connection of its own.
+pub trait Table: Send {
+    /// Begins the log with its header, where it has none: another one may have done that meanwhile.
+    fn begin(&mut self, header: &[u8]) -> Result<(), LogFault>;
+
+    /// The batches that follow the one of this number, as far as one reading brings them. None are left where there are
+    /// none.
+    fn read(&mut self, after: u64) -> Result<Vec<Batch>, LogFault>;
+
+    /// Tells who watches that this edge follows, and has served up to this batch.
+    fn tell(&mut self, number: u64) -> Result<(), LogFault>;
+
+    /// Leads from now on, where no other one does that is heard. Whether it does.
+    fn try_lead(&mut self) -> Result<bool, LogFault>;
+
+    /// Adds a batch under the epoch of this edge. It is kept once this has returned, by all that the database keeps it on.
+    fn append(&mut self, batch: &Batch) -> Result<(), LogFault>;
+
+    /// Refuses where another one leads: then what is read here may be old.
+    fn confirm(&mut self) -> Result<(), LogFault>;
+}
+
+/// How a table is connected to: by the address of a database, and how many milliseconds a leader may be silent.
+pub type OpenTable = fn(&str, u64) -> Result<Box<dyn Table>, LogFault>;
+
+/// Connects to a table, as often as it is wanted.
+#[derive(Clone)]
+pub struct Connect {
+    /// The address as it may be shown.
+    pub shown: String,
+    open: Arc<dyn Fn() -> Result<Box<dyn Table>, LogFault> + Send + Sync>,
+}
+
+impl std::fmt::Debug for Connect {
+    fn fmt(&self, out: &mut std::fmt::Formatter<'_>) -> std::fmt::Result {
+        out.write_str(&self.shown)
+    }
+}
+
+impl Connect {
+    /// To the table at this address.
+    pub fn new(open: OpenTable, address: &str, silence: u64) -> Connect {
+        let (shown, address) = (shown(address), address.to_string());
+        Connect { shown, open: Arc::new(move || open(&address, silence)) }
+    }
+
+    /// A new connection.
+    pub fn table(&self) -> Result<Box<dyn Table>, LogFault> {
+        (self.open)()
+    }
+}
+
+/// Whether a log's name is the address of a database.
+pub fn is_address(log: &str) -> bool {
+    log.starts_with("postgres://") || log.starts_with("postgresql://")
+}
+
+/// An address without its password and its options.
+fn shown(address: &str) -> String {
+    let address = address.split('?').next().unwrap_or_default();
+    match (address.split_once("://"), address.rsplit_once('@')) {
+        (Some((kind, rest)), Some((_, place))) => {
+            let user = rest.split([':', '@']).next().unwrap_or_default();
+            format!("{kind}://{user}@{place}")
+        }
+        _ => address.to_string(),
+    }
+}
+
+#[cfg(test)]
+mod tests {
+    use super::*;
+
+    #[test]
+    fn an_address_is_shown_without_its_password() {
+        for (address, wanted) in [
+            ("postgres://me:secret@db:5432/orders?sslmode=x", "postgres://me@db:5432/orders"),
+            ("postgres://me:s@cret@db/orders", "postgres://me@db/orders"),
+            ("postgresql://db/orders", "postgresql://db/orders"),
+        ] {
+            assert_eq!(shown(address), wanted);
+            assert!(is_address(address));
+        }
+        assert!(!is_address("orders.log"));
+    }
+}
