@@ -25,6 +25,8 @@ mod lines;
 mod listen;
 mod log;
 pub mod log_fault;
+#[cfg(test)]
+mod memory_table;
 mod metrics;
 mod moments;
 mod numbered;

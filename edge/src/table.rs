@@ -57,8 +57,13 @@ impl std::fmt::Debug for Connect {
 impl Connect {
     /// To the table at this address.
     pub fn new(open: OpenTable, address: &str, silence: u64) -> Connect {
-        let (shown, address) = (shown(address), address.to_string());
-        Connect { shown, open: Arc::new(move || open(&address, silence)) }
+        let own = address.to_string();
+        Connect::by(shown(address), move || open(&own, silence))
+    }
+
+    /// By what connects, to a table that is shown so.
+    pub fn by(shown: String, open: impl Fn() -> Result<Box<dyn Table>, LogFault> + Send + Sync + 'static) -> Connect {
+        Connect { shown, open: Arc::new(open) }
     }
 
     /// A new connection.

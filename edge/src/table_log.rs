@@ -231,3 +231,100 @@ pub fn serve_again(
         }
     }
 }
+
+#[cfg(test)]
+mod tests {
+    use super::*;
+    use crate::memory_table::{table_in, Shared};
+    use crate::scratch::Scratch;
+    use std::os::unix::fs::PermissionsExt;
+    use std::sync::{Arc, Mutex};
+
+    /// Answers each line with its number.
+    const PROGRAM: &str = "#!/bin/sh\nn=0\nwhile read -r line; do n=$((n + 1)); echo \"{\\\"line\\\":$n}\"; done\n";
+
+    /// The lines that were served.
+    #[derive(Default)]
+    struct Seen(Vec<String>);
+
+    impl Observe for Seen {
+        fn line(&mut self, line: &[u8], reply: &[u8]) {
+            self.0.push(format!("{} {}", String::from_utf8_lossy(line), String::from_utf8_lossy(reply)));
+        }
+    }
+
+    struct Place {
+        _folder: Scratch,
+        program: String,
+        shared: Arc<Mutex<Shared>>,
+        connect: Connect,
+    }
+
+    impl Place {
+        fn new() -> Place {
+            let folder = Scratch::new();
+            let (program, shared) = (folder.path("program"), Arc::new(Mutex::new(Shared::default())));
+            std::fs::write(&program, PROGRAM).unwrap();
+            std::fs::set_permissions(&program, std::fs::Permissions::from_mode(0o755)).unwrap();
+            let connect = table_in(&shared);
+            Place { _folder: folder, program, shared, connect }
+        }
+
+        fn open(&self) -> (Kept, Seen) {
+            let opened = open(&self.program, &self.connect, &Named::default(), |_| Seen::default());
+            opened.map_err(|fault| fault.to_string()).unwrap()
+        }
+    }
+
+    #[test]
+    fn a_follower_serves_what_the_leader_adds_and_takes_over() {
+        let place = Place::new();
+        let (mut first, _) = place.open();
+        first.log.write([b"one".as_slice(), b"two"]).unwrap();
+        std::thread::scope(|scope| {
+            let second = scope.spawn(|| place.open());
+            while place.shared.lock().unwrap().told < 2 {
+                std::thread::sleep(Duration::from_millis(1));
+            }
+            first.log.write([b"three".as_slice()]).unwrap();
+            place.shared.lock().unwrap().is_led = false;
+            let (mut second, seen) = second.join().unwrap();
+            assert_eq!(seen.0, ["one {\"line\":1}", "two {\"line\":2}", "three {\"line\":3}"]);
+            assert_eq!((second.log.len(), second.log.size()), (4, first.log.size()));
+            // What the one before adds now, or would answer, is refused from then on.
+            assert!(first.log.confirm().unwrap_err().to_string().contains("another edge leads"));
+            assert!(first.log.is_broken() && first.log.write([b"late".as_slice()]).is_err());
+            second.log.write([b"four".as_slice()]).unwrap();
+            assert_eq!(place.shared.lock().unwrap().batches.len(), 4);
+            for kept in [first, second] {
+                kept.program.end();
+            }
+        });
+    }
+
+    #[test]
+    fn a_program_is_started_again_with_just_the_lines_that_it_had_answered() {
+        let place = Place::new();
+        let (mut kept, _) = place.open();
+        for lines in [[b"one".as_slice(), b"two"], [b"three", b"four"]] {
+            kept.log.write(lines).unwrap();
+        }
+        for count in 0..=4 {
+            let (program, mut seen) = (kept.origin.start_new().map_err(|fault| fault.to_string()), Seen::default());
+            let again = serve_again(program.unwrap(), &place.connect, count, &mut seen);
+            again.map_err(|fault| fault.to_string()).unwrap().end();
+            assert_eq!(seen.0.len() as u64, count);
+        }
+        kept.program.end();
+    }
+
+    #[test]
+    fn a_table_that_is_no_log_is_refused() {
+        let place = Place::new();
+        let (kept, _) = place.open();
+        kept.program.end();
+        place.shared.lock().unwrap().batches = vec![b"no header".to_vec()];
+        let refused = open(&place.program, &place.connect, &Named::default(), |_| Seen::default());
+        assert!(refused.map(drop).unwrap_err().to_string().contains("this is no log of format 1"));
+    }
+}

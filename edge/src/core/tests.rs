@@ -3,14 +3,16 @@
 use super::{Core, Outcome, Threads};
 use crate::body::asked;
 use crate::fault::Fault;
+use crate::kept::NotServed;
 use crate::line_log::LineLog;
+use crate::memory_table::{table_in, Shared};
 use crate::moments::{MachineClocks, Moments};
 use crate::opening::Opened;
 use crate::scratch::Scratch;
 use crate::settings::Named;
 use hyper::body::Bytes;
 use std::os::unix::fs::PermissionsExt;
-use std::sync::Arc;
+use std::sync::{Arc, Mutex};
 use std::time::Duration;
 
 /// Ends at a line with the word `poison`; turns have nothing to do, and polls find nothing.
@@ -37,11 +39,15 @@ struct Served {
 
 impl Served {
     fn new(limit: usize) -> Served {
+        Served::by(limit, |program, log| Opened::of(program, log, &Named::default(), true))
+    }
+
+    fn by(limit: usize, open: impl FnOnce(&str, &str) -> Result<Opened, NotServed>) -> Served {
         let folder = Scratch::new();
         let (program, log) = (folder.path("program"), folder.path("a.log"));
         std::fs::write(&program, PROGRAM).unwrap();
         std::fs::set_permissions(&program, std::fs::Permissions::from_mode(0o755)).unwrap();
-        let opened = Opened::of(&program, &log, &Named::default(), true).map_err(|fault| fault.to_string()).unwrap();
+        let opened = open(&program, &log).map_err(|fault| fault.to_string()).unwrap();
         let moments = Moments::new(opened.last_moment(), Box::new(MachineClocks::new()));
         let (core, threads) = Core::start(opened, moments, limit).unwrap();
         Served { core, threads, log, _folder: folder }
@@ -134,4 +140,18 @@ fn more_calls_than_may_wait_are_refused_and_polls_are_not_counted() {
     }
     assert!(matches!(served.call(poll, None), Err(Fault::Draining)));
     served.end();
+}
+
+#[test]
+fn a_read_is_not_answered_once_another_edge_leads() {
+    let shared = Arc::new(Mutex::new(Shared::default()));
+    let connect = table_in(&shared);
+    let served = Served::by(9, |program, _| Opened::of_table(program, &connect, &Named::default(), true));
+    let read = || served.submit(r#"{"op":"describe","workflow_id":"w"}"#, None);
+    assert!(read().unwrap().blocking_recv().unwrap().is_ok());
+    shared.lock().unwrap().epoch += 1;
+    let refused = read().map(|outcome| outcome.blocking_recv().unwrap());
+    assert!(matches!(refused, Err(Fault::LogBroken(_)) | Ok(Err(Fault::LogBroken(_)))), "{refused:?}");
+    served.core.close();
+    served.threads.join(SECONDS);
 }

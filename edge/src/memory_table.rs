@@ -1,0 +1,69 @@
+//! A table in memory, for tests.
+
+use crate::log_fault::LogFault;
+use crate::table::{Batch, Connect, Table};
+use std::sync::{Arc, Mutex};
+
+/// What all connections to a table have in common.
+#[derive(Default)]
+pub struct Shared {
+    pub batches: Vec<Vec<u8>>,
+    pub epoch: u64,
+    pub is_led: bool,
+    pub told: u64,
+}
+
+/// A table in memory.
+struct InMemory {
+    shared: Arc<Mutex<Shared>>,
+    epoch: u64,
+}
+
+impl Table for InMemory {
+    fn begin(&mut self, header: &[u8]) -> Result<(), LogFault> {
+        self.shared.lock().unwrap().batches.push(header.to_vec());
+        Ok(())
+    }
+
+    fn read(&mut self, after: u64) -> Result<Vec<Batch>, LogFault> {
+        let shared = self.shared.lock().unwrap();
+        let rest = (after + 1..).zip(shared.batches.iter().skip(after as usize));
+        Ok(rest.take(2).map(|(number, lines)| Batch { number, lines: lines.clone() }).collect())
+    }
+
+    fn tell(&mut self, number: u64) -> Result<(), LogFault> {
+        self.shared.lock().unwrap().told = number;
+        Ok(())
+    }
+
+    fn try_lead(&mut self) -> Result<bool, LogFault> {
+        let mut shared = self.shared.lock().unwrap();
+        if std::mem::replace(&mut shared.is_led, true) {
+            return Ok(false);
+        }
+        shared.epoch += 1;
+        self.epoch = shared.epoch;
+        Ok(true)
+    }
+
+    fn append(&mut self, batch: &Batch) -> Result<(), LogFault> {
+        self.confirm()?;
+        let mut shared = self.shared.lock().unwrap();
+        assert_eq!(batch.number, shared.batches.len() as u64 + 1);
+        shared.batches.push(batch.lines.clone());
+        Ok(())
+    }
+
+    fn confirm(&mut self) -> Result<(), LogFault> {
+        match self.shared.lock().unwrap().epoch == self.epoch {
+            true => Ok(()),
+            false => Err(LogFault::Broken("another edge leads".to_string())),
+        }
+    }
+}
+
+/// Connects to a table.
+pub fn table_in(shared: &Arc<Mutex<Shared>>) -> Connect {
+    let own = shared.clone();
+    Connect::by("a table".to_string(), move || Ok(Box::new(InMemory { shared: own.clone(), epoch: 0 })))
+}
