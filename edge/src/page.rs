@@ -1,6 +1,6 @@
 //! The page: a process of its own, in Python, which the edge starts, hands its requests on to, and starts again.
 //!
-//! It listens on a private socket, and asks the edge on another one. What it shows it learns from `GET /feed`, so a
+//! It is started once somebody asks for a page, listens on a private socket, and asks the edge on another one. What it shows it learns from `GET /feed`, so a
 //! slow page holds nobody up. It ends with its input, which the edge holds.
 
 use crate::say::say;
@@ -13,6 +13,7 @@ use std::sync::Arc;
 use std::time::{Duration, Instant};
 use tokio::net::UnixStream;
 use tokio::process::Command;
+use tokio::sync::Notify;
 
 /// So long a request waits for a page that was just started.
 const MOST_WAIT: Duration = Duration::from_secs(30);
@@ -26,6 +27,8 @@ pub struct Page {
     socket: String,
     /// Whether it ended last before it listened: nobody waits for such a page.
     is_broken: AtomicBool,
+    /// Told once somebody asks for a page.
+    wanted: Notify,
 }
 
 impl Page {
@@ -33,11 +36,12 @@ impl Page {
     pub fn new(command: &[String], socket: String, edge: &str, lines: &str) -> Page {
         let mut words = command.to_vec();
         words.extend([socket.clone(), edge.to_string(), lines.to_string()]);
-        Page { words, socket, is_broken: AtomicBool::new(false) }
+        Page { words, socket, is_broken: AtomicBool::new(false), wanted: Notify::new() }
     }
 
-    /// Keeps the process running, until this is dropped: that ends it.
+    /// Keeps the process running from when it is wanted on, until this is dropped: that ends it.
     pub async fn run(self: Arc<Page>) {
+        self.wanted.notified().await;
         loop {
             let _ = std::fs::remove_file(&self.socket);
             let mut command = Command::new(&self.words[0]);
@@ -62,6 +66,7 @@ impl Page {
 
     /// Has the page answer a request.
     pub async fn answer(&self, request: Request<Body>) -> Result<Response<Body>, String> {
+        self.wanted.notify_one();
         let socket = self.connected().await.map_err(|fault| format!("the page is not there: {fault}"))?;
         let (mut sender, connection) = conn::handshake(socket).await.map_err(|fault| format!("the page: {fault}"))?;
         tokio::spawn(connection);

@@ -120,16 +120,19 @@ def children_of(pid):
     return found
 
 
+def is_page(pid):
+    try:
+        return b"page.py" in pathlib.Path(f"/proc/{pid}/cmdline").read_bytes()
+    except OSError:
+        return False
+
+
 def page_of(pid, former=None):
-    """The page of an edge, once it is there, and is another one than this."""
+    """The page of an edge that was asked for one, once it is there, and is another one than this."""
     late = time.monotonic() + PATIENCE
     while time.monotonic() < late:
         for child in children_of(pid):
-            try:
-                words = pathlib.Path(f"/proc/{child}/cmdline").read_bytes()
-            except OSError:
-                continue
-            if b"page.py" in words and child != former:
+            if is_page(child) and child != former:
                 return child
         time.sleep(0.05)
     raise AssertionError("there is no page")
@@ -222,9 +225,11 @@ class PageProcess(WithAServer):
             client.terminate("w")
             self.assertEqual(server.read("/api/workflows")["workflows"][0]["status"], "Terminated")
 
-    def test_it_ends_with_the_edge(self):
+    def test_it_begins_when_it_is_asked_for_and_ends_with_the_edge(self):
         for end in ("kill", "stop"):
             server = self.serve()
+            self.assertEqual([child for child in children_of(server.process.pid) if is_page(child)], [])
+            self.rows(server)
             page = page_of(server.process.pid)
             getattr(server, end)()
             late = time.monotonic() + PATIENCE
