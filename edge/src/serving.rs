@@ -58,9 +58,15 @@ pub fn run(options: Options, tables: Option<OpenTable>) -> Result<(), String> {
     system::outlive_file_limits();
     system::raise_open_files();
     let guard = guard_of(&options)?;
-    let folder = Folder::new()?;
-    let log = options.log.clone().unwrap_or_else(|| folder.path("log"));
-    let opened = opened(&options, &log, tables)?;
+    // An edge that follows is ended by a signal, and leaves nothing.
+    let (folder, opened) = match &options.log {
+        Some(log) => opened(&options, log, tables).and_then(|opened| Ok((Folder::new()?, opened)))?,
+        None => {
+            let folder = Folder::new()?;
+            let opened = opened(&options, &folder.path("log"), tables)?;
+            (folder, opened)
+        }
+    };
     let moments = Moments::new(opened.last_moment(), Box::new(MachineClocks::new()));
     // Sockets are one thread's: a second one gives nothing beside the program, the log and the clients.
     let runtime =

@@ -35,6 +35,7 @@ CLIENTS, HOUR = 8, 3_600_000
 SILENCE = 2_000
 # So many seconds something may take that is done at once where the machine has nothing else to do.
 PATIENCE = 120
+PASSWORD = "of tests: ' & more"
 PLANTED = WFEDGE.parent / "wfedge-planted"
 
 
@@ -59,36 +60,56 @@ needs_client = unittest.skipUnless(has_client(WFEDGE), "this edge has no client 
 class Database:
     """A cluster of its own in a folder, reached by a socket there. Root has it run by the user postgres."""
 
-    def __init__(self, folder):
-        self._folder, self._data = folder, folder / "data"
+    def __init__(self, folder, primary=None):
+        self.folder, self._data = folder, folder / "data"
         self._user = []
+        folder.mkdir(exist_ok=True)
         if os.geteuid() == 0:
             owner = pwd.getpwnam("postgres")
             os.chown(folder, owner.pw_uid, owner.pw_gid)
             self._user = ["setpriv", f"--reuid={owner.pw_uid}", f"--regid={owner.pw_gid}", "--clear-groups"]
-        self._run("initdb", "-D", str(self._data), "-U", "wf", "-A", "trust", "--no-sync", "--no-instructions", "-E", "UTF8")
+        if primary is None:
+            password = folder / "password"
+            password.write_text(PASSWORD, encoding="utf-8")
+            self._run("initdb", "-D", str(self._data), "-U", "wf", "-A", "scram-sha-256", "--pwfile", str(password),
+                      "--no-sync", "--no-instructions", "-E", "UTF8")
+        else:
+            self._run("pg_basebackup", "-h", str(primary.folder), "-U", "wf", "-D", str(self._data), "-R", "-c", "fast", "--no-sync")
         self.start()
-        self.address = f"postgres://wf@/postgres?host={self._folder}"
+        if primary is None:
+            # The edge owns its database, and nothing else.
+            quoted = PASSWORD.replace("'", "''")
+            self.rows(f"create role edge login password '{quoted}'", "postgres")
+            self.rows("create database orders owner edge", "postgres")
+        self.address = f"postgres://edge@/orders?host={folder}"
 
     def _words(self, name, *words):
         return [*self._user, str(POSTGRES / name), *words]
 
     def _run(self, name, *words):
-        subprocess.run(self._words(name, *words), check=True, stdout=subprocess.DEVNULL, cwd=self._folder)
+        environment = {**os.environ, "PGPASSWORD": PASSWORD}
+        subprocess.run(self._words(name, *words), check=True, stdout=subprocess.DEVNULL, cwd=self.folder, env=environment)
+
+    def _control(self, *words):
+        self._run("pg_ctl", "-D", str(self._data), "-w", "-t", str(PATIENCE), *words)
 
     def start(self):
         """Starts the server. The machine is not switched off in these tests: nothing is synced."""
-        options = f"-k {self._folder} -c listen_addresses='' -c fsync=off -c shared_buffers=16MB"
-        log = str(self._folder / "said")
-        self._run("pg_ctl", "-D", str(self._data), "-w", "-t", str(PATIENCE), "-l", log, "-o", options, "start")
+        options = f"-k {self.folder} -c listen_addresses='' -c fsync=off -c shared_buffers=16MB"
+        self._control("-l", str(self.folder / "said"), "-o", options, "start")
 
-    def stop(self, mode="immediate"):
-        self._run("pg_ctl", "-D", str(self._data), "-m", mode, "-t", str(PATIENCE), "stop")
+    def stop(self):
+        self._control("-m", "immediate", "stop")
 
-    def rows(self, question):
+    def promote(self):
+        """Has a standby be the database."""
+        self._control("promote")
+
+    def rows(self, question, name="orders"):
         """The rows of an answer, as psql writes them."""
-        words = self._words("psql", "-h", str(self._folder), "-U", "wf", "-At", "-c", question, "postgres")
-        return subprocess.run(words, check=True, capture_output=True, text=True, cwd=self._folder).stdout.splitlines()
+        words = self._words("psql", "-h", str(self.folder), "-U", "wf", "-At", "-c", question, name)
+        environment = {**os.environ, "PGPASSWORD": PASSWORD}
+        return subprocess.run(words, check=True, capture_output=True, text=True, cwd=self.folder, env=environment).stdout.splitlines()
 
     def lines(self):
         """The header's settings, and the lines."""
@@ -105,10 +126,12 @@ def free_port():
 class Node:
     """An edge, which is started again where it ends."""
 
-    def __init__(self, edge, database, said, *options):
+    def __init__(self, edge, address, said, *options):
         self.port, self.process, self.leads = free_port(), None, False
+        # Since when it leads, or when it did last.
+        self.since = 0
         self._said = open(said, "wb")
-        self._words = [str(edge), "--program", str(BUILT), "--log", database.address, "--port", str(self.port),
+        self._words = [str(edge), "--program", str(BUILT), "--log", address, "--port", str(self.port),
                        "--silence", str(SILENCE), *options]
         self._stopped = threading.Event()
         self._thread = threading.Thread(target=self._keep)
@@ -116,8 +139,10 @@ class Node:
 
     def _keep(self):
         while not self._stopped.is_set():
-            self.process = subprocess.Popen(self._words, stdout=subprocess.PIPE, stderr=self._said)
-            self.leads = self.process.stdout.readline().startswith(b"serving")
+            environment = {**os.environ, "PGPASSWORD": PASSWORD}
+            self.process = subprocess.Popen(self._words, stdout=subprocess.PIPE, stderr=self._said, env=environment)
+            if self.process.stdout.readline().startswith(b"serving"):
+                self.leads, self.since = True, time.monotonic()
             self.process.stdout.read()
             self.process.wait()
             self.process.stdout.close()
@@ -206,11 +231,14 @@ class OverATable(unittest.TestCase):
         folder = memory_folder()
         self.addCleanup(folder.cleanup)
         self.folder = pathlib.Path(folder.name)
-        self.database = Database(self.folder)
-        self.addCleanup(self.database.stop)
+        # Another user runs the database in it.
+        self.folder.chmod(0o711)
+        self.database = Database(self.folder / "one")
+        self.addCleanup(lambda: self.database.stop())
+        self.address, self.takeovers = self.database.address, TAKEOVERS
 
     def nodes(self, edge, count=2):
-        found = [Node(edge, self.database, self.folder / f"said-{number}", "--shards", "2") for number in range(count)]
+        found = [Node(edge, self.address, self.folder / f"said-{number}", "--shards", "2") for number in range(count)]
         for node in found:
             self.addCleanup(node.stop)
         return found
@@ -218,17 +246,18 @@ class OverATable(unittest.TestCase):
     def leader(self, nodes):
         late = time.monotonic() + PATIENCE
         while time.monotonic() < late:
-            for node in nodes:
-                if node.leads:
-                    return node
+            # One that hung may not have found yet that another one leads.
+            found = [node for node in nodes if node.leads]
+            if found:
+                return max(found, key=lambda node: node.since)
             time.sleep(0.01)
         raise AssertionError("no edge leads: " + "; ".join(path.read_text() for path in self.folder.glob("said-*")))
 
     def disturb(self, nodes, callers, stop, kinds):
-        """Kills leaders, has them hang, and stops the database. How long each time until the next answer."""
+        """Kills leaders, has them hang, and stops the database. For how long nothing was answered each time."""
         draw, waits = random.Random(SEED), {kind: [] for kind in kinds}
         try:
-            for count in range(TAKEOVERS):
+            for count in range(self.takeovers):
                 leader, kind = self.leader(nodes), kinds[count % len(kinds)]
                 time.sleep(0.3 + draw.random())
                 began = time.monotonic()
@@ -239,12 +268,16 @@ class OverATable(unittest.TestCase):
                 elif kind == "hang":
                     self.hang(leader)
                 else:
-                    self.database.stop()
-                    self.database.start()
-                waits[kind].append(self.next_answer(callers, began))
+                    self.end_database()
+                waits[kind].append(self.next_answer(nodes, callers, began))
         finally:
             stop.set()
         return waits
+
+    def end_database(self):
+        """Ends the database as a fault does, and starts it again."""
+        self.database.stop()
+        self.database.start()
 
     def hang(self, leader):
         """Has an edge and its program stand still for longer than a leader may."""
@@ -257,13 +290,15 @@ class OverATable(unittest.TestCase):
             os.kill(program, signal.SIGCONT)
         leader.tell(signal.SIGCONT)
 
-    def next_answer(self, callers, began):
-        """Waits for an answer to a call, of those that were on their way or made since, and says how long it took."""
+    def next_answer(self, nodes, callers, began):
+        """Waits until an edge leads that did not before, and has answered. For how long nothing was answered."""
         late = time.monotonic() + PATIENCE
         while time.monotonic() < late:
-            since = [when for caller in callers for when in caller.when[-50:] if when > began + 0.02]
-            if since:
-                return min(since) - began
+            leads = max((node.since for node in nodes), default=0)
+            found = sorted(when for caller in callers for when in caller.when[-200:])
+            after = [when for when in found if when > leads]
+            if leads > began and after:
+                return after[0] - max([began, *(when for when in found if when <= leads)])
             time.sleep(0.005)
         raise AssertionError("nothing is answered any more")
 
@@ -349,17 +384,55 @@ class TwoEdges(OverATable):
             states = {path.read_text().rpartition(") ")[2][0] for path in tasks}
             time.sleep(0.01)
 
-    def test_settings_that_are_others_are_refused_and_followers_are_told(self):
+    def test_settings_that_are_others_and_compactions_are_refused_and_followers_are_told(self):
         nodes = self.nodes(WFEDGE)
-        self.leader(nodes)
+        leader = self.leader(nodes)
+        connection = http.client.HTTPConnection("127.0.0.1", leader.port, timeout=PATIENCE)
+        self.addCleanup(connection.close)
+        connection.request("POST", "/compact", b"{}", {"Content-Type": "application/json"})
+        answer = connection.getresponse()
+        self.assertEqual((answer.status, json.loads(answer.read())["error"]), (500, "NotCompacted"))
+        self.once([leader], op="start", workflow_id="w", workflow_type="T", task_queue="main")
         late = time.monotonic() + PATIENCE
         while not self.database.rows("select name from wfserve_followers") and time.monotonic() < late:
             time.sleep(0.05)
         self.assertEqual(len(self.database.rows("select name from wfserve_followers where number > 0")), 1)
-        words = [str(WFEDGE), "--program", str(BUILT), "--log", self.database.address, "--shards", "3"]
-        ran = subprocess.run(words, capture_output=True, text=True, timeout=PATIENCE)
+        words = [str(WFEDGE), "--program", str(BUILT), "--log", self.address, "--shards", "3"]
+        environment = {**os.environ, "PGPASSWORD": PASSWORD}
+        ran = subprocess.run(words, capture_output=True, text=True, timeout=PATIENCE, env=environment)
         self.assertEqual(ran.returncode, 2)
         self.assertIn("the log's shards is 2, and not 3", ran.stderr)
+
+
+@needs_edge
+@needs_program
+@needs_postgres
+@needs_client
+class FailsOver(OverATable):
+    """The database is lost for good, and its synchronous standby takes its place."""
+
+    def setUp(self):
+        super().setUp()
+        self.standby = Database(self.folder / "two", self.database)
+        self.database.rows("alter system set synchronous_standby_names = '*'")
+        self.database.rows("select pg_reload_conf()")
+        places = f"host={self.database.folder}&host={self.standby.folder}"
+        self.address = f"postgres://edge@/orders?{places}&target_session_attrs=read-write"
+        self.takeovers = 3
+
+    def end_database(self):
+        self.database.stop()
+        self.standby.promote()
+        self.database = self.standby
+
+    def test_what_was_answered_is_on_the_standby(self):
+        print(f"\na database that fails over: seed {SEED}", file=sys.stderr)
+        late = time.monotonic() + PATIENCE
+        while self.database.rows("select sync_state from pg_stat_replication") != ["sync"] and time.monotonic() < late:
+            time.sleep(0.05)
+        had = self.disturbed(WFEDGE, ["kill", "database", "kill"])
+        self.assertGreater(len(had), CLIENTS)
+        self.assertEqual(self.wrong_in(had), ([], [], []))
 
 
 @needs_edge

@@ -211,7 +211,9 @@ class Lists(WithAServer):
             server.stop()
             server.start()
             self.assertEqual(self.found(server), self.ALL)
-        self.assertEqual(server.said.read_text(), "")
+        # A program that opens records for longer than a second says how far it is.
+        said = server.said.read_text().splitlines()
+        self.assertEqual([line for line in said if not line.endswith("steps restored")], [])
 
     def test_a_log_that_an_earlier_server_compacted_is_listed(self):
         with DurableService([str(BUILT)], str(self.log), clock=Clock(1_000)) as service:

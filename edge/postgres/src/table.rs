@@ -62,10 +62,11 @@ struct Asked {
 struct Postgres {
     connection: Connection,
     asked: Asked,
-    address: String,
     name: String,
     silence: i64,
     epoch: i64,
+    /// By what a leader says that it leads: a connection of its own, which is there before it does.
+    beat: Option<(Connection, Statement)>,
     /// Whether nobody hears any more that this edge leads.
     is_unheard: Arc<AtomicBool>,
     planted: Planted,
@@ -73,8 +74,7 @@ struct Postgres {
 
 /// Connects to the table of an address. A leader may be silent for so many milliseconds.
 pub fn open(address: &str, silence: u64) -> Result<Box<dyn Table>> {
-    let address = address.to_string();
-    let connection = Connection::new(&address)?;
+    let connection = Connection::new(address)?;
     make_tables(&connection)?;
     let asked = Asked {
         read: connection.prepare(READ)?,
@@ -84,16 +84,18 @@ pub fn open(address: &str, silence: u64) -> Result<Box<dyn Table>> {
         append: connection.prepare(APPEND)?,
         confirm: connection.prepare(CONFIRM)?,
     };
+    let beating = Connection::new(address)?;
+    let beat = beating.prepare(BEAT)?;
     let silence = i64::try_from(silence).unwrap_or(i64::MAX);
     let is_unheard = Arc::new(AtomicBool::new(false));
     Ok(Box::new(Postgres {
-        planted: Planted::new(&address)?,
+        planted: Planted::new(address)?,
         connection,
         asked,
-        address,
         name: name(),
         silence,
         epoch: 0,
+        beat: Some((beating, beat)),
         is_unheard,
     }))
 }
@@ -123,11 +125,13 @@ impl Postgres {
         LogFault::Broken(format!("another edge leads: epoch {} is over", self.epoch))
     }
 
-    /// Says that this edge leads, by a connection of its own, until it can't.
-    fn keep_heard(&self) -> Result<()> {
-        let (connection, epoch, silence) = (Connection::new(&self.address)?, self.epoch, self.silence);
-        let beat = connection.prepare(BEAT)?;
-        let is_unheard = self.is_unheard.clone();
+    /// Says that this edge leads, until it can't.
+    fn keep_heard(&mut self) {
+        let (epoch, silence, is_unheard) = (self.epoch, self.silence, self.is_unheard.clone());
+        let (connection, beat) = match self.beat.take() {
+            Some(beat) => beat,
+            None => return,
+        };
         let rest = Duration::from_millis((silence / 4).max(1) as u64);
         std::thread::spawn(move || loop {
             std::thread::sleep(rest);
@@ -141,7 +145,6 @@ impl Postgres {
                 }
             }
         });
-        Ok(())
     }
 }
 
@@ -162,12 +165,12 @@ impl Table for Postgres {
 
     fn try_lead(&mut self) -> Result<bool> {
         let found = self.connection.rows(&self.asked.try_lock, &[])?;
-        if !found.first().map_or(false, |row| row.get(0)) {
+        if !found.first().map_or(false, |row| row.try_get(0).unwrap_or(false)) {
             self.connection.rows(&self.asked.end_silent, &[])?;
             return Ok(false);
         }
         self.epoch = self.connection.row(LEAD, &[&self.name, &self.silence])?.get(0);
-        self.keep_heard()?;
+        self.keep_heard();
         Ok(true)
     }
 
