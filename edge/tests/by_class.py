@@ -82,6 +82,8 @@ def main(words: List[str]) -> int:
     options.add_argument("--all", type=float, default=1_800, help="the most seconds of all classes together")
     options.add_argument("words", nargs="*", help="parts of names")
     named = options.parse_args(words)
+    # Ended by a signal, it ends the class that runs, with all that this started.
+    signal.signal(signal.SIGTERM, lambda *_: sys.exit(1))
     late, wrong = time.monotonic() + named.all, []
     for name in names():
         if named.words and not any(word in name for word in named.words):
