@@ -28,8 +28,8 @@ if [ "${#missing[@]}" -gt 0 ]; then
     apt-get install -q -y --no-install-recommends "${missing[@]}"
 fi
 export CARGO_TARGET_DIR="$PWD/target"
+cargo build --release --offline
 if is_there "$client"; then
     cd postgres
     exec cargo build --release --offline --bin wfedge
 fi
-exec cargo build --release --offline
