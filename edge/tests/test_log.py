@@ -142,6 +142,7 @@ class ByHand(WithAServer):
         counts = {"edge": 0, "program": 0}
         for _ in range(KILLS):
             time.sleep(0.1 + draw.random() / 3)
+            self.keep(server)
             kind = draw.choice(["edge", "edge", "program"])
             counts[kind] += 1
             if kind == "edge":
@@ -153,7 +154,20 @@ class ByHand(WithAServer):
                 os.kill(program, signal.SIGKILL)
         time.sleep(0.5)
         stop.set()
+        late = time.monotonic() + 60
+        while not self.keep(server) and time.monotonic() < late:
+            time.sleep(0.05)
         return counts
+
+    def keep(self, server):
+        """Starts an edge again that has ended: its program was killed each time before it had come back. Whether it serves."""
+        if server.process.poll() is not None:
+            server.process.stdout.close()
+            server.start()
+        try:
+            return server.asked("GET", "/health/ready")[0] == 200
+        except OSError:
+            return False
 
     def test_what_clients_had_is_what_the_log_gives(self):
         print(f"\nlogs by hand: seed {SEED}", file=sys.stderr)

@@ -212,6 +212,7 @@ class Disturbed(WithAServer):
         counts = Counter()
         for _ in range(KILLS):
             time.sleep(0.05 + draw.random() / 5)
+            self.keep(server)
             kind = draw.choice(["server", "server", "program", "program", "disk", "hang"])
             counts[kind] += 1
             if kind == "server":
@@ -220,11 +221,9 @@ class Disturbed(WithAServer):
             elif kind == "program":
                 tell(child_of(server.process.pid), draw.choice([signal.SIGKILL, signal.SIGTERM]))
             elif kind == "disk":
-                full = (self.log.stat().st_size + draw.randrange(2_000), resource.RLIM_INFINITY)
-                resource.prlimit(server.process.pid, resource.RLIMIT_FSIZE, full)
+                limit_files(server.process.pid, self.log.stat().st_size + draw.randrange(2_000))
                 time.sleep(draw.random() / 5)
-                everything = (resource.RLIM_INFINITY, resource.RLIM_INFINITY)
-                resource.prlimit(server.process.pid, resource.RLIMIT_FSIZE, everything)
+                limit_files(server.process.pid, resource.RLIM_INFINITY)
             else:
                 hung = draw.choice([server.process.pid, child_of(server.process.pid)])
                 tell(hung, signal.SIGSTOP)
@@ -232,7 +231,20 @@ class Disturbed(WithAServer):
                 tell(hung, signal.SIGCONT)
         time.sleep(0.5)
         stop.set()
+        late = time.monotonic() + 60
+        while not self.keep(server) and time.monotonic() < late:
+            time.sleep(0.05)
         return ", ".join(f"{count} of {kind}" for kind, count in sorted(counts.items()))
+
+    def keep(self, server):
+        """Starts a server again that has ended: its program was killed each time before it had come back. Whether it serves."""
+        if server.process.poll() is not None:
+            server.process.stdout.close()
+            server.start()
+        try:
+            return server.asked("GET", "/health/ready")[0] == 200
+        except OSError:
+            return False
 
     def test_each_call_by_key_is_answered_once(self):
         print(f"\ndisturbed servers: seed {SEED}", file=sys.stderr)
@@ -277,6 +289,14 @@ def tell(pid, number):
     try:
         os.kill(pid, number)
     except (ProcessLookupError, TypeError):
+        pass
+
+
+def limit_files(pid, size):
+    """Lets a process, which may be gone by now, write files of so many bytes."""
+    try:
+        resource.prlimit(pid, resource.RLIMIT_FSIZE, (size, resource.RLIM_INFINITY))
+    except ProcessLookupError:
         pass
 
 
