@@ -90,20 +90,36 @@ class Database:
         environment = {**os.environ, "PGPASSWORD": PASSWORD}
         subprocess.run(self._words(name, *words), check=True, stdout=subprocess.DEVNULL, cwd=self.folder, env=environment)
 
-    def _control(self, *words):
-        self._run("pg_ctl", "-D", str(self._data), "-w", "-t", str(PATIENCE), *words)
-
     def start(self):
         """Starts the server. The machine is not switched off in these tests: nothing is synced."""
-        options = f"-k {self.folder} -c listen_addresses='' -c fsync=off -c shared_buffers=16MB"
-        self._control("-l", str(self.folder / "said"), "-o", options, "start")
+        words = ["-D", str(self._data), "-k", str(self.folder), "-c", "listen_addresses=", "-c", "fsync=off",
+                 "-c", "shared_buffers=16MB"]
+        with open(self.folder / "said", "ab") as said:
+            self._server = subprocess.Popen(self._words("postgres", *words), stdout=said, stderr=said, cwd=self.folder)
+        self._wait("select 1")
+
+    def _wait(self, question):
+        """Waits until a question is answered by a row."""
+        late = time.monotonic() + PATIENCE
+        while True:
+            try:
+                if self.rows(question, "postgres"):
+                    return
+            except subprocess.CalledProcessError:
+                pass
+            if time.monotonic() > late:
+                raise AssertionError((self.folder / "said").read_text(encoding="utf-8"))
+            time.sleep(0.05)
 
     def stop(self):
-        self._control("-m", "immediate", "stop")
+        """Ends the server at once, as a fault would."""
+        self._server.send_signal(signal.SIGQUIT)
+        self._server.wait()
 
     def promote(self):
         """Has a standby be the database."""
-        self._control("promote")
+        self.rows("select pg_promote(false)", "postgres")
+        self._wait("select 1 where not pg_is_in_recovery()")
 
     def rows(self, question, name="orders"):
         """The rows of an answer, as psql writes them."""
@@ -234,7 +250,7 @@ class OverATable(unittest.TestCase):
         # Another user runs the database in it.
         self.folder.chmod(0o711)
         self.database = Database(self.folder / "one")
-        self.addCleanup(lambda: self.database.stop())
+        self.addCleanup(self.database.stop)
         self.address, self.takeovers = self.database.address, TAKEOVERS
 
     def nodes(self, edge, count=2):
@@ -414,6 +430,7 @@ class FailsOver(OverATable):
     def setUp(self):
         super().setUp()
         self.standby = Database(self.folder / "two", self.database)
+        self.addCleanup(self.standby.stop)
         self.database.rows("alter system set synchronous_standby_names = '*'")
         self.database.rows("select pg_reload_conf()")
         places = f"host={self.database.folder}&host={self.standby.folder}"
