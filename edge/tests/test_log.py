@@ -137,8 +137,8 @@ class Client:
 @needs_edge
 @needs_program
 class ByHand(WithAServer):
-    def disturb(self, server, draw, stop):
-        """Kills the edge or its program at drawn moments."""
+    def disturb(self, server, draw, stop, clients):
+        """Kills the edge or its program at drawn moments, and lets clients go on until they had many replies."""
         counts = {"edge": 0, "program": 0}
         for _ in range(KILLS):
             time.sleep(0.1 + draw.random() / 3)
@@ -152,9 +152,12 @@ class ByHand(WithAServer):
             program = program_of(server.process.pid)
             if program is not None:
                 os.kill(program, signal.SIGKILL)
+        late = time.monotonic() + 60
+        while sum(len(client.had) for client in clients) <= 10 * KILLS and time.monotonic() < late:
+            self.keep(server)
+            time.sleep(0.05)
         time.sleep(0.5)
         stop.set()
-        late = time.monotonic() + 60
         while not self.keep(server) and time.monotonic() < late:
             time.sleep(0.05)
         return counts
@@ -176,9 +179,11 @@ class ByHand(WithAServer):
         stop = threading.Event()
         ways = [ByLines(path) if number % 2 else ByHttp(server) for number in range(CLIENTS)]
         with ThreadPoolExecutor(CLIENTS + 1) as pool:
-            working = [pool.submit(Client(way, number, stop).run) for number, way in enumerate(ways)]
-            counts = self.disturb(server, random.Random(SEED), stop)
-            clients = [it.result() for it in working]
+            clients = [Client(way, number, stop) for number, way in enumerate(ways)]
+            working = [pool.submit(client.run) for client in clients]
+            counts = self.disturb(server, random.Random(SEED), stop, clients)
+            for it in working:
+                it.result()
         time.sleep(1)
         self.assertEqual(server.stop(), 0)
         had, again = [text for client in clients for text in client.had], sum(client.again for client in clients)
