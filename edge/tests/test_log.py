@@ -29,6 +29,8 @@ SEED = int(os.environ.get("WFSERVE_SEED", random.randrange(1 << 32)))
 KILLS = int(os.environ.get("WFEDGE_KILLS", 15))
 CLIENTS, SHARDS = 8, 4
 HOUR = 3_600_000
+# Between two tries of a call, in seconds.
+LONGEST_PAUSE = 0.1
 
 
 class ByLines:
@@ -95,7 +97,7 @@ class Client:
         self.had, self.again = [], 0
 
     def call(self, key, **request):
-        late = time.monotonic() + 60
+        late, pause = time.monotonic() + 60, 0.01
         while True:
             try:
                 text = self._way.ask(request, f"{self._number}-{key}")
@@ -107,7 +109,8 @@ class Client:
             if time.monotonic() > late:
                 raise AssertionError(f"{request}: no answer in a minute")
             self.again += 1
-            time.sleep(0.005 + self._draw.random() / 50)
+            time.sleep(pause * (0.5 + self._draw.random()))
+            pause = min(2 * pause, LONGEST_PAUSE)
 
     def run(self):
         """Starts workflows and completes tasks until it is told to stop. Some workflows begin a child elsewhere."""

@@ -35,6 +35,8 @@ CLIENTS, HOUR = 8, 3_600_000
 SILENCE = 2_000
 # So many seconds something may take that is done at once where the machine has nothing else to do.
 PATIENCE = 120
+# Between two tries of a call, in seconds.
+LONGEST_PAUSE = 0.1
 PASSWORD = "of tests: ' & more"
 PLANTED = WFEDGE.parent / "wfedge-planted"
 
@@ -191,7 +193,7 @@ class Caller:
         self.had, self.when, self.again = {}, [], 0
 
     def call(self, key, **request):
-        key, late = f"{self._number}-{key}", time.monotonic() + PATIENCE
+        key, late, pause = f"{self._number}-{key}", time.monotonic() + PATIENCE, 0.01
         while True:
             try:
                 text = self._asked(json.dumps(request), key)
@@ -206,7 +208,8 @@ class Caller:
             self.again += 1
             self.close()
             self._nodes.append(self._nodes.pop(0))
-            time.sleep(0.01 + self._draw.random() / 50)
+            time.sleep(pause * (0.5 + self._draw.random()))
+            pause = min(2 * pause, LONGEST_PAUSE)
 
     def _asked(self, body, key):
         if self._connection is None:
