@@ -16,7 +16,7 @@ import unittest
 
 from support.programs import BUILT, needs_program
 from wfserve.errors import JournalDamaged, LogDamaged, OtherJournal
-from wfserve.journal import Journal, JournalSettings, check_of, copy_journal, framed, main, write_journal
+from wfserve.journal import Journal, JournalSettings, check_of, copy_journal, first_settings, framed, last_moment_in, main, write_journal
 
 SEED = int(os.environ.get("WFSERVE_SEED", random.randrange(1 << 32)))
 SETTINGS = JournalSettings(("main",), 0, 1, 2)
@@ -91,7 +91,7 @@ class Read(Files):
             self.assertEqual([it.shard for it in journal.steps()], [0, 1, 1, 0])
             self.assertEqual([it.entry["request"]["at"] for it in journal.steps()], [1, 2, 3, 4])
             self.assertEqual(journal.records(), [[ENTRY % (1, b"a"), ENTRY % (4, b"\xc3\xa9")], [ENTRY % (2, b"a"), ENTRY % (3, b"a")]])
-            self.assertEqual(journal.last_moment(), 4)
+            self.assertEqual(last_moment_in(self.path), 4)
         self.assertEqual(self.found(data), texts)
 
     def test_each_byte_set_to_six_values(self):
@@ -137,9 +137,12 @@ class Read(Files):
             self.assertTrue(journal.torn)
 
     def test_a_new_file_has_no_settings(self):
+        self.assertIsNone(first_settings(self.path))
         for data in (b"", b"\0", b"\0" * 5_000, b"\x1d{\0\0\0"):
             with Journal(self.written(data)) as journal:
                 self.assertEqual((journal.settings, journal.batches, journal.records()), (None, [], []))
+            self.assertEqual((first_settings(self.path), last_moment_in(self.path)), (None, 0))
+        self.assertEqual(first_settings(self.written(four_frames()[1])), SETTINGS)
 
     def test_other_files_are_refused_by_name(self):
         head = SETTINGS.text()
@@ -209,7 +212,7 @@ class Written(Files):
             self.assertEqual(journal.settings, self.settings, f"seed {SEED}")
             self.assertGreaterEqual(len(journal.batches), 5)
             self.assertEqual([b"".join(record) for record in journal.records()], self.saved(lines), f"seed {SEED}")
-            self.assertEqual(journal.last_moment(), 399)
+            self.assertEqual(last_moment_in(self.path), 399)
             first = journal.batches[0]
             self.assertEqual(pathlib.Path(self.path).read_bytes()[first.begin:first.end], framed(self.settings.text()))
 
