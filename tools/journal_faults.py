@@ -56,7 +56,8 @@ def four_batches() -> list[bytes]:
 def lines_of(count: int) -> list[Line]:
     """Lines each of which makes one step."""
     return [{**start("a"), "at": 1, "request_id": "r"}] + [
-        {"op": "signal", "name": "s", "workflow_id": "a", "at": at, "request_id": f"r{at}"} for at in range(2, count + 1)]
+        {"op": "signal", "name": "s", "workflow_id": "a", "at": at, "request_id": f"r{at}"}
+        for at in range(2, count + 1)]
 
 
 def texts_in(data: bytes) -> list[bytes] | int:
@@ -98,8 +99,8 @@ class Changed(unittest.TestCase):
         whole = b"".join(four_batches()) + b"\0" * 6
         cases = [(place, value) for place in tried(len(whole)) for value in VALUES if value != whole[place]]
         dropped = sum(at_once(lambda case: self.change(whole, *case), cases))
-        print(f"journal_faults: of {len(cases)} changes {len(cases) - dropped} are refused, and {dropped} look like a crash",
-              flush=True)
+        print(f"journal_faults: of {len(cases)} changes {len(cases) - dropped} are refused, "
+              f"and {dropped} look like a crash", flush=True)
         if every == 1:
             self.assertGreater(dropped, 0)
 
@@ -168,7 +169,8 @@ class Failing(Preloaded):
             return subprocess.CompletedProcess(program.args, program.wait(), said, program.stderr.read())
 
     def expect(
-        self, done: subprocess.CompletedProcess[str], folder: pathlib.Path, lines: list[Line], where: str, before: int = 0,
+        self, done: subprocess.CompletedProcess[str], folder: pathlib.Path, lines: list[Line], where: str,
+        before: int = 0,
     ) -> None:
         """It ended with status 2, and all that it answered is on the disk, after the steps that were there before."""
         told, kept = replies_in(done.stdout), steps_in(str(folder)) - before
@@ -260,8 +262,8 @@ class PowerLost(Preloaded):
         with fresh(begun) as folder, tempfile.TemporaryFile() as told:
             environment = {**os.environ, "LD_PRELOAD": self.library, "TOLD_WRITES": str(told.fileno())}
             with subprocess.Popen(
-                words(str(folder)), stdin=subprocess.PIPE, stdout=subprocess.PIPE, stderr=subprocess.DEVNULL, env=environment,
-                pass_fds=(told.fileno(),),
+                words(str(folder)), stdin=subprocess.PIPE, stdout=subprocess.PIPE, stderr=subprocess.DEVNULL,
+                env=environment, pass_fds=(told.fileno(),),
             ) as program:
                 assert program.stdin and program.stdout
                 for first in range(0, len(lines), 3):
@@ -353,7 +355,7 @@ def merged(written: list[Written]) -> list[Written]:
 
 
 def left_of(synced: bytes, writes: list[Written], mask: Callable[[int], bytes]) -> bytes:
-    """A file of which the writes since its last sync are there in part, as a mask says. What is added to it is zeros."""
+    """A file of which the writes since its last sync are there in part, as a mask says. Only zeros are added to it."""
     left = bytearray(synced)
     for write in writes:
         added = write.place + len(write.data) - len(left)
@@ -439,8 +441,8 @@ class LoopDevice(Preloaded):
         """Feeds lines, stops the program, and goes on with a copy of the device. The replies that came by then."""
         wanted, said = self.draws.randrange(1, 60), b""
         with subprocess.Popen(
-            words(str(self.top / "kept")), stdin=subprocess.PIPE, stdout=subprocess.PIPE, stderr=subprocess.DEVNULL, bufsize=0,
-            env={**os.environ, **environment},
+            words(str(self.top / "kept")), stdin=subprocess.PIPE, stdout=subprocess.PIPE, stderr=subprocess.DEVNULL,
+            bufsize=0, env={**os.environ, **environment},
         ) as program:
             assert program.stdin and program.stdout
             for line in lines[:wanted]:

@@ -16,7 +16,9 @@ import unittest
 
 from support.programs import BUILT, needs_program
 from wfserve.errors import JournalDamaged, LogDamaged, OtherJournal
-from wfserve.journal import Journal, JournalSettings, check_of, copy_journal, first_settings, framed, last_moment_in, main, write_journal
+from wfserve.journal import (
+    Journal, JournalSettings, check_of, copy_journal, first_settings, framed, last_moment_in, main, write_journal,
+)
 
 SEED = int(os.environ.get("WFSERVE_SEED", random.randrange(1 << 32)))
 SETTINGS = JournalSettings(("main",), 0, 1, 2)
@@ -90,7 +92,8 @@ class Read(Files):
             self.assertEqual((journal.settings, journal.torn, journal.end), (SETTINGS, False, len(data) - 6))
             self.assertEqual([it.shard for it in journal.steps()], [0, 1, 1, 0])
             self.assertEqual([it.entry["request"]["at"] for it in journal.steps()], [1, 2, 3, 4])
-            self.assertEqual(journal.records(), [[ENTRY % (1, b"a"), ENTRY % (4, b"\xc3\xa9")], [ENTRY % (2, b"a"), ENTRY % (3, b"a")]])
+            records = [[ENTRY % (1, b"a"), ENTRY % (4, b"\xc3\xa9")], [ENTRY % (2, b"a"), ENTRY % (3, b"a")]]
+            self.assertEqual(journal.records(), records)
             self.assertEqual(last_moment_in(self.path), 4)
         self.assertEqual(self.found(data), texts)
 
@@ -169,7 +172,8 @@ class Read(Files):
             self.assertEqual(main([self.written(data[:-6])]), 2)
         self.assertEqual(len(said.getvalue().splitlines()), 4)
         self.assertIn("01 " + (ENTRY % (3, b"a")).decode(), said.getvalue())
-        self.assertRegex(wrong.getvalue(), r"after byte \d+ a crash left a part of a batch\njournal: .*damaged at byte \d+\n")
+        expected = r"after byte \d+ a crash left a part of a batch\njournal: .*damaged at byte \d+\n"
+        self.assertRegex(wrong.getvalue(), expected)
 
 
 def drawn(draws, count):
