@@ -1,9 +1,9 @@
 #!/usr/bin/env python3
-"""Calls a second of the client in Python: straight to the program, through the log, and over HTTP.
+"""Calls a second of the client in Python: straight to the program, through the log or a journal, and over HTTP.
 
     tools/calls_a_second.py PROGRAM [FOLDER]
 
-Each call signals a workflow, with a request id. The log lies in FOLDER, on whose disk its syncs depend.
+Each call signals a workflow, with a request id. Log and journal lie in FOLDER, on whose disk their syncs depend.
 """
 import pathlib
 import sys
@@ -43,8 +43,14 @@ def measured(name, service, threads):
     print(f"{name}, {threads} {'thread' if threads == 1 else 'threads'}: {sum(made) / SECONDS:,.0f} calls a second", flush=True)
 
 
-def through_a_log(program, folder, name, threads, most_a_sync):
-    log = folder / f"{most_a_sync}-{threads}.log"
+def through_a_journal(program, folder, threads):
+    """The same where the program keeps itself."""
+    kept = folder / f"{threads}.journal"
+    kept.mkdir()
+    through_a_log(program, kept, "through a journal", threads, 1_000)
+
+
+def through_a_log(program, log, name, threads, most_a_sync):
     with DurableService([program], str(log), most_a_sync=most_a_sync) as service:
         measured(name, service, threads)
         lines = service.lines
@@ -65,8 +71,9 @@ def main(program, folder):
     with Service([program]) as service:
         measured("straight to the program", service, 1)
     for threads in (1, 16, 64):
-        through_a_log(program, folder, "through the log, a sync for each", threads, 1)
-        through_a_log(program, folder, "through the log, grouped syncs", threads, 1_000)
+        through_a_log(program, folder / f"1-{threads}.log", "through the log, a sync for each", threads, 1)
+        through_a_log(program, folder / f"1000-{threads}.log", "through the log, grouped syncs", threads, 1_000)
+        through_a_journal(program, folder, threads)
     for threads in (1, 16, 50):
         over_http(program, folder, threads)
 

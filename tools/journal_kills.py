@@ -3,14 +3,14 @@
 
     tools/journal_kills.py PROGRAM [--kills N] [--seed S]
 
-PROGRAM is the built `wfserve`, as `rt ci` leaves it in crates/wfserve/out. N is how often it is killed (60). The seed
-is printed; with the same one the same lines are served, and the kills come after as many milliseconds. The status is 1
-where a test fails.
+PROGRAM is the built `wfserve`, as `rt ci` leaves it in crates/wfserve/out. N is how often it is killed (60): one time
+in six while it opens, and else after a drawn number of replies and a drawn part of the time that some batches take,
+which is measured first. The seed is printed; with the same one the same lines are served, and the kills come after as
+many replies. The status is 1 where a test fails. tools/journal_faults.py has the tests of disks that fail.
 """
 from __future__ import annotations
 
 import argparse
-import json
 import pathlib
 import random
 import re
@@ -24,73 +24,26 @@ import time
 import unittest
 from typing import Any
 
-Line = dict[str, Any]
+from journal_program import Line, Tested, ran, replies_in, served, start, steps_in, text, words
+from wfserve.journal import JournalSettings, framed
 
-ROOT = pathlib.Path(__file__).resolve().parent.parent
-PROGRAM = ROOT / "crates/wfserve/out/wfserve"
-# A reply comes at once, on a machine that is busy too.
-SECONDS = 120
 SHARDS = 4
 WORKFLOWS = 40
 LINES = 1_500
-BEGIN, END = b"\x1d", b"\x1e"
-CHECK = 32
-# What the program says of an opening that took long.
-RESTORED = re.compile(r"^wfserve: .*/journal: \d+ steps? restored\n", re.MULTILINE)
+BEGIN = b"\x1d"
+SETTINGS = JournalSettings(("main",), 0, 1, SHARDS)
+FEW_ZEROS = 300_000
+# A kill comes after at most this share of the lines that are left, so that a journal is opened some ten times.
+SHARE = 0.3
+# One kill in so many comes while the program opens.
+OPENING = 6
 kills = 60
 seed = random.randrange(1_000_000)
-
-
-def text(lines: list[Line]) -> str:
-    return "".join(json.dumps(line, separators=(",", ":")) + "\n" for line in lines)
-
-
-def start(workflow_id: str) -> Line:
-    return {"op": "start", "task_queue": "main", "workflow_id": workflow_id, "workflow_type": "w"}
-
-
-def words(folder: str, *more: str) -> list[str]:
-    return [str(PROGRAM), "--journal", folder, *more]
-
-
-def ran(lines: list[Line], folder: str, *more: str) -> subprocess.CompletedProcess[str]:
-    """What the program does that is given these lines, and then the end of its input."""
-    return subprocess.run(words(folder, *more), input=text(lines), capture_output=True, text=True, timeout=SECONDS)
-
-
-def served(lines: list[Line], folder: str, *more: str) -> list[Line]:
-    """The replies to lines, none of which ends the program."""
-    done = ran(lines, folder, *more)
-    if done.returncode > 1 or RESTORED.sub("", done.stderr):
-        raise AssertionError(f"status {done.returncode}: {done.stderr}")
-    return replies_in(done.stdout)
-
-
-def replies_in(printed: str) -> list[Line]:
-    """The whole reply lines, without their lines' numbers, which begin anew with each program."""
-    found = [json.loads(line) for line in printed.splitlines(keepends=True) if line.endswith("\n")]
-    return [{key: value for key, value in reply.items() if key not in ("line", "no")} for reply in found]
 
 
 def taken_in(replies: list[Line]) -> list[str]:
     """The workflow IDs of the tasks that were taken, in their order."""
     return [reply["workflow_id"] for reply in replies if reply.get("ok") == "task"]
-
-
-def batches_in(file: bytes) -> list[bytes]:
-    """The batches of a journal, as docs/PROFILE.md (A journal) says they lie in it; a torn last one is left out."""
-    whole = file.split(END)[:-1]
-    for batch in whole:
-        if not batch.startswith(BEGIN):
-            raise AssertionError(f"a batch begins with {batch[:1]!r}")
-    return [batch[1:-CHECK] for batch in whole]
-
-
-def steps_in(folder: str) -> int:
-    """How many steps a journal has; the first batch is its settings. 0 where there is none yet."""
-    file = pathlib.Path(folder, "journal")
-    batches = batches_in(file.read_bytes()) if file.exists() else []
-    return sum(batch.count(b"\n") for batch in batches[1:])
 
 
 def drawn_lines(draws: random.Random) -> list[Line]:
@@ -116,73 +69,120 @@ def histories() -> list[Line]:
     return [{"op": "history", "workflow_id": f"w{number}", "at": LINES} for number in range(WORKFLOWS)]
 
 
-def killed_after(lines: list[Line], folder: str, milliseconds: float) -> list[Line]:
-    """The replies that were read of a program which was killed so long after its start, or ended before."""
-    with subprocess.Popen(
-        words(folder, "--shards", str(SHARDS)), stdin=subprocess.PIPE, stdout=subprocess.PIPE, bufsize=0,
-    ) as program:
-        assert program.stdin is not None and program.stdout is not None
-        read: list[bytes] = []
-        reader = threading.Thread(target=gather, args=(program.stdout, read))
-        reader.start()
-        feeder = threading.Thread(target=feed, args=(program.stdin, lines))
-        feeder.start()
-        time.sleep(milliseconds / 1000)
-        program.kill()
-        feeder.join()
-        reader.join()
-    return replies_in(b"".join(read).decode())
+class Fed:
+    """A program that is fed lines by tens, so that there are many batches, and whose replies are read."""
 
+    def __init__(self, lines: list[Line], folder: str):
+        self._lines, self._read = lines, b""
+        self._came = threading.Condition()
+        self._ended = False
+        self.began = time.monotonic()
+        # When its first reply and its last one came.
+        self.times: list[float] = []
+        self._program = subprocess.Popen(
+            words(folder, "--shards", str(SHARDS)), stdin=subprocess.PIPE, stdout=subprocess.PIPE,
+            stderr=subprocess.DEVNULL, bufsize=0)
+        self._threads = [threading.Thread(target=work) for work in (self._gather, self._feed)]
+        for thread in self._threads:
+            thread.start()
 
-def gather(stream: Any, parts: list[bytes]) -> None:
-    """Reads a stream to its end."""
-    parts.extend(iter(lambda: stream.read(65_536), b""))
+    def _gather(self) -> None:
+        assert self._program.stdout is not None
+        for part in iter(lambda: self._program.stdout.read(65_536), b""):
+            with self._came:
+                self._read += part
+                self.times = [*self.times[:1], time.monotonic()]
+                self._came.notify_all()
+        with self._came:
+            self._ended = True
+            self._came.notify_all()
 
+    def _feed(self) -> None:
+        stream: Any = self._program.stdin
+        try:
+            for first in range(0, len(self._lines), 10):
+                stream.write(text(self._lines[first:first + 10]).encode())
+            stream.close()
+        except (BrokenPipeError, ValueError):
+            return
 
-def feed(stream: Any, lines: list[Line]) -> None:
-    """Hands lines in by tens, so that there are many batches, until the program is gone."""
-    try:
-        for first in range(0, len(lines), 10):
-            stream.write(text(lines[first:first + 10]).encode())
-            stream.flush()
-        stream.close()
-    except (BrokenPipeError, ValueError):
-        return
+    def wait_for(self, replies: int) -> None:
+        """Returns once so many replies were read, or the program has ended."""
+        with self._came:
+            while self._read.count(b"\n") < replies and not self._ended:
+                self._came.wait()
+
+    def killed(self) -> list[Line]:
+        """Ends it at once. The replies that were read."""
+        self._program.kill()
+        return self._all()
+
+    def served(self) -> list[Line]:
+        """Lets it come to its end. Its replies."""
+        return self._all()
+
+    def _all(self) -> list[Line]:
+        for thread in self._threads:
+            thread.join()
+        with self._program as program:
+            program.wait()
+        return replies_in(self._read.decode())
 
 
 class Killed(unittest.TestCase):
     """What was answered is there when the program is started again, once, whenever it was killed."""
 
     def test_no_answered_step_is_lost_or_doubled(self) -> None:
-        draws = random.Random(seed)
-        lines = drawn_lines(draws)
+        self.draws = random.Random(seed)
+        self.lines = drawn_lines(self.draws)
         with tempfile.TemporaryDirectory() as quiet:
-            undisturbed = served(lines, quiet, "--shards", str(SHARDS))
+            fed = Fed(self.lines, quiet)
+            self.undisturbed = fed.served()
+            # How long an opening takes, and then a batch of lines.
+            self.opening, last = (came - fed.began for came in fed.times)
+            self.batch = 10 * (last - self.opening) / LINES
             shown = served(histories(), quiet, "--shards", str(SHARDS))
-        self.told = done = 0
+        self.told = done = journals = 0
         while done < kills:
             with tempfile.TemporaryDirectory() as folder:
-                done += self.serve_under_kills(draws, lines, undisturbed, folder, kills - done)
+                journals += 1
+                if journals % 3:
+                    # Begun with fewer zeros than the program makes, which it goes through at each opening.
+                    begun = framed(SETTINGS.text()) + b"\0" * FEW_ZEROS
+                    pathlib.Path(folder, "journal").write_bytes(begun)
+                done += self.serve_under_kills(folder, kills - done)
                 self.assertEqual(served(histories(), folder, "--shards", str(SHARDS)), shown, f"seed {seed}")
-        print(f"journal_kills: {self.told} of {done} kills came after some replies", flush=True)
+        print(f"journal_kills: {self.told} of {done} kills came after some replies, and not all", flush=True)
+        if done >= 30:
+            # Five in six are meant to.
+            self.assertGreater(3 * self.told, done, f"seed {seed}")
 
-    def serve_under_kills(
-        self, draws: random.Random, lines: list[Line], undisturbed: list[Line], folder: str, most: int,
-    ) -> int:
+    def killed_once(self, folder: str, left: list[Line]) -> list[Line]:
+        """The replies of a program that is killed while it opens, or after some replies and a moment more."""
+        fed = Fed(left, folder)
+        if self.draws.randrange(OPENING) == 0:
+            time.sleep(self.draws.uniform(0, 1.2 * self.opening))
+        else:
+            fed.wait_for(self.draws.randrange(1, 2 + int(SHARE * len(left))))
+            time.sleep(self.draws.uniform(0, 3 * self.batch))
+        return fed.killed()
+
+    def serve_under_kills(self, folder: str, most: int) -> int:
         """Serves all lines, at most so many times killed. How often it was."""
         for number in range(most):
             before = steps_in(folder)
-            replies = killed_after(lines[before:], folder, draws.uniform(0, 60))
+            replies = self.killed_once(folder, self.lines[before:])
             now = steps_in(folder)
-            self.told += bool(replies)
+            self.told += 0 < len(replies) and now < len(self.lines)
             where = f"seed {seed}, kill {number} of this journal"
-            self.assertEqual(replies, undisturbed[before:before + len(replies)], where)
+            self.assertEqual(replies, self.undisturbed[before:before + len(replies)], where)
             self.assertLessEqual(before + len(replies), now, where)
-            self.assertLessEqual(now, len(lines), where)
-            if now == len(lines):
+            self.assertLessEqual(now, len(self.lines), where)
+            if now == len(self.lines):
                 return number + 1
         before = steps_in(folder)
-        self.assertEqual(served(lines[before:], folder, "--shards", str(SHARDS)), undisturbed[before:], f"seed {seed}")
+        rest = served(self.lines[before:], folder, "--shards", str(SHARDS))
+        self.assertEqual(rest, self.undisturbed[before:], f"seed {seed}")
         return most
 
 
@@ -193,8 +193,7 @@ class FullDisk(unittest.TestCase):
         def limit() -> None:
             signals.signal(signals.SIGXFSZ, signals.SIG_IGN)
             resource.setrlimit(resource.RLIMIT_FSIZE, (most, most))
-        return subprocess.run(
-            words(folder), input=text(lines), capture_output=True, text=True, timeout=SECONDS, preexec_fn=limit)
+        return ran(lines, folder, preexec_fn=limit)
 
     def test_nothing_is_answered_that_is_not_on_the_disk(self) -> None:
         """The program ends with status 2 and a text, and goes on from what is there once there is room again."""
@@ -259,7 +258,8 @@ class Opened(unittest.TestCase):
         for number in range(4):
             served([start(f"w{number}")], folder)
         file = pathlib.Path(folder, "journal")
-        whole = file.read_bytes()
+        # Some of the zeros are enough.
+        whole = file.read_bytes().rstrip(b"\0") + b"\0" * 99
         last = whole.rstrip(b"\0").rindex(BEGIN)
         for _ in range(200):
             place = draws.randrange(last)
@@ -298,13 +298,13 @@ class Opened(unittest.TestCase):
 
 
 def main(given: list[str]) -> int:
-    global PROGRAM, kills, seed
+    global kills, seed
     options = argparse.ArgumentParser(description=__doc__, formatter_class=argparse.RawDescriptionHelpFormatter)
     options.add_argument("program", type=pathlib.Path)
     options.add_argument("--kills", type=int, default=kills)
     options.add_argument("--seed", type=int, default=seed)
     asked = options.parse_args(given)
-    PROGRAM, kills, seed = asked.program.resolve(), asked.kills, asked.seed
+    Tested.program, kills, seed = asked.program.resolve(), asked.kills, asked.seed
     print(f"journal_kills: seed {seed}, {kills} kills", flush=True)
     run = unittest.main(module=__name__, argv=[sys.argv[0]], exit=False)
     return 0 if run.result.wasSuccessful() else 1

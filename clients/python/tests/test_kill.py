@@ -22,6 +22,7 @@ from wfserve.durable import DurableService
 from wfserve.durable.compaction import folder_of
 from wfserve.durable.log import LineLog
 from wfserve.errors import Refused
+from wfserve.journal import Journal
 
 SEED = int(os.environ.get("WFSERVE_SEED", random.randrange(1 << 32)))
 KILLS = int(os.environ.get("WFSERVE_KILLS", 240))
@@ -32,7 +33,7 @@ CALLS = max(120, 3 * KILLS // 5)
 
 @dataclass
 class Disturbed:
-    """One log, whose driver is killed so many times before all its calls are answered."""
+    """One log, or the folder of a journal, whose driver is killed so many times before all its calls are answered."""
 
     log: str
     seed: str
@@ -89,7 +90,10 @@ class Disturbed:
 
 
 def logged_requests(log):
-    """The requests that the records of a log have, and then those of its lines, in their order."""
+    """The requests that the records of a log have, and then those of its lines, in their order; or those of a journal."""
+    if os.path.isdir(log):
+        with Journal(os.path.join(log, "journal")) as journal:
+            return requests_in(step.entry for step in journal.steps())
     lines = LineLog(log)
     try:
         header, *texts = [json.loads(line) for line in lines.lines()]
@@ -103,7 +107,11 @@ def recorded_requests(log, generation):
     if not generation:
         return []
     with open(os.path.join(folder_of(log, generation), "shard-00.rec")) as record:
-        entries = [json.loads(line) for line in record]
+        return requests_in(json.loads(line) for line in record)
+
+
+def requests_in(entries):
+    """The requests of a record that were made under an id."""
     return [entry["request"] for entry in entries if "request_id" in entry["request"]]
 
 
@@ -141,6 +149,9 @@ class Killed(unittest.TestCase):
                 Disturbed(os.path.join(folder, f"{i}.log"), f"{SEED}-{i}", KILLS // LOGS, i % 2 == 1)
                 for i in range(LOGS)
             ]
+            # Two of them are journals.
+            for run in runs[::4]:
+                os.mkdir(run.log)
             list(pool.map(Disturbed.run, runs))
             for run in runs:
                 self.check(run)
@@ -167,7 +178,7 @@ class Killed(unittest.TestCase):
             firsts.setdefault(request["request_id"], asked)
         for (thread, number), line in run.answers.items():
             self.assertIn(f"{thread}:{number}", firsts, "an answered call is missing")
-            if not run.compacted:
+            if not run.compacted and not os.path.isdir(run.log):
                 self.assertEqual(requests[line - 1]["request_id"], f"{thread}:{number}", "another line's answer")
         self.assertEqual(set(firsts), set(wanted), "a call was never answered")
         # Refusals of a call that was made again are the same as at first; what took effect did so once.

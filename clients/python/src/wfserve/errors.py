@@ -93,6 +93,18 @@ class LogDamaged(LogFault):
     """The log is not as it was written. It was left as it is."""
 
 
+class JournalDamaged(LogDamaged):
+    """A journal is nothing that was written or that a crash left. `at` is how many bytes before it are whole batches."""
+
+    def __init__(self, path: str, at: int):
+        super().__init__(f"{path}: damaged at byte {at}")
+        self.at = at
+
+
+class OtherJournal(LogFault):
+    """A file is no journal of this version, or a line in it is no step."""
+
+
 class LogInUse(LogFault):
     """Another program has the log open."""
 

@@ -1,4 +1,4 @@
-"""Makes calls on a service with a log until it is killed, or all are answered: what test_kill.py kills.
+"""Makes calls on a service with a log or a journal until it is killed, or all are answered: what test_kill.py kills.
 
     kill_driver.py PROGRAM LOG SEED COMPACTED THREADS CALLS ANSWERED..
 

@@ -4,9 +4,12 @@
 
     with DurableService(["./serve"], "orders.log") as service:
         service.start("order-17", "Order", request_id="order-17-start")
+
+Where the second word is a folder, the program keeps itself by the journal in it, and there is no log.
 """
 
+from .journaled import move_journal, move_log
 from .service import DurableService
 from .settings import Settings, read_header
 
-__all__ = ["DurableService", "Settings", "read_header"]
+__all__ = ["DurableService", "Settings", "move_journal", "move_log", "read_header"]

@@ -14,7 +14,7 @@ import logging
 import os
 import subprocess
 import threading
-from typing import Callable, List, Optional, Sequence, Tuple
+from typing import Callable, Iterable, Iterator, List, Optional, Sequence, Tuple
 
 from wfserve.calls import text_of
 from wfserve.errors import NotOpened, RefusedSettings
@@ -96,6 +96,21 @@ class KeptProgram:
     def lines(self) -> int:
         """How many lines the log has for the program."""
         return len(self.log) - 1
+
+    @property
+    def size(self) -> int:
+        """How many bytes the log has."""
+        return self.log.size
+
+    def keep(self, lines: Sequence[bytes]) -> None:
+        """Has the disk keep lines that the program is about to be given. LogFault where that can't be done."""
+        self.log.append(lines)
+
+    def record_lines(self) -> Iterator[Iterable[bytes]]:
+        """The lines of the records that the log goes on from, by shards."""
+        for path in self.record_files():
+            with open(path, "rb") as record:
+                yield record
 
     @property
     def records_size(self) -> int:

@@ -16,6 +16,8 @@ from wfserve.types import Reply
 # A line that is answered by every program that has opened, and leaves all as it was: the first part of a
 # dispatch turn only reads.
 CHANGES_NOTHING = b'{"op":"dispatch_turn","shard":0,"stop":1}'
+# A line that is refused before any step.
+NO_CALL = b"{}"
 LINES_KEPT = 5
 PIPE_BYTES = 1 << 20
 
@@ -107,6 +109,11 @@ class Program:
     def check_answers(self) -> None:
         """Returns once it has opened and answered a line that changes nothing. Ended where it doesn't."""
         self.write([CHANGES_NOTHING])
+        self.reply(0)
+
+    def check_opened(self) -> None:
+        """Returns once it has opened and refused what is no call, which makes no step. Ended where it doesn't."""
+        self.write([NO_CALL])
         self.reply(0)
 
     def end_input(self) -> None:

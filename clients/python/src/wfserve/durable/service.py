@@ -15,23 +15,33 @@ one with a request id can be made again, and takes effect once. Reads change not
 
 A log grows by every line. `compact()` puts the records of the shards in the place of its lines: a
 service is opened from them in the place of serving each line again.
+
+Where a folder is named in the place of a log, the program keeps itself by the journal in it (journaled.py),
+which is quicker and proved, and there is no log. What a call promises is the same; these differ:
+
+- a read is a step of the journal too, and waits for a sync;
+- a disk that is full ends the program: calls are answered by Ended, and the service has to be opened again;
+- a reply's line counts from the opening, and `replayed` is refused, since a journal has no replies;
+- nothing is compacted.
 """
 
 from __future__ import annotations
 
 import json
+import os
 import threading
 from collections import deque
 from concurrent.futures import Future
 from dataclasses import dataclass, field
 from types import TracebackType
-from typing import Any, Callable, Deque, Iterable, List, Optional, Sequence, Type
+from typing import Any, Callable, Deque, Iterable, List, Optional, Sequence, Type, Union
 
 from wfserve.calls import Calls, Clock, HasMoment, answered, request_of, text_of
-from wfserve.errors import Ended, LogFault
+from wfserve.errors import Ended, LogFault, NotCompacted
 from wfserve.operations import READS
 from wfserve.types import Reply, Request
 
+from .journaled import JournaledProgram
 from .kept import KeptProgram, Replayed, for_read
 from .program import Program
 from .settings import Settings
@@ -66,16 +76,27 @@ def replayed_as(observe: Optional[Observe]) -> Optional[Replayed]:
     return lambda number, request, line, text: told(request, json.loads(text))
 
 
+def opened(
+    command: Sequence[str], path: str, settings: Optional[Settings], replayed: Optional[Observe],
+) -> Union[KeptProgram, JournaledProgram]:
+    """The program with its journal where the path is a folder, and else with the log that this file is."""
+    if not os.path.isdir(path):
+        return KeptProgram(command, path, settings, replayed_as(replayed))
+    if replayed is not None:
+        raise ValueError("a journal has no replies to tell again")
+    return JournaledProgram(command, path, settings)
+
+
 def fail(calls: Iterable[Waiting], fault: Exception) -> None:
     for call in calls:
         call.reply.set_exception(fault)
 
 
 class DurableService(Calls):
-    """The calls of Service, kept in a log. It may be called by many threads.
+    """The calls of Service, kept in a log, or in the journal of a folder. It may be called by many threads.
 
-    `settings` are those of a new log; a log that is there has to have the same. None takes the
-    log's own, or the defaults. `most_a_sync` is how many lines one sync serves at most. `replayed`
+    `settings` are those of a new log or journal; one that is there has to have the same. None takes its
+    own, or the defaults. `most_a_sync` is how many lines one sync of a log serves at most. `replayed`
     is called with each request of the log and its reply, before the first call; what was done before
     the log was compacted last is no line of it.
     """
@@ -102,7 +123,7 @@ class DurableService(Calls):
         # Whether lines are on their way to the program, and whether they have to wait.
         self._writing = False
         self._paused = False
-        self._kept = KeptProgram(command, log, settings, replayed_as(replayed))
+        self._kept = opened(command, log, settings, replayed)
         self.last_moment = self._kept.last_moment
         self._writer = threading.Thread(target=self._write_calls, daemon=True)
         self._writer.start()
@@ -123,22 +144,22 @@ class DurableService(Calls):
 
     @property
     def lines(self) -> int:
-        """How many lines the log has for the program."""
+        """How many lines the log has for the program; with a journal, how many the program was given."""
         return self._kept.lines
 
     @property
     def size(self) -> int:
-        """How many bytes the log has."""
-        return self._kept.log.size
+        """How many bytes the log or the journal has."""
+        return self._kept.size
 
     @property
     def records_size(self) -> int:
-        """How many bytes the records have that the log goes on from."""
-        return self._kept.records_size
+        """How many bytes the records have that the log goes on from. A journal has none beside it."""
+        return self._kept.records_size if isinstance(self._kept, KeptProgram) else 0
 
-    def record_files(self) -> List[str]:
-        """The files of the records that the log goes on from, by their shards."""
-        return self._kept.record_files()
+    def record_lines(self) -> Iterable[Iterable[bytes]]:
+        """The lines of the records that the log goes on from, by their shards; with a journal, of all its steps."""
+        return self._kept.record_lines()
 
     def read_all(self, requests: Sequence[Request]) -> List[Reply]:
         """The replies to reads, refusals as the replies that they are."""
@@ -181,7 +202,7 @@ class DurableService(Calls):
         logged, number = [call for call in calls if call.logged], self.lines
         try:
             if logged:
-                self._kept.log.append([call.line for call in logged])
+                self._kept.keep([call.line for call in logged])
         except LogFault as fault:
             fail(logged, fault)
             calls = [call for call in calls if not call.logged]
@@ -266,14 +287,17 @@ class DurableService(Calls):
         `capacity` tasks, and for more where more wait; they keep what they have where that is more. Each
         task that waits has its hint in its queue again, so a worker may be handed `stale` for one that it
         was handed before. NotCompacted or NotOpened where it can't be done: the service then goes on as
-        it was.
+        it was. A journal is not compacted.
         """
+        kept = self._kept
+        if isinstance(kept, JournaledProgram):
+            raise NotCompacted(f"{kept.path}: a journal is not compacted")
         self._pause()
         try:
-            former = self._kept.next_generation(capacity)
+            former = kept.next_generation(capacity)
             former.end_input()
             self._reader.join()
-            self._kept.end(former)
+            kept.end(former)
             self._read_on()
         finally:
             with self._changed:

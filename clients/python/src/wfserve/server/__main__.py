@@ -258,6 +258,8 @@ def main(words: List[str]) -> int:
         guard_of(said)
         if said.compact and not said.log:
             raise ValueError("--compact needs a --log")
+        if said.log and pathlib.Path(said.log).is_dir():
+            raise ValueError(f"{said.log}: a server keeps a log, and no journal: wfserve.durable.move_journal makes one of it")
         with tempfile.TemporaryDirectory() as folder:
             log = said.log or f"{folder}/log"
             return compact(said, log) if said.compact else serve_log(said, log)

@@ -1,4 +1,4 @@
-"""Which runs there are, by the records that a compacted log goes on from.
+"""Which runs there are, by the records that a compacted log goes on from, or by those of a journal.
 
 A record has the requests of a shard and not their replies: what may have begun a run stands in it, and
 whether it did is asked of the service. Runs have the ordinals 1, 2, 3 .. of their shard in the order in which
@@ -48,15 +48,14 @@ def beginning_in(request: Request, service: int) -> Optional[Beginning]:
     return None
 
 
-def beginnings(path: str, service: int) -> Iterator[Beginning]:
-    """What may have begun a run, in the order of a shard's record."""
-    with open(path, "rb") as record:
-        for line in record:
-            if not any(mark in line for mark in MARKS):
-                continue
-            found = beginning_in(json.loads(line)["request"], service)
-            if found is not None:
-                yield found
+def beginnings(record: Iterable[bytes], service: int) -> Iterator[Beginning]:
+    """What may have begun a run, in the order of the lines of a shard's record."""
+    for line in record:
+        if not any(mark in line for mark in MARKS):
+            continue
+        found = beginning_in(json.loads(line)["request"], service)
+        if found is not None:
+            yield found
 
 
 class Recorded:
@@ -69,8 +68,8 @@ class Recorded:
         self._known: Dict[str, str] = {}
 
     def add_all(self) -> None:
-        for shard, path in enumerate(self._service.record_files()):
-            found = list(beginnings(path, self._service.settings.service))
+        for shard, record in enumerate(self._service.record_lines()):
+            found = list(beginnings(record, self._service.settings.service))
             self._ask_latest({it.workflow_id for it in found if it.workflow_id is not None})
             if self._service.settings.retention:
                 self._add_latest(found)

@@ -1,0 +1,58 @@
+/* Writes a text over zeros that are on the disk already, a line at a time, with one fdatasync each: what a program
+ * with a journal does for a caller who waits for each reply, and nothing else.
+ *
+ *     over_zeros FILE LINES BYTES
+ *
+ * FILE is made anew. Each line has so many bytes. It prints how many seconds the writes and syncs took.
+ */
+#include <fcntl.h>
+#include <stdio.h>
+#include <stdlib.h>
+#include <string.h>
+#include <time.h>
+#include <unistd.h>
+
+enum { STEP = 4194304 };
+static char zeros[65536];
+
+/* Adds zeros, and has them on the disk. */
+static void add_zeros(int file, off_t end)
+{
+    for (size_t done = 0; done < STEP; done += sizeof zeros)
+        if (pwrite(file, zeros, sizeof zeros, end + done) != sizeof zeros)
+            exit(2);
+    if (fdatasync(file))
+        exit(2);
+}
+
+static double seconds(void)
+{
+    struct timespec now;
+    clock_gettime(CLOCK_MONOTONIC, &now);
+    return now.tv_sec + now.tv_nsec / 1e9;
+}
+
+int main(int count, char **words)
+{
+    if (count != 4)
+        return 2;
+    int file = open(words[1], O_RDWR | O_CREAT | O_TRUNC, 0600);
+    long lines = atol(words[2]), bytes = atol(words[3]);
+    char *line = malloc(bytes);
+    off_t at = 0, end = 0;
+    if (file < 0 || !line)
+        return 2;
+    memset(line, 'x', bytes);
+    double began = seconds();
+    for (long number = 0; number < lines; number++) {
+        if (at + bytes >= end) {
+            add_zeros(file, end);
+            end += STEP;
+        }
+        if (pwrite(file, line, bytes, at) != bytes || fdatasync(file))
+            return 2;
+        at += bytes;
+    }
+    printf("%.6f\n", seconds() - began);
+    return 0;
+}
