@@ -4,6 +4,7 @@
 
     POST /calls         one line of docs/PROFILE.md as JSON; answered by its reply. The server sets its moment.
                         A poll may `wait` so many milliseconds for a task.
+    POST /calls/OP      the same without `op`; a refusal has a status of its own, as 404 (docs/HTTP.md)
     GET  /              the workflows, and their histories
     GET  /api/workflows ?search=TEXT&status=STATUS: the list as JSON, at most 200 rows, the latest first
     POST /compact       compacts the log; calls wait meanwhile. Queues get room for `capacity` tasks, where that is more.
