@@ -206,15 +206,45 @@ def others() -> Json:
         "/metrics": {"get": {"operationId": "metrics", "responses": {
             "200": {"description": "counts and times for Prometheus", "content": {"text/plain": {"schema": {"type": "string"}}}},
         }}},
+        "/blobs/{hash}": {**blob_put(), **blob_get()},
         "/api/workflows": got(
             "list_workflows", "the latest runs", listing("workflows"),
-            [query("search", "a text that the workflow ID has"), query("status", "a status, or Stuck")],
+            [
+                query("search", "a text that the workflow ID has"), query("status", "a status, or Stuck"),
+                query("type", "a workflow type"), query("from", "the first moment of a start, in milliseconds"),
+                query("until", "the last one"), query("skip", "how many of the latest are left out"),
+            ],
+            {"400": answer("a number is none", ref("Fault"))},
         ),
         "/api/workflows/{workflow_id}/{run}": got(
             "show_run", "a run's history, and what is pending", listing("workflow", "events", "pending", "parent"),
-            [*run, query("length", "events that are known: where there are no more, only `workflow` is answered")], gone,
+            [*run, query("length", "events that are known: where there are no more, only `workflow` is answered"),
+             query("after", "leaves the events up to this one out")], gone,
         ),
+        "/api/workflows/{workflow_id}/{run}/history.json": got(
+            "download_history", "the reply that has the history, as a file", ref("Reply"), run, gone,
+        ),
+        "/api/queues": got("list_queues", "what waits in each task queue, and who polls", listing("queues now runs")),
     }
+
+
+BYTES: Json = {"application/octet-stream": {"schema": {"type": "string", "format": "binary"}}}
+HASH: Json = {"name": "hash", "in": "path", "required": True, "schema": {"type": "string", "pattern": "^[0-9a-f]{64}$"},
+              "description": "the SHA-256 of the bytes"}
+
+
+def blob_put() -> Json:
+    said = {"404": "NoBlob: the path names no hash", "408": "SlowBody", "413": "BlobTooLarge: over 2,097,152 bytes",
+            "422": "OtherHash: the bytes have another hash", "507": "BlobsFull: there is no room"}
+    answers = {"200": answer("it is on the disk", listing("ok bytes")),
+               **{status: answer(text, ref("Fault")) for status, text in said.items()}}
+    return {"put": {"operationId": "put_blob", "parameters": [HASH], "requestBody": {"required": True, "content": BYTES},
+                    "responses": answers}}
+
+
+def blob_get() -> Json:
+    answers = {"200": {"description": "the bytes", "content": BYTES}, "404": answer("NoBlob", ref("Fault"))}
+    return {"get": {"operationId": "get_blob", "parameters": [HASH], "responses": answers}}
 
 
 def schemas() -> Json:

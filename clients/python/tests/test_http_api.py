@@ -6,6 +6,7 @@ import unittest
 from support import ROOT
 from support.programs import needs_program, needs_server
 from test_server import TOKEN, WithAServer
+from wfserve.blobs import name_of
 from wfserve.operations import KEYS
 
 KINDS = {"object": dict, "array": list, "string": str, "integer": int, "boolean": bool}
@@ -35,7 +36,7 @@ class Described:
         if str(status) not in answers:
             return [f"no status {status}"]
         content = self.refs(answers[str(status)])["content"]
-        if "text/plain" in content:
+        if "application/json" not in content:
             return []
         return self.wrong(content["application/json"]["schema"], json.loads(text), "the body")
 
@@ -194,7 +195,13 @@ class Statuses(WithAServer):
         run = self.ask("start", workflow_id="w", workflow_type="W", task_queue="main", expected="started")["run"]
         real = {
             "/api/workflows/{workflow_id}/{run}": [f"/api/workflows/w/{run}", "/api/workflows/w/none"],
+            "/api/workflows/{workflow_id}/{run}/history.json": [f"/api/workflows/w/{run}/history.json"],
+            "/api/workflows": ["/api/workflows", "/api/workflows?skip=x", "/api/workflows?type=W&from=1"],
+            "/blobs/{hash}": [f"/blobs/{name_of(b'text')}", f"/blobs/{name_of(b'another')}"],
         }
+        for asked, text_of_it in ((real["/blobs/{hash}"][0], b"text"), (real["/blobs/{hash}"][1], b"text")):
+            status, _, text = self.server.asked("PUT", asked, text_of_it)
+            self.assertEqual(self.described.faults("PUT", "/blobs/{hash}", status, text), [], text)
         for path, it in self.described.document["paths"].items():
             for asked in real.get(path, [path]) if "get" in it else ():
                 status, _, text = self.server.asked("GET", asked)
