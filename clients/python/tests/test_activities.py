@@ -334,7 +334,16 @@ class Paces(WithAWorker):
                 if pace.left() == 0:
                     begun += 1
                 now[0] += 0.005
-        self.assertIn(begun, range(50, 53))
+        self.assertIn(begun, range(48, 52))
+
+    def test_one_that_waited_begins_when_it_begins(self):
+        now = [10.0]
+        with mock.patch("wfserve.workflows.shutdown.time.monotonic", lambda: now[0]):
+            pace = Pace(1)
+            self.assertEqual(pace.left(), 0)
+            now[0] += 20
+            pace.began()
+            self.assertEqual(pace.left(), 1)
 
     def test_one_that_did_not_begin_takes_no_place(self):
         pace = Pace(0.001)

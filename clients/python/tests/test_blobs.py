@@ -22,6 +22,8 @@ from wfserve.blobs import (
 )
 from wfserve.client import Client
 from wfserve.errors import NotServed
+from wfserve.ids import run_id
+from wfserve.server.listing import Workflows
 from wfserve.server.sweeping import Sweeper
 from wfserve.testing import WorkflowEnvironment
 from wfserve.workflows import Converter, Gzip, Retry, Worker, minutes, seconds, workflow
@@ -217,7 +219,7 @@ class InWorkflows(unittest.TestCase):
         handle = self.env.start(long_texts, text, id="w")
         first = self.env.service.describe("w")["run"]
         for _ in range(2):
-            handle.signal("told", {"said": text})
+            self.env.client.handle("w").signal("told", {"said": text})
             self.env.sleep(minutes(1))
         made = doubles(text)
         self.assertEqual(handle.result(), [{"said": text}, text[:LONG // 2], made, made])
@@ -226,7 +228,7 @@ class InWorkflows(unittest.TestCase):
         self.assertGreater(len({it for it in texts_of(events) if it.startswith("blob:")}), 3)
 
     def test_one_that_is_too_long_is_refused_by_name_and_its_activity_is_made_once(self):
-        with self.assertRaisesRegex(Exception, "2097154 bytes, and a blob has at most 2097152"):
+        with self.assertRaisesRegex(Exception, "2097155 bytes, and a blob has at most 2097152"):
             self.env.execute(too_much)
         with self.assertRaises(BlobTooLarge):
             self.env.start(returns, "x" * MOST_BYTES, id="v")
@@ -275,6 +277,7 @@ class Paths(WithAServer):
             service.blobs.put("0" * 64, data)
 
     def test_they_want_the_token(self):
+        self.server.stop()
         server = self.serve("--host", "0.0.0.0", "--token-file", self.token_file(), program=self.double())
         self.assertEqual(server.asked("PUT", self.path, self.data)[0], 401)
         self.assertEqual(server.asked("GET", self.path)[0], 401)
@@ -311,28 +314,32 @@ class OverTheServer(WithAServer):
         self.assertLess(self.log.stat().st_size, LONG)
 
 
-class FakeCore:
-    """Answers histories by run; what is not there is gone."""
+def history_of(*attrs, closed=False, more=()):
+    """A history whose inputs are these."""
+    first = {"workflow_type": "W", "task_queue": "main", "input": "", "workflow_id": "w"}
+    kinds = [("WorkflowExecutionStarted", first), *(("WorkflowExecutionSignaled", {"input": it}) for it in attrs), *more]
+    kinds += [("WorkflowExecutionCompleted", {"result": ""})] if closed else []
+    return [{"at": n, "attrs": attrs, "id": n, "type": kind} for n, (kind, attrs) in enumerate(kinds, 1)]
 
-    def __init__(self, histories):
-        self.histories, self.asked = histories, []
+
+class FakeCore:
+    """Answers reads by run, or the latest of a workflow ID; what is not there is gone."""
+
+    def __init__(self):
+        self.histories, self.latest, self.asked = {}, {}, []
 
     def submit(self, request, begin, waiter, key=None):
-        self.asked.append(request["run"])
+        run = request.get("run") or self.latest.get(request["workflow_id"])
         reply = {"error": "NotFound", "line": 1, "no": 2}
-        if request["run"] in self.histories:
-            reply = {"events": [{"attrs": {"input": it}} for it in self.histories[request["run"]]], "line": 1, "ok": "history"}
+        if request["op"] == "describe" and run:
+            reply = {"line": 1, "ok": "described", "run": run}
+        elif request["op"] == "history" and run in self.histories:
+            self.asked.append(run)
+            reply = {"events": self.histories[run], "line": 1, "ok": "history", "run": run}
         waiter.answer(json.dumps(reply).encode())
 
 
-class Listed:
-    """The runs that a server knows."""
-
-    def __init__(self, **runs):
-        self.runs = runs
-
-    def search(self, text, status, most):
-        return [mock.Mock(workflow_id="w", run=run, status=status) for run, status in self.runs.items()]
+RUNS = {name: run_id(1, 0, n) for n, name in enumerate(("open", "closed", "gone", "child", "next", "later"))}
 
 
 class Swept(unittest.TestCase):
@@ -342,32 +349,59 @@ class Swept(unittest.TestCase):
         folder = tempfile.TemporaryDirectory()
         self.addCleanup(folder.cleanup)
         self.store = FolderStore(f"{folder.name}/blobs")
-        self.names = {}
-        for name in ("open", "closed", "gone", "early"):
-            data = drawn(LONG, name).encode()
-            self.names[name] = name_of(data)
-            self.store.put(name_of(data), data)
-            self.store.touch(name_of(data), 0)
-        self.core = FakeCore({run: [f"blob:{self.names[run]}:{LONG}"] for run in ("open", "closed", "gone")})
-        self.listed = Listed(open="Running", closed="Completed", gone="Completed")
-        self.sweeper = Sweeper(self.core, self.listed, self.store, 10_000)
+        self.core, self.workflows = FakeCore(), Workflows()
+        self.sweeper = Sweeper(self.core, self.workflows, self.store, 10_000)
+        self.named = {name: self.put(name) for name in ("open", "closed", "gone", "early")}
+        self.add("open", "open")
+        self.add("closed", "closed", closed=True)
+        self.add("gone", "gone", closed=True)
+
+    def put(self, name):
+        """A blob that was put long ago. The text that names it."""
+        data = drawn(LONG, name).encode()
+        self.store.put(name_of(data), data)
+        self.store.touch(name_of(data), 0)
+        return f"blob:{name_of(data)}:{LONG}"
+
+    def add(self, run, *blobs, closed=False, more=()):
+        """A run that the list knows, and what its history names."""
+        self.core.histories[RUNS[run]] = history_of(*(self.named[it] for it in blobs), closed=closed, more=more)
+        self.workflows.add(run, RUNS[run], "W", 1)
 
     def sweep(self, now):
         return asyncio.run(self.sweeper.sweep(now))
 
     def left(self):
-        return {name for name, it in self.names.items() if it in set(self.store.names())}
+        names = set(self.store.names())
+        return {name for name, it in self.named.items() if it.split(":")[1] in names}
 
     def test_what_no_history_names_goes_after_the_retention_and_a_day(self):
         self.assertEqual((self.sweep(1_000), len(self.left())), (0, 4))
         self.assertEqual((self.sweep(self.DAY + 11), self.left()), (1, {"open", "closed", "gone"}))
         # The retention deletes a run.
-        del self.listed.runs["gone"], self.core.histories["gone"]
+        self.workflows.remove(RUNS["gone"])
+        del self.core.histories[RUNS["gone"]]
         self.assertEqual((self.sweep(self.DAY + 100), self.left()), (0, {"open", "closed", "gone"}))
         self.assertEqual((self.sweep(2 * self.DAY + 30), self.left()), (1, {"open", "closed"}))
         self.assertEqual((self.sweep(100 * self.DAY), self.left()), (0, {"open", "closed"}))
         # Runs that have closed are read once.
-        self.assertEqual((self.core.asked.count("closed"), self.core.asked.count("open")), (1, 5))
+        self.assertEqual((self.core.asked.count(RUNS["closed"]), self.core.asked.count(RUNS["open"])), (1, 5))
+
+    def test_runs_that_others_began_are_looked_for(self):
+        for name in ("child", "next", "later"):
+            self.named[name] = self.put(name)
+        # One that a history names, and that names another; and one that only a command named.
+        child = ("ChildWorkflowExecutionStarted", {"initiated": 2, "workflow_id": "c", "run": RUNS["child"]})
+        follower = ("WorkflowExecutionContinuedAsNew", {"new_run": RUNS["next"], "workflow_type": "W", "input": ""})
+        self.add("open", "open", more=[child])
+        self.core.histories[RUNS["child"]] = history_of(self.named["child"], more=[follower])
+        self.core.histories[RUNS["next"]] = history_of(self.named["next"])
+        self.core.histories[RUNS["later"]] = history_of(self.named["later"])
+        self.core.latest["l"] = RUNS["later"]
+        command = {"type": "StartChildWorkflowExecution", "workflow_id": "l"}
+        self.workflows.observe({"op": "complete_workflow_task", "commands": [command], "token": "none"}, {"ok": "completed"})
+        self.assertEqual(self.sweep(3 * self.DAY), 1)
+        self.assertEqual(self.left(), set(self.named) - {"early"})
 
     def test_where_there_are_no_blobs_nothing_is_read(self):
         self.store.delete_before(1 << 40)

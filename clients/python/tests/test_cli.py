@@ -290,6 +290,10 @@ class OverAServer(unittest.TestCase):
         self.assertIn("attempt 2, to be tried at ", said[1])
         self.assertIn("the last one failed: RuntimeError: the bank is closed", said[1])
         row = next(line for line in self.wf("tasks", "stays")[1].splitlines() if line.startswith("stays-1"))
+        queued = [json.loads(line) for line in self.wf("queues", "--json")[1].splitlines()]
+        later = next(it["later"] for it in queued if (it["queue"], it["kind"]) == ("main", "activity"))
+        self.assertGreaterEqual(later, 1)
+        self.assertRegex(self.wf("queues")[1], "(?m)^main +activity +0 ")
         self.assertIn("the bank is closed", row)
         found = json.loads(self.wf("describe", "stays-1", "--json")[1])["pending"][0]
         self.assertEqual((found["kind"], found["attempt"], found["last_failure_type"]), ("activity", 2, "RuntimeError"))

@@ -129,10 +129,20 @@ class Client:
 
         A TypeError where the client speaks with no server.
         """
-        if not isinstance(self.service, HttpService):
-            raise TypeError("only a server has a list of workflows")
-        rows: List[Json] = self.service.read("/api/workflows", search=search, status=status)["workflows"]
+        rows: List[Json] = self._server().read("/api/workflows", search=search, status=status)["workflows"]
         return rows
+
+    def queues(self) -> Json:
+        """What a server knows of its task queues, in `queues`: what waits, what workers have, who polls.
+
+        A TypeError where the client speaks with no server.
+        """
+        return self._server().read("/api/queues")
+
+    def _server(self) -> HttpService:
+        if not isinstance(self.service, HttpService):
+            raise TypeError("only a server has lists of workflows and of task queues")
+        return self.service
 
 
 class WorkflowHandle:

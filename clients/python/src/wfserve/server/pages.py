@@ -7,7 +7,6 @@ history is an image, in which no script runs.
 from __future__ import annotations
 
 import asyncio
-import json
 import pathlib
 from typing import Callable, List, Optional, Tuple
 
@@ -15,12 +14,12 @@ from aiohttp import web
 
 from wfserve import picture
 from wfserve.events import pending
-from wfserve.types import Event, Json, Reply
+from wfserve.types import Event, Json
 
+from .asking import asked, look_for_begun
 from .attempts import Attempts
 from .backlog import POLLED, LastPolls, queue_rows
 from .core import Core
-from .lines import Waiter
 from .listing import Entry, Workflows
 
 
@@ -147,7 +146,7 @@ class Pages:
     async def download(self, request: web.Request) -> web.Response:
         """A history as a file: the reply that has it, as `wf replay` reads it."""
         workflow_id, run = request.match_info["workflow_id"], request.match_info["run"]
-        reply = await self._ask("history", workflow_id, run)
+        reply = await asked(self._core, "history", workflow_id, run)
         if "error" in reply:
             raise web.HTTPNotFound(text=f"there is no run {run} of {workflow_id}")
         headers = {"Content-Disposition": f'attachment; filename="{run}.json"', "Cache-Control": "no-cache"}
@@ -187,7 +186,7 @@ class Pages:
 
     async def _events(self, entry: Entry) -> List[Json]:
         """The history of a run. A run that is gone leaves the list."""
-        reply = await self._ask("history", entry.workflow_id, entry.run)
+        reply = await asked(self._core, "history", entry.workflow_id, entry.run)
         if "error" in reply:
             self._workflows.remove(entry.run)
             raise web.HTTPNotFound(text=f"there is no run {entry.run} of {entry.workflow_id}")
@@ -208,15 +207,5 @@ class Pages:
                 raise found
 
     async def _look_for_begun(self) -> None:
-        """Asks for the runs that others began: children, and those that continue a run."""
-        wanted = self._workflows.looked_for()[:MOST_READS]
-        replies = await asyncio.gather(*[self._ask("describe", workflow_id) for workflow_id in wanted])
-        for workflow_id, reply in zip(wanted, replies):
-            self._workflows.found(workflow_id, reply.get("run"))
-
-    async def _ask(self, op: str, workflow_id: str, run: Optional[str] = None) -> Json:
-        named = {} if run is None else {"run": run}
-        request, waiter = {"op": op, "workflow_id": workflow_id, **named}, Waiter()
-        self._core.submit(request, json.dumps(request).encode()[:-1], waiter)
-        reply: Reply = json.loads(await waiter.future)
-        return reply
+        """Asks for the runs that others began."""
+        await look_for_begun(self._core, self._workflows, MOST_READS)

@@ -12,8 +12,8 @@ from typing import Dict, FrozenSet, Set
 from wfserve.blobs import FolderStore, names_in
 from wfserve.errors import WfserveError
 
+from .asking import asked, look_for_begun
 from .core import Core
-from .lines import Waiter
 from .listing import Entry, Workflows
 
 
@@ -62,21 +62,26 @@ class Sweeper:
         return self._store.delete_before(now - self._seconds - GRACE_SECONDS)
 
     async def _named(self) -> Set[str]:
-        """The hashes of all blobs that histories name."""
-        entries = self._workflows.search("", "", sys.maxsize)
+        """The hashes of all blobs that histories name, also those of runs that other runs began."""
+        await look_for_begun(self._core, self._workflows, sys.maxsize)
         found: Set[str] = set()
-        runs = {entry.run for entry in entries}
-        self._closed = {run: names for run, names in self._closed.items() if run in runs}
-        for entry in entries:
-            found |= self._closed[entry.run] if entry.run in self._closed else await self._read(entry)
+        seen: Set[str] = set()
+        # Histories that are read may name further runs.
+        while entries := [entry for entry in self._workflows.search("", "", sys.maxsize) if entry.run not in seen]:
+            for entry in entries:
+                seen.add(entry.run)
+                found |= self._closed[entry.run] if entry.run in self._closed else await self._read(entry)
+        self._closed = {run: names for run, names in self._closed.items() if run in seen}
         return found
 
     async def _read(self, entry: Entry) -> FrozenSet[str]:
         """What a run's history names. One that is gone names nothing."""
-        request, waiter = {"op": "history", "workflow_id": entry.workflow_id, "run": entry.run}, Waiter()
-        self._core.submit(request, json.dumps(request).encode()[:-1], waiter)
-        text = (await waiter.future).decode()
-        names = names_in(text)
+        self._workflows.reading(entry)
+        reply = await asked(self._core, "history", entry.workflow_id, entry.run)
+        if "error" in reply:
+            return frozenset()
+        self._workflows.take(entry, reply["events"])
+        names = names_in(json.dumps(reply["events"]))
         if entry.status != "Running":
             self._closed[entry.run] = names
         return names

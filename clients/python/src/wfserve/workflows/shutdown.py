@@ -55,7 +55,7 @@ class Ending:
 
 
 class Pace:
-    """At most so many a second, as even as they come; None is no limit."""
+    """At most so many a second, one after another; None is no limit."""
 
     def __init__(self, per_second: Optional[float]):
         if per_second is not None and per_second <= 0:
@@ -70,8 +70,13 @@ class Pace:
             now = time.monotonic()
             if now < self._next:
                 return self._next - now
-            self._next = max(self._next, now - self._gap) + self._gap
+            self._next = now + self._gap
             return 0.0
+
+    def began(self) -> None:
+        """What took its place began now: it may have waited for a while."""
+        with self._lock:
+            self._next = max(self._next, time.monotonic() + self._gap)
 
     def give_back(self) -> None:
         """What took its place did not begin."""

@@ -311,6 +311,7 @@ class Worker:
         if task is None:
             self._pace.give_back()
             return False
+        self._pace.began()
         with TaskOver():
             self._attempts.make(task)
         return True
