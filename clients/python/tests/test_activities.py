@@ -311,6 +311,39 @@ class Stopping(WithAWorker):
         self.assertEqual((service.told, worker.lost), ([], 1))
         self.assertLess(took, SECONDS / 2)
 
+    def test_a_task_that_comes_once_the_time_is_over_is_another_workers(self):
+        service, called = Told([task_of()]), []
+
+        def work():
+            called.append(1)
+
+        worker = Worker(service, activities=[work])
+        worker._attempts.ending.interrupt()
+        self.assertEqual(worker.work(), 1)
+        self.assertEqual((service.told, called), ([("fail_activity", "WorkerStops")], []))
+
+    def test_a_poll_that_waits_is_waited_for_also_after_the_time_is_over(self):
+        polled, end = threading.Event(), threading.Event()
+        service = Told()
+
+        def call(op, **fields):
+            polled.set()
+            end.wait(SECONDS)
+            return {"line": 1, "ok": "empty"}
+
+        service.call = call
+        worker, stop = Worker(service, activities=[lambda: None], grace=0), threading.Event()
+        working = threading.Thread(target=worker.run, args=(stop, 0.001))
+        with mock.patch("wfserve.workflows.worker.LAST_SECONDS", 0):
+            working.start()
+            self.assertTrue(polled.wait(SECONDS))
+            stop.set()
+            working.join(0.3)
+            self.assertTrue(working.is_alive())
+            end.set()
+            working.join(SECONDS)
+        self.assertEqual((working.is_alive(), worker.lost), (False, 0))
+
     def test_what_is_added_once_the_time_is_over_is_interrupted_at_once(self):
         ending, interrupted = Ending(), []
 

@@ -137,8 +137,9 @@ class Page(WithAServer):
         self.wait(worker, lambda: len(self.runs("p/1")) == 2)
         (begun,), (second,) = self.runs("c 1"), set(self.runs("p/1")) - {first}
         pages = {run: f"/workflows/{name}/{run}" for name, run in (("p%2F1", first), ("p%2F1", second), ("c%201", begun))}
-        self.assertEqual(self.links(pages[first], "#events a", 2), [pages[begun], pages[second]])
-        self.assertEqual(self.links(pages[second], "#events a", 1), [pages[first]])
+        for place in ("#events a", "#others a"):
+            self.assertEqual(self.links(pages[first], place, 2), [pages[second], pages[begun]])
+            self.assertEqual(self.links(pages[second], place, 1), [pages[first]])
         self.assertEqual(self.links(pages[begun], "#parent a", 1), [pages[first]])
 
     def runs(self, workflow_id):

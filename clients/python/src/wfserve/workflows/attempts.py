@@ -5,7 +5,7 @@ from __future__ import annotations
 import inspect
 import logging
 import threading
-from typing import Any, Callable, Dict, Optional
+from typing import Any, Callable, Dict, Optional, Set
 
 from wfserve.calls import Calls, Task
 from wfserve.errors import Refused
@@ -18,7 +18,7 @@ from .errors import AttemptOver, Cancelled, NonRetryable, NotHere
 from .heartbeats import Sender
 from .interceptors import ActivityCall, Interceptors, chained
 from .reports import Reports
-from .shutdown import Ending
+from .shutdown import Ending, WorkerStops
 from .values import checked_text, clipped
 
 
@@ -37,8 +37,8 @@ class Attempts:
         converter: Converter = JSON, interceptors: Interceptors = (), ending: Optional[Ending] = None,
     ):
         self.ending = ending or Ending()
-        # How many attempts are in hand.
-        self.in_hand = 0
+        # The threads that have an attempt in hand.
+        self._busy: Set[int] = set()
         self._service = service
         self._converter = converter
         self._activities = activities
@@ -48,7 +48,15 @@ class Attempts:
         # Where time jumps, it stands still while an activity works: each heartbeat is told then.
         self._sender = Sender() if isinstance(clock, WallClock) else None
         self._coroutines = Coroutines()
-        self._lock = threading.Lock()
+
+    @property
+    def in_hand(self) -> int:
+        """How many attempts are in hand."""
+        return len(self._busy)
+
+    def is_busy(self, thread: Optional[int]) -> bool:
+        """Whether a thread has an attempt in hand."""
+        return thread in self._busy
 
     def close(self) -> None:
         """Ends the loop of coroutines."""
@@ -56,15 +64,12 @@ class Attempts:
 
     def make(self, task: Task) -> None:
         """Calls the function, and reports its result, its failure or that it was cancelled."""
-        self._count(1)
+        thread = threading.get_ident()
+        self._busy.add(thread)
         try:
             self._make(task, Attempt(self._service, task, self._converter, self._sender, self.ending))
         finally:
-            self._count(-1)
-
-    def _count(self, more: int) -> None:
-        with self._lock:
-            self.in_hand += more
+            self._busy.discard(thread)
 
     def _make(self, task: Task, attempt: Attempt) -> None:
         try:
@@ -82,6 +87,9 @@ class Attempts:
             self._tell(task, lambda: self._service.complete_activity(task, result))
 
     def _result(self, task: Task, attempt: Attempt) -> str:
+        if self.ending.is_over:
+            # It came while the worker stopped.
+            raise WorkerStops(f"the worker that took {task.activity_id} stops")
         function = self._activities.get(task.activity_type)
         if function is None:
             raise NotHere(f"this worker has no activity {task.activity_type}")

@@ -114,11 +114,16 @@ class Worker:
         ]
         ways = [functools.partial(self._tell_later, ends), functools.partial(self._end_in_time, ends)]
         try:
-            run_together([*loops, *ways], ends, None if self._grace is None else self._grace + LAST_SECONDS)
+            run_together([*loops, *ways], ends, self._may_leave)
         finally:
             self._reports.lost += self._attempts.in_hand
             self._kept.clear()
             self._attempts.close()
+
+    def _may_leave(self, thread: threading.Thread, stopped: float) -> bool:
+        """Whether a thread is no longer waited for: its activity goes on for much longer than it has. It is so many
+        seconds since the worker was told to stop."""
+        return self._grace is not None and stopped > self._grace + LAST_SECONDS and self._attempts.is_busy(thread.ident)
 
     def _end_in_time(self, stop: ToldOrFailed) -> None:
         """Tells attempts that the worker stops, and interrupts those that take longer than they have."""
@@ -324,10 +329,17 @@ def at_least_one(slots: int) -> int:
     return slots
 
 
-def run_together(loops: Sequence[Callable[[], None]], stop: Stop, longest: Optional[float] = None) -> None:
+def never(thread: threading.Thread, stopped: float) -> bool:
+    """No thread is left."""
+    return False
+
+
+def run_together(
+    loops: Sequence[Callable[[], None]], stop: Stop, may_leave: Callable[[threading.Thread, float], bool] = never,
+) -> None:
     """Runs loops on threads until all have ended. What one of them raises ends the others, and is raised.
 
-    Those that go on for more than `longest` seconds after the stop are left; without it all are waited for.
+    `may_leave` is asked of a thread that goes on so many seconds after the stop: whether it is left.
     """
     faults: List[BaseException] = []
 
@@ -341,19 +353,23 @@ def run_together(loops: Sequence[Callable[[], None]], stop: Stop, longest: Optio
     threads = [threading.Thread(target=run, args=(loop,), daemon=True) for loop in loops]
     for thread in threads:
         thread.start()
-    await_threads(threads, stop, longest)
+    await_threads(threads, stop, may_leave)
     if faults:
         raise faults[0]
 
 
-def await_threads(threads: List[threading.Thread], stop: Stop, longest: Optional[float]) -> None:
-    """Waits until threads have ended, or for so many seconds after the stop."""
-    late: Optional[float] = None
+def await_threads(
+    threads: List[threading.Thread], stop: Stop, may_leave: Callable[[threading.Thread, float], bool],
+) -> None:
+    """Waits until threads have ended, but for those that may be left after the stop."""
+    stopped: Optional[float] = None
     for thread in threads:
-        while thread.is_alive() and (late is None or time.monotonic() < late):
-            thread.join(None if longest is None else LOOK_SECONDS)
-            if longest is not None and late is None and stop.is_set():
-                late = time.monotonic() + longest
+        while thread.is_alive():
+            thread.join(LOOK_SECONDS)
+            if stopped is None and stop.is_set():
+                stopped = time.monotonic()
+            if stopped is not None and may_leave(thread, time.monotonic() - stopped):
+                break
 
 
 def within_limit(commands: List[Command]) -> List[Command]:
