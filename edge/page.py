@@ -22,6 +22,7 @@ from typing import List, Optional
 
 import python_client  # noqa: F401 (it says where the next ones lie)
 from aiohttp import ClientSession, UnixConnector, web
+from wfserve.server.attempts import Attempts
 from wfserve.server.http import answer_faults
 from wfserve.server.listing import Workflows
 from wfserve.server.pages import Pages
@@ -73,12 +74,13 @@ class Records:
 
 
 class Edge:
-    """The edge, as the pages ask it: they hand in calls, and want its moment."""
+    """The edge, as the pages ask it: they hand in calls, and want its moment. What it tells of workflows and of attempts
+    is noted here."""
 
-    def __init__(self, session: ClientSession, workflows: Workflows, lines: str):
-        self.moments = Moment()
-        self._session, self._workflows, self._lines = session, workflows, lines
-        # Until where the runs that began were told; None before the records were read.
+    def __init__(self, session: ClientSession, lines: str):
+        self.moments, self.workflows, self.attempts = Moment(), Workflows(), Attempts()
+        self._session, self._lines = session, lines
+        # Until where it was told of runs that began and of attempts; None before the records were read.
         self._next: Optional[int] = None
         self._asking = asyncio.Lock()
         self._tasks: set = set()
@@ -101,7 +103,7 @@ class Edge:
             receiver.fail(fault)
 
     async def catch_up(self) -> None:
-        """Tells the list what changed since it was told last."""
+        """Learns what changed since it was told last."""
         async with self._asking:
             if self._next is None:
                 await self._read_records()
@@ -109,9 +111,10 @@ class Edge:
                 said = await answer.json()
         self.moments.last, self._next = said["moment"], said["next"]
         for request, reply in said["pairs"]:
-            self._workflows.observe(request, reply)
+            self.workflows.observe(request, reply)
+            self.attempts.observe(request, reply)
         if said["all"]:
-            for entry in self._workflows.search("", "", sys.maxsize):
+            for entry in self.workflows.search("", "", sys.maxsize):
                 entry.changed = True
 
     async def _read_records(self) -> None:
@@ -119,11 +122,13 @@ class Edge:
         async with self._session.get(f"{HERE}/records") as answer:
             records = Records(await answer.json(), self._lines)
         if records.record_files():
-            await asyncio.get_running_loop().run_in_executor(None, Recorded(records, self._workflows).add_all)
+            await asyncio.get_running_loop().run_in_executor(None, Recorded(records, self.workflows).add_all)
         self._next = 0
 
 
-def application(edge: Edge, workflows: Workflows) -> web.Application:
+def application(edge: Edge) -> web.Application:
+    """The pages over an edge."""
+
     @web.middleware
     async def catch_up(request: web.Request, handler):
         if not request.path.startswith("/page/"):
@@ -131,7 +136,7 @@ def application(edge: Edge, workflows: Workflows) -> web.Application:
         return await handler(request)
 
     app = web.Application(middlewares=[answer_faults, catch_up])
-    app.router.add_routes(Pages(edge, workflows).routes())
+    app.router.add_routes(Pages(edge, edge.workflows, edge.attempts).routes())
     return app
 
 
@@ -142,9 +147,8 @@ async def end_of_input() -> None:
 
 
 async def serve(socket: str, edge_socket: str, lines: str) -> None:
-    workflows = Workflows()
     async with ClientSession(connector=UnixConnector(edge_socket, limit=0)) as session:
-        runner = web.AppRunner(application(Edge(session, workflows, lines), workflows))
+        runner = web.AppRunner(application(Edge(session, lines)))
         await runner.setup()
         os.umask(0o177)
         await web.UnixSite(runner, socket).start()

@@ -14,6 +14,11 @@ REGISTRY = Path("/usr/share/cargo/registry")
 CRATES = ("tokio", "hyper", "serde", "serde_derive", "serde_json", "crc32fast", "libc")
 # Ten times what each takes on a quiet machine.
 SECONDS = 600
+# The tests over sockets run class by class. So long each of these may take, and all of them.
+CLASS_SECONDS, SOCKETS_SECONDS = 150, 900
+# What the client's own tests draw at full length against the Python server is drawn shorter here. By hand more of it is
+# drawn, by these names.
+DRAWN = {"WFSERVE_KILLS": "12", "WFSERVE_ORDERS": "50", "WFEDGE_KILLS": "10"}
 CARGO = (
     ("the build", ["cargo", "build", "--release", "--offline"], ""),
     ("the layout", ["cargo", "fmt", "--check"], "cargo-fmt"),
@@ -28,11 +33,11 @@ def missing() -> list[str]:
     return ([] if shutil.which("cargo") else ["cargo"]) + [f"the crate {name}" for name in CRATES if name not in found]
 
 
-def run(title: str, command: list[str], folder: Path, environment: dict[str, str]) -> bool:
+def run(title: str, command: list[str], folder: Path, environment: dict[str, str], seconds: int = SECONDS) -> bool:
     """Runs a part with a limit on its time, and says how long it took."""
     print(f"== {title}", flush=True)
     begun = time.monotonic()
-    ran = subprocess.run(["timeout", str(SECONDS), *command], cwd=folder, env={**os.environ, **environment})
+    ran = subprocess.run(["timeout", str(seconds), *command], cwd=folder, env={**os.environ, **environment})
     print(f"gate: {title}: {time.monotonic() - begun:.0f} s, {'passed' if ran.returncode == 0 else 'FAILED'}", flush=True)
     return ran.returncode == 0
 
@@ -50,8 +55,10 @@ def phase(program: Path) -> int:
         elif not run(title, command, EDGE, {}):
             failed.append(title)
     named = os.environ.get("WFSERVE", str(program))
-    tests = [sys.executable, "-m", "unittest", "discover", "-q", "-s", "."]
-    if not run("tests over sockets", tests, EDGE / "tests", {"WFSERVE": named}):
+    limits = ["--each", str(CLASS_SECONDS), "--all", str(SOCKETS_SECONDS)]
+    tests = [sys.executable, "by_class.py", *limits]
+    shorter = {name: count for name, count in DRAWN.items() if name not in os.environ}
+    if not run("tests over sockets", tests, EDGE / "tests", {"WFSERVE": named, **shorter}, SOCKETS_SECONDS + 60):
         failed.append("tests over sockets")
     print(f"gate: FAILED: {', '.join(failed)}" if failed else "gate: the compiled edge passed", flush=True)
     return 1 if failed else 0

@@ -1,13 +1,16 @@
 //! What changed for the list of workflows: pairs of a request and a reply, as far as a list needs them.
 //!
 //! The page asks for them before it shows a list, and tells them its list as if they had just been made. Runs that
-//! began are kept; what changed since they were asked last is kept once for each run, up to so many.
+//! began are kept, as is what was seen of the attempts of activities; what changed since they were asked last is kept
+//! once for each run, up to so many.
 
+use crate::attempts::Attempts;
 use crate::facts::{commands_in, Facts, Subject};
 use crate::json::{quoted, Object, Value};
+use crate::numbered::Numbered;
 use crate::operations::Op;
 use crate::reply::Reply;
-use std::collections::{BTreeMap, HashMap, HashSet};
+use std::collections::{HashMap, HashSet};
 
 /// Beyond so many changes all runs count as changed.
 const MOST_CHANGED: usize = 100_000;
@@ -19,10 +22,10 @@ const BEGINS_RUNS: [&str; 2] = ["StartChildWorkflowExecution", "ContinueAsNewWor
 /// What a list has to be told.
 #[derive(Default)]
 pub struct Changes {
-    /// The pairs of runs that began, by their numbers from 1 on, and the number of each run.
-    begun: BTreeMap<usize, Box<str>>,
-    numbers: HashMap<Box<str>, usize>,
-    last: usize,
+    /// The pairs of runs that began and of attempts, and the number that each run's pair has.
+    kept: Numbered,
+    numbers: HashMap<Box<str>, u64>,
+    attempts: Attempts,
     changed: HashSet<Box<str>>,
     has_transferred: bool,
     is_all: bool,
@@ -42,6 +45,9 @@ impl Changes {
             (Op::CompleteWorkflowTask, _) => self.note_commands(line),
             _ => {}
         }
+        if let Some(ended) = self.attempts.observe(facts, line, at, reply, &mut self.kept) {
+            self.change(ended);
+        }
         if let Some(run) = run {
             self.change(format!("[{{}},{{\"ok\":\"\",\"run\":{}}}]", quoted(run)));
         }
@@ -52,7 +58,7 @@ impl Changes {
             Subject::Token(token) => {
                 let letters: String = token.chars().take(RUN_LETTERS).collect();
                 let token = quoted(&format!("{letters:A<32}"));
-                self.change(format!("[{{\"op\":\"heartbeat\",\"token\":{token}}},{{\"ok\":\"\"}}]"));
+                self.change(format!("[{{\"token\":{token}}},{{\"ok\":\"\"}}]"));
             }
             Subject::Nothing => {}
         }
@@ -67,15 +73,14 @@ impl Changes {
         let (workflow_id, kind) = (text("workflow_id"), text("workflow_type"));
         let asked = format!("{{\"op\":\"start\",\"workflow_id\":{workflow_id},\"workflow_type\":{kind},\"at\":{at}}}");
         let pair = format!("[{asked},{{\"ok\":\"started\",\"run\":{}}}]", quoted(run));
-        self.last += 1;
-        self.begun.insert(self.last, pair.into());
-        self.numbers.insert(run.into(), self.last);
+        let number = self.kept.add(pair);
+        self.numbers.insert(run.into(), number);
     }
 
     /// Forgets a run that was deleted.
     fn remove(&mut self, run: &str) {
         if let Some(number) = self.numbers.remove(run) {
-            self.begun.remove(&number);
+            self.kept.remove(number);
         }
         let told = format!("{{\"ok\":\"fired\",\"class\":\"retention\",\"run\":{}}}", quoted(run));
         self.change(format!("[{{\"op\":\"timer_turn\"}},{told}]"));
@@ -107,15 +112,14 @@ impl Changes {
         }
     }
 
-    /// The runs that began after the one of this number, and what changed since this was asked last, as JSON.
-    pub fn text(&mut self, from: usize) -> String {
-        let begun = self.begun.range(from + 1..).map(|(_, pair)| pair.as_ref());
-        let mut pairs: Vec<&str> = begun.collect();
+    /// What was kept after the pair of this number, and what changed since this was asked last, as JSON.
+    pub fn text(&mut self, from: u64) -> String {
+        let mut pairs: Vec<&str> = self.kept.after(from).collect();
         pairs.extend(self.changed.iter().map(AsRef::as_ref));
         if self.has_transferred {
             pairs.push("[{\"op\":\"transfer_turn\"},{\"ok\":\"accepted\"}]");
         }
-        let text = format!("{{\"next\":{},\"all\":{},\"pairs\":[{}]}}", self.last, self.is_all, pairs.join(","));
+        let text = format!("{{\"next\":{},\"all\":{},\"pairs\":[{}]}}", self.kept.last(), self.is_all, pairs.join(","));
         self.changed.clear();
         self.has_transferred = false;
         self.is_all = false;

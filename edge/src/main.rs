@@ -6,6 +6,7 @@
 //! can be had again, and `changes` for the `page`. `kept`, `opening` and `compaction` open a log and exchange it.
 #![deny(unsafe_code)]
 
+mod attempts;
 mod body;
 mod call;
 mod changes;
@@ -25,6 +26,7 @@ mod listen;
 mod log_fault;
 mod metrics;
 mod moments;
+mod numbered;
 mod opening;
 mod operations;
 mod options;

@@ -6,14 +6,16 @@
 use crate::say::say;
 use hyper::client::conn;
 use hyper::{Body, Request, Response};
+use std::path::Path;
 use std::process::Stdio;
+use std::sync::atomic::{AtomicBool, Ordering::SeqCst};
 use std::sync::Arc;
 use std::time::{Duration, Instant};
 use tokio::net::UnixStream;
 use tokio::process::Command;
 
 /// So long a request waits for a page that was just started.
-const MOST_WAIT: Duration = Duration::from_secs(10);
+const MOST_WAIT: Duration = Duration::from_secs(30);
 const PAUSE: Duration = Duration::from_millis(20);
 /// So long after its end a page is started again.
 const REST: Duration = Duration::from_secs(1);
@@ -22,6 +24,8 @@ const REST: Duration = Duration::from_secs(1);
 pub struct Page {
     words: Vec<String>,
     socket: String,
+    /// Whether it ended last before it listened: nobody waits for such a page.
+    is_broken: AtomicBool,
 }
 
 impl Page {
@@ -29,7 +33,7 @@ impl Page {
     pub fn new(command: &[String], socket: String, edge: &str, lines: &str) -> Page {
         let mut words = command.to_vec();
         words.extend([socket.clone(), edge.to_string(), lines.to_string()]);
-        Page { words, socket }
+        Page { words, socket, is_broken: AtomicBool::new(false) }
     }
 
     /// Keeps the process running, until this is dropped: that ends it.
@@ -43,10 +47,14 @@ impl Page {
                     let input = child.stdin.take();
                     let status = child.wait().await;
                     drop(input);
+                    self.is_broken.store(!Path::new(&self.socket).exists(), SeqCst);
                     let said = status.map_or_else(|fault| fault.to_string(), |status| status.to_string());
                     say!("the page ended ({said}), and is started again");
                 }
-                Err(fault) => say!("the page: {}: {fault}", self.words[0]),
+                Err(fault) => {
+                    self.is_broken.store(true, SeqCst);
+                    say!("the page: {}: {fault}", self.words[0]);
+                }
             }
             tokio::time::sleep(REST).await;
         }
@@ -64,8 +72,12 @@ impl Page {
         let late = Instant::now() + MOST_WAIT;
         loop {
             match UnixStream::connect(&self.socket).await {
-                Err(_) if Instant::now() < late => tokio::time::sleep(PAUSE).await,
-                result => return result,
+                Ok(socket) => {
+                    self.is_broken.store(false, SeqCst);
+                    return Ok(socket);
+                }
+                Err(_) if Instant::now() < late && !self.is_broken.load(SeqCst) => tokio::time::sleep(PAUSE).await,
+                Err(fault) => return Err(fault),
             }
         }
     }

@@ -17,6 +17,10 @@ pub struct Reply<'a> {
     pub ready: Option<u64>,
     #[serde(borrow, default)]
     pub run: Option<Cow<'a, str>>,
+    #[serde(borrow, default)]
+    pub token: Option<Cow<'a, str>>,
+    #[serde(default)]
+    pub attempt: Option<u64>,
 }
 
 impl<'a> Reply<'a> {

@@ -1,9 +1,15 @@
-//! Which shard a call is of, as the service has it: by the workflow ID, or by the token of a task.
+//! Which shard a call is of, as the service has it: by the workflow ID, or by the token of a task. A token names the
+//! activity too.
 
 /// A shard's number, from 0 on.
 pub type Shard = u16;
 
+/// Which activity it is: the bytes of its tokens for the shard, the run and the event that scheduled it.
+pub type Activity = [u8; 18];
+
 const TOKEN_BYTES: usize = 24;
+/// The kind of an activity's token.
+const ACTIVITY: u8 = 2;
 
 /// The shard of a workflow ID: FNV-1a, modulo the number of shards.
 pub fn shard_of(workflow_id: &str, shards: Shard) -> Shard {
@@ -17,6 +23,14 @@ pub fn shard_of_token(token: &str, shards: Shard) -> Option<Shard> {
     let data = token_bytes(token)?;
     let shard = Shard::from_be_bytes([data[2], data[3]]);
     (shard < shards).then_some(shard)
+}
+
+/// The activity that a token names, where it is one of an activity.
+pub fn activity_of_token(token: &str) -> Option<Activity> {
+    let data = token_bytes(token)?;
+    let mut activity = [0; 18];
+    activity.copy_from_slice(&data[2..20]);
+    (data[1] == ACTIVITY).then_some(activity)
 }
 
 /// The bytes that a token of base64 stands for, where they are as many as a token has.

@@ -15,6 +15,9 @@ from support.programs import BUILT, needs_program
 from test_server import TOKEN, WithAServer
 
 CALL = b'{"op":"signal","name":"a"}'
+HOUR = 3_600_000
+# So many seconds a process may take that does its work at once where the machine has nothing else to do.
+PATIENCE = 60
 
 
 def answer_to(server, data):
@@ -110,15 +113,26 @@ def children_of(pid):
     return found
 
 
-def page_of(pid):
-    """The page of an edge, once it is there."""
-    late = time.monotonic() + 20
+def page_of(pid, former=None):
+    """The page of an edge, once it is there, and is another one than this."""
+    late = time.monotonic() + PATIENCE
     while time.monotonic() < late:
         for child in children_of(pid):
-            if b"page.py" in pathlib.Path(f"/proc/{child}/cmdline").read_bytes():
+            try:
+                words = pathlib.Path(f"/proc/{child}/cmdline").read_bytes()
+            except OSError:
+                continue
+            if b"page.py" in words and child != former:
                 return child
         time.sleep(0.05)
     raise AssertionError("there is no page")
+
+
+def end_page(pid):
+    """Kills the page of an edge, and returns once another one is started."""
+    former = page_of(pid)
+    os.kill(former, signal.SIGKILL)
+    page_of(pid, former)
 
 
 @needs_edge
@@ -137,13 +151,59 @@ class PageProcess(WithAServer):
         server.start()
         client.start("after", "T", request_id="after")
         self.assertEqual(sorted(self.rows(server)), ["after", "before-0", "before-1", "before-2"])
-        former = page_of(server.process.pid)
-        os.kill(former, signal.SIGKILL)
+        end_page(server.process.pid)
         client.signal("after", "s", request_id="s")
-        time.sleep(0.2)
         self.assertEqual(sorted(self.rows(server)), ["after", "before-0", "before-1", "before-2"])
-        self.assertNotEqual(page_of(server.process.pid), former)
         self.assertIn("the page ended", server.said.read_text())
+
+    def test_attempts_are_shown_also_by_an_edge_or_a_page_that_was_started_anew(self):
+        server = self.serve()
+        client = server.client(wait=20_000)
+        run = client.start("w", "T", task_timeout=HOUR)
+        task = client.poll_workflow_task()
+        charge = {"type": "ScheduleActivityTask", "activity_id": "charge", "activity_type": "Charge", "task_queue": "main",
+                  "start_to_close": HOUR, "retry": {"initial": HOUR, "coefficient": 100, "attempts": 3}}
+        other = {**charge, "activity_id": "other"}
+        client.call("complete_workflow_task", token=task.token, commands=[charge, other])
+        tokens = {}
+        for _ in range(2):
+            reply = client.call("poll_activity_task", task_queue="main", wait=20_000)
+            tokens[reply["activity_id"]] = reply["token"]
+        client.call("heartbeat", token=tokens["charge"], details="half of it")
+        client.call("fail_activity", token=tokens["charge"], message="no answer", error_type="OSError")
+        told = {"attempt": 2, "last_failure": "no answer", "last_failure_type": "OSError", "heartbeat": "half of it"}
+        for again in ("", "page", "edge"):
+            if again == "page":
+                end_page(server.process.pid)
+            elif again == "edge":
+                server.kill()
+                server.start()
+            found = {it["id"]: it for it in self.pending(server, run)}
+            self.assertEqual({name: found["charge"].get(name) for name in told}, told, again)
+            self.assertEqual(found["charge"]["next_try"] - found["charge"]["since"], HOUR)
+            self.assertEqual((found["other"]["attempt"], found["other"]["state"]), (1, "a worker has it"), again)
+        client.close()
+        server.client().call("complete_activity", token=tokens["other"], result="done")
+        self.assertEqual([it["id"] for it in self.pending(server, run)], ["charge"])
+
+    def pending(self, server, run):
+        return server.read(f"/api/workflows/w/{run}")["pending"]
+
+    def test_a_page_that_can_not_start_is_said_at_once(self):
+        words = [str(WFEDGE), "--program", str(BUILT), "--log", str(self.log), "--port", "0", "--page", "/bin/false"]
+        with open(self.folder / "said", "w", encoding="utf-8") as said:
+            process = subprocess.Popen(words, stdout=subprocess.PIPE, stderr=said, text=True)
+        self.addCleanup(process.stdout.close)
+        self.addCleanup(process.wait)
+        self.addCleanup(process.terminate)
+        port = int(process.stdout.readline().rstrip("/\n").rpartition(":")[2])
+        begun = time.monotonic()
+        for _ in range(5):
+            with socket.create_connection(("127.0.0.1", port), timeout=20) as connection:
+                connection.sendall(b"GET / HTTP/1.1\r\nHost: localhost\r\nConnection: close\r\n\r\n")
+                self.assertTrue(connection.recv(100).startswith(b"HTTP/1.1 503"))
+        self.assertLess(time.monotonic() - begun, 25)
+        self.assertIn("the page ended", (self.folder / "said").read_text(encoding="utf-8"))
 
     def test_what_changed_is_shown_at_once(self):
         server = self.serve()
@@ -160,7 +220,7 @@ class PageProcess(WithAServer):
             server = self.serve()
             page = page_of(server.process.pid)
             getattr(server, end)()
-            late = time.monotonic() + 10
+            late = time.monotonic() + PATIENCE
             while pathlib.Path(f"/proc/{page}").exists() and time.monotonic() < late:
                 time.sleep(0.05)
             self.assertFalse(pathlib.Path(f"/proc/{page}").exists(), end)

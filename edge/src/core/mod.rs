@@ -210,7 +210,7 @@ impl Core {
     }
 
     /// What changed for the list of workflows since it was asked last.
-    pub fn changes(&self, from: usize) -> Option<String> {
+    pub fn changes(&self, from: u64) -> Option<String> {
         self.lock().changes.as_mut().map(|changes: &mut Changes| changes.text(from))
     }
 
