@@ -99,7 +99,8 @@ class Statuses(unittest.TestCase):
             self.assertIn(f"  {int(status)}  {meaning}", said)
 
     def test_words_that_are_no_command(self):
-        for words in ([], ["nothing"], ["start", "hello"], ["start", "t", "i", "--run-timeout", "30"], ["replay", "f", "nocolon"]):
+        for words in ([], ["nothing"], ["start", "hello"], ["start", "t", "i", "--run-timeout", "30"], ["replay", "f", "nocolon"],
+                      ["work", "m", "--grace", "-1"], ["work", "m", "--grace", "soon"], ["work", "m", "--threads", "0"]):
             status, out, err = ran(*words)
             self.assertEqual((status, out), (2, ""), words)
             self.assertIn("usage: wf", err)
@@ -211,7 +212,7 @@ class OverAServer(unittest.TestCase):
         cls.server = Server(str(BUILT), cls.folder / "log")
         cls.addClassCleanup(cls.server.stop)
         cls.url = ["--url", cls.server.url.rstrip("/")]
-        words = [sys.executable, "-m", "wfserve.cli", "work", "greeting", "--threads", "1", *cls.url]
+        words = [sys.executable, "-m", "wfserve.cli", "work", "greeting", "--threads", "1", "--grace", "30", *cls.url]
         cls.worker = subprocess.Popen(words, cwd=cls.folder, stdout=subprocess.PIPE, text=True)
         cls.worker.stdout.readline()
         cls.addClassCleanup(cls.end_worker)
@@ -343,6 +344,17 @@ class OverAServer(unittest.TestCase):
         status, out, _ = ran("replay", "histories", "greeting:hello")
         self.assertEqual(status, 1)
         self.assertRegex(out, "^greeting:hello disagrees with histories: event 5: ")
+
+    def test_a_long_argument_lies_beside_the_log_and_its_history_is_replayed_with_it(self):
+        name = "World" * 2_000
+        self.assertEqual(self.wf("execute", "hello", "long-1", name), (0, f"hello {name}\n", ""))
+        self.assertEqual(self.wf("start", "hello", "long-1", name)[0], 0)
+        line = self.wf("call", '{"op":"history","workflow_id":"long-1"}')[1]
+        self.assertNotIn(name, line)
+        pathlib.Path("long.jsonl").write_text(line, encoding="utf-8")
+        said = (0, "greeting:hello agrees with 1 history of long.jsonl\n", "")
+        self.assertEqual(ran("replay", "long.jsonl", "greeting:hello", "--blobs", f"{self.folder / 'log'}.blobs"), said)
+        self.assertEqual(ran("replay", "long.jsonl", "greeting:hello", "--blobs", "nowhere")[0], 1)
 
 
 @needs_program

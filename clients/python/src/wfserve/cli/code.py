@@ -56,7 +56,7 @@ def work(args: argparse.Namespace) -> Status:
 def add_replay(parser: argparse.ArgumentParser) -> None:
     parser.add_argument("place", help="a file of replies, or a folder of such files: their histories are replayed")
     parser.add_argument("workflow", type=named, help="MODULE:WORKFLOW")
-    parser.add_argument("--blobs", metavar="FOLDER", help="the folder beside the log that has the longer texts, as orders.log.blobs")
+    parser.add_argument("--blobs", metavar="FOLDER", help="the folder of the longer texts beside the log, as orders.log.blobs")
 
 
 def replay(args: argparse.Namespace) -> Status:
