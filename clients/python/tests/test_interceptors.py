@@ -208,7 +208,8 @@ class Spans(unittest.TestCase):
         self.assertEqual(self.names().count("activity charge"), 2)
         self.assertEqual([span.fault for span in self.tracer.spans if span.name == "activity charge"], ["ConnectionError", None])
         self.assertEqual(spans["start order"].attributes["wfserve.run"], run)
-        self.assertEqual({spans[it].context for it in ("activity ship", "workflow order begins", "query told")}, {f"trace of {run}"})
+        for name in ("activity ship", "workflow order begins", "query told"):
+            self.assertEqual(spans[name].context, f"trace of {run}", name)
         self.assertIsNone(spans["start order"].context)
         self.assertEqual(spans["activity charge"].attributes["wfserve.attempt"], 2)
 

@@ -220,8 +220,8 @@ class Page(WithAServer):
         rows = "[...document.querySelectorAll('#events tr')].map((it) => it.innerText)"
         self.browser.wait(f"{rows}.some((it) => it.includes('activity 1') && it.includes('Completed'))")
         self.assertTrue(self.browser.value(f"{rows}.some((it) => it.includes('timer 1') && it.includes('Pending'))"))
-        unfold = "[...document.querySelectorAll('#events tr')].find((it) => it.innerText.includes('activity 1')).querySelector('button')"
-        self.browser.value(f"{unfold}.click()")
+        row = "[...document.querySelectorAll('#events tr')].find((it) => it.innerText.includes('activity 1'))"
+        self.browser.value(f"{row}.querySelector('button').click()")
         self.browser.wait("document.getElementById('events').innerText.includes('ActivityTaskCompleted')")
         if "WFSERVE_FOLDED_PICTURE" in os.environ:
             self.browser.picture(os.environ["WFSERVE_FOLDED_PICTURE"])
@@ -261,7 +261,8 @@ def long_history(count):
         add("ActivityTaskStarted", scheduled=activity, attempt=1 + number % 2, taken=0)
         add("ActivityTaskCompleted", scheduled=activity, result="1")
         timer = add("TimerStarted", timer_id=str(number), duration=1_000)
-        child = add("StartChildWorkflowExecutionInitiated", workflow_id=f"c{number}", workflow_type="ship", task_queue="main", input="")
+        begun = {"workflow_type": "ship", "task_queue": "main", "input": ""}
+        child = add("StartChildWorkflowExecutionInitiated", workflow_id=f"c{number}", **begun)
         add("ChildWorkflowExecutionStarted", initiated=child, workflow_id=f"c{number}", run=CHILD_RUN)
         add("TimerFired", timer_id=str(number), started=timer)
         add("ChildWorkflowExecutionFailed", initiated=child, run=CHILD_RUN, message="no")
