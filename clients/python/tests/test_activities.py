@@ -103,9 +103,10 @@ class Heartbeats(unittest.TestCase):
         for number in range(50):
             self.pulse.beat(str(number))
             self.now += 0.1
-        self.assertEqual((self.details(), len(self.timeouts)), (["0"], 1))
+        # Its timeout is read by the sender, for which the activity doesn't wait.
+        self.assertEqual((self.details(), len(self.timeouts)), (["0"], 0))
         self.sender.send_due(self.now)
-        self.assertEqual(self.details(), ["0"])
+        self.assertEqual((self.details(), len(self.timeouts)), (["0"], 1))
         # 8 seconds after the first one.
         self.now = 107.9
         self.sender.send_due(self.now)
@@ -155,7 +156,12 @@ class Heartbeats(unittest.TestCase):
         self.now += 9
         with self.assertRaises(Cancelled):
             self.pulse.beat("cleaning up")
+        self.sender.send_due(self.now)
         self.assertEqual(self.details(), ["0", "cleaning up"])
+        self.now += 9
+        with self.assertRaises(Cancelled):
+            self.pulse.beat("cleaned up")
+        self.assertEqual(self.details(), ["0", "cleaning up", "cleaned up"])
 
     def test_where_the_service_is_away_the_details_stay(self):
         self.service.answers = [CallLost("gone")]

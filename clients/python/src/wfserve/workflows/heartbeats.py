@@ -89,12 +89,16 @@ class Pulse:
         """Tells details, or leaves them to be told. Raises what the service said of an earlier one, or of this one."""
         with self._lock:
             self._left = text
-        if self._sender is None or (may_block and self._is_due()):
+        if self._sender is None or (may_block and self._is_due_here()):
             self.tell()
         else:
             self._plan(self._sender)
         if self._end is not None:
             raise self._end
+
+    def _is_due_here(self) -> bool:
+        """Whether one is told by the activity itself, which must not wait until its timeout is read."""
+        return self._told_at is None or (self._interval is not None and self._is_due())
 
     def _is_due(self) -> bool:
         """Whether it is told at once: the first one, and one that comes long enough after the last."""
