@@ -350,6 +350,33 @@ class Stopping(WithAWorker):
             working.join(SECONDS)
         self.assertEqual((working.is_alive(), worker.lost), (False, 0))
 
+    def test_a_task_that_a_poll_takes_as_the_worker_stops_has_its_time(self):
+        polled, end = threading.Event(), threading.Event()
+        service = Told([task_of()])
+        answer = service._answer
+
+        def answered(op, fields):
+            if op == "poll_activity_task":
+                polled.set()
+                end.wait(SECONDS)
+            return answer(op, fields)
+
+        service._answer = answered
+
+        def work():
+            time.sleep(0.01)
+            return attempt().worker_stops
+
+        worker, stop = Worker(service, activities=[work], grace=SECONDS), threading.Event()
+        working = threading.Thread(target=worker.run, args=(stop, 0.001))
+        working.start()
+        self.assertTrue(polled.wait(SECONDS))
+        stop.set()
+        time.sleep(0.2)
+        end.set()
+        working.join(SECONDS)
+        self.assertEqual((service.told, worker.lost), ([("complete_activity", "true")], 0))
+
     def test_what_is_added_once_the_time_is_over_is_interrupted_at_once(self):
         ending, interrupted = Ending(), []
 

@@ -19,14 +19,19 @@ class Ending:
     def __init__(self, grace: Optional[float] = None):
         self.grace = grace
         self.told = threading.Event()
-        self._over = threading.Event()
+        # When what is in hand was interrupted, by the steady clock.
+        self._over: Optional[float] = None
         self._interrupts: Set[Callable[[], None]] = set()
         self._lock = threading.Lock()
 
     @property
     def is_over(self) -> bool:
         """Whether attempts are to end now."""
-        return self._over.is_set()
+        return self._over is not None
+
+    def is_long_over(self, seconds: float) -> bool:
+        """Whether attempts were interrupted so many seconds ago."""
+        return self._over is not None and time.monotonic() > self._over + seconds
 
     def tell(self) -> None:
         """The worker was told to stop."""
@@ -35,7 +40,7 @@ class Ending:
     def interrupt(self) -> None:
         """The time of what is in hand is over."""
         with self._lock:
-            self._over.set()
+            self._over = time.monotonic()
             interrupts = list(self._interrupts)
         for it in interrupts:
             it()
@@ -44,7 +49,7 @@ class Ending:
         """Has this called once the time is over, as long as it isn't removed."""
         with self._lock:
             self._interrupts.add(interrupt)
-            is_over = self._over.is_set()
+            is_over = self._over is not None
         if is_over:
             interrupt()
 

@@ -7,7 +7,7 @@ import logging
 import threading
 import time
 import traceback
-from typing import Any, Callable, Dict, Iterable, List, Optional, Sequence, Tuple
+from typing import Any, Callable, Dict, Iterable, List, Optional, Sequence, Set, Tuple
 
 from wfserve.calls import Calls, Task
 from wfserve.errors import LogFull, Refused, Unavailable
@@ -78,6 +78,8 @@ class Worker:
         self._interceptors = tuple(interceptors)
         self._slots = at_least_one(workflow_slots), at_least_one(activity_slots)
         self._pace, self._grace = Pace(activities_per_second), grace
+        # The threads that poll or have a task in hand.
+        self._working: Set[int] = set()
         self._attempts = Attempts(
             service, self._activities, self.clock, self._reports, self._converter, self._interceptors, Ending(grace),
         )
@@ -120,25 +122,37 @@ class Worker:
             self._kept.clear()
             self._attempts.close()
 
-    def _may_leave(self, thread: threading.Thread, stopped: float) -> bool:
-        """Whether a thread is no longer waited for: its activity goes on for much longer than it has. It is so many
-        seconds since the worker was told to stop."""
-        return self._grace is not None and stopped > self._grace + LAST_SECONDS and self._attempts.is_busy(thread.ident)
+    def _may_leave(self, thread: threading.Thread) -> bool:
+        """Whether a thread is no longer waited for: its activity goes on though it was interrupted some time ago."""
+        return self._attempts.ending.is_long_over(LAST_SECONDS) and self._attempts.is_busy(thread.ident)
 
     def _end_in_time(self, stop: ToldOrFailed) -> None:
-        """Tells attempts that the worker stops, and interrupts those that take longer than they have."""
+        """Tells attempts that the worker stops, and interrupts those that take longer than they have.
+
+        Their time begins once nobody polls any more: a task that a poll had taken by then has as much.
+        """
         while not stop.is_set():
             stop.wait(UNAVAILABLE_PAUSE)
         ending = self._attempts.ending
         ending.tell()
         if ending.grace is None:
             return
+        while len(self._working) > self._attempts.in_hand:
+            time.sleep(LOOK_SECONDS)
         late = time.monotonic() + ending.grace
-        while self._attempts.in_hand and time.monotonic() < late:
+        while self._working and time.monotonic() < late:
             time.sleep(LOOK_SECONDS)
         ending.interrupt()
 
     def _work_on(self, kind: Callable[[], bool], stop: ToldOrFailed, pause: float) -> None:
+        thread = threading.get_ident()
+        self._working.add(thread)
+        try:
+            self._work_until(kind, stop, pause)
+        finally:
+            self._working.discard(thread)
+
+    def _work_until(self, kind: Callable[[], bool], stop: ToldOrFailed, pause: float) -> None:
         absence = Absence()
         while not stop.is_set():
             try:
@@ -329,17 +343,17 @@ def at_least_one(slots: int) -> int:
     return slots
 
 
-def never(thread: threading.Thread, stopped: float) -> bool:
+def never(thread: threading.Thread) -> bool:
     """No thread is left."""
     return False
 
 
 def run_together(
-    loops: Sequence[Callable[[], None]], stop: Stop, may_leave: Callable[[threading.Thread, float], bool] = never,
+    loops: Sequence[Callable[[], None]], stop: Stop, may_leave: Callable[[threading.Thread], bool] = never,
 ) -> None:
     """Runs loops on threads until all have ended. What one of them raises ends the others, and is raised.
 
-    `may_leave` is asked of a thread that goes on so many seconds after the stop: whether it is left.
+    `may_leave` is asked whether a thread that goes on is waited for no longer.
     """
     faults: List[BaseException] = []
 
@@ -353,23 +367,11 @@ def run_together(
     threads = [threading.Thread(target=run, args=(loop,), daemon=True) for loop in loops]
     for thread in threads:
         thread.start()
-    await_threads(threads, stop, may_leave)
+    for thread in threads:
+        while thread.is_alive() and not may_leave(thread):
+            thread.join(LOOK_SECONDS)
     if faults:
         raise faults[0]
-
-
-def await_threads(
-    threads: List[threading.Thread], stop: Stop, may_leave: Callable[[threading.Thread, float], bool],
-) -> None:
-    """Waits until threads have ended, but for those that may be left after the stop."""
-    stopped: Optional[float] = None
-    for thread in threads:
-        while thread.is_alive():
-            thread.join(LOOK_SECONDS)
-            if stopped is None and stop.is_set():
-                stopped = time.monotonic()
-            if stopped is not None and may_leave(thread, time.monotonic() - stopped):
-                break
 
 
 def within_limit(commands: List[Command]) -> List[Command]:
