@@ -34,6 +34,7 @@ def open_tasks(events: List[Event]) -> List[Open]:
         return []
     scheduled: Dict[int, Event] = {}
     task: Optional[Open] = None
+    own = events[0]["attrs"].get("task_queue", "")
     for event in events:
         kind, attrs = event["type"], event["attrs"]
         if kind == "ActivityTaskScheduled":
@@ -41,12 +42,12 @@ def open_tasks(events: List[Event]) -> List[Open]:
         elif kind in ACTIVITY_ENDS:
             scheduled.pop(attrs["scheduled"], None)
         elif kind == "WorkflowTaskScheduled":
-            task = Open(WORKFLOW, attrs["task_queue"], event["id"], event["at"], False)
+            task = Open(WORKFLOW, attrs.get("task_queue", own), event["id"], event["at"], False)
         elif kind == "WorkflowTaskStarted" and task is not None:
             task = task._replace(since=event["at"], begun=True)
         elif kind.startswith("WorkflowTask"):
             task = None
-    found = [Open(ACTIVITY, it["attrs"]["task_queue"], it["id"], it["at"], False) for it in scheduled.values()]
+    found = [Open(ACTIVITY, it["attrs"].get("task_queue", own), it["id"], it["at"], False) for it in scheduled.values()]
     return [task, *found] if task is not None else found
 
 
