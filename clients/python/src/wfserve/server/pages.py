@@ -125,14 +125,14 @@ class Pages:
     async def history(self, request: web.Request) -> web.Response:
         """A history, or its events after one, or only that it is as long as before."""
         entry, events = await self._entry(request)
-        row, now = entry.row(), self._core.moments.now()
+        row = entry.row()
         if request.query.get("length") == str(entry.length):
-            return web.json_response({"workflow": row, "now": now})
+            return web.json_response({"workflow": row})
         events = events or await self._events(entry)
         found = [] if row["status"] != "Running" else self._pending(entry.run, events)
         parent = self._workflows.find_run(events[0]["attrs"].get("parent_run"))
         named = {} if parent is None else {"parent": {"workflow_id": parent.workflow_id, "run": parent.run}}
-        new = events[number_of(request, "after", 0):]
+        new, now = events[number_of(request, "after", 0):], self._core.moments.now()
         return web.json_response({"workflow": row, "events": new, "pending": found, "now": now, **named})
 
     def _pending(self, run: str, events: List[Event]) -> List[Json]:
