@@ -83,7 +83,7 @@ def main(words: list[str]) -> int:
     if not shutil.which("rt"):
         print("unproved: there is no rt here, the command of the Rattle toolchain", file=sys.stderr)
         return 2
-    print("unproved: compiling without proofs, which takes one to two minutes", file=sys.stderr, flush=True)
+    print("unproved: compiling without proofs, which takes two to three minutes", file=sys.stderr, flush=True)
     why = build(program)
     if why:
         print(f"unproved: {why}", file=sys.stderr)

@@ -99,7 +99,8 @@ class Statuses(unittest.TestCase):
             self.assertIn(f"  {int(status)}  {meaning}", said)
 
     def test_words_that_are_no_command(self):
-        for words in ([], ["nothing"], ["start", "hello"], ["start", "t", "i", "--run-timeout", "30"], ["replay", "f", "nocolon"]):
+        for words in ([], ["nothing"], ["start", "hello"], ["start", "t", "i", "--run-timeout", "30"], ["replay", "f", "nocolon"],
+                      ["work", "m", "--grace", "-1"], ["work", "m", "--grace", "soon"], ["work", "m", "--threads", "0"]):
             status, out, err = ran(*words)
             self.assertEqual((status, out), (2, ""), words)
             self.assertIn("usage: wf", err)
@@ -211,7 +212,7 @@ class OverAServer(unittest.TestCase):
         cls.server = Server(str(BUILT), cls.folder / "log")
         cls.addClassCleanup(cls.server.stop)
         cls.url = ["--url", cls.server.url.rstrip("/")]
-        words = [sys.executable, "-m", "wfserve.cli", "work", "greeting", "--threads", "1", *cls.url]
+        words = [sys.executable, "-m", "wfserve.cli", "work", "greeting", "--threads", "1", "--grace", "30", *cls.url]
         cls.worker = subprocess.Popen(words, cwd=cls.folder, stdout=subprocess.PIPE, text=True)
         cls.worker.stdout.readline()
         cls.addClassCleanup(cls.end_worker)
@@ -290,6 +291,10 @@ class OverAServer(unittest.TestCase):
         self.assertIn("attempt 2, to be tried at ", said[1])
         self.assertIn("the last one failed: RuntimeError: the bank is closed", said[1])
         row = next(line for line in self.wf("tasks", "stays")[1].splitlines() if line.startswith("stays-1"))
+        queued = [json.loads(line) for line in self.wf("queues", "--json")[1].splitlines()]
+        later = next(it["later"] for it in queued if (it["queue"], it["kind"]) == ("main", "activity"))
+        self.assertGreaterEqual(later, 1)
+        self.assertRegex(self.wf("queues")[1], "(?m)^main +activity +0 ")
         self.assertIn("the bank is closed", row)
         found = json.loads(self.wf("describe", "stays-1", "--json")[1])["pending"][0]
         self.assertEqual((found["kind"], found["attempt"], found["last_failure_type"]), ("activity", 2, "RuntimeError"))
@@ -339,6 +344,17 @@ class OverAServer(unittest.TestCase):
         status, out, _ = ran("replay", "histories", "greeting:hello")
         self.assertEqual(status, 1)
         self.assertRegex(out, "^greeting:hello disagrees with histories: event 5: ")
+
+    def test_a_long_argument_lies_beside_the_log_and_its_history_is_replayed_with_it(self):
+        name = "World" * 2_000
+        self.assertEqual(self.wf("execute", "hello", "long-1", name), (0, f"hello {name}\n", ""))
+        self.assertEqual(self.wf("start", "hello", "long-1", name)[0], 0)
+        line = self.wf("call", '{"op":"history","workflow_id":"long-1"}')[1]
+        self.assertNotIn(name, line)
+        pathlib.Path("long.jsonl").write_text(line, encoding="utf-8")
+        said = (0, "greeting:hello agrees with 1 history of long.jsonl\n", "")
+        self.assertEqual(ran("replay", "long.jsonl", "greeting:hello", "--blobs", f"{self.folder / 'log'}.blobs"), said)
+        self.assertEqual(ran("replay", "long.jsonl", "greeting:hello", "--blobs", "nowhere")[0], 1)
 
 
 @needs_program

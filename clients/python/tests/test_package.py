@@ -19,8 +19,8 @@ from wfserve.errors import WfserveError
 # They end or cancel what runs, and no `except Exception` may catch them.
 NO_EXCEPTIONS = {"Blocked", "Cancelled", "ContinueAsNew", "ReplayOver"}
 # These need aiohttp or httptools.
-WANTING = ("wfserve.server.__main__", "wfserve.server.connections", "wfserve.server.front", "wfserve.server.http",
-           "wfserve.server.pages")
+WANTING = ("wfserve.server.__main__", "wfserve.server.blobs", "wfserve.server.connections", "wfserve.server.front",
+           "wfserve.server.http", "wfserve.server.pages")
 
 
 def module_names():

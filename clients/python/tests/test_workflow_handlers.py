@@ -323,8 +323,10 @@ class Named(unittest.TestCase):
                          ["Approval", "asks", "charge", "Charge.v2", "Other"])
 
     def test_what_can_not_be_one(self):
-        async def beside(): ...
-        with self.assertRaisesRegex(TypeError, "the activity beside is an 'async def'"):
+        async def beside():
+            yield 1
+
+        with self.assertRaisesRegex(TypeError, "the activity beside is an 'async def' that yields"):
             activity(name="Beside")(beside)
         with self.assertRaisesRegex(TypeError, "the workflow charge is no 'async def'"):
             workflow(name="Charge")(charge)

@@ -1,5 +1,6 @@
 """Workers: no result is lost, no run spins, and what is wrong is said."""
 
+import asyncio
 import collections
 import itertools
 import threading
@@ -75,8 +76,14 @@ def long_details():
     attempt().heartbeat("x" * 5_000)
 
 
-async def asynchronous():
-    return 1
+async def asynchronous(value):
+    await asyncio.sleep(0.001)
+    CALLED["asynchronous"] += 1
+    return [value, attempt().number]
+
+
+async def many():
+    yield 1
 
 
 @workflow
@@ -85,6 +92,12 @@ async def one(ctx, activity, attempts=2):
         return await ctx.activity(activity, start_to_close=seconds(50), retry=Retry(initial=10, attempts=attempts))
     except ActivityFailed as failed:
         return [failed.error_type, failed.reason, str(failed)]
+
+
+@workflow
+async def takes_one(ctx, activity, value):
+    arguments = [value] if activity == "asynchronous" else []
+    return await ctx.activity(activity, *arguments, start_to_close=seconds(50))
 
 
 @workflow
@@ -135,10 +148,10 @@ class Away(Calls):
 
 @needs_program
 class Results(WithAService):
-    WORKFLOWS = [one, parts, unheard, keys]
+    WORKFLOWS = [one, parts, unheard, keys, takes_one]
     ACTIVITIES = [
         charge, keyed, in_parts, imagined, too_long, gives_a_coroutine, ends_the_process, says_it_was_cancelled, asks_wrongly,
-        long_details,
+        long_details, asynchronous,
     ]
 
     def setUp(self):
@@ -186,7 +199,6 @@ class Results(WithAService):
         wanted = {
             "imagined": "imagined gave no JSON: Object of type complex is not JSON serializable",
             "too_long": "the result of too_long has 5002 bytes, and a text has at most 4096",
-            "gives_a_coroutine": "gives_a_coroutine gave a coroutine: an activity is a plain function",
         }
         for name, said in wanted.items():
             with self.subTest(name):
@@ -195,6 +207,14 @@ class Results(WithAService):
                 status, (error_type, reason, message) = self.ended()
                 self.assertEqual((status, error_type, reason), ("Completed", "BadResult", "NonRetryableFailure"))
                 self.assertIn(said, message)
+                self.assertEqual(CALLED[name], 1)
+
+    def test_a_coroutine_is_awaited_whether_its_function_says_so_or_not(self):
+        for name, wanted in (("asynchronous", [7, 1]), ("gives_a_coroutine", 1)):
+            with self.subTest(name):
+                self.setUp()
+                self.start(takes_one, name, 7)
+                self.assertEqual(self.ended(), ("Completed", wanted))
                 self.assertEqual(CALLED[name], 1)
 
     def test_what_an_activity_raises_never_ends_its_worker(self):
@@ -225,9 +245,9 @@ class Registered(unittest.TestCase):
     def worker(self, **more):
         return Worker(Calls(), **more)
 
-    def test_an_activity_that_is_async_is_refused_at_once(self):
-        with self.assertRaisesRegex(TypeError, "the activity asynchronous is an 'async def'"):
-            self.worker(activities=[asynchronous])
+    def test_an_activity_that_gives_many_values_is_refused_at_once(self):
+        with self.assertRaisesRegex(TypeError, "the activity many is an 'async def' that yields"):
+            self.worker(activities=[many])
 
     def test_two_of_one_name_are_refused(self):
         def charge():

@@ -17,7 +17,7 @@ from __future__ import annotations
 import time
 import uuid
 from types import TracebackType
-from typing import Any, Callable, List, Optional, Type, Union
+from typing import Any, Callable, List, Optional, Sequence, Type, Union
 
 from wfserve.calls import Calls
 from wfserve.descriptions import Description, described
@@ -27,6 +27,7 @@ from wfserve.http import HttpService, pauses
 from wfserve.types import Event, Json
 from wfserve.workflows.converter import JSON, Converter
 from wfserve.workflows.definitions import Named, type_of
+from wfserve.workflows.interceptors import ClientCall, Interceptors, chained
 from wfserve.workflows.replay import answer_of
 from wfserve.workflows.typed import result_hint
 
@@ -39,18 +40,19 @@ class Client:
     """A service's workflows, over HTTP or over any other `Calls`.
 
     `queue` is the task queue that workflows are started in where none is named. `token` is the server's, where it
-    wants one.
+    wants one. `interceptors` stand around each call, the first one outermost.
     """
 
     def __init__(
         self, service: Union[str, Calls], queue: str = "main", token: Optional[str] = None,
-        converter: Converter = JSON,
+        converter: Converter = JSON, interceptors: Interceptors = (),
     ):
         self.service = HttpService(service, token) if isinstance(service, str) else service
         self.queue = queue
         # What waits between two looks at a workflow, for so many seconds. Tests let time jump there.
         self.pause: Callable[[float], Any] = time.sleep
-        self.converter = converter
+        self.converter = converter.with_blobs(self.service)
+        self.interceptors = tuple(interceptors)
 
     def __enter__(self) -> Client:
         return self
@@ -75,11 +77,18 @@ class Client:
         RejectDuplicate), `conflict` (Fail, UseExisting, TerminateExisting), and `run_timeout`, `task_timeout` and
         `execution_timeout` in milliseconds. A start with the `request_id` of an earlier one is that one.
         """
-        run = self.service.start(
-            id, type_of(workflow), queue or self.queue, input=self.converter.input_of(arguments),
-            request_id=request_id or str(uuid.uuid4()), **options,
+        call = ClientCall("start", id, None, type_of(workflow), list(arguments), {
+            "queue": queue or self.queue, "request_id": request_id or str(uuid.uuid4()), **options,
+        })
+        return self.handle(id, self.asked(call, self._start), result_hint(workflow))
+
+    def _start(self, call: ClientCall) -> str:
+        """Its run."""
+        options = dict(call.options)
+        queue = options.pop("queue")
+        return self.service.start(
+            call.id, call.workflow_type, queue, input=self.converter.input_of(call.arguments), **options,
         )
-        return self.handle(id, run, result_hint(workflow))
 
     def execute(self, workflow: Named, *arguments: Any, id: str, timeout: Optional[float] = None, **options: Any) -> Any:
         """Starts a workflow and waits for its result, as `start` and then `result` do."""
@@ -90,12 +99,23 @@ class Client:
         **options: Any,
     ) -> WorkflowHandle:
         """Signals the open workflow of this id, or starts one and signals it."""
-        run = self.service.signal_with_start(
-            id, type_of(workflow), signal, queue or self.queue, input=self.converter.input_of(arguments),
-            signal_input=self.converter.text_of(value),
-            request_id=str(uuid.uuid4()), **options,
+        call = ClientCall("signal_with_start", id, None, type_of(workflow), list(arguments), {
+            "queue": queue or self.queue, "request_id": str(uuid.uuid4()), "signal": signal, "value": value, **options,
+        })
+        return self.handle(id, self.asked(call, self._signal_with_start), result_hint(workflow))
+
+    def _signal_with_start(self, call: ClientCall) -> str:
+        """Its run."""
+        options = dict(call.options)
+        queue, signal, value = (options.pop(name) for name in ("queue", "signal", "value"))
+        return self.service.signal_with_start(
+            call.id, call.workflow_type, signal, queue, input=self.converter.input_of(call.arguments),
+            signal_input=self.converter.text_of(value), **options,
         )
-        return self.handle(id, run, result_hint(workflow))
+
+    def asked(self, call: ClientCall, make: Callable[[ClientCall], Any]) -> Any:
+        """What a call comes to, by way of the interceptors."""
+        return chained(self.interceptors, "client", make)(call)
 
     def handle(self, id: str, run: Optional[str] = None, hint: Any = Any) -> WorkflowHandle:
         """A handle for a workflow that is there: for this run, or for the latest one. It asks nothing.
@@ -109,10 +129,20 @@ class Client:
 
         A TypeError where the client speaks with no server.
         """
-        if not isinstance(self.service, HttpService):
-            raise TypeError("only a server has a list of workflows")
-        rows: List[Json] = self.service.read("/api/workflows", search=search, status=status)["workflows"]
+        rows: List[Json] = self._server().read("/api/workflows", search=search, status=status)["workflows"]
         return rows
+
+    def queues(self) -> Json:
+        """What a server knows of its task queues, in `queues`: what waits, what workers have, who polls.
+
+        A TypeError where the client speaks with no server.
+        """
+        return self._server().read("/api/queues")
+
+    def _server(self) -> HttpService:
+        if not isinstance(self.service, HttpService):
+            raise TypeError("only a server has lists of workflows and of task queues")
+        return self.service
 
 
 class WorkflowHandle:
@@ -135,8 +165,15 @@ class WorkflowHandle:
 
         NotCompleted where it ended otherwise; StillRunning after `timeout` seconds, where that is given.
         """
+        return self._asked("result", lambda call: self._result(call.run, timeout))
+
+    def _asked(self, name: str, make: Callable[[ClientCall], Any], arguments: Sequence[Any] = (), **options: Any) -> Any:
+        """What a call on this workflow comes to, by way of the client's interceptors."""
+        call = ClientCall(name, self.id, self.run, "", list(arguments), options)
+        return self._client.asked(call, make)
+
+    def _result(self, run: Optional[str], timeout: Optional[float]) -> Any:
         late = None if timeout is None else time.monotonic() + timeout
-        run = self.run
         while True:
             last = self._end(run, late)
             if STATUS[last["type"]] != CONTINUED:
@@ -163,15 +200,22 @@ class WorkflowHandle:
 
     def signal(self, name: str, value: Any = None, request_id: Optional[str] = None) -> None:
         """Signals it. With the `request_id` of an earlier signal it is that one."""
-        self._service.signal(self.id, name, self._converter.text_of(value), self.run, request_id or str(uuid.uuid4()))
+        def make(call: ClientCall) -> None:
+            text = self._converter.text_of(call.arguments[0])
+            self._service.signal(self.id, call.options["signal"], text, self.run, call.options["request_id"])
+
+        self._asked("signal", make, [value], signal=name, request_id=request_id or str(uuid.uuid4()))
 
     def cancel(self) -> None:
         """Asks it to cancel: its code gets Cancelled where it waits."""
-        self._service.request_cancel(self.id, self.run, str(uuid.uuid4()))
+        self._asked("cancel", lambda call: self._service.request_cancel(self.id, self.run, str(uuid.uuid4())))
 
     def terminate(self, reason: str = "") -> None:
         """Ends it at once, without its code."""
-        self._service.terminate(self.id, self.run, reason or None)
+        def make(call: ClientCall) -> None:
+            self._service.terminate(self.id, self.run, call.options["reason"] or None)
+
+        self._asked("terminate", make, reason=reason)
 
     def history(self) -> List[Event]:
         """Its events."""
@@ -183,9 +227,16 @@ class WorkflowHandle:
         The history is read, and the code replayed here: who asks needs it. No event is written, and no worker has
         to be there. NoSuchQuery where the code answers none of this name.
         """
-        reply = self._service.call("history", workflow_id=self.id, run=self.run)
-        return answer_of(workflow, reply["events"], reply["run"], name, list(arguments), self._converter)
+        def make(call: ClientCall) -> Any:
+            reply = self._service.call("history", workflow_id=self.id, run=self.run)
+            return answer_of(
+                workflow, reply["events"], reply["run"], call.options["query"], call.arguments, self._converter,
+                self._client.interceptors,
+            )
+
+        return self._asked("query", make, arguments, query=name)
 
     def describe(self) -> Description:
         """What it is, how it stands, and what is pending: of an activity its attempt and the last failure."""
-        return described(self._service, self.id, self.run)
+        found: Description = self._asked("describe", lambda call: described(self._service, self.id, self.run))
+        return found

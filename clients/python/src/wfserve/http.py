@@ -15,6 +15,7 @@ either the lost one was taken or the task's time was over.
 
 from __future__ import annotations
 
+import functools
 import http.client
 import json
 import random
@@ -25,6 +26,7 @@ import uuid
 from types import TracebackType
 from typing import Any, Dict, Iterator, List, Optional, Set, Tuple, Type
 
+from wfserve.blobs import BlobDamaged, BlobMissing, BlobsNotKept, name_of
 from wfserve.calls import Calls, answered, from_event
 from wfserve.errors import CallLost, NotServed
 from wfserve.operations import POLLS, READS
@@ -34,6 +36,8 @@ from wfserve.types import Event, Json, Reply, Request
 MARKS = ("request_id", "token")
 # Seconds between a call and the same call made again: twice as many each time, up to the longest.
 FIRST_PAUSE, LONGEST_PAUSE = 0.05, 2.0
+# What a server answers that has no such path, or no such blob.
+NOT_THERE = (404, 405)
 # For how many seconds a call is made again, a heartbeat, for which an activity waits, and a poll.
 PATIENCE, HEARTBEAT_PATIENCE, POLL_PATIENCE = 60.0, 1.0, 5.0
 
@@ -109,12 +113,17 @@ class HttpService(Calls):
         answer: Json = json.loads(text)
         return answer
 
-    def _until_served(self, method: str, path: str) -> str:
+    @functools.cached_property
+    def blobs(self) -> "HttpBlobs":
+        """The server's store of texts that are too long for a history."""
+        return HttpBlobs(self)
+
+    def _until_served(self, method: str, path: str, body: Optional[bytes] = None, **headers: str) -> str:
         """The answer to a request that counts once, made again for as long as the service has patience."""
         late = time.monotonic() + self._patience
         for pause in pauses():
             try:
-                return self._answered(method, path, None, {})
+                return self._answered(method, path, body, headers)
             except (CallLost, NotServed) as fault:
                 if not fault.passes or time.monotonic() + pause > late or self._hopeless.wait(pause):
                     raise
@@ -171,3 +180,43 @@ class HttpService(Calls):
         self.give_up()
         while self._open:
             self._open.pop().close()
+
+    # Blobs.
+
+    def put_blob(self, name: str, data: bytes) -> None:
+        """Has the server keep bytes by their hash. BlobsNotKept where it keeps none."""
+        try:
+            self._until_served("PUT", f"/blobs/{name}", data, **{"Content-Type": "application/octet-stream"})
+        except NotServed as fault:
+            if fault.status in NOT_THERE:
+                raise BlobsNotKept(
+                    f"a text has {len(data)} bytes, and at most 4096 where the server keeps no blobs: hand on where it lies"
+                ) from fault
+            raise
+
+    def get_blob(self, name: str) -> bytes:
+        """The bytes of a hash. BlobMissing where the server has none of it."""
+        try:
+            return self._until_served("GET", f"/blobs/{name}").encode()
+        except NotServed as fault:
+            if fault.status in NOT_THERE:
+                raise BlobMissing(f"the server has no blob {name}") from fault
+            raise
+
+
+class HttpBlobs:
+    """The blobs of a server, as a store."""
+
+    def __init__(self, service: HttpService):
+        self._service = service
+
+    def put(self, name: str, data: bytes) -> None:
+        """Keeps these bytes, whose hash this is."""
+        self._service.put_blob(name, data)
+
+    def get(self, name: str) -> bytes:
+        """The bytes of this hash."""
+        data = self._service.get_blob(name)
+        if name_of(data) != name:
+            raise BlobDamaged(f"the blob {name} is damaged")
+        return data

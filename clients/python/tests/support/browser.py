@@ -63,6 +63,10 @@ class Browser:
     def open(self, url):
         self._ask("Page.navigate", url=url)
 
+    def prefer(self, scheme):
+        """Has pages be light or dark."""
+        self._ask("Emulation.setEmulatedMedia", features=[{"name": "prefers-color-scheme", "value": scheme}])
+
     def value(self, expression):
         """The value of a JavaScript expression in the page."""
         result = self._ask("Runtime.evaluate", expression=expression, returnByValue=True, awaitPromise=True)

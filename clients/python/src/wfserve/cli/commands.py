@@ -17,7 +17,8 @@ from .connection import add_connection, service_of
 from .dev import add_dev, dev
 from .output import plain, print_json
 from .shows import (
-    add_call, add_list, add_query, add_tasks, add_trace, call, describe, list_workflows, query, show, tasks, trace,
+    add_call, add_list, add_nothing, add_query, add_tasks, add_trace, call, describe, list_workflows, query, queues, show,
+    tasks, trace,
 )
 from .statuses import Status, status_of, text_of_statuses
 from .workflows import (
@@ -60,6 +61,7 @@ COMMANDS: Dict[str, Command] = {
     "show": Command("a workflow's history", add_id, show),
     "describe": Command("how a workflow stands, and why what is pending is", add_id, describe),
     "tasks": Command("what is pending in the workflows that are open", add_tasks, tasks),
+    "queues": Command("what waits in the task queues, and who polls them", add_nothing, queues),
     "query": Command("what a workflow's code answers to a query", add_query, query),
     "signal": Command("signal a workflow", add_signal, signal),
     "cancel": Command("ask a workflow to cancel", add_id, cancel),

@@ -119,6 +119,26 @@ def tasks(args: argparse.Namespace, client: Client) -> Status:
     return Status.DONE
 
 
+def queues(args: argparse.Namespace, client: Client) -> Status:
+    """What waits in each task queue, what workers have, and who polls."""
+    answer = client.queues()
+    if args.json:
+        for it in answer["queues"]:
+            print_json(it)
+        return Status.DONE
+    print_table(("QUEUE", "TASKS OF", "WAITING", "SINCE", "LATER", "AT WORK", "POLLS", "LAST POLL"), [
+        (
+            it["queue"], it["kind"], it["waiting"], moment(it["oldest"]) if it["oldest"] else "", it["later"], it["at_work"],
+            "unknown" if it["polls"] is None else it["polls"], moment(it["last_poll"]) if it["last_poll"] else "none seen",
+        ) for it in answer["queues"]
+    ])
+    return Status.DONE
+
+
+def add_nothing(parser: argparse.ArgumentParser) -> None:
+    """Such a command has no words of its own."""
+
+
 def pending_json(found: Description) -> Json:
     return {"pending": [dataclasses.asdict(it) for it in found.pending]}
 

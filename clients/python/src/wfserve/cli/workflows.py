@@ -74,7 +74,7 @@ def started(args: argparse.Namespace, client: Client) -> Json:
     }
     return client.service.call(
         "start", workflow_id=args.id, workflow_type=type_named(args.type), task_queue=args.queue,
-        input=input_text(args.argument), request_id=args.id, **fields,
+        input=client.converter.encoded(input_text(args.argument)), request_id=args.id, **fields,
     )
 
 
@@ -90,7 +90,8 @@ def input_text(words: List[str]) -> str:
 def say_existing(args: argparse.Namespace, client: Client, reply: Json) -> Status:
     """Says how a workflow was started that is there already: refused where that was in another way."""
     began = client.service.history(args.id, reply["run"])[0]["attrs"]
-    same = (began["workflow_type"], began["input"]) == (type_named(args.type), input_text(args.argument))
+    asked = client.converter.encoded(input_text(args.argument))
+    same = (began["workflow_type"], began["input"]) == (type_named(args.type), asked)
     if args.json:
         print_json({"id": args.id, "run": reply["run"], "existing": True, "same": same})
     else:

@@ -4,8 +4,12 @@
 
     POST /calls         one line of docs/PROFILE.md as JSON; answered by its reply. The server sets its moment.
                         A poll may `wait` so many milliseconds for a task.
+    POST /calls/OP      the same without `op`; a refusal has a status of its own, as 404 (docs/HTTP.md)
     GET  /              the workflows, and their histories
-    GET  /api/workflows ?search=TEXT&status=STATUS: the list as JSON, at most 200 rows, the latest first
+    PUT  /blobs/HASH    keeps a text of up to 2 MB by its SHA-256; GET gives it
+    GET  /api/workflows ?search=TEXT&status=STATUS&type=TYPE&from=MS&until=MS&skip=N: the list as JSON, at most 200
+                        rows, the latest first
+    GET  /api/queues    the task queues: what waits in each, what workers have, and who polls
     POST /compact       compacts the log; calls wait meanwhile. Queues get room for `capacity` tasks, where that is more.
     GET  /health/live   answers while the server runs
     GET  /health/ready  200 where calls are taken, else 503 and why
@@ -31,6 +35,7 @@ from typing import Any, Callable, List, Optional, Set
 
 from aiohttp import web
 
+from wfserve.blobs import FolderStore
 from wfserve.durable import DurableService, Settings, read_header
 from wfserve.durable.kept import KeptProgram
 from wfserve.durable.log import first_line
@@ -38,6 +43,8 @@ from wfserve.errors import Ended, LogFault
 from wfserve.types import Request
 
 from .attempts import Attempts
+from .backlog import LastPolls
+from .blobs import Blobs
 from .calls import Observers
 from .connections import Connections
 from .core import Core
@@ -48,6 +55,7 @@ from .moments import Moments
 from .pages import Pages
 from .records import Recorded
 from .replies import Replies
+from .sweeping import Sweeper
 from .turns import Deadlines, Turns
 
 
@@ -75,9 +83,9 @@ class Opened:
     def __init__(self, said: argparse.Namespace, log: str):
         settings = settings_of(said, log)
         self.workflows, self.deadlines = Workflows(), Deadlines(settings.shards)
-        self.attempts = Attempts()
+        self.attempts, self.blobs, self.last_polls = Attempts(), FolderStore(f"{log}.blobs"), LastPolls()
         self.ledger, self.replies = Ledger(settings.shards), Replies()
-        self.observe = Observers(self.workflows, self.deadlines, self.attempts).observe
+        self.observe = Observers(self.workflows, self.deadlines, self.attempts, self.last_polls).observe
         self.kept = KeptProgram([said.program], log, settings, self._replayed)
         try:
             Recorded(self.kept, self.workflows).add_all()
@@ -97,8 +105,9 @@ def application(
 ) -> web.Application:
     middlewares = [connections.note, answer_faults, guard_of(said).check]
     app = web.Application(middlewares=middlewares, client_max_size=BODY_LIMIT)
-    pages = Pages(core, opened.workflows, opened.attempts)
-    for routes in (Calls(core, said.read_timeout).routes(), Health(core).routes(), pages.routes()):
+    pages = Pages(core, opened.workflows, opened.attempts, opened.last_polls)
+    blobs = Blobs(opened.blobs, said.read_timeout)
+    for routes in (Calls(core, said.read_timeout).routes(), Health(core).routes(), blobs.routes(), pages.routes()):
         app.router.add_routes(routes)
     return app
 
@@ -156,6 +165,8 @@ async def serve(said: argparse.Namespace, opened: Opened) -> int:
     listening = Listening(said, core, opened)
     await listening.start()
     turns = asyncio.create_task(Turns(core, opened.deadlines).run())
+    sweeper = Sweeper(core, opened.workflows, opened.blobs, opened.kept.settings.retention)
+    sweeping = asyncio.create_task(sweeper.run())
     try:
         stopping = asyncio.create_task(told_to_stop.wait())
         ends: Set["asyncio.Future[Any]"] = {turns, core.over, stopping}
@@ -168,6 +179,7 @@ async def serve(said: argparse.Namespace, opened: Opened) -> int:
     finally:
         core.closing = True
         turns.cancel()
+        sweeping.cancel()
         await listening.stop()
         core.close()
 

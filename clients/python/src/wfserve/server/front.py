@@ -1,4 +1,4 @@
-"""POST /calls in few steps, by httptools: a call that is as it should be is answered without aiohttp.
+"""POST /calls and /calls/OPERATION in few steps, by httptools: a call that is as it should be is answered without aiohttp.
 
 Everything else (another path, a header that is not common, a body that is too long, a wrong token) is handed on,
 byte for byte, to aiohttp's own connection, which answers it and keeps the connection from then on.
@@ -17,11 +17,13 @@ from typing import Callable, Deque, Dict, Optional, Set, Tuple, cast
 import httptools
 
 from wfserve.errors import WfserveError
+from wfserve.types import Json
 
 from .calls import call_of, key_of
 from .core import Core
 from .http import RETRY_SECONDS, Guard, fault_of
 from .lines import Receiver
+from .statuses import named_call_of, op_of, status_of
 
 
 LOG = logging.getLogger("wfserve.http")
@@ -31,8 +33,9 @@ IDLE_SECONDS = 75.0
 LOOK_SECONDS = 1.0
 MOST_CONNECTIONS = 10_000
 REASONS = {
-    200: b"OK", 400: b"Bad Request", 408: b"Request Timeout", 422: b"Unprocessable Entity",
-    500: b"Internal Server Error", 503: b"Service Unavailable", 507: b"Insufficient Storage",
+    200: b"OK", 400: b"Bad Request", 404: b"Not Found", 408: b"Request Timeout", 409: b"Conflict",
+    422: b"Unprocessable Entity", 500: b"Internal Server Error", 503: b"Service Unavailable",
+    507: b"Insufficient Storage",
 }
 HEAD = (
     b"HTTP/1.1 %d %s\r\nContent-Type: application/json; charset=utf-8\r\nContent-Length: %d\r\nDate: %s\r\n%s\r\n"
@@ -49,13 +52,19 @@ class HandOn(WfserveError):
 class Request(Receiver):
     """A call of a connection."""
 
-    __slots__ = ("_connection", "headers", "body", "keeps")
+    __slots__ = ("_connection", "headers", "body", "keeps", "op")
 
     def __init__(self, connection: "Connection"):
         self._connection = connection
         self.headers: Dict[bytes, bytes] = {}
         self.body = b""
         self.keeps = True
+        # The operation that the path names; empty for /calls, where the body does.
+        self.op = ""
+
+    def call(self) -> Tuple[Json, bytes]:
+        """The call, and the beginning of its line."""
+        return named_call_of(self.op, self.body) if self.op else call_of(self.body)
 
     def header(self, name: bytes) -> Optional[str]:
         """A header's text."""
@@ -63,7 +72,7 @@ class Request(Receiver):
         return None if value is None else value.decode("latin-1")
 
     def answer(self, text: bytes) -> None:
-        self._connection.write(self, 200, text)
+        self._connection.write(self, status_of(text) if self.op else 200, text)
 
     def fail(self, fault: Exception) -> None:
         status, name, said = fault_of(fault)
@@ -204,8 +213,10 @@ class Connection(asyncio.Protocol):
     def on_headers_complete(self) -> None:
         reading = self._now_read()
         length = reading.headers.get(b"content-length", b"")
+        path = reading.headers[b":path"].decode("latin-1")
+        reading.op = op_of(path)
         if (
-            self._parser.get_method() != b"POST" or reading.headers[b":path"] != b"/calls"
+            self._parser.get_method() != b"POST" or not (path == "/calls" or reading.op)
             or reading.headers.get(b"content-type") != b"application/json"
             or not length.isdigit() or int(length) > BODY_LIMIT or not self._is_let_in(reading)
         ):
@@ -237,7 +248,7 @@ class Connection(asyncio.Protocol):
     def _serve(self, request: Request) -> None:
         self._serving = request
         try:
-            call, begin = call_of(request.body)
+            call, begin = request.call()
             key = key_of(request.header(b"idempotency-key"))
             self._front.core.submit(call, begin, request, key)
         except Exception as fault:

@@ -15,11 +15,13 @@ from aiohttp import web
 
 from wfserve.durable.settings import MOST_CAPACITY
 from wfserve.errors import Ended, LogFault, LogFull, WfserveError
+from wfserve.types import Json
 
 from .calls import BadCall, Busy, Draining, KeyReused, call_of, key_of
 from .core import Core
 from .lines import Waiter
 from .metrics import resident_bytes
+from .statuses import PREFIX, named_call_of, op_of, status_of
 
 
 LOG = logging.getLogger("wfserve.http")
@@ -45,6 +47,12 @@ def fault(status: int, name: str, said: str) -> web.Response:
     """An answer that is no reply of the service."""
     headers = {"Retry-After": str(RETRY_SECONDS)} if status == 503 else None
     return web.json_response({"error": name, "said": said}, status=status, headers=headers)
+
+
+def reply_of(text: bytes, status: int) -> web.Response:
+    """An answer that is a reply of the service."""
+    headers = {"Retry-After": str(RETRY_SECONDS)} if status == 503 else None
+    return web.Response(body=text, status=status, content_type="application/json", charset="utf-8", headers=headers)
 
 
 # The first that fits: a full log is a LogFault too.
@@ -162,20 +170,36 @@ def capacity_of(body: bytes) -> int:
 
 
 class Calls:
-    """POST /calls, and POST /compact."""
+    """POST /calls, POST /calls/OPERATION with statuses of refusals, and POST /compact."""
 
     def __init__(self, core: Core, read_seconds: float):
         self._core = core
         self._read_seconds = read_seconds
 
     def routes(self) -> List[web.RouteDef]:
-        return [web.post("/calls", self.answer), web.post("/compact", self.compact)]
+        return [
+            web.post("/calls", self.answer), web.post(PREFIX + "{op}", self.answer_named),
+            web.post("/compact", self.compact),
+        ]
 
     async def answer(self, request: web.Request) -> web.Response:
         call, begin = call_of(await body_of(request, self._read_seconds))
+        return reply_of(await self._asked(request, call, begin), 200)
+
+    async def answer_named(self, request: web.Request) -> web.Response:
+        """Answers a call whose operation the path names, by the status of its reply."""
+        op = op_of(request.path)
+        if not op:
+            raise Refusal(404, "NoSuchOperation", f"there is no operation {request.match_info['op']}")
+        call, begin = named_call_of(op, await body_of(request, self._read_seconds))
+        text = await self._asked(request, call, begin)
+        return reply_of(text, status_of(text))
+
+    async def _asked(self, request: web.Request, call: Json, begin: bytes) -> bytes:
+        """The reply's text."""
         waiter = Waiter(lambda: is_gone(request))
         self._core.submit(call, begin, waiter, key_of(request.headers.get("Idempotency-Key")))
-        return web.Response(body=await waiter.future, content_type="application/json", charset="utf-8")
+        return await waiter.future
 
     async def compact(self, request: web.Request) -> web.Response:
         """Compacts the log while it is served, with room for so many tasks in its queues. Calls wait meanwhile."""

@@ -7,13 +7,15 @@ since may have changed it.
 
 from __future__ import annotations
 
-from dataclasses import dataclass
-from typing import Dict, Iterable, List, Optional, Tuple
+from dataclasses import dataclass, field
+from typing import Callable, Dict, Iterable, List, Optional, Tuple
 
 from wfserve.events import NOTHING_WRONG, status_of
 from wfserve.ids import run_of_token, service_of
 from wfserve.operations import READS
 from wfserve.types import Event, Json, Reply, Request
+
+from .backlog import Open, open_tasks
 
 # What the list calls a run that is open, and whose code or worker fails again and again.
 STUCK = "Stuck"
@@ -58,6 +60,8 @@ class Entry:
     last: str = ""
     last_at: int = 0
     stuck: Optional[Json] = None
+    # The tasks of an open run that have not ended.
+    tasks: List[Open] = field(default_factory=list)
     # Whether a line since may have changed it, and how many transfers had been accepted when it was read.
     changed: bool = True
     transfers: int = 0
@@ -73,6 +77,7 @@ class Entry:
         self.status, self.length = status_of(events), len(events)
         self.last, self.last_at = last["type"], last["at"]
         self.stuck = stuck_task(events) if self.status == "Running" else None
+        self.tasks = open_tasks(events)
 
     def row(self) -> Json:
         """What the list shows of it."""
@@ -215,13 +220,18 @@ class Workflows:
         """The entry of a run, whatever its workflow ID is."""
         return None if run is None else self._by_run.get(run)
 
-    def search(self, text: str, status: str, most: int) -> List[Entry]:
-        """The latest whose ID has this text and that have this status, or may have it: those are stale."""
+    def search(
+        self, text: str, status: str, most: int, also: Callable[[Entry], bool] = lambda entry: True,
+    ) -> List[Entry]:
+        """The latest whose ID has this text and that have this status, or may have it: those are stale.
+
+        `also` is asked of an entry that was read: its type and its start are known then.
+        """
         if self._ordered is None:
             self._ordered = sorted(self._entries.values(), key=lambda entry: entry.started)[::-1]
         found = []
         for entry in self._ordered:
-            if text in entry.workflow_id and (entry.is_shown(status) or self.is_stale(entry)):
+            if text in entry.workflow_id and (self.is_stale(entry) or (entry.is_shown(status) and also(entry))):
                 found.append(entry)
             if len(found) == most:
                 break

@@ -7,19 +7,19 @@ history is an image, in which no script runs.
 from __future__ import annotations
 
 import asyncio
-import json
 import pathlib
-from typing import List, Optional, Tuple
+from typing import Callable, List, Optional, Tuple
 
 from aiohttp import web
 
 from wfserve import picture
 from wfserve.events import pending
-from wfserve.types import Event, Json, Reply
+from wfserve.types import Event, Json
 
+from .asking import asked, look_for_begun
 from .attempts import Attempts
+from .backlog import POLLED, LastPolls, queue_rows
 from .core import Core
-from .lines import Waiter
 from .listing import Entry, Workflows
 
 
@@ -27,6 +27,7 @@ HERE = pathlib.Path(__file__).resolve().parent
 MOST_ROWS = 200
 # So many runs are read for one request of the list; the next request goes on.
 MOST_READS = 2_000
+LAST_MOMENT = 10**15
 POLICY = (
     "default-src 'none'; script-src 'self'; style-src 'self'; img-src 'self'; connect-src 'self'; "
     "form-action 'none'; frame-ancestors 'none'; base-uri 'none'"
@@ -35,13 +36,33 @@ PICTURE_POLICY = "default-src 'none'; style-src 'unsafe-inline'"
 KINDS = {"js": "text/javascript", "css": "text/css", "html": "text/html"}
 
 
+def number_of(request: web.Request, name: str, default: int) -> int:
+    """A whole number of a request's query. 400 where it is none."""
+    text = request.query.get(name, "")
+    if not text:
+        return default
+    if not text.isascii() or not text.isdigit() or len(text) > 16:
+        raise web.HTTPBadRequest(text=f"{name} is a whole number")
+    return int(text)
+
+
+def filter_of(request: web.Request) -> Callable[[Entry], bool]:
+    """What the list is asked for beside a text and a status: a type, and between which moments a run was started."""
+    kind = request.query.get("type", "")
+    first, last = number_of(request, "from", 0), number_of(request, "until", LAST_MOMENT)
+    return lambda entry: (not kind or entry.workflow_type == kind) and first <= entry.started <= last
+
+
 class Pages:
     """What the server answers a browser."""
 
-    def __init__(self, core: Core, workflows: Workflows, attempts: Attempts):
+    def __init__(
+        self, core: Core, workflows: Workflows, attempts: Optional[Attempts] = None, last_polls: Optional[LastPolls] = None,
+    ):
         self._core = core
         self._workflows = workflows
-        self._attempts = attempts
+        self._attempts = attempts or Attempts()
+        self._last_polls = last_polls or LastPolls()
 
     def routes(self) -> List[web.RouteDef]:
         return [
@@ -49,8 +70,11 @@ class Pages:
             web.get("/page/{file}", self.file),
             web.get("/workflows/{workflow_id}/{run}", self.workflow),
             web.get("/workflows/{workflow_id}/{run}/picture.svg", self.picture),
+            web.get("/queues", self.queue_page),
+            web.get("/api/queues", self.queues),
             web.get("/api/workflows", self.rows),
             web.get("/api/workflows/{workflow_id}/{run}", self.history),
+            web.get("/api/workflows/{workflow_id}/{run}/history.json", self.download),
         ]
 
     # Files.
@@ -60,6 +84,9 @@ class Pages:
 
     async def workflow(self, request: web.Request) -> web.Response:
         return self._answer_file("workflow.html")
+
+    async def queue_page(self, request: web.Request) -> web.Response:
+        return self._answer_file("queues.html")
 
     async def file(self, request: web.Request) -> web.Response:
         return self._answer_file(request.match_info["file"])
@@ -79,18 +106,24 @@ class Pages:
     async def rows(self, request: web.Request) -> web.Response:
         """The latest workflows of a search, with their status."""
         text, status = request.query.get("search", ""), request.query.get("status", "")
+        also, skipped = filter_of(request), number_of(request, "skip", 0)
         await self._look_for_begun()
-        entries = self._workflows.search(text, status, MOST_ROWS)
-        left = MOST_READS
+        entries = await self._found(text, status, also, skipped + MOST_ROWS)
+        shown = [entry.row() for entry in entries if entry.is_shown(status) and also(entry)]
+        return web.json_response({"workflows": shown[skipped:]})
+
+    async def _found(self, text: str, status: str, also: Callable[[Entry], bool], most: int) -> List[Entry]:
+        """The latest entries of a search, as they are now."""
+        entries, left = self._workflows.search(text, status, most, also), MOST_READS
         # One whose history was read may not be of this status, and then the next ones are looked at.
         while left > 0 and (stale := [entry for entry in entries if self._workflows.is_stale(entry)]):
             await self._read_all(stale)
             left -= len(stale)
-            entries = self._workflows.search(text, status, MOST_ROWS)
-        return web.json_response({"workflows": [entry.row() for entry in entries if entry.is_shown(status)]})
+            entries = self._workflows.search(text, status, most, also)
+        return entries
 
     async def history(self, request: web.Request) -> web.Response:
-        """A history, or only that it is as long as before."""
+        """A history, or its events after one, or only that it is as long as before."""
         entry, events = await self._entry(request)
         row = entry.row()
         if request.query.get("length") == str(entry.length):
@@ -99,11 +132,38 @@ class Pages:
         found = [] if row["status"] != "Running" else self._pending(entry.run, events)
         parent = self._workflows.find_run(events[0]["attrs"].get("parent_run"))
         named = {} if parent is None else {"parent": {"workflow_id": parent.workflow_id, "run": parent.run}}
-        return web.json_response({"workflow": row, "events": events, "pending": found, **named})
+        new, now = events[number_of(request, "after", 0):], self._core.moments.now()
+        return web.json_response({"workflow": row, "events": new, "pending": found, "now": now, **named})
 
     def _pending(self, run: str, events: List[Event]) -> List[Json]:
-        """What has not ended, and of activities what was seen of their attempts."""
-        return [{**it, **self._attempts.of(run, it["event"])} for it in pending(events)]
+        """What has not ended, and of activities their queue, and what was seen of their attempts."""
+        found = []
+        for it in pending(events):
+            queue = events[it["event"] - 1]["attrs"].get("task_queue")
+            found.append({**it, **({"queue": queue} if queue else {}), **self._attempts.of(run, it["event"])})
+        return found
+
+    async def download(self, request: web.Request) -> web.Response:
+        """A history as a file: the reply that has it, as `wf replay` reads it."""
+        workflow_id, run = request.match_info["workflow_id"], request.match_info["run"]
+        reply = await asked(self._core, "history", workflow_id, run)
+        if "error" in reply:
+            raise web.HTTPNotFound(text=f"there is no run {run} of {workflow_id}")
+        headers = {"Content-Disposition": f'attachment; filename="{run}.json"', "Cache-Control": "no-cache"}
+        return web.json_response(reply, headers=headers)
+
+    async def queues(self, request: web.Request) -> web.Response:
+        """The task queues: what waits in each, what workers have, and who polls."""
+        await self._look_for_begun()
+        entries = await self._found("", "Running", lambda entry: True, MOST_READS)
+        tasks = [(entry.run, task) for entry in entries for task in entry.tasks]
+        settings, polls = getattr(getattr(self._core, "kept", None), "settings", None), getattr(self._core, "polls", None)
+        counts = None if polls is None else {(queue, POLLED[op]): count for (op, queue), count in polls.counts().items()}
+        rows = queue_rows(
+            settings.queues if settings else (), tasks, self._attempts.of, counts, self._last_polls.items(),
+            self._core.moments.now(),
+        )
+        return web.json_response({"queues": rows, "now": self._core.moments.now(), "runs": len(entries)})
 
     async def picture(self, request: web.Request) -> web.Response:
         entry, events = await self._entry(request)
@@ -126,7 +186,7 @@ class Pages:
 
     async def _events(self, entry: Entry) -> List[Json]:
         """The history of a run. A run that is gone leaves the list."""
-        reply = await self._ask("history", entry.workflow_id, entry.run)
+        reply = await asked(self._core, "history", entry.workflow_id, entry.run)
         if "error" in reply:
             self._workflows.remove(entry.run)
             raise web.HTTPNotFound(text=f"there is no run {entry.run} of {entry.workflow_id}")
@@ -147,15 +207,5 @@ class Pages:
                 raise found
 
     async def _look_for_begun(self) -> None:
-        """Asks for the runs that others began: children, and those that continue a run."""
-        wanted = self._workflows.looked_for()[:MOST_READS]
-        replies = await asyncio.gather(*[self._ask("describe", workflow_id) for workflow_id in wanted])
-        for workflow_id, reply in zip(wanted, replies):
-            self._workflows.found(workflow_id, reply.get("run"))
-
-    async def _ask(self, op: str, workflow_id: str, run: Optional[str] = None) -> Json:
-        named = {} if run is None else {"run": run}
-        request, waiter = {"op": op, "workflow_id": workflow_id, **named}, Waiter()
-        self._core.submit(request, json.dumps(request).encode()[:-1], waiter)
-        reply: Reply = json.loads(await waiter.future)
-        return reply
+        """Asks for the runs that others began."""
+        await look_for_begun(self._core, self._workflows, MOST_READS)

@@ -38,6 +38,10 @@ class Polls:
         """How many polls wait."""
         return self._count
 
+    def counts(self) -> Dict[Queue, int]:
+        """How many polls wait for each queue."""
+        return {queue: len(waiting) for queue, waiting in self._waiting.items()}
+
     def wait(self, call: Call) -> None:
         """Has a poll wait. One that was woken and found nothing has its place again."""
         waiting = self._waiting[queue_of(call.request)]

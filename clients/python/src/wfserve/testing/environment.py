@@ -6,6 +6,7 @@ import functools
 from types import TracebackType
 from typing import Any, Callable, Dict, Iterable, List, Optional, Sequence, Type
 
+from wfserve.blobs import MemoryStore
 from wfserve.calls import Service
 from wfserve.client import Client, WorkflowHandle
 from wfserve.errors import WfserveError
@@ -14,6 +15,7 @@ from wfserve.workflows.converter import JSON, Converter
 from wfserve.workflows.definitions import Named, activities_by_type, type_of
 from wfserve.workflows.driver import Driver, run_until_idle
 from wfserve.workflows.history import faults_of
+from wfserve.workflows.interceptors import Interceptors
 from wfserve.workflows.worker import Worker
 
 from .program import find_program
@@ -40,15 +42,17 @@ class WorkflowEnvironment:
 
     def __init__(
         self, workflows: Iterable[Callable[..., Any]], activities: Iterable[Callable[..., Any]] = (),
-        program: Optional[Sequence[str]] = None, converter: Converter = JSON,
+        program: Optional[Sequence[str]] = None, converter: Converter = JSON, interceptors: Interceptors = (),
     ):
-        self.clock = JumpingClock()
+        self.clock, self.blobs = JumpingClock(), MemoryStore()
         self.calls: Dict[str, List[List[Any]]] = {}
         self._workflows = list(workflows)
         self._activities = activities_by_type(activities)
-        self._converter = converter
+        # Long texts are kept in memory, as a server would keep them in files.
+        self._converter = converter = converter.with_blobs(self)
+        self._interceptors = interceptors
         self.service = Service(program or [find_program()], self.clock)
-        self.client = Client(self.service, converter=converter)
+        self.client = Client(self.service, converter=converter, interceptors=interceptors)
         self.client.pause = lambda _: self._step()
         self._driver = Driver(self.service)
         self._started: List[WorkflowHandle] = []
@@ -70,7 +74,7 @@ class WorkflowEnvironment:
         """A new worker replays what another one has begun, and goes on from there."""
         self._worker = Worker(
             self.service, workflows=self._workflows, activities=self._activities.values(), clock=self.clock,
-            converter=self._converter,
+            converter=self._converter, interceptors=self._interceptors,
         )
 
     # Workflows.

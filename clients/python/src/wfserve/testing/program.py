@@ -24,4 +24,4 @@ def find_program() -> str:
     for program in (top / place for top in tops for place in PLACES):
         if program.is_file():
             return str(program)
-    raise NoProgram("no wfserve is built: WFSERVE names one, and tools/unproved_program.py builds one in two minutes")
+    raise NoProgram("no wfserve is built: WFSERVE names one, and tools/unproved_program.py builds one in two to three minutes")

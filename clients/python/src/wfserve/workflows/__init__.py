@@ -1,4 +1,4 @@
-"""Workflows as code: an `async def` that is run over its history, and activities that are plain functions.
+"""Workflows as code: an `async def` that is run over its history, and activities, plain functions or `async def`.
 
     from wfserve.workflows import Retry, Worker, hours, seconds, workflow
 
@@ -15,6 +15,7 @@ No proof covers it. It rests on what the service promises: a history that was sh
 token counts once, and a completion takes effect whole or not at all.
 """
 
+from .activity_info import ActivityInfo
 from .clocks import JumpingClock, WallClock
 from .context import Context
 from .converter import Codec, Converter, Gzip
@@ -27,17 +28,20 @@ from .errors import (
 )
 from .handlers import ConditionTimedOut, NoSuchQuery
 from .info import WorkflowInfo
+from .interceptors import ActivityCall, ClientCall, Interceptor, QueryCall, SignalCall, WorkflowCall
 from .local import run
 from .operations import Cancellation
 from .replay import check
 from .scopes import Scope
+from .shutdown import WorkerStops
 from .values import Retry, days, hours, input_of, minutes, seconds, text_of, value_of
 from .worker import Worker
 
 __all__ = [
-    "ActivityFailed", "ActivityTimedOut", "AttemptOver", "Cancellation", "Cancelled", "ChildFailed", "Codec",
-    "ConditionTimedOut", "Context", "Converter", "Driver", "Failure", "Gzip", "JumpingClock", "NoSuchQuery",
-    "NoSuchWorkflow", "NonDeterminism", "NonRetryable", "Retry", "Scope", "WallClock", "Worker", "WorkflowFailed",
+    "ActivityCall", "ActivityFailed", "ActivityInfo", "ActivityTimedOut", "AttemptOver", "Cancellation", "Cancelled",
+    "ChildFailed", "ClientCall", "Codec", "ConditionTimedOut", "Context", "Converter", "Driver", "Failure", "Gzip",
+    "Interceptor", "JumpingClock", "NoSuchQuery", "NoSuchWorkflow", "NonDeterminism", "NonRetryable", "QueryCall",
+    "Retry", "Scope", "SignalCall", "WallClock", "Worker", "WorkerStops", "WorkflowCall", "WorkflowFailed",
     "WorkflowInfo", "activity", "attempt", "check", "days", "hours", "input_of", "minutes", "run", "run_until_closed",
     "run_until_idle", "seconds", "text_of", "value_of", "workflow",
 ]

@@ -67,6 +67,11 @@ class Context:
         return self._replay.cancel_requested
 
     @property
+    def is_replaying(self) -> bool:
+        """Whether the code does here what it did before. For what decides nothing, as a span or a measurement."""
+        return self._replay.is_in_the_past
+
+    @property
     def info(self) -> WorkflowInfo:
         """The run as its history tells it: its ids, its timeouts, how long its history is."""
         return info_of(self._started, self.run, self._replay.turn.length)
@@ -191,9 +196,10 @@ class Context:
         replay = self._asking()
         details = replay.recorded_marker(name)
         if details is None:
-            details = replay.loop.guard.lifted(lambda: replay.converter.text_of(make()))
-        replay.ask(Command("RecordMarker", {"name": name, "details": details}))
-        return replay.converter.value_of(details)
+            details = str(replay.loop.guard.lifted(lambda: replay.converter.text_of(make())))
+        text = details
+        replay.ask(Command("RecordMarker", {"name": name, "details": text}))
+        return replay.loop.guard.lifted(lambda: replay.converter.value_of(text))
 
     def unguarded(self, make: Callable[[], Any]) -> Any:
         """A value of what a workflow's code may not do otherwise, made again in each replay: for what decides

@@ -15,6 +15,8 @@ import gzip
 import zlib
 from typing import Any, Callable, List, Protocol, Sequence, Tuple
 
+from wfserve.blobs import Blobs
+
 from . import values
 from .typed import typed, typed_arguments
 
@@ -59,6 +61,16 @@ class Converter:
 
     def __init__(self, *codecs: Codec):
         self._codecs = codecs
+
+    def with_blobs(self, service: Any) -> Converter:
+        """This one, with the blobs of a service that keeps some (`service.blobs`), unless it has some already.
+
+        What is too long for a history goes there by itself: after all other codecs, so what is kept is encrypted too.
+        """
+        store = getattr(service, "blobs", None)
+        if store is None or any(isinstance(codec, Blobs) for codec in self._codecs):
+            return self
+        return Converter(*self._codecs, Blobs(store))
 
     def encoded(self, text: str) -> str:
         """A text as the history has it."""

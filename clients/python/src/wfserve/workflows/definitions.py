@@ -41,10 +41,13 @@ def activity(*, name: Optional[str] = None) -> Callable[[Function], Function]: .
 
 
 def activity(function: Optional[Function] = None, *, name: Optional[str] = None) -> Any:
-    """Names an activity, as `@activity(name="Charge")`. A plain function is one of its own name without it."""
+    """Names an activity, as `@activity(name="Charge")`. A function is one of its own name without it.
+
+    A plain function may block: it has a thread. An `async def` runs on the worker's event loop, and must not.
+    """
 
     def marked(it: Function) -> Function:
-        refuse_coroutine(it)
+        refuse_generator(it)
         return with_type(it, name)
 
     return marked if function is None else marked(function)
@@ -73,18 +76,17 @@ def workflows_by_type(functions: Iterable[Callable[..., Any]]) -> Dict[str, Call
 
 
 def activities_by_type(functions: Iterable[Callable[..., Any]]) -> Dict[str, Callable[..., Any]]:
-    """Activities by their types. TypeError for an `async def`."""
+    """Activities by their types. TypeError for an `async def` that yields."""
     found = by_type("activities", functions)
     for function in found.values():
-        refuse_coroutine(function)
+        refuse_generator(function)
     return found
 
 
-def refuse_coroutine(function: Callable[..., Any]) -> None:
-    if inspect.iscoroutinefunction(function) or inspect.isasyncgenfunction(function):
-        raise TypeError(
-            f"the activity {type_of(function)} is an 'async def'; an activity is a plain function, which may block"
-        )
+def refuse_generator(function: Callable[..., Any]) -> None:
+    """TypeError for what gives many values: an activity gives one."""
+    if inspect.isasyncgenfunction(function):
+        raise TypeError(f"the activity {type_of(function)} is an 'async def' that yields; an activity gives one value")
 
 
 def by_type(kind: str, functions: Iterable[Callable[..., Any]]) -> Dict[str, Callable[..., Any]]:

@@ -90,11 +90,11 @@ class Guard:
 
     def lifted(self, make: Callable[[], Any]) -> Any:
         """What a function gives that may do anything: its value is kept in the history."""
-        self._lifted = True
+        before, self._lifted = self._lifted, True
         try:
             return make()
         finally:
-            self._lifted = False
+            self._lifted = before
 
     def _look(self, frame: FrameType, event: str, called: Any) -> None:
         if event == "c_call":

@@ -3,7 +3,7 @@
 from __future__ import annotations
 
 import inspect
-from typing import Any, Callable, Dict, List, Optional
+from typing import Any, Callable, Coroutine, Dict, List, Optional
 
 from wfserve.errors import WfserveError
 
@@ -49,8 +49,13 @@ class Condition(Future):
 class Handlers:
     """What the code of a workflow has to handle signals and to answer queries with."""
 
-    def __init__(self, loop: Loop):
+    def __init__(
+        self, loop: Loop, handled: Callable[[Handler, str, Any], Coroutine[Any, Any, Any]],
+        answered: Callable[[Handler, str, List[Any]], Any],
+    ):
         self._loop = loop
+        # The coroutine of a handler, and the answer of a query, with what stands around them.
+        self._handled, self._answered = handled, answered
         self._signals: Dict[str, Handler] = {}
         self._queries: Dict[str, Handler] = {}
         self._running: List[Task] = []
@@ -69,7 +74,7 @@ class Handlers:
 
     def handle(self, name: str, value: Any) -> None:
         """Lets the handler of a signal run beside the code, from its beginning on in the order of the signals."""
-        task = self._loop.task(called(self._signals[name], value))
+        task = self._loop.task(self._handled(self._signals[name], name, value))
         # A fault of it is nobody's to wait for: it is the workflow's.
         task.heard = True
         self._running.append(task)
@@ -95,7 +100,7 @@ class Handlers:
         if name not in self._queries:
             known = ", ".join(sorted(self._queries)) or "none"
             raise NoSuchQuery(f"the workflow answers no query named {name!r}; it answers {known}")
-        return self._loop.step(lambda: self._queries[name](*arguments))
+        return self._loop.step(lambda: self._answered(self._queries[name], name, arguments))
 
 
 async def called(handler: Handler, value: Any) -> None:

@@ -4,13 +4,14 @@ from __future__ import annotations
 
 from typing import Any, Callable, Iterable, Sequence
 
+from wfserve.blobs import Blobs, FolderStore
 from wfserve.durable import DurableService
 
 from .clocks import WallClock
+from .converter import Converter
 from .definitions import type_of
 from .driver import Driver, run_until_closed
 from .errors import Failure
-from .values import input_of, value_of
 from .worker import Worker
 
 
@@ -18,14 +19,16 @@ def run(
     command: Sequence[str], log: str, workflow: Callable[..., Any], activities: Iterable[Callable[..., Any]], workflow_id: str,
     *arguments: Any,
 ) -> Any:
-    """The workflow's value, or Failure. Killed at any moment and run again with the same log, it goes on."""
-    clock = WallClock()
+    """The workflow's value, or Failure. Killed at any moment and run again with the same log, it goes on.
+
+    Texts that are too long for a history lie in a folder beside the log, with its name and `.blobs` after it."""
+    clock, converter = WallClock(), Converter(Blobs(FolderStore(f"{log}.blobs")))
     with DurableService(command, log, clock=clock) as service:
         clock.go_on_from(service.last_moment)
-        service.start(workflow_id, type_of(workflow), input=input_of(arguments), request_id=workflow_id)
-        worker = Worker(service, workflows=[workflow], activities=activities, clock=clock)
+        service.start(workflow_id, type_of(workflow), input=converter.input_of(arguments), request_id=workflow_id)
+        worker = Worker(service, workflows=[workflow], activities=activities, clock=clock, converter=converter)
         status = run_until_closed(Driver(service), [worker], clock, workflow_id)
         last = service.history(workflow_id)[-1]["attrs"]
     if status != "Completed":
         raise Failure(f"{workflow_id}: {status}: {last.get('message', '')}")
-    return value_of(last["result"])
+    return converter.value_of(last["result"])

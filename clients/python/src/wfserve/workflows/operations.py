@@ -95,7 +95,8 @@ class Operation(Future):
     def take_result(self, text: str) -> None:
         """Its value by the text of a result, as the hint says; where it can't be made, that is its fault."""
         try:
-            self.set_value(self.replay.converter.value_of(text, self.hint))
+            # What a codec does, as reading a blob, is no decision of the code, which may be at its step now.
+            self.set_value(self.replay.loop.guard.lifted(lambda: self.replay.converter.value_of(text, self.hint)))
         except (TypeError, ValueError) as fault:
             self.set_fault(fault)
 

@@ -10,7 +10,7 @@ tasks agree with them, and not with the present ones.
 
 from __future__ import annotations
 
-from typing import Any, Callable, Dict, List, Optional, Set, Tuple, TypeVar
+from typing import Any, Callable, Coroutine, Dict, List, Optional, Set, Tuple, TypeVar
 
 from wfserve.events import SETTLES
 from wfserve.types import Event, Json
@@ -19,8 +19,9 @@ from .commands import Command, has, match
 from .context import Context
 from .converter import JSON, Converter
 from .errors import Cancelled, ContinueAsNew, Failure, NonDeterminism
-from .handlers import Handlers
+from .handlers import Handlers, called
 from .history import Turn, Turns, up_to_now
+from .interceptors import Interceptors, QueryCall, SignalCall, WorkflowCall, chained
 from .limits import check_command
 from .loop import Loop, Task
 from .operations import Child, Operation
@@ -41,13 +42,14 @@ class Replay:
 
     def __init__(
         self, function: Callable[..., Any], events: List[Event], run: str, older: bool = False, guards_all: bool = False,
-        converter: Converter = JSON,
+        converter: Converter = JSON, interceptors: Interceptors = (),
     ):
         self.loop = Loop(older)
         self.converter = converter
         # Code is guarded where it comes for the first time. What it did before has been decided, and is matched.
         self._guards_all = guards_all
-        self.handlers = Handlers(self.loop)
+        self.handlers = Handlers(self.loop, self._signal_handled, self._query_answered)
+        self._interceptors = interceptors
         self.inbox = Inbox(self.loop, self.handlers)
         self.operations: Dict[Tuple[str, int], Operation] = {}
         # What was cancelled, and has to end before the run may close.
@@ -256,7 +258,28 @@ class Replay:
             arguments = self.converter.arguments_of(attrs["input"], self._function, 1)
         for name, value in signals:
             self.inbox.deliver(name, value)
-        self._begun = self.loop.task(self._function(self._context, *arguments))
+        self._begun = self.loop.task(self._code(arguments))
+
+    # What stands around the code.
+
+    def _code(self, arguments: List[Any]) -> Coroutine[Any, Any, Any]:
+        """The code of the workflow."""
+        if not self._interceptors:
+            made: Coroutine[Any, Any, Any] = self._function(self._context, *arguments)
+            return made
+        around = chained(self._interceptors, "workflow", lambda it: self._function(it.ctx, *it.arguments))
+        made = around(WorkflowCall(self._context, self._context.workflow_type, arguments))
+        made.__qualname__ = self._function.__qualname__
+        return made
+
+    def _signal_handled(self, handler: Callable[..., Any], name: str, value: Any) -> Coroutine[Any, Any, Any]:
+        around = chained(self._interceptors, "signal", lambda it: called(handler, it.value))
+        made: Coroutine[Any, Any, Any] = around(SignalCall(self._context, name, value))
+        return made
+
+    def _query_answered(self, answer: Callable[..., Any], name: str, arguments: List[Any]) -> Any:
+        around = chained(self._interceptors, "query", lambda it: answer(*it.arguments))
+        return around(QueryCall(self._context, name, arguments))
 
     def _settle(self, event: Event) -> None:
         """What a request to cancel a child came to is nobody's."""
@@ -305,23 +328,25 @@ def end_of(event: Event) -> Tuple[str, int]:
 
 def replayed(
     function: Callable[..., Any], events: List[Event], run: str, guards_all: bool = False, converter: Converter = JSON,
+    interceptors: Interceptors = (),
 ) -> Tuple[Replay, List[Command]]:
     """A replay by the rules that the history agrees with, and what the code asks for next. It may go on."""
-    return by_its_rules(function, events, run, lambda replay: replay.begin(), guards_all, converter)
+    return by_its_rules(function, events, run, lambda replay: replay.begin(), guards_all, converter, interceptors)
 
 
 def by_its_rules(
     function: Callable[..., Any], events: List[Event], run: str, act: Callable[[Replay], Result], guards_all: bool = False,
-    converter: Converter = JSON,
+    converter: Converter = JSON, interceptors: Interceptors = (),
 ) -> Tuple[Replay, Result]:
     """What is done with a replay by the present rules, or by the older ones where the history agrees with these alone."""
-    replay = Replay(function, events, run, guards_all=guards_all, converter=converter)
+    words: Json = {"guards_all": guards_all, "converter": converter, "interceptors": interceptors}
+    replay = Replay(function, events, run, **words)
     try:
         return replay, act(replay)
     except Exception:
         if not replay.is_in_the_past:
             raise
-        older = Replay(function, events, run, older=True, guards_all=guards_all, converter=converter)
+        older = Replay(function, events, run, older=True, **words)
         try:
             return older, act(older)
         except Exception:
@@ -332,14 +357,14 @@ def by_its_rules(
 
 def answer_of(
     function: Callable[..., Any], events: List[Event], run: str, name: str, arguments: List[Any],
-    converter: Converter = JSON,
+    converter: Converter = JSON, interceptors: Interceptors = (),
 ) -> Any:
     """What the code of a workflow answers to a query, by its history. No event is written."""
 
     def asked(replay: Replay) -> Any:
         return replay.query(name, arguments)
 
-    return by_its_rules(function, events, run, asked, converter=converter)[1]
+    return by_its_rules(function, events, run, asked, converter=converter, interceptors=interceptors)[1]
 
 
 def commands_of(function: Callable[..., Any], events: List[Event], run: str) -> List[Command]:

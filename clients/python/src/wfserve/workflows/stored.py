@@ -9,6 +9,7 @@ from typing import Any, Callable, Iterable, Iterator, List
 from wfserve.errors import WfserveError
 from wfserve.types import Reply
 
+from .converter import JSON, Converter
 from .definitions import type_of
 from .errors import NonDeterminism
 from .replay import check
@@ -37,34 +38,34 @@ def files_of(place: str) -> List[pathlib.Path]:
     return sorted(file for file in path.iterdir() if file.suffix in SUFFIXES)
 
 
-def replay_one(function: Callable[..., Any], reply: Reply) -> None:
+def replay_one(function: Callable[..., Any], reply: Reply, converter: Converter = JSON) -> None:
     """Runs the code over one history. NonDeterminism where it asks for something else than the history has."""
     try:
-        check(function, reply["events"], reply["run"])
+        check(function, reply["events"], reply["run"], converter)
     except NonDeterminism:
         raise
     except Exception as fault:
         raise CodeFails(f"it raises {type(fault).__name__}: {fault}") from fault
 
 
-def replay_file(function: Callable[..., Any], file: pathlib.Path) -> int:
+def replay_file(function: Callable[..., Any], file: pathlib.Path, converter: Converter = JSON) -> int:
     """How many histories of a file agree. NonDeterminism or CodeFails at the first that does not."""
     count = 0
     with open(file, encoding="utf-8") as lines:
         for reply in histories(lines, type_of(function)):
-            replay_one(function, reply)
+            replay_one(function, reply, converter)
             count += 1
     return count
 
 
-def replay(function: Callable[..., Any], place: str) -> int:
+def replay(function: Callable[..., Any], place: str, converter: Converter = JSON) -> int:
     """How many histories of a file, or of a folder's files, agree with a workflow's code."""
-    return sum(replay_file(function, file) for file in files_of(place))
+    return sum(replay_file(function, file, converter) for file in files_of(place))
 
 
-def said_of_replay(function: Callable[..., Any], name: str, place: str) -> str:
+def said_of_replay(function: Callable[..., Any], name: str, place: str, converter: Converter = JSON) -> str:
     """What agrees, in words. ValueError where the file or the folder has no history of the workflow."""
-    count = replay(function, place)
+    count = replay(function, place, converter)
     if count == 0:
         raise ValueError(f"{place} has no history of {name}")
     return f"{name} agrees with {count} {'history' if count == 1 else 'histories'} of {place}"

@@ -5,8 +5,9 @@ from __future__ import annotations
 import functools
 import logging
 import threading
+import time
 import traceback
-from typing import Any, Callable, Dict, Iterable, List, Optional, Tuple
+from typing import Any, Callable, Dict, Iterable, List, Optional, Sequence, Set, Tuple
 
 from wfserve.calls import Calls, Task
 from wfserve.errors import LogFull, Refused, Unavailable
@@ -22,10 +23,12 @@ from .definitions import activities_by_type, workflows_by_type
 from .driver import UNAVAILABLE_PAUSE
 from .errors import BadCommand, Blocked, NonDeterminism, NotHere
 from .history import faults_of
+from .interceptors import Interceptors
 from .kept_runs import Kept, KeptRuns
 from .limits import COMMANDS_LIMIT, DURATIONS
 from .replay import Replay, replayed
 from .reports import Absence, Later, Reports, Stop, TaskOver, ToldOrFailed
+from .shutdown import Ending, Pace
 from .signals import told_of
 from .values import clipped
 from .watch import WATCH
@@ -38,6 +41,8 @@ FIRST_PAUSE = 1_000
 KEPT_RUNS = 500
 # How many runs a worker remembers of which it said that they are stuck.
 MOST_STUCK = 10_000
+# So often a worker that stops looks whether all has ended, and so long it waits after what was interrupted, in seconds.
+LOOK_SECONDS, LAST_SECONDS = 0.05, 2.0
 
 
 class Worker:
@@ -48,12 +53,18 @@ class Worker:
     message, and the service has it tried again at once. From the second time on a worker delays the
     failure, longer each time by the failures in the history, and in the end until the task's
     time is over. So no run spins, whichever worker has it, and mended code goes on.
+
+    `run` has a thread for each slot: so many tasks of workflows and so many activities are in hand at a time, and at
+    most `activities_per_second` begin. `interceptors` stand around all of it, the first one outermost. Once it is told
+    to stop, what is in hand has `grace` seconds to end; then coroutines are cancelled, heartbeats raise WorkerStops, and
+    what still doesn't end is left. Without a grace it is waited for.
     """
 
     def __init__(
         self, service: Calls, queue: str = "main", workflows: Iterable[Callable[..., Any]] = (),
         activities: Iterable[Callable[..., Any]] = (), clock: Optional[Clock] = None, converter: Converter = JSON,
-        kept_runs: int = KEPT_RUNS,
+        kept_runs: int = KEPT_RUNS, interceptors: Interceptors = (), workflow_slots: int = 1, activity_slots: int = 1,
+        activities_per_second: Optional[float] = None, grace: Optional[float] = None,
     ):
         self.service = service
         self.queue = queue
@@ -62,15 +73,22 @@ class Worker:
         self._activities = activities_by_type(activities)
         self._reports = Reports()
         self._later = Later(self.clock)
-        self._converter = converter
+        self._converter = converter.with_blobs(service)
         self._kept = KeptRuns(kept_runs)
-        self._attempts = Attempts(service, self._activities, self.clock, self._reports, converter)
+        self._interceptors = tuple(interceptors)
+        self._slots = at_least_one(workflow_slots), at_least_one(activity_slots)
+        self._pace, self._grace = Pace(activities_per_second), grace
+        # The threads that poll or have a task in hand.
+        self._working: Set[int] = set()
+        self._attempts = Attempts(
+            service, self._activities, self.clock, self._reports, self._converter, self._interceptors, Ending(grace),
+        )
         # How many faults this worker has met in a run since its last completed task.
         self._stuck: Dict[str, int] = {}
 
     @property
     def lost(self) -> int:
-        """How many results of activities it could not tell before it had to stop."""
+        """How many results of activities it could not tell before it had to stop, or did not wait for."""
         return self._reports.lost
 
     def work(self) -> int:
@@ -90,14 +108,51 @@ class Worker:
         Where the service can't be reached, it tries again. A task in hand is finished first."""
         ends = ToldOrFailed(stop)
         self._reports.stop = ends
-        kinds = [kind for kind, has in ((self._decide_one, self._workflows), (self._attempt_one, self._activities)) if has]
-        loops = [functools.partial(self._work_on, kind, ends, pause) for kind in kinds]
+        self._attempts.ending = Ending(self._grace)
+        kinds = ((self._decide_one, self._workflows), (self._attempt_one, self._activities))
+        loops = [
+            functools.partial(self._work_on, kind, ends, pause)
+            for (kind, has), slots in zip(kinds, self._slots) if has for _ in range(slots)
+        ]
+        ways = [functools.partial(self._tell_later, ends), functools.partial(self._end_in_time, ends)]
         try:
-            run_together([*loops, functools.partial(self._tell_later, ends)], ends)
+            run_together([*loops, *ways], ends, self._may_leave)
         finally:
+            self._reports.lost += self._attempts.in_hand
             self._kept.clear()
+            self._attempts.close()
+
+    def _may_leave(self, thread: threading.Thread) -> bool:
+        """Whether a thread is no longer waited for: its activity goes on though it was interrupted some time ago."""
+        return self._attempts.ending.is_long_over(LAST_SECONDS) and self._attempts.is_busy(thread.ident)
+
+    def _end_in_time(self, stop: ToldOrFailed) -> None:
+        """Tells attempts that the worker stops, and interrupts those that take longer than they have.
+
+        Their time begins once nobody polls any more: a task that a poll had taken by then has as much.
+        """
+        while not stop.is_set():
+            stop.wait(UNAVAILABLE_PAUSE)
+        ending = self._attempts.ending
+        ending.tell()
+        if ending.grace is None:
+            return
+        while len(self._working) > self._attempts.in_hand:
+            time.sleep(LOOK_SECONDS)
+        late = time.monotonic() + ending.grace
+        while self._working and time.monotonic() < late:
+            time.sleep(LOOK_SECONDS)
+        ending.interrupt()
 
     def _work_on(self, kind: Callable[[], bool], stop: ToldOrFailed, pause: float) -> None:
+        thread = threading.get_ident()
+        self._working.add(thread)
+        try:
+            self._work_until(kind, stop, pause)
+        finally:
+            self._working.discard(thread)
+
+    def _work_until(self, kind: Callable[[], bool], stop: ToldOrFailed, pause: float) -> None:
         absence = Absence()
         while not stop.is_set():
             try:
@@ -187,7 +242,9 @@ class Worker:
         kind = events[0]["attrs"]["workflow_type"]
         if kind not in self._workflows:
             raise NotHere(f"this worker has no workflow {kind}")
-        replay, commands = replayed(self._workflows[kind], events, task.run, converter=self._converter)
+        replay, commands = replayed(
+            self._workflows[kind], events, task.run, converter=self._converter, interceptors=self._interceptors,
+        )
         try:
             return replay, within_limit(commands)
         except BadCommand:
@@ -264,16 +321,40 @@ class Worker:
     # Activities.
 
     def _attempt_one(self) -> bool:
-        task = self.service.poll_activity_task(self.queue) if self._activities else None
-        if task is None:
+        if not self._activities:
             return False
+        while left := self._pace.left():
+            if self._reports.stop.wait(min(left, UNAVAILABLE_PAUSE)):
+                return False
+        task = self.service.poll_activity_task(self.queue)
+        if task is None:
+            self._pace.give_back()
+            return False
+        self._pace.began()
         with TaskOver():
             self._attempts.make(task)
         return True
 
 
-def run_together(loops: List[Callable[[], None]], stop: Stop) -> None:
-    """Runs loops on threads until all have ended. What one of them raises ends the others, and is raised."""
+def at_least_one(slots: int) -> int:
+    """A number of slots. ValueError where it is less than one."""
+    if slots < 1:
+        raise ValueError(f"a worker has at least one slot, and not {slots}")
+    return slots
+
+
+def never(thread: threading.Thread) -> bool:
+    """No thread is left."""
+    return False
+
+
+def run_together(
+    loops: Sequence[Callable[[], None]], stop: Stop, may_leave: Callable[[threading.Thread], bool] = never,
+) -> None:
+    """Runs loops on threads until all have ended. What one of them raises ends the others, and is raised.
+
+    `may_leave` is asked whether a thread that goes on is waited for no longer.
+    """
     faults: List[BaseException] = []
 
     def run(loop: Callable[[], None]) -> None:
@@ -287,7 +368,8 @@ def run_together(loops: List[Callable[[], None]], stop: Stop) -> None:
     for thread in threads:
         thread.start()
     for thread in threads:
-        thread.join()
+        while thread.is_alive() and not may_leave(thread):
+            thread.join(LOOK_SECONDS)
     if faults:
         raise faults[0]
 

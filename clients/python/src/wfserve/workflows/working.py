@@ -7,7 +7,7 @@ import importlib
 import signal
 import threading
 import traceback
-from typing import Any
+from typing import Any, Optional
 
 from wfserve.errors import Refused, Unavailable
 from wfserve.http import HttpService
@@ -20,19 +20,27 @@ from .worker import Worker, run_together
 WAIT = 5_000
 
 
-def work_until_stopped(service: HttpService, module_name: str, queue: str, threads: int) -> int:
-    """Works on WORKFLOWS and ACTIVITIES of a module, with so many threads for each kind of task.
+def work_until_stopped(
+    service: HttpService, module_name: str, queue: str, threads: int, grace: Optional[float] = None,
+) -> int:
+    """Works on WORKFLOWS and ACTIVITIES of a module, with so many threads for each kind of task, by its INTERCEPTORS.
+
+    Once it is told to stop, activities have `grace` seconds to end; without one they are waited for.
 
     0 once SIGTERM or SIGINT came and what was in hand is done; 1 where something kept it from going on, or the
     result of an activity could not be told. Refused where the queue is not there.
     """
     module = importlib.import_module(module_name)
     stop = threading.Event()
-    workers = [Worker(service, queue, module.WORKFLOWS, module.ACTIVITIES) for _ in range(threads)]
+    interceptors = getattr(module, "INTERCEPTORS", ())
+    workers = [
+        Worker(service, queue, module.WORKFLOWS, module.ACTIVITIES, interceptors=interceptors, grace=grace)
+        for _ in range(threads)
+    ]
 
     def end(*_: Any) -> None:
         stop.set()
-        giving_up = threading.Timer(GRACE, service.give_up)
+        giving_up = threading.Timer(GRACE + (grace or 0), service.give_up)
         giving_up.daemon = True
         giving_up.start()
 

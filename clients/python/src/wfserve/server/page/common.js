@@ -31,6 +31,19 @@ function moment(milliseconds) {
   return new Date(milliseconds).toLocaleString();
 }
 
+// A duration in words.
+function lasting(milliseconds) {
+  const seconds = Math.max(milliseconds, 0) / 1000;
+  if (seconds < 60) return `${Number(seconds.toFixed(seconds < 10 ? 2 : 0))} s`;
+  if (seconds < 3600) return `${Math.floor(seconds / 60)} min ${Math.floor(seconds % 60)} s`;
+  if (seconds < 86400) return `${Math.floor(seconds / 3600)} h ${Math.floor((seconds % 3600) / 60)} min`;
+  return `${Math.floor(seconds / 86400)} d ${Math.floor((seconds % 86400) / 3600)} h`;
+}
+
+function ago(milliseconds) {
+  return `${lasting(milliseconds)} ago`;
+}
+
 // What a status is called: of a run that is open and fails again and again that it is stuck.
 function statusOf(workflow) {
   return workflow.stuck ? "Stuck" : workflow.status;

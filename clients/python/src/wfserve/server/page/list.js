@@ -1,7 +1,10 @@
 "use strict";
 // The list of workflows: searched as one types, and read again every second.
 
+// So many rows the server gives at most.
+const ROWS = 200;
 let shown = "";
+let skipped = 0;
 
 function row(it) {
   return made("tr", [
@@ -13,17 +16,43 @@ function row(it) {
   ]);
 }
 
+// A field's moment in milliseconds; none where it is empty.
+function momentOf(id) {
+  const text = element(id).value;
+  return text ? String(new Date(text).getTime()) : "";
+}
+
+function asking() {
+  const words = {
+    search: element("text").value,
+    status: element("status").value,
+    type: element("kind").value,
+    from: momentOf("from"),
+    until: momentOf("until"),
+    skip: String(skipped),
+  };
+  return new URLSearchParams(Object.entries(words).filter(([, value]) => value));
+}
+
 async function show() {
-  const search = new URLSearchParams({ search: element("text").value, status: element("status").value });
-  const answer = await asked(`/api/workflows?${search}`);
+  const answer = await asked(`/api/workflows?${asking()}`);
   const found = JSON.stringify(answer);
   if (found !== shown) {
     shown = found;
     element("rows").replaceChildren(...answer.workflows.map(row));
+    element("newer").hidden = skipped === 0;
+    element("older").hidden = answer.workflows.length < ROWS;
   }
-  say(`${answer.workflows.length} shown`);
+  say(`${answer.workflows.length} shown${skipped ? `, after the latest ${skipped}` : ""}`);
 }
 
-element("search").addEventListener("input", show);
+async function go(by) {
+  skipped = Math.max(skipped + by, 0);
+  await show();
+}
+
+element("search").addEventListener("input", () => go(-skipped));
 element("search").addEventListener("submit", (event) => event.preventDefault());
+element("older").addEventListener("click", () => go(ROWS));
+element("newer").addEventListener("click", () => go(-ROWS));
 repeat(show);
