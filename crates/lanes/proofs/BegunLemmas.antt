@@ -1,6 +1,6 @@
 -- what was printed before a fault is a beginning of replies to the lines that were read
-use Rattle.std.proofs.Common.{◌≡◌, ℕ, ◌+◌, List, [], ◌∷◌, ◌++◌, length, map, take, drop, true, false, Option, Some, Result, Ok, inl, inr, refl, sym, ap, subst, ◌∙◌, append-nil, append_assoc, Bool}
-use Rattle.std.proofs.lemmas.List.{map-append, take-append-drop}
+use Rattle.std.proofs.Common.{◌≡◌, ℕ, ◌+◌, List, [], ◌∷◌, ◌++◌, length, take, true, false, Option, Some, Result, Ok, inl, inr, refl, sym, ap, subst, ◌∙◌, append-nil, append_assoc, Bool}
+use Rattle.std.proofs.lemmas.List.{map-append}
 use Rattle.std.specs.Io.KnownBytes.{Appends, Consumes, Keeps}
 use Rattle.wf_event_values.specs.declared.refusal.Refusal.{Refusal}
 use Rattle.service_model_types.specs.declared.settings.Settings.{Settings}
@@ -17,7 +17,7 @@ use Rattle.script.proofs.Steps.{ended-append}
 use Rattle.wire_counted.specs.Written.{AppendsBeginning}
 use Rattle.wire_counted.proofs.Known.{Consumes-keeps, Consumes-none, Consumes-then, beginning_behind, beginning_of_all, beginning_of_nothing}
 use Rattle.lanes.specs.declared.run.LaneScript.{LaneScript}
-use Rattle.lanes.specs.Course.{Serves, Meets, Course, InTurn, LineServed, asks_of}
+use Rattle.lanes.specs.Course.{Serves, Meets, InTurn, LineServed, asks_of}
 use Rattle.lanes.specs.Endings.{Beginning, Broke, Ended, Halted}
 use Rattle.lanes.specs.Lanes.{Took, Waiting, is_barrier, passes_of, place_in}
 use Rattle.lanes.specs.ToldLines.{Added, BeginningOf, BeginsLine, BeginsLines, BeginsMore, Point, Progress, Stopped, TellsLine, TellsMore, TextTold, Told, at_start}
@@ -65,7 +65,7 @@ begins-more {serves} {meets} {K} {pt} lines more held w b = record {
 module _ {Keeper Plan : Type 0} where
   -- the lines before the last barrier were printed
   begins-told : {serves : Serves} {meets : Meets} {K : Settings} {pt : Point} (lines : List Line) (s : LaneScript Keeper Plan) (held w : Option (List ℕ)) → Told serves meets K pt lines s held w → BeginningOf serves meets K pt lines held w
-  begins-told lines s held w h = record {
+  begins-told {pt = pt} lines s held w h = record {
     front = h.done;
     rest = h.waits;
     replies = h.replies;
@@ -140,7 +140,7 @@ module _ {Keeper Plan : Type 0} where
 
   -- a part that nothing was made of
   pub begins-part : {serves : Serves} {meets : Meets} {K : Settings} {pt : Point} (text part : List ℕ) (s : LaneScript Keeper Plan) (held w : Option (List ℕ)) → TextTold serves meets K pt text s held w → BeginningOf serves meets K pt (ended pt.line (text ++ part)) held w
-  begins-part text part s held w h = begins-longer text part held w (begins-told (ended pt.line text) s held w h.told)
+  begins-part {pt = pt} text part s held w h = begins-longer text part held w (begins-told (ended pt.line text) s held w h.told)
 
 -- the parts of a chunk, one after another: `done` was told of, and then a beginning with `part`
 pub begins-chunk : {serves : Serves} {meets : Meets} {K : Settings} {pt : Point} (text all done part rest : List ℕ) (held w : Option (List ℕ)) → all ≡ (done ++ part) ++ rest → BeginningOf serves meets K pt (ended pt.line ((text ++ done) ++ part)) held w

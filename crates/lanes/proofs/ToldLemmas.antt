@@ -160,7 +160,7 @@ module _ {Keeper Plan : Type 0} where
       let phase = phase-barrier serves meets s1.first h.waits s.places.items rs s1.lanes.items q.left (passes_of s'.lanes.items) h.plain (waits-still (asked K line) h.waits s s1 a is h.waiting) p.phase
       (subst (λ x. InTurn Took p.phase.replies x rs q.left) waits.places q.took) met in
       let course = subst (λ x. Course serves meets x all rs (passes_of s'.lanes.items)) a.lanes.passes phase in
-      let count : 1 + length h.replies ≡ s1.first = next-number lines s held w h ∙ sym a.first in
+      let count : pt.first + length h.replies ≡ s1.first = next-number lines s held w h ∙ sym a.first in
       record {
         done = h.done ++ all;
         waits = [];
@@ -199,7 +199,7 @@ module _ {Keeper Plan : Type 0} where
   pub text-served : {serves : Serves} {meets : Meets} {K : Settings} {pt : Point} (text : List ℕ) (s s' : LaneScript Keeper Plan) (held w w' : Option (List ℕ)) → (Unchanged s s' w w' ⊎ Served serves s s' w w')
       → TextTold serves meets K pt text s held w → TextTold serves meets K pt text s' held w'
   text-served {serves} {meets} {K} {pt} text s s' held w w' (inl u) h = subst (λ x. TextTold serves meets K pt text x held w') (sym u.same) (subst (λ x. TextTold serves meets K pt text s held x) (sym u.kept) h)
-  text-served text s s' held w w' (inr c) h = record { line = c.line ∙ h.line; told = told-served (ended pt.line text) s s' held w w' c h.told }
+  text-served {pt = pt} text s s' held w w' (inr c) h = record { line = c.line ∙ h.line; told = told-served (ended pt.line text) s s' held w w' c h.told }
 
   -- the end, and what waited before it
   pub told-ended : {serves : Serves} {meets : Meets} {K : Settings} {ps : List Pass} (text : List ℕ) (lines : List Line) (s s' : LaneScript Keeper Plan) (held w w' : Option (List ℕ)) → lines ≡ all_lines text
