@@ -210,7 +210,7 @@ module _ (Q : Pass → Type 0) (serves serves' : Serves) (meets : Meets) (bs : B
 -- ---- a script that ran to its end
 
 -- what the pass has seen of each shard begins that shard's record
-abbrev IsAlong : Service → List (List Entry) → Pass → Type 0
+abbrev pub IsAlong : Service → List (List Entry) → Pass → Type 0
 IsAlong x logs p = (s : ℕ) → s < (settings_of x).shards → Begins (seen (known_by p) s) (record_at logs s)
 
 pub ran-along : (x : Service) (logs : List (List Entry)) (K : Settings) (ps : List Pass) (unread held unread' held' : Option (List ℕ)) (refused : Bool) (ends : List Pass) → length logs ≡ (settings_of x).shards

@@ -18,12 +18,11 @@ use Rattle.script.proofs.Steps.{ended-append, left-append}
 use Rattle.lanes.specs.declared.reading.Reader.{Reader}
 use Rattle.lanes.specs.declared.run.LaneScript.{LaneScript}
 use Rattle.lanes.specs.Course.{Serves, Meets, asks_of}
-use Rattle.lanes.specs.Endings.{Beginning}
 use Rattle.lanes.specs.declared.sorted.Sorted.{Sorted}
 use Rattle.lanes.specs.Lanes.{ArePlain}
 use Rattle.lanes.specs.Sorted.{Fits, IsSorted, SortedMore}
 use Rattle.lanes.specs.Found.{AllGiven, AllRead, AreFound, AreRead, EndsLines, HasRead, IsGiven, IsRead, lines_in, lines_of, part_of, parts_of}
-use Rattle.lanes.specs.ToldLines.{AddedAll, BeginsFound, BeginsLines, TellsFound, TellsLines, Told}
+use Rattle.lanes.specs.ToldLines.{AddedAll, BeginningOf, BeginsFound, BeginsLines, TellsFound, TellsLines, Told}
 use Rattle.lanes.proofs.BegunLemmas.{begins-more}
 use Rattle.lanes.proofs.SortLemmas.{fits-plain, sorted-push}
 use Rattle.lanes.proofs.ToldLemmas.{plain-push, told-all}
@@ -109,7 +108,7 @@ module _ {Keeper Plan : Type 0} where
     rest = lines;
     parts = refl;
     behind = h;
-    told = λ ps before held told. subst (λ ls. Told serves meets K ps ls s held w) (sym (append-nil before)) told;
+    told = λ pt before held told. subst (λ ls. Told serves meets K pt ls s held w) (sym (append-nil before)) told;
   }
 
   pub taking-one : {serves : Serves} {meets : Meets} (K : Settings) (lines : List Line) (f : Result Asked Refusal) (found : List (Result Asked Refusal)) (s m s' : LaneScript Keeper Plan) (w w1 w' : Option (List ℕ)) → TellsFound serves meets f m s' w1 w'
@@ -123,7 +122,7 @@ module _ {Keeper Plan : Type 0} where
         rest = rest;
         parts = parts ∙ sym (append_assoc t.done (line ∷ []) rest);
         behind = h.1;
-        told = λ ps before held told. subst (λ ls. Told serves meets K ps ls s' held w') (append_assoc before t.done (line ∷ [])) (step K line h.0 ps (before ++ t.done) held (t.told ps before held told));
+        told = λ pt before held told. subst (λ ls. Told serves meets K pt ls s' held w') (append_assoc before t.done (line ∷ [])) (step K line h.0 pt (before ++ t.done) held (t.told pt before held told));
       }
 
   pub taking-all : {serves : Serves} {meets : Meets} (K : Settings) (lines : List Line) (s s' : LaneScript Keeper Plan) (w w' : Option (List ℕ)) → Taking serves meets K lines [] s s' w w' → TellsLines serves meets K lines s s' w w'
@@ -139,25 +138,25 @@ module _ {Keeper Plan : Type 0} where
     where
       go : (rest : List Line) → lines ≡ t.done ++ rest → AreFound K (f ∷ found) rest → BeginsLines serves meets K lines s w w'
       go [] parts h = absurd h
-      go (line ∷ rest) parts h = λ ps before held told.
-          let b = step K line h.0 ps (before ++ t.done) held (t.told ps before held told) in
+      go (line ∷ rest) parts h = λ pt before held told.
+          let b = step K line h.0 pt (before ++ t.done) held (t.told pt before held told) in
           let all : ((before ++ t.done) ++ line ∷ []) ++ rest ≡ before ++ lines = append_assoc (before ++ t.done) (line ∷ []) rest ∙ append_assoc before t.done (line ∷ rest) ∙ ap (λ x. before ++ x) (sym parts) in
-          subst (λ ls. Beginning serves meets K ps ls held w') all (begins-more ((before ++ t.done) ++ line ∷ []) rest held w' b)
+          subst (λ ls. BeginningOf serves meets K pt ls held w') all (begins-more ((before ++ t.done) ++ line ∷ []) rest held w' b)
 
 -- ---- lines that a reader sorted, and those that wait after them
 
 module _ {Keeper Plan : Type 0} where
   pub read-tells : {serves : Serves} {meets : Meets} (K : Settings) (sorted : Sorted) (found : List (Result Asked Refusal)) (lines : List Line) (s s1 s' : LaneScript Keeper Plan) (w w' : Option (List ℕ)) → ((asks : List (Result Asked Refusal)) → IsSorted asks sorted → AddedAll asks s s1)
       → ((K : Settings) (more : List Line) → AreFound K found more → TellsLines serves meets K more s1 s' w w') → AreRead K sorted found lines → TellsLines serves meets K lines s s' w w'
-  read-tells {serves} {meets} K sorted found lines s s1 s' w w' added step r ps before held told =
-      subst (λ ls. Told serves meets K ps ls s' held w') (append_assoc before r.front r.back ∙ ap (λ x. before ++ x) (sym r.parts))
-      (step K r.back r.waits ps (before ++ r.front) held (told-all before r.front s s1 held w (added (asks_of K r.front) r.sorted) r.plain told))
+  read-tells {serves} {meets} K sorted found lines s s1 s' w w' added step r pt before held told =
+      subst (λ ls. Told serves meets K pt ls s' held w') (append_assoc before r.front r.back ∙ ap (λ x. before ++ x) (sym r.parts))
+      (step K r.back r.waits pt (before ++ r.front) held (told-all before r.front s s1 held w (added (asks_of K r.front) r.sorted) r.plain told))
 
   pub read-begins : {serves : Serves} {meets : Meets} (K : Settings) (sorted : Sorted) (found : List (Result Asked Refusal)) (lines : List Line) (s s1 : LaneScript Keeper Plan) (w w' : Option (List ℕ)) → ((asks : List (Result Asked Refusal)) → IsSorted asks sorted → AddedAll asks s s1)
       → ((K : Settings) (more : List Line) → AreFound K found more → BeginsLines serves meets K more s1 w w') → AreRead K sorted found lines → BeginsLines serves meets K lines s w w'
-  read-begins {serves} {meets} K sorted found lines s s1 w w' added step r ps before held told =
-      subst (λ ls. Beginning serves meets K ps ls held w') (append_assoc before r.front r.back ∙ ap (λ x. before ++ x) (sym r.parts))
-      (step K r.back r.waits ps (before ++ r.front) held (told-all before r.front s s1 held w (added (asks_of K r.front) r.sorted) r.plain told))
+  read-begins {serves} {meets} K sorted found lines s s1 w w' added step r pt before held told =
+      subst (λ ls. BeginningOf serves meets K pt ls held w') (append_assoc before r.front r.back ∙ ap (λ x. before ++ x) (sym r.parts))
+      (step K r.back r.waits pt (before ++ r.front) held (told-all before r.front s s1 held w (added (asks_of K r.front) r.sorted) r.plain told))
 
 -- ---- the parts of readers
 
@@ -258,17 +257,17 @@ lines-split parts k below =
 module _ {Keeper Plan : Type 0} where
   -- no lines
   pub tells-none : {serves : Serves} {meets : Meets} (K : Settings) (s : LaneScript Keeper Plan) (w : Option (List ℕ)) → TellsLines serves meets K [] s s w w
-  tells-none {serves} {meets} K s w ps before held told = subst (λ ls. Told serves meets K ps ls s held w) (sym (append-nil before)) told
+  tells-none {serves} {meets} K s w pt before held told = subst (λ ls. Told serves meets K pt ls s held w) (sym (append-nil before)) told
 
   -- some lines, and then others
   pub tells-then : {serves : Serves} {meets : Meets} (K : Settings) (a b : List Line) (s m s' : LaneScript Keeper Plan) (w w1 w' : Option (List ℕ)) → TellsLines serves meets K a s m w w1 → TellsLines serves meets K b m s' w1 w' → TellsLines serves meets K (a ++ b) s s' w w'
-  tells-then {serves} {meets} K a b s m s' w w1 w' one two ps before held told = subst (λ ls. Told serves meets K ps ls s' held w') (append_assoc before a b) (two ps (before ++ a) held (one ps before held told))
+  tells-then {serves} {meets} K a b s m s' w w1 w' one two pt before held told = subst (λ ls. Told serves meets K pt ls s' held w') (append_assoc before a b) (two pt (before ++ a) held (one pt before held told))
 
   -- some lines, a beginning of others, and nothing of those after them
   pub begins-within : {serves : Serves} {meets : Meets} (K : Settings) (a b c : List Line) (s m : LaneScript Keeper Plan) (w w1 w' : Option (List ℕ)) → TellsLines serves meets K a s m w w1 → BeginsLines serves meets K b m w1 w' → BeginsLines serves meets K ((a ++ b) ++ c) s w w'
-  begins-within {serves} {meets} K a b c s m w w1 w' one two ps before held told =
-      let both = subst (λ ls. Beginning serves meets K ps ls held w') (append_assoc before a b) (two ps (before ++ a) held (one ps before held told)) in
-      subst (λ ls. Beginning serves meets K ps ls held w') (append_assoc before (a ++ b) c) (begins-more (before ++ (a ++ b)) c held w' both)
+  begins-within {serves} {meets} K a b c s m w w1 w' one two pt before held told =
+      let both = subst (λ ls. BeginningOf serves meets K pt ls held w') (append_assoc before a b) (two pt (before ++ a) held (one pt before held told)) in
+      subst (λ ls. BeginningOf serves meets K pt ls held w') (append_assoc before (a ++ b) c) (begins-more (before ++ (a ++ b)) c held w' both)
 
 -- a text up to a line feed
 pub cut-ends : (text a part b : List ℕ) (n : ℕ) → text ≡ a ++ (part ++ 10 ∷ b) → n ≡ length (a ++ (part ++ 10 ∷ [])) → EndsLines (take n text)

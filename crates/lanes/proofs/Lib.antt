@@ -5,6 +5,7 @@ pub mod CallLemmas
 pub mod CourseLemmas
 pub mod FaultLemmas
 pub mod FoundLemmas
+pub mod JournaledLemmas
 pub mod LaneLemmas
 pub mod MeetLemmas
 pub mod NumberLemmas
@@ -13,6 +14,8 @@ pub mod PlaceLemmas
 pub mod PrintLemmas
 pub mod ReopenLemmas
 pub mod RepliedLemmas
+pub mod SettleLemmas
+pub mod ShownLemmas
 pub mod SortLemmas
 pub mod TraceLemmas
 pub mod ToldLemmas

@@ -1,5 +1,5 @@
 -- the replies that lanes have left are those to their own lines, in order
-use Rattle.std.proofs.Common.{◌≡◌, ℕ, zero, suc, ◌+◌, ◌<◌, ◌⊎◌, ◌^◌, List, [], ◌∷◌, ◌++◌, take, drop, length, map, set, slice_get, get_or, cond, eqb, Bool, true, false, Option, None, Some, Result, inl, inr, refl, sym, ap, subst, ◌∙◌, arith}
+use Rattle.std.proofs.Common.{◌≡◌, ℕ, zero, suc, ◌+◌, ◌<◌, ◌⊎◌, ◌^◌, List, [], ◌∷◌, ◌++◌, take, drop, length, map, set, slice_get, get_or, cond, eqb, Option, None, Some, Result, inl, inr, refl, sym, ap, subst, ◌∙◌, arith}
 use Rattle.std.proofs.lemmas.Bool.{cases_eq, eq-eqb, eqb-true, false_from_ne_true}
 use Rattle.std.proofs.lemmas.List.{length-map, length-take-le, take-append-drop}
 use Rattle.std.proofs.lemmas.Option.{none-some, same_Some}

@@ -1,12 +1,15 @@
 pub mod Answers
+pub mod Batched
 pub mod Calls
 pub mod Course
 pub mod Endings
 pub mod Found
+pub mod Journaled
 pub mod Lanes
 pub mod Meetings
 pub mod Numbers
 pub mod Printed
 pub mod Reopened
+pub mod Shown
 pub mod Sorted
 pub mod ToldLines

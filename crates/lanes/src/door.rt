@@ -4,14 +4,14 @@ ghost use Rattle.std.specs.Prelude.{◌≡◌, IfOk};
 ghost use Rattle.service.specs.Services.{IsPassOf};
 ghost use Rattle.lanes.specs.Meetings.{PassServed, PassesMet};
 
-use service::{KeepsShard, Pass, Service};
+use service::{Pass, Service, ShardObject};
 use service_model_types::answer::Reply;
 use service_model_types::call::Call;
 use std::alloc::AllocError;
 use std::sync::Wait;
 
 /// What serves the calls of passes that are its own.
-pub trait Door<S: KeepsShard> {
+pub trait Door<S: ShardObject> {
     ghost use Rattle.service.specs.ServiceViews.{Pass as PassView};
     ghost use Rattle.service_model_types.specs.declared.call.Call.{Call};
     ghost use Rattle.service_model_types.specs.Replies.{Reply};
@@ -40,7 +40,7 @@ pub trait Door<S: KeepsShard> {
         ensures met { meets self.now one.old other.old one.new other.new };
 }
 
-impl<S: KeepsShard> Door<S> for Service<S> {
+impl<S: ShardObject> Door<S> for Service<S> {
     ghost use Rattle.service.specs.Services.{IsPassOf};
     ghost use Rattle.lanes.specs.Meetings.{PassServed, PassesMet};
 

@@ -11,7 +11,7 @@ use crate::calls::{Calls, LineCall};
 use crate::door::Door;
 use crate::replies::Replies;
 use crate::room::make_room;
-use service::{KeepsShard, Pass};
+use service::{Pass, ShardObject};
 use std::alloc::{AllocError, Global};
 use std::collections::VecDeque;
 use std::sync::Wait;
@@ -20,7 +20,7 @@ use std::sync::Wait;
 ///
 /// The replies' lines are made in the lane's thread, and the replies dropped there.
 #[derive(Drop)]
-pub(crate) struct Lane<S: KeepsShard> {
+pub(crate) struct Lane<S: ShardObject> {
     pub(crate) pass: Pass<S>,
     asked: Calls,
     replies: Replies,
@@ -28,7 +28,7 @@ pub(crate) struct Lane<S: KeepsShard> {
     taken: usize,
 }
 
-impl<S: KeepsShard> Lane<S> {
+impl<S: ShardObject> Lane<S> {
     pub(crate) fn new(alloc: Global, pass: Pass<S>) -> Lane<S>
         ensures pass { result.pass ≡ pass }
         ensures asked { calls_of result ≡ [] }

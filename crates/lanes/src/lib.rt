@@ -5,11 +5,13 @@
 //! on. At a barrier and at the end the lanes' passes meet.
 //! `run_lanes_from` does so over a service that it opens from records, and gives the records of its end;
 //! where it is asked for, it writes the one history of all shards after the last reply.
+//! `run_lanes_journaled` commits the steps of each read to a journal before it tells the replies to it.
 #![tactic(auto)]
 
 mod answer;
 mod calls;
 mod door;
+mod journaled;
 mod lane;
 mod phase;
 mod place;
@@ -19,8 +21,10 @@ mod reopened;
 mod replies;
 mod room;
 mod run;
+mod settle;
 mod sorted;
 
 pub use door::Door;
+pub use journaled::{LanesJournaled, run_lanes_journaled};
 pub use reopened::run_lanes_from;
 pub use run::{LanesOutcome, run_lanes};

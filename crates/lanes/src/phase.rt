@@ -11,7 +11,7 @@ use crate::lane::Lane;
 use crate::place::Place;
 use crate::print::print;
 use script::ScriptFault;
-use service::KeepsShard;
+use service::ShardObject;
 use std::alloc::Global;
 use std::io::Write;
 use std::sync::Wait;
@@ -20,7 +20,7 @@ use std::thread::Threads;
 use wire_counted::Counted;
 
 /// Lets all lanes make their calls at the same time, each in a thread of its own.
-fn serve_lanes<R: Threads + Wait + Sync, S: KeepsShard + Send + Sync, D: Door<S> + Sync>(
+fn serve_lanes<R: Threads + Wait + Sync, S: ShardObject + Send + Sync, D: Door<S> + Sync>(
     rt: &R,
     alloc: Global,
     door: &D,
@@ -47,7 +47,7 @@ fn serve_lanes<R: Threads + Wait + Sync, S: KeepsShard + Send + Sync, D: Door<S>
 }
 
 /// The first lane meets every other, in their order.
-fn meet_others<S: KeepsShard, D: Door<S>>(door: &D, lanes: &mut [Lane<S>])
+pub(crate) fn meet_others<S: ShardObject, D: Door<S>>(door: &D, lanes: &mut [Lane<S>])
     requires { All (λ l. D.admits door.now l.pass) lanes.old }
     ensures own { All (λ l. D.admits door.now l.pass) lanes.new }
     ensures count { length lanes.new ≡ length lanes.old }
@@ -62,7 +62,7 @@ fn meet_others<S: KeepsShard, D: Door<S>>(door: &D, lanes: &mut [Lane<S>])
 }
 
 /// The first lane meets every other twice, so that all of them have seen what any of them did.
-pub(crate) fn meet_all<S: KeepsShard, D: Door<S>>(door: &D, lanes: &mut [Lane<S>])
+pub(crate) fn meet_all<S: ShardObject, D: Door<S>>(door: &D, lanes: &mut [Lane<S>])
     requires { All (λ l. D.admits door.now l.pass) lanes.old }
     ensures own { All (λ l. D.admits door.now l.pass) lanes.new }
     ensures count { length lanes.new ≡ length lanes.old }
@@ -77,7 +77,7 @@ pub(crate) fn meet_all<S: KeepsShard, D: Door<S>>(door: &D, lanes: &mut [Lane<S>
 /// one on. It says whether one of them is a refusal.
 pub(crate) fn serve_phase<
     R: Threads + Wait + Sync,
-    S: KeepsShard + Send + Sync,
+    S: ShardObject + Send + Sync,
     D: Door<S> + Sync,
     W: Write,
 >(

@@ -13,7 +13,7 @@ ghost use Rattle.lanes.specs.Printed.{Begun, BegunIn, Printed, PrintedIn, Printe
 use crate::lane::Lane;
 use crate::place::Place;
 use script::ScriptFault;
-use service::KeepsShard;
+use service::ShardObject;
 use service_model_types::answer::Reply;
 use std::alloc::Global;
 use std::io::Write;
@@ -82,7 +82,7 @@ fn print_refusal<W: Write>(
 ///
 /// # Errors
 /// There is no reply where memory ran out in the lane.
-fn print_in<S: KeepsShard, W: Write>(
+fn print_in<S: ShardObject, W: Write>(
     alloc: Global,
     lanes: &mut [Lane<S>],
     number: u64,
@@ -114,7 +114,7 @@ fn print_in<S: KeepsShard, W: Write>(
 }
 
 /// Writes the reply line of a line, and says whether it is a refusal.
-fn print_one<S: KeepsShard, W: Write>(
+fn print_one<S: ShardObject, W: Write>(
     alloc: Global,
     lanes: &mut [Lane<S>],
     number: u64,
@@ -149,7 +149,7 @@ fn print_one<S: KeepsShard, W: Write>(
 
 /// Writes the reply lines of lines that are numbered from this one on, and says whether one of them is
 /// a refusal.
-pub(crate) fn print<S: KeepsShard, W: Write>(
+pub(crate) fn print<S: ShardObject, W: Write>(
     alloc: Global,
     lanes: &mut [Lane<S>],
     first: u64,

@@ -11,8 +11,9 @@ pub mod CallLemmas
 pub mod OpenLemmas
 mod CloseLemmas
 mod OpeningLaws
-mod JournaledLemmas
+pub mod JournaledLemmas
 mod KeptLemmas
 mod RecordLaws
 pub mod EndLemmas
-mod TakenLemmas
+pub mod FaultLemmas
+pub mod TakenLemmas

@@ -57,7 +57,7 @@ pub enum JournaledFault {
     /// The journal's file would be longer than 2^64 bytes.
     #[error("the journal is full")]
     Full,
-    /// Steps of the shards' records were handed out to another caller.
+    /// Steps of the shards' records were handed out to another caller, or made by one.
     #[error("steps were handed out elsewhere")]
     HandedOut,
 }

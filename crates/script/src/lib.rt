@@ -18,7 +18,7 @@ mod serving;
 mod trace;
 
 pub use fault::{JournaledFault, ScriptFault};
-pub use journaled::{BATCH, Journaled, run_journaled};
+pub use journaled::{BATCH, Journaled, commit, of_commit, of_serving, run_journaled};
 pub use line::{LINE_LIMIT, Line};
 pub use reading::asked;
 pub use run::{CHUNK, Outcome, run_from, run_one};

@@ -26,9 +26,6 @@ pub enum Fault {
     Output(io::Error),
     #[error(transparent)]
     Script(ScriptFault),
-    /// A journal serves the lines of one pass.
-    #[error("--journal serves one lane, so it takes no --passes above 1")]
-    JournalPasses,
     /// Another process has this journal open.
     #[error("{path}: another process has this journal open")]
     InUse { path: String },
@@ -47,7 +44,7 @@ pub enum Fault {
     /// The journal's file is as long as a file can be.
     #[error("{path}: the journal is full")]
     Full { path: String },
-    /// Steps of the records were handed out to another caller than the journal.
+    /// Steps of the records were handed out to another caller than the journal, or made by one.
     #[error("steps were handed out elsewhere")]
     HandedOut,
 }

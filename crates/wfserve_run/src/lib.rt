@@ -25,4 +25,4 @@ mod served;
 pub use fault::Fault;
 pub use journal::LockFiles;
 pub use program::{run, status};
-pub use served::Served;
+pub use served::{Served, WithJournal};

@@ -1,10 +1,32 @@
 //! What was served, with a journal or without one.
 
 ghost use Rattle.std.specs.Prelude.{◌≡◌};
-ghost use Rattle.wfserve_run.specs.Status.{served_status};
+ghost use Rattle.wfserve_run.specs.Status.{is_refused, served_status};
 
+use lanes::LanesJournaled;
 use script::{Journaled, Outcome};
-use service::{Handing, KeepsShard};
+use service::{Handing, KeepsShard, ShardObject};
+
+/// What was served with a journal.
+#[derive(Drop)]
+pub enum WithJournal<S: ShardObject> {
+    /// By one pass.
+    OnePass(Journaled<S>),
+    /// In a lane for each pass.
+    InLanes(LanesJournaled<S>),
+}
+
+impl<S: ShardObject> WithJournal<S> {
+    /// Whether a reply was a refusal.
+    pub fn refused(&self) -> bool
+        ensures { result ≡ is_refused self.now }
+    {
+        match self {
+            WithJournal::OnePass(journaled) => journaled.refused,
+            WithJournal::InLanes(journaled) => journaled.refused,
+        }
+    }
+}
 
 /// What was served.
 #[derive(Drop)]
@@ -12,7 +34,7 @@ pub enum Served<S: KeepsShard> {
     /// A script whose records stay in memory.
     Script(Outcome<S>),
     /// One whose records went to a journal.
-    Journaled(Journaled<Handing<S>>),
+    Journaled(WithJournal<Handing<S>>),
 }
 
 impl<S: KeepsShard> Served<S> {
@@ -22,7 +44,7 @@ impl<S: KeepsShard> Served<S> {
     {
         match self {
             Served::Script(outcome) => outcome.status(),
-            Served::Journaled(journaled) => { if journaled.refused { 1 } else { 0 } }
+            Served::Journaled(journaled) => { if journaled.refused() { 1 } else { 0 } }
         }
     }
 }

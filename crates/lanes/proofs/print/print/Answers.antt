@@ -1,4 +1,4 @@
-use Rattle.std.proofs.Common.{take, refl, subst, ◌∙◌, arith}
+use Rattle.std.proofs.Common.{refl, subst, ◌∙◌, arith}
 use Rattle.std.proofs.lemmas.List.{take_all}
 use Rattle.script.proofs.Steps.{on_any_err}
 use Rattle.lanes.specs.Printed.{Printed}
