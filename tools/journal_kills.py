@@ -6,11 +6,13 @@
 PROGRAM is the built `wfserve`, as `rt ci` leaves it in crates/wfserve/out. N is how often it is killed (60): one time
 in six while it opens, and else after a drawn number of replies and a drawn part of the time that some batches take,
 which is measured first. The seed is printed; with the same one the same lines are served, and the kills come after as
-many replies. The status is 1 where a test fails. tools/journal_faults.py has the tests of disks that fail.
+many replies. Where the program's journal serves several lanes, all of it is made with eight of them too. The status is
+1 where a test fails. tools/journal_faults.py has the tests of disks that fail.
 """
 from __future__ import annotations
 
 import argparse
+import json
 import pathlib
 import random
 import re
@@ -33,8 +35,11 @@ LINES = 1_500
 BEGIN = b"\x1d"
 SETTINGS = JournalSettings(("main",), 0, 1, SHARDS)
 FEW_ZEROS = 300_000
+OF_OTHERS = re.compile(r"(?<=\")[0-9a-f]{8}(-[0-9a-f]{4}){3}-[0-9a-f]{12}(?=\")|(?<=\"at\": )[0-9]+(?=[,}])")
 # A kill comes after at most this share of the lines that are left, so that a journal is opened some ten times.
 SHARE = 0.3
+# So many lines are handed in before their replies come.
+AHEAD = 100
 # One kill in so many comes while the program opens.
 OPENING = 6
 kills = 60
@@ -46,11 +51,12 @@ def taken_in(replies: list[Line]) -> list[str]:
     return [reply["workflow_id"] for reply in replies if reply.get("ok") == "task"]
 
 
-def drawn_lines(draws: random.Random) -> list[Line]:
-    """Lines each of which makes one step, on one of the shards, at moments that never go back."""
+def drawn_lines(draws: random.Random, passes: int) -> list[Line]:
+    """Lines each of which makes one step, on one of the shards, at moments that never go back, by a workflow's lane."""
     lines: list[Line] = []
     for at in range(LINES):
-        workflow_id = f"w{draws.randrange(WORKFLOWS)}"
+        number = draws.randrange(WORKFLOWS)
+        workflow_id = f"w{number}"
         kind = draws.randrange(10)
         if kind < 3:
             line = {**start(workflow_id), "request_id": f"r{at}"}
@@ -61,8 +67,13 @@ def drawn_lines(draws: random.Random) -> list[Line]:
             line = {"op": "terminate", "workflow_id": workflow_id, "reason": "r"}
         else:
             line = {"op": "history", "workflow_id": workflow_id}
-        lines.append({**line, "at": at})
+        lines.append({**line, "at": at, **({"lane": number % passes} if passes > 1 else {})})
     return lines
+
+
+def beside_others(replies: list[Line]) -> list[Line]:
+    """Replies without what depends on the lines of other workflows: run ids, and the moments of a shard's steps."""
+    return json.loads(OF_OTHERS.sub("0", json.dumps(replies)))
 
 
 def histories() -> list[Line]:
@@ -72,7 +83,7 @@ def histories() -> list[Line]:
 class Fed:
     """A program that is fed lines by tens, so that there are many batches, and whose replies are read."""
 
-    def __init__(self, lines: list[Line], folder: str):
+    def __init__(self, lines: list[Line], folder: str, more: list[str]):
         self._lines, self._read = lines, b""
         self._came = threading.Condition()
         self._ended = False
@@ -80,8 +91,7 @@ class Fed:
         # When its first reply and its last one came.
         self.times: list[float] = []
         self._program = subprocess.Popen(
-            words(folder, "--shards", str(SHARDS)), stdin=subprocess.PIPE, stdout=subprocess.PIPE,
-            stderr=subprocess.DEVNULL, bufsize=0)
+            words(folder, *more), stdin=subprocess.PIPE, stdout=subprocess.PIPE, stderr=subprocess.DEVNULL, bufsize=0)
         self._threads = [threading.Thread(target=work) for work in (self._gather, self._feed)]
         for thread in self._threads:
             thread.start()
@@ -101,6 +111,8 @@ class Fed:
         stream: Any = self._program.stdin
         try:
             for first in range(0, len(self._lines), 10):
+                # On a machine that is busy too, a program that is killed has not served all lines at once.
+                self.wait_for(first - AHEAD)
                 stream.write(text(self._lines[first:first + 10]).encode())
             stream.close()
         except (BrokenPipeError, ValueError):
@@ -132,16 +144,24 @@ class Fed:
 class Killed(unittest.TestCase):
     """What was answered is there when the program is started again, once, whenever it was killed."""
 
+    passes = 1
+
+    def shown(self, replies: list[Line]) -> list[Line]:
+        """What is compared of replies."""
+        return replies
+
     def test_no_answered_step_is_lost_or_doubled(self) -> None:
         self.draws = random.Random(seed)
-        self.lines = drawn_lines(self.draws)
+        self.more = ["--shards", str(SHARDS), "--passes", str(self.passes)]
+        self.lines = drawn_lines(self.draws, self.passes)
         with tempfile.TemporaryDirectory() as quiet:
-            fed = Fed(self.lines, quiet)
-            self.undisturbed = fed.served()
+            # Undisturbed, by one lane.
+            fed = Fed([{**line, "lane": 0} for line in self.lines], quiet, self.more[:2])
+            self.undisturbed = self.shown(fed.served())
             # How long an opening takes, and then a batch of lines.
             self.opening, last = (came - fed.began for came in fed.times)
             self.batch = 10 * (last - self.opening) / LINES
-            shown = served(histories(), quiet, "--shards", str(SHARDS))
+            shown = self.shown(served(histories(), quiet, *self.more))
         self.told = done = journals = 0
         while done < kills:
             with tempfile.TemporaryDirectory() as folder:
@@ -151,15 +171,16 @@ class Killed(unittest.TestCase):
                     begun = framed(SETTINGS.text()) + b"\0" * FEW_ZEROS
                     pathlib.Path(folder, "journal").write_bytes(begun)
                 done += self.serve_under_kills(folder, kills - done)
-                self.assertEqual(served(histories(), folder, "--shards", str(SHARDS)), shown, f"seed {seed}")
-        print(f"journal_kills: {self.told} of {done} kills came after some replies, and not all", flush=True)
+                self.assertEqual(self.shown(served(histories(), folder, *self.more)), shown, f"seed {seed}")
+        print(f"journal_kills: {self.passes} lanes: {self.told} of {done} kills came after some replies, and not all",
+              flush=True)
         if done >= 30:
             # Five in six are meant to.
             self.assertGreater(3 * self.told, done, f"seed {seed}")
 
     def killed_once(self, folder: str, left: list[Line]) -> list[Line]:
         """The replies of a program that is killed while it opens, or after some replies and a moment more."""
-        fed = Fed(left, folder)
+        fed = Fed(left, folder, self.more)
         if self.draws.randrange(OPENING) == 0:
             time.sleep(self.draws.uniform(0, 1.2 * self.opening))
         else:
@@ -171,7 +192,7 @@ class Killed(unittest.TestCase):
         """Serves all lines, at most so many times killed. How often it was."""
         for number in range(most):
             before = steps_in(folder)
-            replies = self.killed_once(folder, self.lines[before:])
+            replies = self.shown(self.killed_once(folder, self.lines[before:]))
             now = steps_in(folder)
             self.told += 0 < len(replies) and now < len(self.lines)
             where = f"seed {seed}, kill {number} of this journal"
@@ -181,9 +202,25 @@ class Killed(unittest.TestCase):
             if now == len(self.lines):
                 return number + 1
         before = steps_in(folder)
-        rest = served(self.lines[before:], folder, "--shards", str(SHARDS))
+        rest = self.shown(served(self.lines[before:], folder, *self.more))
         self.assertEqual(rest, self.undisturbed[before:], f"seed {seed}")
         return most
+
+
+class KilledWithLanes(Killed):
+    """The same with eight lanes, each of which serves the lines of some workflows."""
+
+    passes = 8
+
+    def setUp(self) -> None:
+        with tempfile.TemporaryDirectory() as folder:
+            done = ran([], folder, "--passes", str(self.passes))
+        if done.returncode == 2 and "--journal serves one lane" in done.stderr:
+            self.skipTest("this program's journal serves one lane")
+
+    def shown(self, replies: list[Line]) -> list[Line]:
+        """What is compared of replies."""
+        return beside_others(replies)
 
 
 class FullDisk(unittest.TestCase):
