@@ -212,12 +212,6 @@ class KilledWithLanes(Killed):
 
     passes = 8
 
-    def setUp(self) -> None:
-        with tempfile.TemporaryDirectory() as folder:
-            done = ran([], folder, "--passes", str(self.passes))
-        if done.returncode == 2 and "--journal serves one lane" in done.stderr:
-            self.skipTest("this program's journal serves one lane")
-
     def shown(self, replies: list[Line]) -> list[Line]:
         """What is compared of replies."""
         return beside_others(replies)
