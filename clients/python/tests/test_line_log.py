@@ -6,6 +6,9 @@ import tempfile
 import unittest
 from unittest import mock
 
+from support import add_paths
+
+add_paths()
 from wfserve.durable import log as line_log
 from wfserve.durable.log import LineLog
 from wfserve.errors import LogBroken, LogDamaged, LogFull, LogInUse
