@@ -25,10 +25,10 @@ impl Table for InMemory {
         Ok(())
     }
 
-    fn read(&mut self, after: u64) -> Result<Vec<Batch>, LogFault> {
+    fn read(&mut self, after: u64, most: u32) -> Result<Vec<Batch>, LogFault> {
         let shared = self.shared.lock().unwrap();
         let rest = (after + 1..).zip(shared.batches.iter().skip(after as usize));
-        Ok(rest.take(2).map(|(number, lines)| Batch { number, lines: lines.clone() }).collect())
+        Ok(rest.take(most.min(2) as usize).map(|(number, lines)| Batch { number, lines: lines.clone() }).collect())
     }
 
     fn tell(&mut self, number: u64) -> Result<(), LogFault> {

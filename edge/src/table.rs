@@ -20,9 +20,8 @@ pub trait Table: Send {
     /// Begins the log with its header, where it has none: another one may have done that meanwhile.
     fn begin(&mut self, header: &[u8]) -> Result<(), LogFault>;
 
-    /// The batches that follow the one of this number, as far as one reading brings them. None are left where there are
-    /// none.
-    fn read(&mut self, after: u64) -> Result<Vec<Batch>, LogFault>;
+    /// So many batches at most that follow the one of this number. None are left where there are none.
+    fn read(&mut self, after: u64, most: u32) -> Result<Vec<Batch>, LogFault>;
 
     /// Tells who watches that this edge follows, and has served up to this batch.
     fn tell(&mut self, number: u64) -> Result<(), LogFault>;

@@ -11,6 +11,11 @@ use crate::table::{Batch, Connect, Table};
 use std::io::Write;
 use std::time::{Duration, Instant};
 
+/// So many bytes one reading brings, as far as the last one tells, and so many batches at least and at most. A batch has
+/// up to a MiB.
+const READ_BYTES: usize = 8 << 20;
+const FEWEST: usize = 8;
+const MOST: usize = 512;
 /// So often a follower reads, and so often it tells how far it is.
 const READ: Duration = Duration::from_millis(20);
 const TELL: Duration = Duration::from_secs(1);
@@ -117,7 +122,7 @@ pub fn open<O: Observe>(
 /// The first batch. A table that has none gets the settings that are wanted.
 fn header_of(program: &str, table: &mut dyn Table, named: &Named) -> Result<Batch, NotServed> {
     loop {
-        if let Some(first) = table.read(0)?.into_iter().next() {
+        if let Some(first) = table.read(0, 1)?.into_iter().next() {
             return Ok(first);
         }
         let settings = Settings::default().with(named);
@@ -155,23 +160,32 @@ impl Follower {
 
     /// Serves the lines that the table has, so many at most.
     fn catch_up(&mut self, table: &mut dyn Table, observer: &mut impl Observe, most: u64) -> Result<(), NotServed> {
+        let mut count = FEWEST;
         loop {
-            let batches = table.read(self.place.batches)?;
+            let batches = table.read(self.place.batches, count as u32)?;
             if batches.is_empty() || self.place.lines > most {
                 return Ok(());
             }
-            for batch in batches {
-                let expected = self.place.batches + 1;
-                if batch.number != expected {
-                    return Err(LogFault::Damaged(format!("batch {expected} of the table is gone")).into());
-                }
-                let left = most.saturating_sub(self.place.lines - 1);
-                let lines: Vec<&[u8]> = batch.lines.split(|byte| *byte == b'\n').collect();
-                let served = &lines[..lines.len().min(usize::try_from(left).unwrap_or(usize::MAX))];
-                serve(&mut self.program, served, self.place.lines, observer)?;
-                self.place.pass(&batch, served.len() as u64);
-            }
+            let bytes: usize = batches.iter().map(|batch| batch.lines.len()).sum();
+            count = (READ_BYTES / (bytes / batches.len()).max(1)).clamp(FEWEST, MOST);
+            self.serve_all(&batches, observer, most)?;
         }
+    }
+
+    /// Serves batches, so that so many lines were served at most.
+    fn serve_all(&mut self, batches: &[Batch], observer: &mut impl Observe, most: u64) -> Result<(), NotServed> {
+        let (first, mut lines) = (self.place.lines, Vec::new());
+        for batch in batches {
+            let expected = self.place.batches + 1;
+            if batch.number != expected {
+                return Err(LogFault::Damaged(format!("batch {expected} of the table is gone")).into());
+            }
+            let before = lines.len();
+            let left = usize::try_from(most.saturating_sub(self.place.lines - 1)).unwrap_or(usize::MAX);
+            lines.extend(batch.lines.split(|byte| *byte == b'\n').take(left));
+            self.place.pass(batch, (lines.len() - before) as u64);
+        }
+        serve(&mut self.program, &lines, first, observer)
     }
 }
 

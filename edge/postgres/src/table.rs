@@ -27,8 +27,7 @@ const TABLES: &str = "
     insert into wfserve_leader values (1, 0, '', now()) on conflict do nothing;
     commit";
 const BEGIN: &str = "insert into wfserve_log values (1, 0, $1) on conflict do nothing";
-/// So many batches at once, of up to a MiB each.
-const READ: &str = "select number, lines from wfserve_log where number > $1 order by number limit 64";
+const READ: &str = "select number, lines from wfserve_log where number > $1 order by number limit $2";
 const TELL: &str = "
     insert into wfserve_followers values ($1, $2, clock_timestamp())
     on conflict (name) do update set number = excluded.number, at = excluded.at";
@@ -154,8 +153,8 @@ impl Table for Postgres {
         self.connection.change(&begin, &[&header]).map(drop)
     }
 
-    fn read(&mut self, after: u64) -> Result<Vec<Batch>> {
-        let rows = self.connection.rows(&self.asked.read, &[&(after as i64)])?;
+    fn read(&mut self, after: u64, most: u32) -> Result<Vec<Batch>> {
+        let rows = self.connection.rows(&self.asked.read, &[&(after as i64), &i64::from(most)])?;
         Ok(rows.iter().map(|row| Batch { number: row.get::<_, i64>(0) as u64, lines: row.get(1) }).collect())
     }
 
