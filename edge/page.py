@@ -18,7 +18,7 @@ import socket as sockets
 import sys
 import threading
 from dataclasses import dataclass
-from typing import List, Optional
+from typing import Iterable, Iterator, List, Optional
 
 import python_client  # noqa: F401 (it says where the next ones lie)
 from aiohttp import ClientSession, UnixConnector, web
@@ -56,8 +56,11 @@ class Records:
         self.settings = RecordSettings(said["service"], said["retention"])
         self._files, self._lines = said["files"], lines
 
-    def record_files(self) -> List[str]:
-        return self._files
+    def record_lines(self) -> Iterator[Iterable[bytes]]:
+        """The lines of each shard's record."""
+        for path in self._files:
+            with open(path, "rb") as record:
+                yield record
 
     def read_all(self, requests: List[dict]) -> List[dict]:
         """The replies to reads."""
@@ -121,8 +124,7 @@ class Edge:
         """Learns which runs the records have."""
         async with self._session.get(f"{HERE}/records") as answer:
             records = Records(await answer.json(), self._lines)
-        if records.record_files():
-            await asyncio.get_running_loop().run_in_executor(None, Recorded(records, self.workflows).add_all)
+        await asyncio.get_running_loop().run_in_executor(None, Recorded(records, self.workflows).add_all)
         self._next = 0
 
 
