@@ -11,12 +11,11 @@ import subprocess
 import sys
 import tempfile
 import threading
-import time
 import unittest
 from unittest import mock
 
-from support import EXAMPLES
 from support.programs import BUILT, COUNTING, needs_program
+from support.survived import killed_and_paid_once
 from wfserve.calls import Clock
 from wfserve.durable import DurableService, Settings, read_header
 from wfserve.durable.kept import for_replay
@@ -299,14 +298,7 @@ class Served(Durable):
             self.assertEqual([service.history(workflow_id) for workflow_id in ids], before)
 
     def test_an_order_that_is_killed_goes_on_and_is_paid_once(self):
-        call = [sys.executable, str(EXAMPLES / "survive.py"), str(BUILT), str(self.log)]
-        first = subprocess.Popen(call, stdout=subprocess.PIPE, text=True)
-        self.assertEqual(first.stdout.readline(), "charging card 42\n")
-        time.sleep(1)
-        first.kill()
-        first.communicate()
-        second = subprocess.run(call, stdout=subprocess.PIPE, text=True, check=True)
-        self.assertEqual(second.stdout, "shipped with receipt 4711\n")
+        killed_and_paid_once(self, str(self.log))
 
     def test_a_full_disk_loses_nothing_that_was_answered(self):
         call = [sys.executable, "-c", FULL, str(self.log), *self.program]

@@ -12,11 +12,10 @@ import subprocess
 import sys
 import tempfile
 import threading
-import time
 import unittest
 
-from support import EXAMPLES
 from support.programs import BUILT, SERVER, SERVER_PYTHON, needs_program, needs_server
+from support.survived import killed_and_paid_once
 from wfserve.calls import Clock
 from wfserve.durable import DurableService, Settings, move_journal, move_log
 from wfserve.durable.journaled import fault_of, journal_settings
@@ -178,14 +177,7 @@ class Opened(Journaled):
 
     def test_an_order_that_is_killed_goes_on_and_is_paid_once(self):
         self.begin()
-        call = [sys.executable, str(EXAMPLES / "survive.py"), str(BUILT), self.kept]
-        first = subprocess.Popen(call, stdout=subprocess.PIPE, text=True)
-        self.assertEqual(first.stdout.readline(), "charging card 42\n")
-        time.sleep(1)
-        first.kill()
-        first.communicate()
-        second = subprocess.run(call, stdout=subprocess.PIPE, text=True, check=True)
-        self.assertEqual(second.stdout, "shipped with receipt 4711\n")
+        killed_and_paid_once(self, self.kept)
 
 
 class Moved(Journaled):

@@ -6,14 +6,13 @@ WFSERVE_SEED draws others, WFSERVE_DRAWN more of them.
 
 import collections
 import json
-import logging
 import os
 import pathlib
 import random
 import sys
 import unittest
-from unittest import mock
 
+from support.drawn import ToldAtOnce
 from support.programs import BUILT, memory_folder, needs_program
 from examples.stage import Fragile, Stage, WorkerKilled
 from wfserve.calls import Calls
@@ -319,15 +318,7 @@ def happened(events):
 
 
 @needs_program
-class Drawn(unittest.TestCase):
-    def setUp(self):
-        # What is told again is told at once.
-        patch = mock.patch("wfserve.workflows.reports.FIRST_PAUSE", 0)
-        patch.start()
-        self.addCleanup(patch.stop)
-        logging.getLogger("wfserve.workflows").setLevel(logging.CRITICAL)
-        self.addCleanup(logging.getLogger("wfserve.workflows").setLevel, logging.NOTSET)
-
+class Drawn(ToldAtOnce):
     def test_crashes_change_nothing_but_attempts(self):
         print(f"\ndrawn workflows: seed {SEED}", file=sys.stderr)
         crashes, kinds = collections.Counter(), collections.Counter()

@@ -7,13 +7,13 @@ WFSERVE_SEED draws others, WFSERVE_DRAWN more of them.
 import collections
 import contextlib
 import json
-import logging
 import os
 import random
 import sys
 import unittest
 from unittest import mock
 
+from support.drawn import ToldAtOnce
 from support.programs import BUILT, needs_program
 from wfserve.calls import Calls, Service
 from wfserve.errors import CallLost, Refused
@@ -285,14 +285,7 @@ def receipts_of(events, but=()):
 
 
 @needs_program
-class Races(unittest.TestCase):
-    def setUp(self):
-        patch = mock.patch("wfserve.workflows.reports.FIRST_PAUSE", 0)
-        patch.start()
-        self.addCleanup(patch.stop)
-        logging.getLogger("wfserve.workflows").setLevel(logging.CRITICAL)
-        self.addCleanup(logging.getLogger("wfserve.workflows").setLevel, logging.NOTSET)
-
+class Races(ToldAtOnce):
     def test_nothing_that_came_is_lost_or_doubled(self):
         print(f"\ndrawn races: seed {SEED}", file=sys.stderr)
         told = collections.Counter()
