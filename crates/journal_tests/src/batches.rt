@@ -1,8 +1,8 @@
 //! Batches of lines with their replies, and what of them is found.
 
-use journal_disk::Disk;
-use journal_frames::{CommitFault, Journal, is_plain};
-use std::alloc::Global;
+use journal_disk::{Disk, DiskError};
+use journal_frames::{CommitFault, Journal, RecoverFault, find, is_plain};
+use std::alloc::{AllocError, Global};
 
 /// Some batches: long and short, an empty one, and one of what its own check may look like.
 pub(crate) const BATCHES: [(&[u8], &[u8]); 5] = [
@@ -18,6 +18,32 @@ pub(crate) const BATCHES: [(&[u8], &[u8]); 5] = [
         b"{\"line\":5}\n",
     ),
 ];
+
+fn copied(alloc: Global, bodies: &[Vec<u8>]) -> Result<Vec<Vec<u8>>, AllocError> {
+    let mut copies = Vec::new(alloc);
+    for body in bodies {
+        copies.push(body.to_vec(alloc)?)?;
+    }
+    Ok(copies)
+}
+
+/// Finds the batches of a file, and goes on from there.
+pub(crate) fn open<D: Disk>(
+    alloc: Global,
+    disk: D,
+) -> Result<(Journal<D>, Vec<Vec<u8>>), (RecoverFault, D)> {
+    let found = match find(alloc, disk) {
+        Ok(found) => found,
+        Err(refused) => return Err(refused),
+    };
+    let Ok(bodies) = copied(alloc, found.bodies()) else {
+        return Err((RecoverFault::Device(DiskError::Memory), found.into_disk()));
+    };
+    match found.resume(alloc) {
+        Ok(journal) => Ok((journal, bodies)),
+        Err((cause, disk)) => Err((RecoverFault::Device(cause), disk)),
+    }
+}
 
 /// Commits a batch. Its text has to be plain.
 pub(crate) fn commit<D: Disk>(

@@ -1,16 +1,12 @@
 //! A machine that crashes after each call of its file.
 
-use crate::batches::{BATCHES, are_first, are_told, commit_each};
+use crate::batches::{BATCHES, are_first, are_told, commit_each, open};
 use crate::crashing_file::CrashingFile;
 use journal_file::FileDisk;
-use journal_frames::open;
 use std::alloc::{AllocError, Global};
 
 /// How many calls the file is asked for by all batches and by the opening, at most.
-const CALLS: u64 = 152;
-
-/// How many calls the first zeros of a new file take, at least.
-const FIRST_BATCH: u64 = 126;
+const CALLS: u64 = 40;
 
 /// What a crash left.
 #[derive(Drop)]
@@ -77,15 +73,8 @@ fn is_safe(alloc: Global, calls: u64, seed: u64) -> Result<bool, AllocError> {
 }
 
 #[test]
-fn crashes_at_the_opening(rt: HostRuntime) {
-    for calls in 0..8 {
-        assert!(rt; is_safe(rt.alloc(), calls, calls) == Ok(true));
-    }
-}
-
-#[test]
-fn crashes_behind_each_call_for_batches(rt: HostRuntime) {
-    for calls in FIRST_BATCH..CALLS {
+fn crashes_after_each_call(rt: HostRuntime) {
+    for calls in 0..CALLS {
         assert!(rt; is_safe(rt.alloc(), calls, calls) == Ok(true));
     }
 }

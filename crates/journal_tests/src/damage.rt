@@ -1,8 +1,8 @@
 //! A file of which one byte is another than was written.
 
-use crate::batches::{BATCHES, are_first, commit_each};
+use crate::batches::{BATCHES, are_first, commit_each, open};
 use journal_disk::Memory;
-use journal_frames::{RecoverFault, open};
+use journal_frames::RecoverFault;
 use std::alloc::{AllocError, Global};
 
 /// How many zeros are left after the last batch.

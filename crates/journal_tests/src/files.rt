@@ -1,11 +1,11 @@
 //! A real file, and replies that can't be told.
 
-use crate::batches::{BATCHES, are_first, are_told, commit_each};
-use journal_disk::DiskError;
+use crate::batches::{BATCHES, are_first, are_told, commit, commit_each, open};
+use journal_disk::{DiskError, Memory};
 use journal_file::FileDisk;
-use journal_frames::{RecoverFault, open};
+use journal_frames::{RecoverFault, find};
 use script_devices::Full;
-use std::alloc::AllocGlobal;
+use std::alloc::{AllocError, AllocGlobal, Global};
 use std::fs::{self, OpenOptions};
 use std::rt::Files;
 
@@ -80,4 +80,59 @@ fn a_file_that_is_not_written_is_a_fault(rt: HostRuntime) {
     };
     assert!(rt; fault == Some(RecoverFault::Device(DiskError::Failed)));
     assert!(rt; fs::remove_file(&rt, READ_ONLY).is_ok());
+}
+
+/// How many bytes each batch of a file that grows has.
+const LARGE: usize = 50_000;
+
+/// Commits so many large batches to a new file in memory. The file as it is then, where all were.
+fn grown(alloc: Global, count: usize) -> Result<Option<Vec<u8>>, AllocError> {
+    let body = vec![in alloc; b'a'; LARGE]?;
+    let Ok((mut journal, _bodies)) = open(alloc, Memory::new(alloc, Vec::new(alloc))) else {
+        return Ok(None);
+    };
+    for _ in 0..count {
+        if commit(alloc, &mut journal, (&body, b"")) != Some(Ok(())) {
+            return Ok(None);
+        }
+    }
+    Ok(Some(journal.into_disk().bytes().to_vec(alloc)?))
+}
+
+#[test]
+fn a_file_is_at_most_some_times_as_long_as_its_batches(rt: HostRuntime) {
+    let alloc = rt.alloc();
+    for count in 0..8 {
+        let Ok(Some(bytes)) = grown(alloc, count) else {
+            panic!(rt; "no file")
+        };
+        assert!(rt; bytes.len() <= 65_536 + 3 * count * (LARGE + 34));
+        let Ok((_journal, bodies)) = open(alloc, Memory::new(alloc, bytes)) else {
+            panic!(rt; "not found")
+        };
+        assert!(rt; bodies.len() == count);
+        assert!(rt; bodies.iter().all(|body| body.len() == LARGE));
+    }
+}
+
+#[test]
+fn a_file_that_is_found_is_not_written(rt: HostRuntime) {
+    let alloc = rt.alloc();
+    let Ok(Some(mut bytes)) = grown(alloc, 2) else {
+        panic!(rt; "no file")
+    };
+    // A beginning of a third batch, as a crash leaves it.
+    let Some(byte) = bytes.get_mut(2 * (LARGE + 34)) else {
+        panic!(rt; "no zeros")
+    };
+    *byte = 29;
+    let Ok(before) = bytes.to_vec(alloc) else {
+        panic!(rt; "no memory")
+    };
+    let Ok(found) = find(alloc, Memory::new(alloc, bytes)) else {
+        panic!(rt; "not found")
+    };
+    assert!(rt; found.bodies().len() == 2);
+    let disk = found.into_disk();
+    assert!(rt; disk.bytes() == before.as_slice());
 }
