@@ -35,17 +35,12 @@ use Rattle.lanes.specs.Endings as over
 use Rattle.lanes.specs.Meetings.{PassServed, PassesMet}
 use Rattle.lanes.specs.Reopened.{ServedAlong}
 use Rattle.lanes.specs.Course.{AllMet, Course, FirstMet, InTurn, LaneServed, LineServed, Meets, Serves}
+use Rattle.lanes.proofs.PartLemmas.{begins-same, begins-then}
 
 -- ---- a pass sees more and more
 
 abbrev KnownView : Type 0
 KnownView = View Request Content
-
-begins-same : {A : Type 0} (xs ys : List A) → ys ≡ xs → Begins xs ys
-begins-same xs ys is = ([], is ∙ sym (append-nil xs))
-
-pub begins-then : {A : Type 0} (xs ys zs : List A) → Begins xs ys → Begins ys zs → Begins xs zs
-begins-then xs ys zs (a, p) (b, q) = (a ++ b, q ∙ ap (λ t. t ++ b) p ∙ append_assoc xs a b)
 
 -- of each shard it has seen what it had seen, and perhaps more
 abbrev pub Sees : KnownView → KnownView → Type 0
@@ -213,20 +208,26 @@ module _ (Q : Pass → Type 0) (serves serves' : Serves) (meets : Meets) (bs : B
 abbrev pub IsAlong : Service → List (List Entry) → Pass → Type 0
 IsAlong x logs p = (s : ℕ) → s < (settings_of x).shards → Begins (seen (known_by p) s) (record_at logs s)
 
+-- what a pass had seen before a call or a meeting begins what it has seen after it
+module _ (x : Service) (logs : List (List Entry)) where
+  pub back-served : BackServed (IsAlong x logs) (PassServed x)
+  back-served p p' call r h q s below = begins-then (seen (known_by p) s) (seen (known_by p') s) (record_at logs s) (call-sees x p p' call r h.served s) (q s below)
+
+  pub back-met : BackMet (IsAlong x logs) (PassesMet x)
+  back-met a b a' b' h qa qb = (
+    λ s below. begins-then (seen (known_by a) s) (seen (known_by a') s) (record_at logs s) (met-sees (known_by a) (known_by b) (known_by a') (known_by b') s (h.met.agree s below)).0 (qa s below),
+    λ s below. begins-then (seen (known_by b) s) (seen (known_by b') s) (record_at logs s) (met-sees (known_by a) (known_by b) (known_by a') (known_by b') s (h.met.agree s below)).1 (qb s below),
+  )
+
 pub ran-along : (x : Service) (logs : List (List Entry)) (K : Settings) (ps : List Pass) (unread held unread' held' : Option (List ℕ)) (refused : Bool) (ends : List Pass) → length logs ≡ (settings_of x).shards
     → ((s : ℕ) (log : List Entry) (k : ℕ) (p : Pass) → slice_get logs s ≡ Some log → slice_get ends k ≡ Some p → Begins (seen (known_by p) s) log)
     → over.Ran (PassServed x) (PassesMet x) K ps unread held unread' held' refused ends → over.Ran (ServedAlong x logs) (PassesMet x) K ps unread held unread' held' refused ends
 ran-along x logs K ps unread held unread' held' refused ends count seen_all ran =
     let t = ran.told in
-    let back : BackServed (IsAlong x logs) (PassServed x) = λ p p' call r h q s l. begins-then (seen (known_by p) s) (seen (known_by p') s) (record_at logs s) (call-sees x p p' call r h.served s) (q s l) in
-    let met : BackMet (IsAlong x logs) (PassesMet x) = λ a b a' b' h qa qb. (
-      λ s l. begins-then (seen (known_by a) s) (seen (known_by a') s) (record_at logs s) (met-sees (known_by a) (known_by b) (known_by a') (known_by b') s (h.met.agree s l)).0 (qa s l),
-      λ s l. begins-then (seen (known_by b) s) (seen (known_by b') s) (record_at logs s) (met-sees (known_by a) (known_by b) (known_by a') (known_by b') s (h.met.agree s l)).1 (qb s l),
-    ) in
     let along : (p p' : Pass) (call : Call) (r : Reply) → PassServed x p p' call r → IsAlong x logs p' → ServedAlong x logs p p' call r = λ p p' call r h q. record { served = h; along = q } in
     let each = each-from (IsAlong x logs) ends (λ k p there s l. seen_all s (record_at logs s) k p (slice_get-get_or logs s [] (omega (arith, l, count))) there) in
-    let served = met-back (IsAlong x logs) (PassServed x) (ServedAlong x logs) (PassesMet x) back met along t.served ends t.met each in
-    let course = course-along (IsAlong x logs) (PassServed x) (ServedAlong x logs) (PassesMet x) back met along ps _ t.replies t.served t.course served in
+    let served = met-back (IsAlong x logs) (PassServed x) (ServedAlong x logs) (PassesMet x) (back-served x logs) (back-met x logs) along t.served ends t.met each in
+    let course = course-along (IsAlong x logs) (PassServed x) (ServedAlong x logs) (PassesMet x) (back-served x logs) (back-met x logs) along ps _ t.replies t.served t.course served in
     record {
       text = ran.text;
       read = ran.read;

@@ -9,6 +9,7 @@ pub mod JournaledLemmas
 pub mod LaneLemmas
 pub mod MeetLemmas
 pub mod NumberLemmas
+pub mod PartLemmas
 pub mod PhaseLemmas
 pub mod PlaceLemmas
 pub mod PrintLemmas
@@ -17,6 +18,7 @@ pub mod RepliedLemmas
 pub mod SettleLemmas
 pub mod ShownLemmas
 pub mod SortLemmas
+pub mod TailLemmas
 pub mod TraceLemmas
 pub mod ToldLemmas
 pub mod TurnLemmas

@@ -12,4 +12,5 @@ pub mod Printed
 pub mod Reopened
 pub mod Shown
 pub mod Sorted
+pub mod TailLines
 pub mod ToldLines

@@ -23,6 +23,7 @@ mod room;
 mod run;
 mod settle;
 mod sorted;
+mod tails;
 
 pub use door::Door;
 pub use journaled::{LanesJournaled, run_lanes_journaled};

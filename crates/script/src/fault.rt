@@ -54,7 +54,7 @@ pub enum JournaledFault {
     /// The journal's file, or the stream on which replies are told.
     #[error("the journal or the replies could not be written")]
     Device,
-    /// The journal's file would be longer than 2^64 bytes.
+    /// The journal's file has some 2^63 bytes.
     #[error("the journal is full")]
     Full,
     /// Steps of the shards' records were handed out to another caller, or made by one.

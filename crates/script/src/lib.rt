@@ -1,10 +1,10 @@
 //! Scripts: lines of requests in, lines of replies out.
 //!
-//! `run_one` serves the lines of a reader one after another, and writes one reply line for each.
-//! What it prints is the definition `output`: the replies of the sequential service to the lines
-//! of the text, one after another, under the lines' numbers, and where it is asked for, after the
-//! last one all steps that were made. `run_from` does the same from where records end, and both give
-//! the record of each shard.
+//! `run_one` serves the lines of a reader one after another, and writes one reply line for each but
+//! the barriers. What it prints is the definition `output`: the replies of the sequential service to
+//! the lines of the text, one after another, under the lines' numbers, and where it is asked for,
+//! after the last one all steps that were made. `run_from` does the same from where records end, and
+//! both give the record of each shard.
 #![tactic(auto)]
 
 mod fault;
@@ -18,7 +18,7 @@ mod serving;
 mod trace;
 
 pub use fault::{JournaledFault, ScriptFault};
-pub use journaled::{BATCH, Journaled, commit, of_commit, of_serving, run_journaled};
+pub use journaled::{Journaled, commit, of_commit, of_serving, run_journaled};
 pub use line::{LINE_LIMIT, Line};
 pub use reading::asked;
 pub use run::{CHUNK, Outcome, run_from, run_one};

@@ -3,7 +3,7 @@ use Rattle.std.proofs.Common.{◌≡◌, ◌∙◌, ap, refl, subst, true, codes
 use Rattle.clap.specs.Words.{App, FailsBy, Row, Text, fault_of, is_simple, is_simple_and_free, matches_of, new_app, new_rule, with_rule}
 use Rattle.clap.specs.declared.error.Error.{Error}
 use Rattle.clap.proofs.OnLiterals.{clap_on_literals}
-use Rattle.script_settings.specs.CommandLine.{flag_rule, option_rule, wfserve, matches_in, faults_in}
+use Rattle.script_settings.specs.CommandLine.{flag_rule, option_rule, wfserve, with_version, matches_in, faults_in}
 
 is_simple-wfserve : is_simple wfserve ≡ true
 unfolding wfserve option_rule flag_rule clap_on_literals
@@ -13,7 +13,7 @@ is_simple_and_free-wfserve : is_simple_and_free wfserve ≡ true
 unfolding wfserve option_rule flag_rule clap_on_literals
 is_simple_and_free-wfserve = refl
 
-pub built : (a0 a1 a2 a3 a4 a5 a6 a7 a8 a9 a10 a11 : App) → a0 ≡ new_app (codes "wfserve") → a1 ≡ with_rule a0 (option_rule (codes "shards"))
+pub built : (a0 a1 a2 a3 a4 a5 a6 a7 a8 a9 a10 a11 : App) → a0 ≡ with_version (new_app (codes "wfserve")) → a1 ≡ with_rule a0 (option_rule (codes "shards"))
     → a2 ≡ with_rule a1 (option_rule (codes "passes")) → a3 ≡ with_rule a2 (option_rule (codes "service"))
     → a4 ≡ with_rule a3 (option_rule (codes "queues")) → a5 ≡ with_rule a4 (option_rule (codes "capacity"))
     → a6 ≡ with_rule a5 (option_rule (codes "retention")) → a7 ≡ with_rule a6 (option_rule (codes "load"))

@@ -1,5 +1,5 @@
 -- MEANING: The command line, as clap's definitions read it.
-use Rattle.std.specs.Prelude.{◌≡◌, ℕ, ◌^◌, ◌<◌, Bool, false, List, codes, nat_eq, Some}
+use Rattle.std.specs.Prelude.{◌≡◌, ℕ, ◌^◌, ◌<◌, Bool, false, true, List, codes, nat_eq, Some}
 use Rattle.std.specs.Cmp.Lexicographic.{pointwise}
 use Rattle.std.specs.Option.{MatchOption, option_map_or}
 use Rattle.std.specs.Str.Parse.{IsNumeral, digits_value, without_leading_plus}
@@ -14,11 +14,15 @@ option_rule name = record (new_rule name) { long = Some name }
 unfoldable pub flag_rule : Text → Rule
 flag_rule name = record (option_rule name) { action = Some SetTrue }
 
+-- with `--version`, which is a flag of clap's own
+abbrev pub with_version : App → App
+with_version command = record command { top = record (command.top) { has_version = true } }
+
 -- wfserve [--shards N] [--passes P] [--service K] [--queues NAMES] [--capacity C] [--retention MS] [--load DIR]
--- [--save DIR] [--journal DIR] [--trace] [FILE]
+-- [--save DIR] [--journal DIR] [--trace] [--version] [FILE]
 unfoldable pub wfserve : App
 wfserve =
-    let command = new_app (codes "wfserve") in
+    let command = with_version (new_app (codes "wfserve")) in
     let command = with_rule command (option_rule (codes "shards")) in
     let command = with_rule command (option_rule (codes "passes")) in
     let command = with_rule command (option_rule (codes "service")) in

@@ -1,12 +1,24 @@
 -- MEANING: What the words of a command line set.
 use Rattle.std.specs.Prelude.{◌≡◌, ◌≢◌, ◌⊎◌, List, [], Bool, true, false, codes, Option, None, Some, option_map}
 use Rattle.std.specs.Borrow.{Bor}
-use Rattle.clap.specs.Words.{HasKind, Row, Text, first_of}
+use Rattle.clap.specs.Words.{HasKind, Row, Text, first_of, kind_of}
+use Rattle.clap.specs.declared.error.kind.ErrorKind.{ErrorKind}
+use Rattle.clap.specs.declared.error.kind.ErrorKind.TheVariants.{DisplayVersion}
 use Rattle.script_settings.specs.CommandLine.{HasNoNumber, IsSetTo, faults_in, is_set, matches_in}
 use Rattle.script_settings.specs.Queues.{AreSetTo, HasNoNames}
 use Rattle.script_settings.specs.declared.command_line.CommandLine.{CommandLine}
 use Rattle.script_settings.specs.declared.fault.Fault.{Fault}
 use Rattle.script_settings.specs.declared.fault.Fault.TheVariants.{Words, Number, Queues, Trace, Journal}
+
+-- whether clap answers with the version
+abbrev pub is_version : ErrorKind → Bool
+is_version DisplayVersion = true
+is_version _ = false
+
+-- whether the words ask for it
+abbrev pub asks_version : Fault → Bool
+asks_version (Words e) = is_version (kind_of e)
+asks_version _ = false
 
 -- the text that was borrowed, if one was
 abbrev pub text_of : Option (Bor Text) → Option Text

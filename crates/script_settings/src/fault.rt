@@ -1,12 +1,16 @@
 //! Why words are no settings.
 
+ghost use Rattle.std.specs.Prelude.{◌≡◌};
+ghost use Rattle.script_settings.specs.Settings.{asks_version};
+
+use clap::error::ErrorKind;
 use thiserror::Error;
 
 /// Why words are no settings.
 #[derive(Debug, Drop, Error)]
 pub enum Fault {
-    /// The words are not such as the command takes, or ask for its help, or memory ran out. The
-    /// text is clap's.
+    /// The words are not such as the command takes, or ask for its help or its version, or memory
+    /// ran out. The text is clap's.
     #[error(transparent)]
     Words(clap::Error),
     /// The text given to this option is no whole number below 2^64.
@@ -21,4 +25,16 @@ pub enum Fault {
     /// `--journal` was given, and this option beside it.
     #[error("--journal keeps all records in its folder, so it takes no --{0}")]
     Journal(&'static str),
+}
+
+impl Fault {
+    /// Whether the words ask for the version, which the text then is.
+    pub fn asks_version(&self) -> bool
+        ensures { result ≡ asks_version self.now }
+    {
+        match self {
+            Fault::Words(error) => matches!(error.kind(), ErrorKind::DisplayVersion),
+            _ => false,
+        }
+    }
 }

@@ -13,7 +13,11 @@ use service_model_types::limits::DEFAULT_CAPACITY;
 use service_model_types::settings::Settings;
 use std::alloc::{AllocError, Global};
 
-const ABOUT: &str = "Serves a workflow service's calls: a JSON line in, a reply line out.";
+const ABOUT: &str =
+    "Serves a workflow service's calls: a JSON line in, a reply line out. Version 0.1.0.";
+
+/// The version of this repository, as CHANGELOG has it.
+const VERSION: &str = "0.1.0";
 
 const SHARDS: &str = "How many shards keep the workflows: 1 to 64, 1 by default";
 
@@ -37,7 +41,7 @@ const JOURNAL: &str =
     "The folder of the journal: opened from, and synced before each batch of replies";
 
 const TRACE: &str =
-    "Prints all steps of all shards in one order behind the last reply; without --load";
+    "Prints all steps of all shards in one order after the last reply; without --load";
 
 const FILE: &str = "The file whose lines are served; standard input by default";
 
@@ -76,7 +80,7 @@ fn matched<'a>(alloc: Global, words: &'a [&'a str]) -> Result<ArgMatches<'a>, Er
         rows_of (found_of m) ≡ matches_in (map (λ w. w.now) words.entry.now)) }
     ensures fails { FailsBy (faults_in (map (λ w. w.now) words.entry.now)) result }
 {
-    let command = Command::new(alloc, "wfserve").about(ABOUT);
+    let command = Command::new(alloc, "wfserve").about(ABOUT).version(VERSION);
     let command = with_option(alloc, command, "shards", SHARDS)?;
     let command = with_option(alloc, command, "passes", PASSES)?;
     let command = with_option(alloc, command, "service", SERVICE)?;

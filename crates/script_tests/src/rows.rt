@@ -18,7 +18,7 @@ pub(crate) const WORKFLOW: &str =
 "#;
 
 /// Lines that are no entry, and why.
-pub(crate) const BAD_LINES: [(&str, &[u8]); 12] = [
+pub(crate) const BAD_LINES: [(&str, &[u8]); 14] = [
     ("nothing", b""),
     ("no JSON", b"x"),
     ("no UTF-8", b"\xff"),
@@ -51,6 +51,14 @@ pub(crate) const BAD_LINES: [(&str, &[u8]); 12] = [
     (
         "an unknown operation",
         br#"{"pass":0,"request":{"at":0,"op":"turn"}}"#,
+    ),
+    (
+        "a policy with a coefficient and a factor",
+        br#"{"pass":0,"request":{"at":0,"commands":[{"activity_id":"x","activity_type":"w","heartbeat":0,"input":"","retry":{"attempts":3,"coefficient":200,"factor":2,"initial":1000,"maximum":0,"non_retryable":[]},"schedule_to_close":0,"schedule_to_start":0,"start_to_close":10000,"task_queue":"main","type":"ScheduleActivityTask"}],"op":"complete_workflow_task","token":"AQEAAAAAAAAAAAABAAAAAAAAAAIAAAAB"}}"#,
+    ),
+    (
+        "two policies in two spellings",
+        br#"{"pass":0,"request":{"at":0,"commands":[{"activity_id":"x","activity_type":"w","heartbeat":0,"input":"","retry":{"attempts":3,"factor":2,"initial":1000,"maximum":0,"non_retryable":[]},"schedule_to_close":0,"schedule_to_start":0,"start_to_close":10000,"task_queue":"main","type":"ScheduleActivityTask"},{"activity_id":"y","activity_type":"w","heartbeat":0,"input":"","retry":{"attempts":3,"coefficient":200,"initial":1000,"maximum":0,"non_retryable":[]},"schedule_to_close":0,"schedule_to_start":0,"start_to_close":10000,"task_queue":"main","type":"ScheduleActivityTask"}],"op":"complete_workflow_task","token":"AQEAAAAAAAAAAAABAAAAAAAAAAIAAAAB"}}"#,
     ),
 ];
 

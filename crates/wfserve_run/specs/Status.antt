@@ -3,7 +3,7 @@ use Rattle.std.specs.Prelude.{ℕ, Bool, Result, Ok, Err, if◌then◌else◌}
 use Rattle.script.specs.Status as script
 use Rattle.wfserve_run.specs.declared.fault.Fault.{Fault}
 use Rattle.wfserve_run.specs.declared.served.Served.{Served}
-use Rattle.wfserve_run.specs.declared.served.Served.TheVariants.{Script, Journaled}
+use Rattle.wfserve_run.specs.declared.served.Served.TheVariants.{Script, Journaled, Version}
 use Rattle.wfserve_run.specs.declared.served.WithJournal.{WithJournal}
 use Rattle.wfserve_run.specs.declared.served.WithJournal.TheVariants.{OnePass, InLanes}
 
@@ -16,6 +16,7 @@ is_refused (InLanes j) = j.refused
 abbrev pub served_status : {Keeper Plan : Type 0} → Served Keeper Plan → ℕ
 served_status (Script o) = script.status_of o
 served_status (Journaled j) = if is_refused j then 1 else 0
+served_status Version = 0
 
 -- that of what was served, or 2 for a fault
 abbrev pub status_of : {Keeper Plan : Type 0} → Result (Served Keeper Plan) Fault → ℕ

@@ -35,6 +35,8 @@ pub enum Served<S: KeepsShard> {
     Script(Outcome<S>),
     /// One whose records went to a journal.
     Journaled(WithJournal<Handing<S>>),
+    /// No line: the version was asked for, and printed.
+    Version,
 }
 
 impl<S: KeepsShard> Served<S> {
@@ -45,6 +47,7 @@ impl<S: KeepsShard> Served<S> {
         match self {
             Served::Script(outcome) => outcome.status(),
             Served::Journaled(journaled) => { if journaled.refused() { 1 } else { 0 } }
+            Served::Version => 0,
         }
     }
 }

@@ -5,12 +5,8 @@ use Rattle.lanes.specs.declared.lane.Lane.{Lane}
 use Rattle.lanes.specs.Course.{FirstMet}
 use Rattle.lanes.specs.Lanes.{calls_of, passes_of}
 use Rattle.lanes.proofs.MeetLemmas.{all-set, met-all, met-one}
+use Rattle.lanes.proofs.PartLemmas.{first-and-rest}
 use Rattle.lanes.proofs.phase.meet_others.Goals as goal
-
-first-and-rest : {A : Type 0} (P : A → Type 0) (xs : List A) (x : A) (rest : List A) → xs ≡ x ∷ rest → All P xs → P x × All P rest
-first-and-rest P xs x rest is all =
-    let all' : All P (x ∷ rest) = subst (All P) is all in
-    (all' 0 x (omega arith), λ k d below. all' (suc k) d (omega arith))
 
 pub loop-other-init : goal.loop-other-init
 loop-other-init g c =
