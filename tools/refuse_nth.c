@@ -4,7 +4,8 @@
  *
  * A program says by two allocations, of sizes that nothing else has, where it is to take no memory: between
  * REFUSE_ALL and REFUSE_NONE every allocation is refused. How often that began, and how many were refused
- * there, stand in the file behind the count. These two allocations are given, and not counted.
+ * there, stand in the file behind the count. With REFUSED_WITHIN it says by two others, COUNT_FROM and COUNT_TO,
+ * where allocations are counted, and the one with that number refused. These four are given, and not counted.
  */
 #define _GNU_SOURCE
 #include <errno.h>
@@ -17,7 +18,7 @@ extern void *__libc_calloc(size_t count, size_t size);
 extern void *__libc_realloc(void *block, size_t size);
 extern void *__libc_memalign(size_t alignment, size_t size);
 
-enum { REFUSE_ALL = 1000003, REFUSE_NONE = 1000033 };
+enum { REFUSE_ALL = 1000003, REFUSE_NONE = 1000033, COUNT_FROM = 1000037, COUNT_TO = 1000039 };
 
 struct told {
     atomic_long asked;
@@ -29,6 +30,8 @@ static struct told own;
 static struct told *told = &own;
 static long refused = -1;
 static atomic_int refuses_all;
+static int counts_within;
+static atomic_int is_left_out;
 
 __attribute__((constructor)) static void begin(void)
 {
@@ -42,12 +45,18 @@ __attribute__((constructor)) static void begin(void)
             abort();
         told = page;
     }
+    counts_within = getenv("REFUSED_WITHIN") != NULL;
+    atomic_store(&is_left_out, counts_within);
     atomic_store(&told->asked, 0);
 }
 
-/* Whether the size is one of the two that say what comes, which is noted then. */
+/* Whether the size is one of those that say what comes, which is noted then. */
 static int is_sign(size_t size)
 {
+    if (counts_within && (size == COUNT_FROM || size == COUNT_TO)) {
+        atomic_store(&is_left_out, size == COUNT_TO);
+        return 1;
+    }
     if (size != REFUSE_ALL && size != REFUSE_NONE)
         return 0;
     if (size == REFUSE_ALL)
@@ -58,7 +67,7 @@ static int is_sign(size_t size)
 
 static int is_refused(size_t size)
 {
-    if (is_sign(size))
+    if (is_sign(size) || atomic_load(&is_left_out))
         return 0;
     int is_within = atomic_load(&refuses_all);
     if (is_within)

@@ -109,7 +109,11 @@ fn closed_runs(rt: HostRuntime) {
 }
 
 /// What is decided where the latest run has this status and request id.
-fn decided_by(status: Status, request_id: Option<&Id>, given: Option<&Id>) -> &'static str {
+pub(crate) fn decided_by(
+    status: Status,
+    request_id: Option<&Id>,
+    given: Option<&Id>,
+) -> &'static str {
     let latest = Latest { status, request_id };
     shown(decide(
         Some(&latest),

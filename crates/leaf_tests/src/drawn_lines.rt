@@ -164,7 +164,7 @@ fn shown(alloc: Global, came: Result<Asked, Refusal>) -> Result<String, AllocErr
 }
 
 /// Two shards and two passes.
-fn settings<R: Abort + AllocGlobal>(rt: &R) -> Settings {
+pub(crate) fn settings<R: Abort + AllocGlobal>(rt: &R) -> Settings {
     match main_queue(rt.alloc()) {
         Ok(queues) => Settings {
             shards: 2,

@@ -13,6 +13,10 @@ mod drawn_lines;
 #[cfg(test)]
 mod lines;
 #[cfg(test)]
+mod listed;
+#[cfg(test)]
+mod refused;
+#[cfg(test)]
 mod retries;
 #[cfg(test)]
 mod rows;
@@ -20,3 +24,5 @@ mod rows;
 mod texts;
 #[cfg(test)]
 mod transfers;
+#[cfg(test)]
+mod without_memory;

@@ -9,7 +9,7 @@ use wf_event::RetryPolicy;
 use wf_event::payloads::PolicyFields;
 use wf_event_values::{Items, Text};
 
-fn fields(alloc: Global, initial: u64, coefficient: u64, maximum: u64) -> PolicyFields {
+pub(crate) fn fields(alloc: Global, initial: u64, coefficient: u64, maximum: u64) -> PolicyFields {
     PolicyFields {
         attempts: 0,
         coefficient,

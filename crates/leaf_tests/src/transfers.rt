@@ -10,14 +10,14 @@ use std::process::Abort;
 use transfer::{Inbox, Outbox};
 use wf_event_values::RunId;
 
-fn content(initiated: u64) -> TransferContent {
+pub(crate) fn content(initiated: u64) -> TransferContent {
     TransferContent::ChildStartFailed(ChildStartFailed {
         parent_run: RunId::new(1, 0, 1),
         initiated,
     })
 }
 
-fn shown_acknowledged(acknowledged: Acknowledged) -> &'static str {
+pub(crate) fn shown_acknowledged(acknowledged: Acknowledged) -> &'static str {
     match acknowledged {
         Acknowledged::Acknowledged => "acknowledged",
         Acknowledged::Already => "already",
@@ -25,7 +25,7 @@ fn shown_acknowledged(acknowledged: Acknowledged) -> &'static str {
     }
 }
 
-fn shown_delivery(delivery: Delivery) -> &'static str {
+pub(crate) fn shown_delivery(delivery: Delivery) -> &'static str {
     match delivery {
         Delivery::Accepted => "accepted",
         Delivery::AlreadyDelivered => "already",
@@ -34,14 +34,14 @@ fn shown_delivery(delivery: Delivery) -> &'static str {
 }
 
 /// The number of the first transfer to shard 1 that is not acknowledged, or 0.
-fn first_number(outbox: &Outbox) -> u64
+pub(crate) fn first_number(outbox: &Outbox) -> u64
     requires { 1 < length outbox.now }
 {
     outbox.first_to(1).map_or(0, |first| first.0)
 }
 
 /// An outbox and an inbox of two shards.
-fn outbox<R: Abort + AllocGlobal>(rt: &R) -> Outbox
+pub(crate) fn outbox<R: Abort + AllocGlobal>(rt: &R) -> Outbox
     ensures { length result ≡ 2 }
 {
     match Outbox::new(rt.alloc(), 2) {
@@ -50,7 +50,7 @@ fn outbox<R: Abort + AllocGlobal>(rt: &R) -> Outbox
     }
 }
 
-fn inbox<R: Abort + AllocGlobal>(rt: &R) -> Inbox
+pub(crate) fn inbox<R: Abort + AllocGlobal>(rt: &R) -> Inbox
     ensures { length result ≡ 2 }
 {
     match Inbox::new(rt.alloc(), 2) {

@@ -1,0 +1,103 @@
+//! Calls of the leaves that take no memory, made while every allocation is refused.
+//!
+//! `tools/without_memory.py` runs this with an allocator that refuses all between two allocations of sizes
+//! that nothing else has. To any other allocator they are two allocations.
+
+ghost use Rattle.std.specs.Prelude.{◌≡◌, length};
+
+use crate::deadlines::are_same;
+use crate::decisions::decided_by;
+use crate::refused::{ask_for, due};
+use crate::retries::fields;
+use crate::rows::{id, moment};
+use crate::transfers::{content, first_number, inbox, outbox, shown_acknowledged, shown_delivery};
+use retry::{Ended, verdict_on, wait_after};
+use service_model_types::decided::Verdict;
+use service_model_types::transfer::Transfer;
+use std::alloc::AllocGlobal;
+use std::process::Abort;
+use task_token::{RUN_TEXT_LENGTH, RunText, TOKEN_TEXT_LENGTH, TaskToken};
+use timeouts::Deadlines;
+use wf_event::RetryPolicy;
+use wf_event_values::{Field, RunId, Span, Status, TaskKind};
+
+/// The sizes by which the allocator is told, in bytes.
+const REFUSE_ALL: usize = 1_000_003;
+
+const REFUSE_NONE: usize = 1_000_033;
+
+fn deadlines<R: Abort + AllocGlobal>(rt: &R) {
+    let mut deadlines = Deadlines::new(rt.alloc());
+    let Ok(()) = deadlines.reserve(2) else {
+        panic!(rt; "no memory")
+    };
+    ask_for(rt, REFUSE_ALL);
+    let late = due(9);
+    let early = due(8);
+    let _ = deadlines.add(late);
+    let second = deadlines.add(early);
+    assert!(rt; are_same(deadlines.least(), Some(early)));
+    deadlines.remove(second);
+    assert!(rt; are_same(deadlines.due(moment(rt, 9)), Some(late)));
+    deadlines.clear();
+    assert!(rt; deadlines.least().is_none());
+    ask_for(rt, REFUSE_NONE);
+}
+
+fn transfers<R: Abort + AllocGlobal>(rt: &R) {
+    let mut inbox = inbox(rt);
+    let mut outbox = outbox(rt);
+    let Ok(()) = outbox.reserve(1, 1) else {
+        panic!(rt; "no memory")
+    };
+    ask_for(rt, REFUSE_ALL);
+    outbox.issue(1, content(5));
+    assert!(rt; first_number(&outbox) == 1);
+    let transfer = Transfer::restored(1, 1, content(5));
+    assert!(rt; shown_delivery(inbox.judge(&transfer)) == "accepted");
+    assert!(rt; shown_delivery(inbox.accept(&transfer)) == "accepted");
+    assert!(rt; shown_acknowledged(outbox.acknowledge(1, 1)) == "acknowledged");
+    assert!(rt; first_number(&outbox) == 0);
+    ask_for(rt, REFUSE_NONE);
+}
+
+fn decisions<R: Abort + AllocGlobal>(rt: &R) {
+    let (first, given) = (id(rt, "r1"), id(rt, "r1"));
+    let fields = fields(rt.alloc(), 1000, 200, 0);
+    ask_for(rt, REFUSE_ALL);
+    assert!(rt; decided_by(Status::Running, first.as_ref(), given.as_ref()) == "same");
+    let Ok(policy) = RetryPolicy::new(fields) else {
+        panic!(rt; "no policy")
+    };
+    assert!(rt; wait_after(&policy, 3) == 4000);
+    let verdict = verdict_on(&policy, Ended::Timeout, false, 1, moment(rt, 5), None);
+    assert!(rt; matches!(verdict, Verdict::Retry { ready: 1005 }));
+    assert!(rt; Span::new(Field::Retention, 7).is_ok());
+    ask_for(rt, REFUSE_NONE);
+}
+
+fn texts<R: Abort + AllocGlobal>(rt: &R) {
+    ask_for(rt, REFUSE_ALL);
+    let mut buffer = [0; RUN_TEXT_LENGTH];
+    let run = RunId::new(1, 0, 1);
+    assert!(rt; run.write(&mut buffer) == "00000000-0001-8000-8000-000000000001");
+    assert!(rt; RunId::read("00000000-0001-8000-8000-000000000001").is_ok());
+    let token = TaskToken {
+        kind: TaskKind::Activity,
+        shard: 0,
+        run: 1,
+        event: 5,
+        attempt: 3,
+    };
+    let mut buffer = [0; TOKEN_TEXT_LENGTH];
+    assert!(rt; token.write_in(&mut buffer) == "AQIAAAAAAAAAAAABAAAAAAAAAAUAAAAD");
+    ask_for(rt, REFUSE_NONE);
+}
+
+#[test]
+fn what_takes_no_memory(rt: HostRuntime) {
+    deadlines(&rt);
+    transfers(&rt);
+    decisions(&rt);
+    texts(&rt);
+}
