@@ -33,10 +33,13 @@ TYPES = "tools/fields"
 # Rust's formatter breaks a line that is longer, and a pattern's fields that are.
 WIDTH = 100
 PATTERN_WIDTH = 18
+# So are a call's arguments.
+CALL_WIDTH = 60
 # A line of definitions is filled up to here, where the table doesn't say how many rows stand in each.
 ROW_WIDTH = 120
-# A record of definitions stands on one line up to here.
+# A record of definitions stands on one line up to here, and any line of them.
 RECORD_WIDTH = 126
+DEFINITION_WIDTH = 140
 # What a part of a type is called where the table says nothing else: by its stem, in words or in one capitalized word.
 NAMES = {
     "limits": "Is{camel}", "rows": "{stem}_rows", "put": "put_{stem}", "known": "known_{stem}",
@@ -272,22 +275,42 @@ def camel(words: str) -> str:
 
 
 def line_reader(kind: Table, table: Table) -> Part:
-    """The function that reads a line's fields."""
-    said, defined, fields = said_of(kind, "reader", table), said_of(kind, "fields_of", table), fields_of(kind)
-    module, value = Path(defined["file"]).stem, defined["of"]
+    """The function that reads a line's fields, in the order in which the definitions look for their faults."""
+    said, defined, kinds = said_of(kind, "reader", table), said_of(kind, "fields_of", table), table["kind"]
+    module, value = Path(defined["file"]).stem, said["of"]
     head = f"#[tactic(auto, unfolding(crate::specs::{module}::{defined['name']}))]"
-    call = signature(f"pub fn {said['name']}<V: Tree>", ["alloc: Global", f"{value}: &V"],
-                     f"Result<{kind['name']}, Refusal>")
-    body = []
-    for field in fields:
-        empty = f", {table['kind'][field.kind]['empty_value']}" if field.has_default else ""
-        how = taken(field, table["kind"][field.kind]).split()[0]
-        body.append(f"    let {field.name} = {how}(alloc, {value}, Field::{camel(field.key)}{empty})?;")
-    names = [field.name for field in fields]
+    name, takes = f"{said['seen']}fn {said['name']}{said['generic']}", ["alloc: Global", f"{value}: {said['takes']}"]
+    call = signature(name, takes, f"Result<{kind['name']}, Refusal>")
+    order = read_order(kind, defined)
+    body = [f"    {how['before']}" for how in (kinds[field.kind] for field in order) if "before" in how]
+    for field in order:
+        body += [f"    {line}" for line in field_reader(field, kinds[field.kind], said)]
+    names = [made_of(field, kinds[field.kind]) for field in fields_of(kind)]
     made = [f"    Ok({kind['name']} {{ {', '.join(names)} }})"] if len(", ".join(names)) <= PATTERN_WIDTH else [
         f"    Ok({kind['name']} {{", *(f"        {name}," for name in names), "    })"]
-    ensures = f"    ensures {{ Gives result ({defined['name']} (V.stands_for {value}.now)) }}"
+    ensures = f"    ensures {{ Gives result ({defined['name']} ({said['stands']})) }}"
     return Part(said["file"], head, "\n".join([head, *call, ensures, "{", *body, *made, "}"]))
+
+
+def field_reader(field: Field, kind: Table, said: Table) -> list[str]:
+    """The lines that read one field into a local. A default that makes the call too wide gets a local before."""
+    local = kind.get("read_into", field.name) + (f": {kind['read_as']}" if "read_as" in kind else "")
+    place = f'"{field.key}"' if field.is_keyed else f"Field::{camel(field.key)}"
+    how, before = taken(field, kind).split()[0], []
+    arguments = ["alloc", said["of"], place, *([kind["empty_value"]] if field.has_default else [])]
+    if field.has_default and field.kind == "text" and "texts" in said:
+        how, arguments = said["texts"], arguments[:-1]
+    if len(", ".join(arguments)) > CALL_WIDTH:
+        before, arguments[-1] = [f"let by_default = {arguments[-1]};"], "by_default"
+    whole = kind["read"].replace("VALUE", said["of"]) if "read" in kind else f"{how}({', '.join(arguments)})"
+    return [*before, f"let {local} = {whole}?;"]
+
+
+def made_of(field: Field, kind: Table) -> str:
+    """How a field's value is taken from its local, where the struct is made."""
+    if "made" not in kind:
+        return field.name
+    return f"{field.name}: {filled(kind['made'], field.key, '', kind.get('read_into', field.name))}"
 
 
 def signature(name: str, takes: list[str], gives: str = "Result<(), AllocError>") -> list[str]:
@@ -398,20 +421,131 @@ def kind_names(listed: Table) -> Part:
         "        }", "    }", "}"]))
 
 
+def rows_of(listed: Table) -> list[tuple[str, str]]:
+    """The variants of a list of names, each with its name."""
+    return [(variant, word) for variant, word in (row.split() for row in listed["variants"])]
+
+
 def names(listed: Table) -> Iterator[Part]:
-    """A list of names: the enum, its names on the wire, and what the definitions say these are."""
-    every, name = [row.split() for row in listed["variants"]], listed["name"]
-    head = f"pub enum {name} {{"
-    yield Part(listed["file"], head, "\n".join([head, *(f"    {variant}," for variant, _ in every), "}"]))
-    head = f"impl {name} {{"
-    arms = [line for variant, word in every for line in arm(f"{name}::{variant}", f'"{word}"')]
+    """A list of names: the enum, its names on the wire, what the definitions say these are, and what reads them."""
+    for part in listed.get("parts", ["enum", "name", "definition"]):
+        yield from NAME_MAKERS[part](listed)
+
+
+def names_enum(listed: Table) -> Iterator[Part]:
+    head = f"{listed.get('seen', 'pub ')}enum {listed['name']} {{"
+    yield Part(listed["file"], head, "\n".join([head, *(f"    {variant}," for variant, _ in rows_of(listed)), "}"]))
+
+
+def names_method(listed: Table) -> Iterator[Part]:
+    """The method that gives a value's name."""
+    name, head = listed["name"], f"impl {listed['name']} {{"
+    arms = [line for variant, word in rows_of(listed) for line in arm(f"{name}::{variant}", f'"{word}"')]
     yield Part(listed["file"], head, "\n".join([
-        head, f"    /// {listed['said']}", "    pub fn name(self) -> &'static str",
+        head, *([f"    /// {listed['said']}"] if "said" in listed else []),
+        f"    {listed.get('seen', 'pub ')}fn name(self) -> &'static str",
         f"        ensures {{ result.now ≡ {listed['function']} self }}", "    {", "        match self {", *arms,
         "        }", "    }", "}"]))
-    head = f"abbrev pub {listed['function']} : {name} → List ℕ"
+
+
+def names_function(listed: Table) -> Iterator[Part]:
+    """The function that gives a value's name, where the type is another crate's: `of` is what it calls the value."""
+    name, value = listed["name"], listed["of"]
+    head = f"pub(crate) fn {listed['function']}({value}: {name}) -> &'static str"
+    arms = [f'        {name}::{variant} => "{word}",' for variant, word in rows_of(listed)]
+    yield Part(listed["read"]["file"], head, "\n".join([
+        head, f"    ensures {{ result.now ≡ {listed['function']} {value} }}", "{", f"    match {value} {{", *arms,
+        "    }", "}"]))
+
+
+def names_definition(listed: Table) -> Iterator[Part]:
+    head = f"abbrev pub {listed['function']} : {listed['name']} → List ℕ"
+    prefix = f"{listed['prefix']}." if listed["prefix"] else ""
     yield Part(listed["definition"], head, "\n".join([head, *(
-        f'{listed["function"]} {listed["prefix"]}.{variant} = codes "{word}"' for variant, word in every)]))
+        f'{listed["function"]} {prefix}{variant} = codes "{word}"' for variant, word in rows_of(listed))]))
+
+
+def named_arm(value: str, word: str) -> list[str]:
+    """An arm that reads a name, broken as Rust's formatter does."""
+    whole = f'        "{word}" => Some({value}),'
+    return [whole] if len(whole) <= WIDTH else [f'        "{word}" => Some(', f"            {value},", "        ),"]
+
+
+def names_reader(listed: Table) -> Iterator[Part]:
+    """The function that reads a name, and what the definitions say of it."""
+    name, read = listed["name"], listed["read"]
+    function, prefix = read["function"], read.get("prefix", listed["prefix"])
+    head = f"fn {function}(name: &str) -> Option<{name}>"
+    arms = [line for variant, word in rows_of(listed) for line in named_arm(f"{name}::{variant}", word)]
+    yield Part(read["file"], head, "\n".join([
+        head, f"    ensures {{ result ≡ {function} name.now }}", "{", "    match name {", *arms, "        _ => None,",
+        "    }", "}"]))
+    head = f"abbrev pub {function} : List ℕ → Option {name}"
+    every = [f"{prefix}.{variant}" if prefix else variant for variant, _ in rows_of(listed)]
+    body = [f"{function} = named {listed['function']} ({' ∷ '.join([*every, '[]'])})"]
+    if len(body[0]) > DEFINITION_WIDTH:
+        first, *others = (" ∷ ".join(line) for line in broken([*every, "[])"], read.get("lines", [])))
+        body = [f"{function} =", f"    named {listed['function']} ({first}", *(f"    ∷ {line}" for line in others)]
+    yield Part(read["definition"], head, "\n".join([head, *body]))
+
+
+NAME_MAKERS: dict[str, Callable[[Table], Iterator[Part]]] = {
+    "enum": names_enum, "name": names_method, "name_function": names_function, "definition": names_definition,
+    "read": names_reader,
+}
+
+
+def variant_readers(listed: Table, table: Table) -> Iterator[Part]:
+    """What reads a variant by its kind: the function and its definition. A variant that carries no struct of the table
+    has a field of its own, whose row stands in `fields`."""
+    read, name = listed["read"], listed["name"]
+    types, kinds = {kind["name"]: kind for kind in table["type"]}, table["kind"]
+    arms: list[str] = []
+    lines: list[str] = []
+    for variant, carried in variants_of(listed):
+        if variant in read.get("fields", {}):
+            field, = fields_of({"fields": [read["fields"][variant]]})
+            arms += [f"        {read['kind']}::{variant} => {{",
+                     *(f"            {line}" for line in field_reader(field, kinds[field.kind], read)),
+                     f"            Ok({name}::{variant}({field.name}))", "        }"]
+            reads = f"{taken(field, kinds[field.kind])} {place_in(field)}"
+        else:
+            made = f"{said_of(types[carried], 'reader', table)['name']}(alloc, {read['of']})?"
+            arms += read_arm(f"{read['kind']}::{variant}", f"{name}::{variant}", made, read.get("within", False))
+            reads = said_of(types[carried], "fields_of", table)["name"]
+        kind = f"{read['prefix']}.{variant}" if read["prefix"] else variant
+        made = f"(λ {read['as']}. Ok ({read['made']}.{variant} {read['as']}))"
+        lines.append(f"{read['defined']} {kind} d = {reads} d >>= {made}")
+    call = signature(read["call"], read["takes"], f"Result<{name}, Refusal>")
+    ensures = f"    ensures {{ Gives result ({read['stands']}) }}"
+    yield Part(read["file"], call[0], "\n".join([
+        *call, ensures, "{", f"    match {read['matches']} {{", *arms, "    }", "}"]))
+    head = f"abbrev pub {read['defined']} : {read['kind']} → Data → Result {name} Refusal"
+    yield Part(read["definition"], head, "\n".join([head, *lines]))
+
+
+def read_arm(kind: str, variant: str, value: str, is_within: bool) -> list[str]:
+    """An arm that reads a struct. One that is too wide has a block, or is broken within the innermost call."""
+    whole = f"        {kind} => Ok({variant}({value})),"
+    if len(whole) <= WIDTH:
+        return [whole]
+    if not is_within:
+        return [f"        {kind} => {{", f"            Ok({variant}({value}))", "        }"]
+    call, arguments = value.removesuffix(")?").split("(")
+    return [f"        {kind} => Ok({variant}({call}(", f"            {arguments},", "        )?)),"]
+
+
+def content_kinds(listed: Table) -> Iterator[Part]:
+    """Which kind a value is of, where its kinds are a list of names: the function, and its definition."""
+    of, name = listed["kind_of"], listed["name"]
+    head = f"pub(crate) fn kind_of({of['of']}: &{name}) -> {of['kind']}"
+    arms = [f"        {name}::{variant}(_) => {of['kind']}::{variant}," for variant, _ in variants_of(listed)]
+    yield Part(of["file"], head, "\n".join([
+        head, f"    ensures {{ result ≡ kind_of {of['of']}.now }}", "{", f"    match {of['of']} {{", *arms,
+        "    }", "}"]))
+    head = f"abbrev pub kind_of : {name} → {of['kind']}"
+    yield Part(of["definition"], head, "\n".join([head, *(
+        f"kind_of ({of['made']}.{variant} {of['as']}) = kind.{variant}" for variant, _ in variants_of(listed))]))
 
 
 def kind_calls(listed: Table) -> Part:
@@ -458,6 +592,10 @@ def parts_of(table: Table) -> Iterator[Part]:
         if "kinds" in listed:
             yield from (kinds_enum(listed), kind_names(listed), kind_calls(listed))
             yield from kind_definitions(listed)
+        if "read" in listed:
+            yield from variant_readers(listed, table)
+        if "kind_of" in listed:
+            yield from content_kinds(listed)
     for listed in table["names"]:
         yield from names(listed)
 

@@ -152,6 +152,75 @@ class Generated(unittest.TestCase):
         self.assertIn("    let grace = or_default(alloc, line, Field::Grace, Span::none())?;",
                       written["wire_requests/src/ends.rt"])
 
+    def test_a_new_field_of_a_command_is_read_in_its_place(self):
+        def change(table: dict) -> None:
+            self.type_named(table, "RecordMarker")["fields"].append("reuse reuse default")
+            self.type_named(table, "StartChild")["fields"].insert(0, "header text default")
+            self.type_named(table, "SignalExternal")["fields"].append("retry policy default")
+
+        written = self.written_with(change)
+        self.assertEqual(written["wire_requests/src/commands.rt"], [
+            "    let reuse = or_default(alloc, object, Field::Reuse, ReusePolicy::AllowDuplicate)?;",
+            "    Ok(RecordMarker {", "        name,", "        details,", "        reuse,",
+        ])
+        self.assertEqual(written["wire_requests/src/external_commands.rt"], [
+            "    let header = or_default(alloc, object, Field::Header, Text::empty(alloc))?;", "        header,",
+            "    let by_default = Policy::by_default(alloc);",
+            "    let policy = or_default(alloc, object, Field::Retry, by_default)?;", "        retry: policy.fields,",
+        ])
+
+    def test_a_new_field_of_a_transfer_is_read_in_the_order_of_the_keys(self):
+        def change(table: dict) -> None:
+            self.type_named(table, "ChildStartFailed")["fields"].append("status child_status keyed key=ended")
+
+        self.written_with(change)
+        self.assertIn('''
+    let status: AStatus = keyed(alloc, object, "ended")?;
+    let initiated = keyed(alloc, object, "initiated")?;
+    let parent_run = keyed(alloc, object, "parent_run")?;
+    Ok(ChildStartFailed {
+        parent_run,
+        initiated,
+        status: status.status,
+    })
+''', self.text("wire_transfers/src/contents.rt"))
+
+    def test_a_new_kind_of_transfer_is_read_by_its_row(self):
+        def change(table: dict) -> None:
+            next(one for one in table["enum"] if one["name"] == "TransferContent")["variants"].append("Closed ChildClosed")
+            next(one for one in table["names"] if one["name"] == "TransferKind")["variants"].append("Closed closed")
+
+        written = self.written_with(change)
+        self.assertEqual(written["wire_transfers/src/contents.rt"], [
+            "        TransferKind::Closed => Ok(TransferContent::Closed(child_closed(alloc, object)?)),"])
+        self.assertEqual(written["wire_transfers/specs/Reading.antt"], [
+            "content_of kind.Closed d = child_closed_of d >>= (λ c. Ok (content.Closed c))"])
+        self.assertEqual(written["wire_transfers/src/kinds.rt"], [
+            "    Closed,", "        TransferContent::Closed(_) => TransferKind::Closed,",
+            '            TransferKind::Closed => "closed",', '        "closed" => Some(TransferKind::Closed),'])
+        self.assertEqual(written["wire_transfers/specs/Names.antt"], [
+            'transfer_kind_name kind.Closed = codes "closed"',
+            "    ∷ kind.SignalExternal ∷ kind.CancelExternal ∷ kind.ExternalDone ∷ kind.Closed ∷ [])",
+            "kind_of (content.Closed c) = kind.Closed"])
+
+    def test_a_new_command_is_read_by_its_row(self):
+        def change(table: dict) -> None:
+            commands = next(one for one in table["enum"] if one["name"] == "Command")
+            commands["variants"] += ["Pause Text", "UpsertWorkflowSearchAttributesOfOne RecordMarker"]
+            commands["read"]["fields"]["Pause"] = "reason text default"
+            types = next(one for one in table["names"] if one["name"] == "CommandType")
+            types["variants"] += ["Pause Pause", "UpsertWorkflowSearchAttributesOfOne Upsert"]
+
+        written = self.written_with(change)
+        self.assertEqual(written["wire_requests/src/commands.rt"], [
+            "    Pause,", "    UpsertWorkflowSearchAttributesOfOne,", '        "Pause" => Some(CommandType::Pause),',
+            '        "Upsert" => Some(CommandType::UpsertWorkflowSearchAttributesOfOne),',
+            "        CommandType::Pause => {", "            let reason = text(alloc, object, Field::Reason)?;",
+            "            Ok(Command::Pause(reason))", "        CommandType::UpsertWorkflowSearchAttributesOfOne => {",
+            "            Ok(Command::UpsertWorkflowSearchAttributesOfOne(marker(alloc, object)?))"])
+        self.assertIn("fields_of Pause d = or_default text_of [] field.Reason d >>= (λ x. Ok (command.Pause x))",
+                      written["wire_requests/specs/Commands.antt"])
+
     def test_a_new_name_is_one_row(self):
         def change(table: dict) -> None:
             next(one for one in table["names"] if one["name"] == "Field")["variants"].append("Identity identity")

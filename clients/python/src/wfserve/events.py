@@ -97,3 +97,40 @@ def pending(events: List[Event]) -> List[Dict[str, Any]]:
             "kind": opening.kind, "id": event["attrs"][opening.name], "event": event["id"], "since": event["at"],
         })
     return found
+
+
+# The kinds of task.
+WORKFLOW, ACTIVITY = "workflow", "activity"
+
+
+class Open(NamedTuple):
+    """A task of an open run that has not ended: its kind, its queue, its event, since when, and whether it was begun."""
+
+    kind: str
+    queue: str
+    event: int
+    since: int
+    begun: bool
+
+
+def open_tasks(events: List[Event]) -> List[Open]:
+    """The tasks of a run that have not ended. Whether an activity was begun its history doesn't say before its end."""
+    if status_of(events) != RUNNING:
+        return []
+    scheduled: Dict[int, Event] = {}
+    task: Optional[Open] = None
+    own = events[0]["attrs"].get("task_queue", "")
+    for event in events:
+        kind, attrs = event["type"], event["attrs"]
+        if kind == "ActivityTaskScheduled":
+            scheduled[event["id"]] = event
+        elif kind in ACTIVITY_ENDS:
+            scheduled.pop(attrs["scheduled"], None)
+        elif kind == "WorkflowTaskScheduled":
+            task = Open(WORKFLOW, attrs.get("task_queue", own), event["id"], event["at"], False)
+        elif kind == "WorkflowTaskStarted" and task is not None:
+            task = task._replace(since=event["at"], begun=True)
+        elif kind.startswith("WorkflowTask"):
+            task = None
+    found = [Open(ACTIVITY, it["attrs"].get("task_queue", own), it["id"], it["at"], False) for it in scheduled.values()]
+    return [task, *found] if task is not None else found
