@@ -20,16 +20,16 @@ def lines_of(path: str) -> Tuple[Settings, List[bytes]]:
     return read_header(lines[0], str(path))[0], lines[1:]
 
 
-def replies_of(program: str, settings: Settings, lines: Sequence[bytes]) -> List[bytes]:
-    """The replies of a program of its own."""
+def replies_of(program: str, settings: Settings, lines: Sequence[bytes], load: Sequence[str] = ()) -> List[bytes]:
+    """The replies of a program of its own, which is opened from records where these words say so."""
     given = b"".join(line + b"\n" for line in lines)
-    words = [str(pathlib.Path(program)), *settings.options()]
+    words = [str(pathlib.Path(program)), *settings.options(), *load]
     return subprocess.run(words, input=given, stdout=subprocess.PIPE, check=False).stdout.splitlines()
 
 
-def sweep_of(settings: Settings, lines: Sequence[bytes]) -> List[bytes]:
-    """All turns of all shards, at the last moment of these lines."""
-    at, every = max(json.loads(line)["at"] for line in lines[-1_000:]), range(settings.shards)
+def sweep_of(settings: Settings, lines: Sequence[bytes], moments: Sequence[int] = ()) -> List[bytes]:
+    """All turns of all shards, at the last moment of these lines and of those before them."""
+    at, every = max([*moments, *(json.loads(line)["at"] for line in lines[-1_000:])]), range(settings.shards)
     turns = [{"op": "transfer_turn", "from": one, "to": other} for one in every for other in every]
     turns += [{"op": op, "shard": shard} for op in ("dispatch_turn", "timer_turn") for shard in every]
     return [json.dumps({**turn, "at": at}).encode() for turn in turns]

@@ -5,30 +5,37 @@
 
 wfedge starts it, hands the requests for pages on to SOCKET, and answers on the sockets EDGE, by HTTP, and LINES, by
 JSON lines, what the page asks. What changed since the list was shown last the page learns from the edge's feed; which
-runs there were before, it learns from the records of a log that was compacted. It ends with its input.
+runs there were before, it learns from the records of a log that was compacted. Where the service has a retention, it
+says which blobs no history names any more. It ends with its input.
 """
 
 from __future__ import annotations
 
 import asyncio
+import http.client
 import json
 import os
 import signal
 import socket as sockets
 import sys
 import threading
+import time
 from dataclasses import dataclass
-from typing import Iterable, Iterator, List, Optional
+from typing import Dict, Iterable, Iterator, List, Optional, Tuple
 
 import python_client  # noqa: F401 (it says where the next ones lie)
 from aiohttp import ClientSession, UnixConnector, web
 from wfserve.server.attempts import Attempts
+from wfserve.server.backlog import LastPolls
 from wfserve.server.http import answer_faults
 from wfserve.server.listing import Workflows
 from wfserve.server.pages import Pages
 from wfserve.server.records import Recorded
+from wfserve.server.sweeping import Sweeper
 
 HERE = "http://localhost"
+# So many blobs are named in one request.
+NAMES_AT_ONCE = 10_000
 
 
 class Moment:
@@ -42,18 +49,30 @@ class Moment:
 
 
 @dataclass
-class RecordSettings:
-    """What the ids of runs in records need."""
+class Settings:
+    """What a page needs of the service's settings. The retention is in milliseconds."""
 
     service: int
     retention: int
+    queues: List[str]
+
+
+class Polls:
+    """The polls that wait, as the edge told of them last."""
+
+    def __init__(self):
+        self.told: List[list] = []
+
+    def counts(self) -> Dict[Tuple[str, str], int]:
+        """How many polls wait, by their operation and their queue."""
+        return {(op, queue): count for op, queue, count in self.told}
 
 
 class Records:
     """The records that the edge's log goes on from, and the edge, which is asked by lines."""
 
     def __init__(self, said: dict, lines: str):
-        self.settings = RecordSettings(said["service"], said["retention"])
+        self.settings = Settings(said["service"], said["retention"], said["queues"])
         self._files, self._lines = said["files"], lines
 
     def record_lines(self) -> Iterator[Iterable[bytes]]:
@@ -77,11 +96,14 @@ class Records:
 
 
 class Edge:
-    """The edge, as the pages ask it: they hand in calls, and want its moment. What it tells of workflows and of attempts
-    is noted here."""
+    """The edge, as the pages ask it: they hand in calls, and want its moment and its settings. What it tells of
+    workflows, of attempts and of polls is noted here."""
 
     def __init__(self, session: ClientSession, lines: str):
         self.moments, self.workflows, self.attempts = Moment(), Workflows(), Attempts()
+        self.polls, self.last_polls = Polls(), LastPolls()
+        # What the log goes on from, and its settings, once they were asked for.
+        self.kept: Optional[Records] = None
         self._session, self._lines = session, lines
         # Until where it was told of runs that began and of attempts; None before the records were read.
         self._next: Optional[int] = None
@@ -113,9 +135,11 @@ class Edge:
             async with self._session.get(f"{HERE}/feed?from={self._next}") as answer:
                 said = await answer.json()
         self.moments.last, self._next = said["moment"], said["next"]
+        self.polls.told = said["polls"]
         for request, reply in said["pairs"]:
             self.workflows.observe(request, reply)
             self.attempts.observe(request, reply)
+            self.last_polls.observe(request, reply)
         if said["all"]:
             for entry in self.workflows.search("", "", sys.maxsize):
                 entry.changed = True
@@ -123,9 +147,77 @@ class Edge:
     async def _read_records(self) -> None:
         """Learns which runs the records have."""
         async with self._session.get(f"{HERE}/records") as answer:
-            records = Records(await answer.json(), self._lines)
-        await asyncio.get_running_loop().run_in_executor(None, Recorded(records, self.workflows).add_all)
+            self.kept = Records(await answer.json(), self._lines)
+        await asyncio.get_running_loop().run_in_executor(None, Recorded(self.kept, self.workflows).add_all)
         self._next = 0
+
+
+class Here(http.client.HTTPConnection):
+    """A connection to the edge's socket."""
+
+    def __init__(self, path: str):
+        super().__init__("localhost")
+        self._path = path
+
+    def connect(self) -> None:
+        self.sock = sockets.socket(sockets.AF_UNIX)
+        self.sock.connect(self._path)
+
+
+class BlobsOfEdge:
+    """The edge's blobs, as a sweep asks for them. The edge deletes them itself, so none is deleted while it is put again."""
+
+    def __init__(self, edge_socket: str):
+        self._edge, self._named = edge_socket, []
+
+    def names(self) -> Iterator[str]:
+        """A name, where there is any blob."""
+        return iter(["some"] if self._asked("GET")["any"] else [])
+
+    def touch(self, name: str, moment: float) -> None:
+        """A history named it at that moment, which is now."""
+        self._named.append(name)
+
+    def delete_before(self, moment: float) -> int:
+        """Deletes what was put and named last before that moment, in seconds since 1970. How many these were."""
+        named, self._named = self._named, []
+        # What is named is told first, in several requests: a body has only so many bytes.
+        for begin in range(0, len(named), NAMES_AT_ONCE):
+            self._asked("POST", {"named": named[begin:begin + NAMES_AT_ONCE], "at": int(time.time()), "before": 0})
+        return int(self._asked("POST", {"named": [], "at": 0, "before": max(int(moment), 0)})["deleted"])
+
+    def _asked(self, method: str, body: Optional[dict] = None) -> dict:
+        connection = Here(self._edge)
+        try:
+            text = None if body is None else json.dumps(body)
+            connection.request(method, "/blobs", text, {"Content-Type": "application/json"})
+            answer = connection.getresponse()
+            said = answer.read()
+        finally:
+            connection.close()
+        if answer.status != 200:
+            raise OSError(f"status {answer.status}: {said[:200]!r}")
+        return json.loads(said)
+
+
+class Sweeping(Sweeper):
+    """Deletes the edge's blobs once no history names them."""
+
+    def __init__(self, edge: Edge, store: BlobsOfEdge, retention: int):
+        super().__init__(edge, edge.workflows, store, retention)
+        self._edge = edge
+
+    async def sweep(self, now: float) -> int:
+        """Looks through all histories and blobs. How many were deleted."""
+        await self._edge.catch_up()
+        return await super().sweep(now)
+
+
+async def sweep_blobs(edge: Edge, edge_socket: str) -> None:
+    """Deletes blobs from time to time, where the service has a retention."""
+    await edge.catch_up()
+    if edge.kept is not None:
+        await Sweeping(edge, BlobsOfEdge(edge_socket), edge.kept.settings.retention).run()
 
 
 def application(edge: Edge) -> web.Application:
@@ -138,7 +230,7 @@ def application(edge: Edge) -> web.Application:
         return await handler(request)
 
     app = web.Application(middlewares=[answer_faults, catch_up])
-    app.router.add_routes(Pages(edge, edge.workflows, edge.attempts).routes())
+    app.router.add_routes(Pages(edge, edge.workflows, edge.attempts, edge.last_polls).routes())
     return app
 
 
@@ -150,11 +242,14 @@ async def end_of_input() -> None:
 
 async def serve(socket: str, edge_socket: str, lines: str) -> None:
     async with ClientSession(connector=UnixConnector(edge_socket, limit=0)) as session:
-        runner = web.AppRunner(application(Edge(session, lines)))
+        edge = Edge(session, lines)
+        runner = web.AppRunner(application(edge))
         await runner.setup()
         os.umask(0o177)
         await web.UnixSite(runner, socket).start()
+        sweeping = asyncio.create_task(sweep_blobs(edge, edge_socket))
         await end_of_input()
+        sweeping.cancel()
         # Nobody asks any more.
         os._exit(0)
 

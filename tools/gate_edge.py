@@ -11,8 +11,8 @@ from pathlib import Path
 TOP = Path(__file__).resolve().parent.parent
 EDGE = TOP / "edge"
 REGISTRY = Path("/usr/share/cargo/registry")
-CRATES = ("tokio", "hyper", "serde", "serde_derive", "serde_json", "crc32fast", "libc")
-CLIENT = "tokio-postgres"
+CRATES = ("tokio", "hyper", "serde", "serde_derive", "serde_json", "crc32fast", "libc", "sha2")
+CLIENT = ("tokio-postgres", "tokio-native-tls", "native-tls")
 # Ten times what each takes on a quiet machine.
 SECONDS = 600
 # The tests over sockets run class by class. So long each of these may take, and all of them.
@@ -35,6 +35,7 @@ POSTGRES = (
     ("a build with a planted fault", [*BUILD, "--features", "planted", "--bin", "wfedge-planted"], ""),
     ("the layout of the client", ["cargo", "fmt", "--check"], "cargo-fmt"),
     ("what clippy finds in the client", LOOKED_OVER, "cargo-clippy"),
+    ("the client's own tests", ["cargo", "test", "-q", "--offline"], ""),
 )
 
 
@@ -75,10 +76,11 @@ def phase(program: Path) -> int:
         print(f"gate: skipped: the compiled edge: there is no {', no '.join(lacking)}: edge/setup.sh installs it")
         return 0
     failed = failed_in(CARGO, EDGE)
-    if has_crate(CLIENT):
-        failed += failed_in(POSTGRES, EDGE / "postgres")
+    without = [name for name in CLIENT if not has_crate(name)]
+    if without:
+        print(f"gate: skipped: the edge over PostgreSQL: there is no crate {', no '.join(without)}: edge/setup.sh postgres installs it")
     else:
-        print(f"gate: skipped: the edge over PostgreSQL: there is no crate {CLIENT}: edge/setup.sh postgres installs it")
+        failed += failed_in(POSTGRES, EDGE / "postgres")
     named = os.environ.get("WFSERVE", str(program))
     limits = ["--each", str(CLASS_SECONDS), "--all", str(SOCKETS_SECONDS)]
     tests = [sys.executable, "by_class.py", *limits]

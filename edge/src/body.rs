@@ -33,6 +33,23 @@ pub fn asked(body: &[u8], shards: Shard) -> Result<Asked, Fault> {
     asked_of(body, object_in(body)?, shards)
 }
 
+/// Reads the body of a call whose operation the path names: it has the fields alone.
+pub fn asked_of_fields(op: &str, body: &[u8], shards: Shard) -> Result<Asked, Fault> {
+    asked(&with_op(op, body)?, shards)
+}
+
+/// A body with its operation as the first member.
+fn with_op(op: &str, body: &[u8]) -> Result<Vec<u8>, Fault> {
+    let blanks = |text: &[u8]| text.iter().take_while(|byte| b" \t\r\n".contains(byte)).count();
+    let fields = body[blanks(body)..].strip_prefix(b"{");
+    let fields = fields.ok_or_else(|| Fault::BadCall("the body is no object".to_string()))?;
+    let fields = &fields[blanks(fields)..];
+    let comma = if fields.starts_with(b"}") { "" } else { "," };
+    let mut text = format!("{{\"op\":\"{op}\"{comma}").into_bytes();
+    text.extend_from_slice(fields);
+    Ok(text)
+}
+
 /// Reads a line of a socket, which may bear its key as a member.
 pub fn asked_by_line(line: &[u8], shards: Shard) -> Result<(Asked, Option<Box<str>>), Fault> {
     let request = object_in(line)?;
@@ -204,6 +221,22 @@ mod tests {
         ] {
             let fault = asked(body.as_bytes(), 4).unwrap_err();
             assert!(fault.name() == "BadCall" && fault.to_string().contains(said), "{body}: {fault}");
+        }
+    }
+
+    #[test]
+    fn a_path_may_name_the_operation() {
+        for (body, line) in [
+            ("{}", r#"{"op":"signal""#),
+            (" { }\n", r#"{"op":"signal""#),
+            ("\r\n{ \"name\":\"n\"}", r#"{"op":"signal","name":"n""#),
+            (r#"{"lane":1,"name":"n"}"#, r#"{"op":"signal","name":"n""#),
+        ] {
+            let found = asked_of_fields("signal", body.as_bytes(), 4).unwrap();
+            assert_eq!(String::from_utf8_lossy(&found.begin), line, "{body}");
+        }
+        for body in ["", "[]", "{", r#"{"op":"signal"}"#, r#"{"op":"start"}"#, r#"{}{"a":1}"#, "{,}"] {
+            assert_eq!(asked_of_fields("signal", body.as_bytes(), 4).unwrap_err().name(), "BadCall", "{body}");
         }
     }
 

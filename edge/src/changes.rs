@@ -26,6 +26,8 @@ pub struct Changes {
     kept: Numbered,
     numbers: HashMap<Box<str>, u64>,
     attempts: Attempts,
+    /// When each queue was polled last. The service has only so many queues, and no other one has a reply.
+    polled: HashMap<(Op, Box<str>), u64>,
     changed: HashSet<Box<str>>,
     has_transferred: bool,
     is_all: bool,
@@ -36,6 +38,9 @@ impl Changes {
     pub fn observe(&mut self, facts: &Facts, line: &[u8], at: u64, reply: &Reply<'_>) {
         if reply.error.is_some() || facts.op.is_read() {
             return;
+        }
+        if let (true, Some(queue)) = (facts.op.is_poll(), &facts.queue) {
+            self.polled.insert((facts.op, queue.clone()), at);
         }
         let run = reply.run.as_deref();
         match (facts.op, run) {
@@ -112,19 +117,27 @@ impl Changes {
         }
     }
 
-    /// What was kept after the pair of this number, and what changed since this was asked last, as JSON.
+    /// What was kept after the pair of this number, what changed since this was asked last, and when queues were polled
+    /// last, as members of an object in JSON.
     pub fn text(&mut self, from: u64) -> String {
+        let polled: Vec<String> = self.polled.iter().map(|((op, queue), at)| polled(*op, queue, *at)).collect();
         let mut pairs: Vec<&str> = self.kept.after(from).collect();
+        pairs.extend(polled.iter().map(String::as_str));
         pairs.extend(self.changed.iter().map(AsRef::as_ref));
         if self.has_transferred {
             pairs.push("[{\"op\":\"transfer_turn\"},{\"ok\":\"accepted\"}]");
         }
-        let text = format!("{{\"next\":{},\"all\":{},\"pairs\":[{}]}}", self.kept.last(), self.is_all, pairs.join(","));
+        let text = format!("\"next\":{},\"all\":{},\"pairs\":[{}]", self.kept.last(), self.is_all, pairs.join(","));
         self.changed.clear();
         self.has_transferred = false;
         self.is_all = false;
         text
     }
+}
+
+/// A poll's pair.
+fn polled(op: Op, queue: &str, at: u64) -> String {
+    format!("[{{\"op\":\"{}\",\"task_queue\":{},\"at\":{at}}},{{\"ok\":\"\"}}]", op.name(), quoted(queue))
 }
 
 /// A command that begins a run, as far as a list needs it.
@@ -154,10 +167,10 @@ mod tests {
             observe(&mut changes, r#"{"op":"signal","workflow_id":"x","at":6}"#, r#"{"error":"NotFound"}"#);
         }
         let text = changes.text(0);
-        assert!(text.starts_with(r#"{"next":1,"all":false,"pairs":[[{"op":"start","workflow_id":"w\"","workflow_type":"T","at":5},{"ok":"started","run":"r1"}],"#));
+        assert!(text.starts_with(r#""next":1,"all":false,"pairs":[[{"op":"start","workflow_id":"w\"","workflow_type":"T","at":5},{"ok":"started","run":"r1"}],"#));
         assert_eq!(text.matches(r#""workflow_id":"w"}"#).count(), 1);
         assert!(!text.contains("\"x\""));
-        assert_eq!(changes.text(1), r#"{"next":1,"all":false,"pairs":[]}"#);
+        assert_eq!(changes.text(1), r#""next":1,"all":false,"pairs":[]"#);
         assert!(changes.text(0).contains("started"));
     }
 
@@ -168,7 +181,7 @@ mod tests {
         let fired = r#"{"class":"retention","ok":"fired","run":"r1"}"#;
         observe(&mut changes, r#"{"op":"timer_turn","shard":0,"at":9}"#, fired);
         assert!(changes.text(0).contains("retention"));
-        assert_eq!(changes.text(0), r#"{"next":1,"all":false,"pairs":[]}"#);
+        assert_eq!(changes.text(0), r#""next":1,"all":false,"pairs":[]"#);
     }
 
     #[test]
@@ -180,6 +193,19 @@ mod tests {
         let wanted = r#""commands":[{"type":"StartChildWorkflowExecution","workflow_id":"c"},{"type":"ContinueAsNewWorkflowExecution"}]"#;
         assert!(changes.text(0).contains(wanted));
         observe(&mut changes, r#"{"op":"transfer_turn","from":0,"to":0,"at":1}"#, r#"{"ok":"accepted"}"#);
-        assert_eq!(changes.text(0), r#"{"next":0,"all":false,"pairs":[[{"op":"transfer_turn"},{"ok":"accepted"}]]}"#);
+        assert_eq!(changes.text(0), r#""next":0,"all":false,"pairs":[[{"op":"transfer_turn"},{"ok":"accepted"}]]"#);
+    }
+
+    #[test]
+    fn when_a_queue_was_polled_last_is_told_each_time() {
+        let mut changes = Changes::default();
+        for (at, reply) in [(5, r#"{"ok":"empty"}"#), (6, r#"{"ok":"empty"}"#), (7, r#"{"error":"UnknownTaskQueue"}"#)]
+        {
+            observe(&mut changes, &format!(r#"{{"op":"poll_activity_task","task_queue":"q","at":{at}}}"#), reply);
+        }
+        let wanted = r#""pairs":[[{"op":"poll_activity_task","task_queue":"q","at":6},{"ok":""}]]"#;
+        for _ in 0..2 {
+            assert!(changes.text(0).ends_with(wanted));
+        }
     }
 }

@@ -22,7 +22,8 @@ const MORE_THAN_QUEUES_HOLD: &str = "more tasks wait in the records than their q
 const GROWTH: u32 = 4;
 const MOMENT: &[u8] = b"\"at\":";
 
-fn folder_of(log: &str, generation: u64) -> String {
+/// The folder of the records that a log goes on from which was compacted so often.
+pub fn folder_of(log: &str, generation: u64) -> String {
     format!("{log}.records-{generation}")
 }
 
@@ -133,7 +134,7 @@ pub fn open_program(origin: &mut Origin) -> Result<Program, LogFault> {
         };
         let capacity = origin.settings.capacity;
         if !fault.to_string().contains(MORE_THAN_QUEUES_HOLD) || capacity >= MOST_CAPACITY {
-            return Err(LogFault::NotOpened(format!("{}: {fault}", folder_of(&origin.log, origin.generation))));
+            return Err(LogFault::NotOpened(format!("{}: {fault}", folder_of(&origin.base, origin.generation))));
         }
         origin.settings.capacity = (GROWTH * capacity).min(MOST_CAPACITY);
     }
@@ -142,11 +143,31 @@ pub fn open_program(origin: &mut Origin) -> Result<Program, LogFault> {
 /// Puts the records of the shards in the place of the log's lines, and opens a program from them, with this much room
 /// in its queues at least. Nothing may be asked meanwhile. Where it can't be done all is as it was.
 pub fn compact(origin: &mut Origin, log: &mut LineLog, capacity: u32) -> Result<Program, LogFault> {
+    let mut lines = log.lines()?;
+    lines.next()?;
+    let give = |input: &mut dyn Write| {
+        while let Some(line) = lines.next()? {
+            if give_line(input, line).is_err() {
+                break;
+            }
+        }
+        Ok(())
+    };
+    compact_by(origin, capacity, give, |origin, next| exchange(origin, next, log))
+}
+
+/// The same, where `give` gives a program the lines of the log, and `exchange` has the log go on from the records.
+pub fn compact_by(
+    origin: &mut Origin,
+    capacity: u32,
+    give: impl FnOnce(&mut dyn Write) -> Result<(), LogFault>,
+    exchange: impl FnOnce(&Origin, &mut Origin) -> Result<(), LogFault>,
+) -> Result<Program, LogFault> {
     let mut next = origin.clone();
     next.generation += 1;
     next.settings.capacity = capacity.max(origin.settings.capacity);
-    save_records(origin, log, &folder_of(&origin.log, next.generation))?;
-    let opened = open_program(&mut next).and_then(|mut program| match exchange(origin, &next, log) {
+    save_records(origin, give, &folder_of(&origin.base, next.generation))?;
+    let opened = open_program(&mut next).and_then(|mut program| match exchange(origin, &mut next) {
         Ok(()) => Ok(program),
         Err(fault) => {
             program.kill();
@@ -156,7 +177,7 @@ pub fn compact(origin: &mut Origin, log: &mut LineLog, capacity: u32) -> Result<
     let program = match opened {
         Ok(program) => program,
         Err(fault) => {
-            let _ = remove_leftovers(&origin.log, origin.generation);
+            let _ = remove_leftovers(&origin.base, origin.generation);
             return Err(fault);
         }
     };
@@ -168,7 +189,7 @@ pub fn compact(origin: &mut Origin, log: &mut LineLog, capacity: u32) -> Result<
 }
 
 /// Gives the log a second name, under which it stays, and puts the next one in its place.
-fn exchange(origin: &Origin, next: &Origin, log: &mut LineLog) -> Result<(), LogFault> {
+fn exchange(origin: &Origin, next: &mut Origin, log: &mut LineLog) -> Result<(), LogFault> {
     let kept = kept_log(&origin.log, origin.generation);
     let link = || -> std::io::Result<()> {
         if Path::new(&kept).exists() {
@@ -183,8 +204,12 @@ fn exchange(origin: &Origin, next: &Origin, log: &mut LineLog) -> Result<(), Log
     log.replace(&next.settings.header(next.generation))
 }
 
-/// Has the program serve the lines of the log and save its records into a new folder, on the disk.
-fn save_records(origin: &Origin, log: &LineLog, folder: &str) -> Result<(), LogFault> {
+/// Has the program serve the lines that it is given and save its records into a new folder, on the disk.
+fn save_records(
+    origin: &Origin,
+    give: impl FnOnce(&mut dyn Write) -> Result<(), LogFault>,
+    folder: &str,
+) -> Result<(), LogFault> {
     let failed = |said: String| LogFault::NotCompacted(format!("{folder}: {said}"));
     let io = |fault: std::io::Error| failed(said_of(&fault));
     let _ = fs::remove_dir_all(folder);
@@ -200,8 +225,14 @@ fn save_records(origin: &Origin, log: &LineLog, folder: &str) -> Result<(), LogF
         let _ = error.map(|mut error| error.read_to_string(&mut said));
         said
     });
-    if let Some(input) = child.stdin.take() {
-        give_lines(input, log)?;
+    let given = child.stdin.take().map_or(Ok(()), |input| {
+        let mut out = BufWriter::with_capacity(1 << 16, input);
+        give(&mut out).map(|()| drop(out.flush()))
+    });
+    if let Err(fault) = given {
+        let _ = child.kill().and_then(|()| child.wait());
+        let _ = fs::remove_dir_all(folder);
+        return Err(failed(fault.to_string()));
     }
     let status = child.wait().map_err(io)?;
     let said = listener.join().unwrap_or_default();
@@ -216,20 +247,9 @@ fn save_records(origin: &Origin, log: &LineLog, folder: &str) -> Result<(), LogF
     sync_folder(&format!("{folder}/.")).and_then(|()| sync_folder(folder)).map_err(io)
 }
 
-/// Gives a program the lines of the log. That it has ended shows by its status.
-fn give_lines(input: impl Write, log: &LineLog) -> Result<(), LogFault> {
-    let mut out = BufWriter::with_capacity(1 << 16, input);
-    let mut lines = log.lines()?;
-    lines.next()?;
-    while let Some(line) = lines.next()? {
-        let given = for_replay(line);
-        let line = given.as_deref().unwrap_or(line);
-        if out.write_all(line).and_then(|()| out.write_all(b"\n")).is_err() {
-            return Ok(());
-        }
-    }
-    let _ = out.flush();
-    Ok(())
+/// Gives a program a line of a log. That it has ended shows by its status.
+pub fn give_line(out: &mut dyn Write, line: &[u8]) -> std::io::Result<()> {
+    out.write_all(for_replay(line).as_deref().unwrap_or(line)).and_then(|()| out.write_all(b"\n"))
 }
 
 #[cfg(test)]

@@ -1,16 +1,20 @@
-//! HTTP/1.1: POST /calls and /compact, health, metrics, and the page, which another process answers.
+//! HTTP/1.1: POST /calls, /calls/OPERATION and /compact, health, metrics, and the page, which another process answers.
 
-use crate::body::{asked, call_key};
+use crate::blob_paths;
+use crate::blobs::Store;
+use crate::body::{asked, asked_of_fields, call_key};
 use crate::core::Core;
 use crate::fault::Fault;
 use crate::guard::{Guard, Verdict};
 use crate::json::{quoted, Object, Value};
 use crate::page::Page;
 use crate::settings::MOST_CAPACITY;
+use crate::statuses::{is_operation, named_in, status_of};
 use hyper::body::{Bytes, HttpBody};
 use hyper::header::{HeaderName, HeaderValue, ALLOW, CONNECTION, CONTENT_LENGTH, CONTENT_TYPE};
 use hyper::header::{LOCATION, RETRY_AFTER, SET_COOKIE, TRANSFER_ENCODING};
 use hyper::{Body, Method, Request, Response, StatusCode};
+use std::future::Future;
 use std::sync::Arc;
 use std::time::Duration;
 
@@ -21,28 +25,31 @@ pub const HEAD_LIMIT: usize = 16_384;
 const DROPPED: usize = 16 << 20;
 /// After so many seconds a call that was not taken may be made again.
 const RETRY_SECONDS: u16 = 1;
-const JSON: &str = "application/json; charset=utf-8";
+pub const JSON: &str = "application/json; charset=utf-8";
 
 /// What answers requests.
 pub struct Front {
     pub core: Arc<Core>,
     pub guard: Guard,
     pub page: Option<Arc<Page>>,
+    /// The texts that are too long for a history.
+    pub blobs: Arc<dyn Store>,
     /// Whether the one who asks is the page, which may ask what changed.
     pub is_private: bool,
     /// How long a request may take to come.
     pub read_timeout: Duration,
 }
 
-/// A request that is answered by a fault.
-struct Refusal {
-    status: u16,
+/// A request that is answered by a fault: its status, its name, and what is wrong.
+#[derive(Debug)]
+pub struct Refusal {
+    pub status: u16,
     name: &'static str,
     said: String,
 }
 
 impl Refusal {
-    fn new(status: u16, name: &'static str, said: impl Into<String>) -> Refusal {
+    pub fn new(status: u16, name: &'static str, said: impl Into<String>) -> Refusal {
         Refusal { status, name, said: said.into() }
     }
 }
@@ -53,10 +60,10 @@ impl From<Fault> for Refusal {
     }
 }
 
-type Answer = Result<Response<Body>, Refusal>;
+pub type Answer = Result<Response<Body>, Refusal>;
 
 /// An answer of this status and type.
-fn answer(status: u16, kind: &'static str, text: impl Into<Body>) -> Response<Body> {
+pub fn answer(status: u16, kind: &'static str, text: impl Into<Body>) -> Response<Body> {
     let mut response = Response::new(text.into());
     *response.status_mut() = StatusCode::from_u16(status).unwrap_or(StatusCode::INTERNAL_SERVER_ERROR);
     response.headers_mut().insert(CONTENT_TYPE, HeaderValue::from_static(kind));
@@ -69,8 +76,12 @@ pub fn fault_text(name: &str, said: &str) -> String {
 }
 
 fn refused(refusal: &Refusal) -> Response<Body> {
-    let mut response = answer(refusal.status, JSON, fault_text(refusal.name, &refusal.said));
-    if refusal.status == 503 {
+    with_retry(answer(refusal.status, JSON, fault_text(refusal.name, &refusal.said)))
+}
+
+/// Says when to call again, where nothing took effect now.
+fn with_retry(mut response: Response<Body>) -> Response<Body> {
+    if response.status() == StatusCode::SERVICE_UNAVAILABLE {
         response.headers_mut().insert(RETRY_AFTER, RETRY_SECONDS.into());
     }
     response
@@ -92,7 +103,7 @@ impl Front {
         let is_chunked = request.headers().contains_key(TRANSFER_ENCODING);
         if is_chunked && request.headers().contains_key(CONTENT_LENGTH) {
             // Its body is read by the one length, so that its client reads why it is refused.
-            let _ = tokio::time::timeout(self.read_timeout, read_body(request.into_body())).await;
+            let _ = tokio::time::timeout(self.read_timeout, read_body(request.into_body(), BODY_LIMIT)).await;
             return closing(refused(&Refusal::new(400, "BadRequest", "a body has one length")));
         }
         let response = match self.guarded(&request) {
@@ -130,14 +141,19 @@ impl Front {
     async fn route(&self, request: Request<Body>) -> Answer {
         let (is_get, is_post) = (request.method() == Method::GET, request.method() == Method::POST);
         match request.uri().path() {
-            "/calls" if is_post => self.call(request).await,
+            "/calls" if is_post => self.call(request, None).await,
+            path if named_in(path).is_some() && is_post => self.call_named(request).await,
+            path if blob_paths::named_in(path).is_some() => self.blob(request).await,
             "/compact" if is_post => self.compact(request).await,
             "/health/live" if is_get => Ok(answer(200, JSON, "{\"status\": \"live\"}")),
             "/health/ready" if is_get => Ok(self.ready()),
             "/metrics" if is_get => Ok(answer(200, "text/plain; charset=utf-8", self.core.metrics())),
             "/feed" if is_get && self.is_private => self.feed(&request),
+            "/blobs" if is_get && self.is_private => self.has_blobs().await,
+            "/blobs" if is_post && self.is_private => self.sweep_blobs(request).await,
             "/records" if is_get && self.is_private => Ok(answer(200, JSON, self.core.records())),
             "/calls" | "/compact" => Ok(not_allowed("POST")),
+            path if named_in(path).is_some() => Ok(not_allowed("POST")),
             "/health/live" | "/health/ready" | "/metrics" => Ok(not_allowed("GET")),
             _ => match &self.page {
                 Some(page) if is_get => page.answer(request).await.map_err(|said| Refusal::new(503, "NoPage", said)),
@@ -146,16 +162,30 @@ impl Front {
         }
     }
 
-    /// Answers a call by its reply.
-    async fn call(&self, request: Request<Body>) -> Answer {
+    /// Answers a call whose operation the path names, by the status of its reply.
+    async fn call_named(&self, request: Request<Body>) -> Answer {
+        let name = named_in(request.uri().path()).unwrap_or_default().to_string();
+        match is_operation(&name) {
+            true => self.call(request, Some(&name)).await,
+            false => Err(Refusal::new(404, "NoSuchOperation", format!("there is no operation {name}"))),
+        }
+    }
+
+    /// Answers a call by its reply. Its operation is the body's, or this one.
+    async fn call(&self, request: Request<Body>, named: Option<&str>) -> Answer {
         let key = match request.headers().get("idempotency-key") {
             None => None,
             Some(value) => Some(call_key(value.to_str().unwrap_or("")).map_err(Refusal::from)?),
         };
         let body = self.body_of(request).await?;
-        let outcome = self.core.submit(asked(&body, self.core.shards())?, key)?;
-        match outcome.await {
-            Ok(reply) => Ok(answer(200, JSON, reply?)),
+        let shards = self.core.shards();
+        let asked = named.map_or_else(|| asked(&body, shards), |op| asked_of_fields(op, &body, shards))?;
+        match self.core.submit(asked, key)?.await {
+            Ok(reply) => {
+                let reply = reply?;
+                let status = named.map_or(200, |_| status_of(&reply));
+                Ok(with_retry(answer(status, JSON, reply)))
+            }
             Err(_) => Err(Fault::Ended("the call was dropped".to_string()).into()),
         }
     }
@@ -191,25 +221,27 @@ impl Front {
         let text = from.and_then(|from| self.core.changes(from));
         let text = text.ok_or_else(|| Refusal::new(400, "BadCall", "from is a number"))?;
         let moment = self.core.moment();
-        Ok(answer(200, JSON, format!("{{\"moment\":{moment},{}", &text[1..])))
+        Ok(answer(200, JSON, format!("{{\"moment\":{moment},{text}}}")))
     }
 
     /// The body of a call, which has to come within so many seconds.
-    async fn body_of(&self, request: Request<Body>) -> Result<Bytes, Refusal> {
+    pub async fn body_of(&self, request: Request<Body>) -> Result<Bytes, Refusal> {
         // A page of another site can't send this type without asking first.
         let kind = request.headers().get(CONTENT_TYPE).and_then(|kind| kind.to_str().ok()).unwrap_or("");
         let kind = kind.split(';').next().unwrap_or("").trim();
         if !kind.eq_ignore_ascii_case("application/json") {
             return Err(Refusal::new(415, "NotJson", "a call is application/json"));
         }
-        match tokio::time::timeout(self.read_timeout, read_body(request.into_body())).await {
-            Ok(body) => body,
-            Err(_) => {
-                let seconds = self.read_timeout.as_secs_f64();
-                Err(Refusal::new(408, "SlowBody", format!("the body did not come within {seconds} seconds")))
-            }
-        }
+        let body = in_time(self.read_timeout, read_body(request.into_body(), BODY_LIMIT)).await?;
+        body.ok_or_else(|| Refusal::new(413, "RequestEntityTooLarge", format!("a body has at most {BODY_LIMIT} bytes")))
     }
+}
+
+/// What has to come within so long.
+pub async fn in_time<T>(most: Duration, coming: impl Future<Output = Result<T, Refusal>>) -> Result<T, Refusal> {
+    let late =
+        |_| Refusal::new(408, "SlowBody", format!("the body did not come within {} seconds", most.as_secs_f64()));
+    tokio::time::timeout(most, coming).await.map_err(late)?
 }
 
 /// How many bytes a request's head has, without blanks that mean nothing.
@@ -227,15 +259,15 @@ fn not_allowed(method: &'static str) -> Response<Body> {
     response
 }
 
-/// Reads a body, which may have so many bytes.
-async fn read_body(mut body: Body) -> Result<Bytes, Refusal> {
+/// Reads a body. None where it has more than so many bytes.
+pub async fn read_body(mut body: Body, most: usize) -> Result<Option<Bytes>, Refusal> {
     let hung_up = |_| Refusal::new(400, "BadCall", "the client hung up");
     let first = match body.data().await {
         Some(first) => first.map_err(hung_up)?,
-        None => return Ok(Bytes::new()),
+        None => return Ok(Some(Bytes::new())),
     };
-    if body.is_end_stream() && first.len() <= BODY_LIMIT {
-        return Ok(first);
+    if body.is_end_stream() && first.len() <= most {
+        return Ok(Some(first));
     }
     let (mut whole, mut read) = (first.to_vec(), first.len());
     while let Some(piece) = body.data().await {
@@ -244,14 +276,11 @@ async fn read_body(mut body: Body) -> Result<Bytes, Refusal> {
         if read > DROPPED {
             break;
         }
-        if read <= BODY_LIMIT {
+        if read <= most {
             whole.extend_from_slice(&piece);
         }
     }
-    if read > BODY_LIMIT {
-        return Err(Refusal::new(413, "RequestEntityTooLarge", format!("a body has at most {BODY_LIMIT} bytes")));
-    }
-    Ok(whole.into())
+    Ok((read <= most).then(|| whole.into()))
 }
 
 /// For how many tasks a request to compact wants room in the queues; 0 where it doesn't say.

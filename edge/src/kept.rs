@@ -8,15 +8,17 @@ use crate::body::for_replay;
 use crate::compaction;
 use crate::fault::Fault;
 use crate::line_log::{LineLog, Lines};
+use crate::local::Local;
 use crate::log::Log;
 use crate::log_fault::LogFault;
 use crate::program::Program;
 use crate::say::say;
 use crate::settings::{Named, Settings};
-use crate::table::Connect;
+use crate::table::{Connect, Start};
 use crate::table_log;
 use std::io::{BufWriter, Write};
 use std::process::{ChildStdin, Command, Stdio};
+use std::sync::Arc;
 use std::thread::JoinHandle;
 
 /// Why a service is not opened, or not opened again.
@@ -51,18 +53,39 @@ impl From<Fault> for NotServed {
 #[derive(Clone, Debug)]
 pub struct Origin {
     pub program: String,
+    /// The log's path, or the address of its table as it may be shown.
     pub log: String,
+    /// The path after which the folders of its records are named: that of the log, or one in a folder of this process.
+    pub base: String,
     pub settings: Settings,
     pub generation: u64,
     /// The table that has the lines, where no file has them.
-    table: Option<Connect>,
+    pub table: Option<FromTable>,
+}
+
+/// Where the lines of a table are: how it is connected to, and the number of the batch that is their header.
+#[derive(Clone, Debug)]
+pub struct FromTable {
+    pub connect: Connect,
+    pub first: u64,
+    /// Of the records.
+    _folder: Arc<Local>,
 }
 
 impl Origin {
-    /// Of a table.
-    pub fn of_table(program: &str, connect: &Connect, settings: Settings) -> Origin {
-        let (program, log, table) = (program.to_string(), connect.shown.clone(), Some(connect.clone()));
-        Origin { program, log, settings, generation: 0, table }
+    /// Of a log in a file.
+    fn of_file(program: &str, path: &str, settings: Settings, generation: u64) -> Origin {
+        let (program, log, base) = (program.to_string(), path.to_string(), path.to_string());
+        Origin { program, log, base, settings, generation, table: None }
+    }
+
+    /// Of a table that goes on from here. Its records will lie in a folder of this process.
+    pub fn of_table(program: &str, connect: &Connect, settings: Settings, start: Start) -> Result<Origin, LogFault> {
+        let (program, log) = (program.to_string(), connect.shown.clone());
+        let folder = Arc::new(Local::new()?);
+        let base = folder.path("table");
+        let table = Some(FromTable { connect: connect.clone(), first: start.number, _folder: folder });
+        Ok(Origin { program, log, base, settings, generation: start.generation, table })
     }
 
     /// A program that has served nothing.
@@ -74,17 +97,17 @@ impl Origin {
     pub fn words(&self) -> Vec<String> {
         let mut words = vec![self.program.clone()];
         words.extend(self.settings.options());
-        words.extend(compaction::load_options(&self.log, self.generation));
+        words.extend(compaction::load_options(&self.base, self.generation));
         words
     }
 
     /// The program, started from the records where the log's file has some. With more room in its queues where the records
     /// have more tasks: then the settings have it too.
-    fn start(&mut self) -> Result<Program, NotServed> {
+    pub fn start(&mut self) -> Result<Program, NotServed> {
         if self.generation == 0 {
             return self.start_new();
         }
-        compaction::keep_private(&self.log, self.generation)?;
+        compaction::keep_private(&self.base, self.generation)?;
         Ok(compaction::open_program(self)?)
     }
 }
@@ -92,6 +115,11 @@ impl Origin {
 /// Told each line of the log as it is served again: the line and its reply.
 pub trait Observe {
     fn line(&mut self, line: &[u8], reply: &[u8]);
+
+    /// Told the replies by keys from before a compaction, as text, where they were kept. False where it is no such text.
+    fn replies(&mut self, _: &[u8]) -> bool {
+        true
+    }
 }
 
 /// An opened service.
@@ -113,7 +141,7 @@ pub fn open<O: Observe>(
     let mut log = LineLog::open(path)?;
     let (settings, generation) = settled(program, &mut log, named)?;
     compaction::remove_leftovers(path, generation)?;
-    let mut origin = Origin { program: program.to_string(), log: path.to_string(), settings, generation, table: None };
+    let mut origin = Origin::of_file(program, path, settings, generation);
     let room = origin.settings.capacity;
     let mut started = origin.start()?;
     if origin.settings.capacity != room {
@@ -234,8 +262,8 @@ fn take_replies(
 
 /// A program in the place of one that has ended, once it has served so many lines of the log.
 pub fn start_again(origin: &Origin, count: u64) -> Result<Program, NotServed> {
-    if let Some(connect) = &origin.table {
-        return table_log::serve_again(origin.start_new()?, connect, count, &mut Nobody);
+    if origin.table.is_some() {
+        return table_log::serve_again(origin, count, &mut Nobody);
     }
     let mut origin = origin.clone();
     let mut program = origin.start()?;

@@ -2,11 +2,14 @@
 //!
 //! A call's way: `http` or `lines` take a body; `body` makes the beginning of a line of it, and `facts` what it may
 //! cause; `core` puts it into the one order, writes it to the `log` and to the `program`, and answers it once both are
-//! done. A log is a file (`line_log`) or a `table` of a database (`table_log`). Around that stand the `ledger` of turns, `deadlines` and `moments`, `polls` that wait, `replies` that
-//! can be had again, and `changes` for the `page`. `kept`, `opening` and `compaction` open a log and exchange it.
+//! done. A log is a file (`line_log`) or a `table` of a database (`table_log`), with `blobs` beside it. Around that stand
+//! the `ledger` of turns, `deadlines` and `moments`, `polls` that wait, `replies` that can be had again, and `changes` for
+//! the `page`. `kept`, `opening` and `compaction` open a log and exchange it.
 #![deny(unsafe_code)]
 
 mod attempts;
+mod blob_paths;
+pub mod blobs;
 mod body;
 mod call;
 mod changes;
@@ -23,6 +26,7 @@ mod ledger;
 mod line_log;
 mod lines;
 mod listen;
+mod local;
 mod log;
 pub mod log_fault;
 #[cfg(test)]
@@ -44,23 +48,25 @@ mod scratch;
 mod serving;
 mod settings;
 mod shards;
+mod statuses;
 mod system;
 pub mod table;
 mod table_log;
+mod table_records;
 
 use crate::say::say;
 use options::{Options, HELP};
-use table::OpenTable;
+use table::Client;
 
 /// Serves by the words of a command line until it is told to stop. The status with which the process ends. A log in a
-/// database's table is opened by `tables`, where this edge was built with a client of one.
-pub fn run(words: impl Iterator<Item = String>, tables: Option<OpenTable>) -> i32 {
+/// database's table is opened by `client`, where this edge was built with one.
+pub fn run(words: impl Iterator<Item = String>, client: Option<Client>) -> i32 {
     let words: Vec<String> = words.collect();
     if words.iter().any(|word| word == "--help" || word == "-h") {
         print!("{HELP}");
         return 0;
     }
-    match Options::of(words).and_then(|options| serving::run(options, tables)) {
+    match Options::of(words).and_then(|options| serving::run(options, client)) {
         Ok(()) => 0,
         Err(fault) => {
             say!("{fault}");

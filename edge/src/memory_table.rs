@@ -1,7 +1,7 @@
 //! A table in memory, for tests.
 
 use crate::log_fault::LogFault;
-use crate::table::{Batch, Connect, Table};
+use crate::table::{Batch, Connect, Piece, Pieces, Start, Table};
 use std::sync::{Arc, Mutex};
 
 /// What all connections to a table have in common.
@@ -11,6 +11,8 @@ pub struct Shared {
     pub epoch: u64,
     pub is_led: bool,
     pub told: u64,
+    /// Compactions: where the log goes on, and from which pieces.
+    pub starts: Vec<(Start, Vec<Piece>)>,
 }
 
 /// A table in memory.
@@ -28,7 +30,12 @@ impl Table for InMemory {
     fn read(&mut self, after: u64, most: u32) -> Result<Vec<Batch>, LogFault> {
         let shared = self.shared.lock().unwrap();
         let rest = (after + 1..).zip(shared.batches.iter().skip(after as usize));
-        Ok(rest.take(most.min(2) as usize).map(|(number, lines)| Batch { number, lines: lines.clone() }).collect())
+        let generation = |number| {
+            shared.starts.iter().find(|(start, _)| start.number == number).map_or(0, |(start, _)| start.generation)
+        };
+        let batch =
+            |(number, lines): (u64, &Vec<u8>)| Batch { number, lines: lines.clone(), generation: generation(number) };
+        Ok(rest.take(most.min(2) as usize).map(batch).collect())
     }
 
     fn tell(&mut self, number: u64) -> Result<(), LogFault> {
@@ -60,6 +67,26 @@ impl Table for InMemory {
             false => Err(LogFault::Broken("another edge leads".to_string())),
         }
     }
+
+    fn start(&mut self) -> Result<Start, LogFault> {
+        Ok(self.shared.lock().unwrap().starts.last().map_or_else(Start::default, |(start, _)| *start))
+    }
+
+    fn piece(&mut self, generation: u64, number: u64) -> Result<Option<Piece>, LogFault> {
+        let shared = self.shared.lock().unwrap();
+        let found = shared.starts.iter().find(|(start, _)| start.generation == generation);
+        Ok(found.and_then(|(_, pieces)| pieces.get(number as usize - 1)).cloned())
+    }
+
+    fn compact(&mut self, header: &Batch, pieces: Pieces<'_>) -> Result<(), LogFault> {
+        let pieces = pieces.collect::<Result<Vec<_>, _>>()?;
+        let start = Start { generation: header.generation, number: header.number };
+        self.append(header)?;
+        self.shared.lock().unwrap().starts.push((start, pieces));
+        Ok(())
+    }
+
+    fn forget(&mut self) {}
 }
 
 /// Connects to a table.

@@ -55,6 +55,10 @@ impl Observe for Observed {
             }
         }
     }
+
+    fn replies(&mut self, text: &[u8]) -> bool {
+        self.replies.take_text(text).is_some()
+    }
 }
 
 impl Opened {

@@ -1,7 +1,8 @@
 //! The page: a process of its own, in Python, which the edge starts, hands its requests on to, and starts again.
 //!
-//! It is started once somebody asks for a page, listens on a private socket, and asks the edge on another one. What it shows it learns from `GET /feed`, so a
-//! slow page holds nobody up. It ends with its input, which the edge holds.
+//! It is started once somebody asks for a page, listens on a private socket, and asks the edge on another one. What it
+//! shows it learns from `GET /feed`, so a slow page holds nobody up. It knows what histories name, so it also says which
+//! blobs are to be deleted. It ends with its input, which the edge holds.
 
 use crate::say::say;
 use hyper::client::conn;
@@ -29,14 +30,24 @@ pub struct Page {
     is_broken: AtomicBool,
     /// Told once somebody asks for a page.
     wanted: Notify,
+    /// Whether the process deletes the blobs that no history names any more.
+    has_sweeps: bool,
 }
 
 impl Page {
-    /// A page that listens on `socket`, and asks the edge on `edge` by HTTP and on `lines` by lines.
-    pub fn new(command: &[String], socket: String, edge: &str, lines: &str) -> Page {
+    /// A page that listens on `socket`, and asks the edge on `edge` by HTTP and on `lines` by lines. It deletes blobs where
+    /// the service has a retention.
+    pub fn new(command: &[String], socket: String, edge: &str, lines: &str, has_sweeps: bool) -> Page {
         let mut words = command.to_vec();
         words.extend([socket.clone(), edge.to_string(), lines.to_string()]);
-        Page { words, socket, is_broken: AtomicBool::new(false), wanted: Notify::new() }
+        Page { words, socket, is_broken: AtomicBool::new(false), wanted: Notify::new(), has_sweeps }
+    }
+
+    /// Has the process run where there are blobs that it would delete.
+    pub fn want_sweeps(&self) {
+        if self.has_sweeps {
+            self.wanted.notify_one();
+        }
     }
 
     /// Keeps the process running from when it is wanted on, until this is dropped: that ends it.

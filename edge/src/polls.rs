@@ -3,6 +3,7 @@
 //! All of it is decided in the one order of replies, so no task is handed over beside a poll that waits for it.
 
 use crate::call::Call;
+use crate::json::quoted;
 use crate::operations::Op;
 use hyper::body::Bytes;
 use std::collections::{HashMap, VecDeque};
@@ -22,6 +23,11 @@ impl Queue {
     /// The queue that a poll asks.
     pub fn of(call: &Call) -> Queue {
         Queue { op: call.op(), name: call.facts.queue.clone().unwrap_or_default() }
+    }
+
+    /// The operation by which it is polled and its name, as members of a list in JSON.
+    pub fn json(&self) -> String {
+        format!("\"{}\",{}", self.op.name(), quoted(&self.name))
     }
 }
 
@@ -43,6 +49,11 @@ impl Polls {
     /// How many polls wait.
     pub fn len(&self) -> usize {
         self.count
+    }
+
+    /// How many polls wait for each queue.
+    pub fn counts(&self) -> Vec<(&Queue, usize)> {
+        self.waiting.iter().map(|(queue, waiting)| (queue, waiting.len())).collect()
     }
 
     /// Has a poll wait. One that was woken and found nothing has its place again.

@@ -8,23 +8,20 @@ use crate::fault::Fault;
 use crate::operations::Op;
 use crate::reply::Reply;
 use hyper::body::Bytes;
-use std::collections::hash_map::DefaultHasher;
 use std::collections::{HashMap, VecDeque};
-use std::hash::Hasher;
 use std::sync::Arc;
 
 const MOST_REPLIES: usize = 100_000;
 const MOST_BYTES: usize = 128 << 20;
 
-/// What two calls with one key have to have in common.
+/// What two calls with one key have to have in common. A table's compaction keeps it, so it is the same in all versions.
 #[derive(Clone, Copy, Debug, PartialEq, Eq)]
 pub struct Mark(u64);
 
-/// The mark of a line's beginning.
+/// The mark of a line's beginning, by FNV-1a.
 pub fn mark_of(begin: &[u8]) -> Mark {
-    let mut hasher = DefaultHasher::new();
-    hasher.write(begin);
-    Mark(hasher.finish())
+    let next = |mark: u64, byte: &u8| (mark ^ u64::from(*byte)).wrapping_mul(0x0100_0000_01b3);
+    Mark(begin.iter().fold(0xcbf2_9ce4_8422_2325, next))
 }
 
 struct Kept {
@@ -87,6 +84,30 @@ impl Replies {
         }
     }
 
+    /// All of them as text, the oldest first: a line of the mark, the key and the reply for each.
+    pub fn text(&self) -> Vec<u8> {
+        let mut text = Vec::with_capacity(self.bytes + 64 * self.found.len());
+        for (number, key) in &self.order {
+            if let Some(kept) = self.found.get(key).filter(|kept| kept.number == *number) {
+                text.extend_from_slice(format!("{:016x} {key} ", kept.mark.0).as_bytes());
+                text.extend_from_slice(&kept.reply);
+                text.push(b'\n');
+            }
+        }
+        text
+    }
+
+    /// Takes a text that has replies. None where it is no such text.
+    pub fn take_text(&mut self, text: &[u8]) -> Option<()> {
+        for line in text.split(|byte| *byte == b'\n').filter(|line| !line.is_empty()) {
+            let mut parts = line.splitn(3, |byte| *byte == b' ');
+            let mark = u64::from_str_radix(std::str::from_utf8(parts.next()?).ok()?, 16).ok()?;
+            let key = std::str::from_utf8(parts.next()?).ok()?;
+            self.add(key, Mark(mark), Bytes::copy_from_slice(parts.next()?));
+        }
+        Some(())
+    }
+
     /// Takes a line of a log that is opened, and its reply.
     pub fn replayed(&mut self, op: Op, line: &[u8], said: &Reply<'_>, reply: &[u8]) {
         // A poll that took nothing is made anew.
@@ -130,6 +151,24 @@ mod tests {
             replies.add("one", mark_of(b""), reply("four"));
         }
         assert!(replies.order.len() <= 200 && replies.found.len() == 1);
+    }
+
+    #[test]
+    fn they_are_kept_as_text() {
+        let mut replies = Replies::default();
+        for (key, text) in [("a", "{\"said\":\"a b\"}"), ("b", "2"), ("a", "{\"said\":\"c\"}")] {
+            replies.add(key, mark_of(key.as_bytes()), reply(text));
+        }
+        let mut again = Replies::default();
+        assert_eq!(again.take_text(&replies.text()), Some(()));
+        assert_eq!(again.get("a", mark_of(b"a")), Ok(Some(reply("{\"said\":\"c\"}"))));
+        assert_eq!((again.get("b", mark_of(b"b")), again.text()), (Ok(Some(reply("2"))), replies.text()));
+        assert!(again.get("b", mark_of(b"a")).is_err());
+        for wrong in ["x k reply", "00", "0123456789abcdef key"] {
+            assert_eq!(again.take_text(wrong.as_bytes()), None, "{wrong}");
+        }
+        // As other versions have it.
+        assert_eq!(mark_of(b"foobar"), Mark(0x8594_4171_f739_67e8));
     }
 
     #[test]

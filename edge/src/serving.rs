@@ -1,5 +1,6 @@
 //! Opens a service, serves it until a signal says to stop, and ends it.
 
+use crate::blobs::{Folder as BlobFolder, Store};
 use crate::core::{Core, Threads};
 use crate::guard::Guard;
 use crate::http::Front;
@@ -11,7 +12,7 @@ use crate::options::{Options, LOCAL};
 use crate::page::Page;
 use crate::say::say;
 use crate::system;
-use crate::table::{is_address, Connect, OpenTable};
+use crate::table::{is_address, Client, Connect};
 use std::fs;
 use std::io::Write;
 use std::os::unix::fs::DirBuilderExt;
@@ -53,18 +54,42 @@ impl Drop for Folder {
     }
 }
 
+/// Where an edge keeps what is neither log nor program.
+struct Place {
+    /// Of its sockets.
+    folder: Folder,
+    /// Of texts that are too long for a history.
+    blobs: Arc<dyn Store>,
+    /// Whether these are deleted once no history names them.
+    has_sweeps: bool,
+}
+
+impl Place {
+    fn new(folder: Folder, log: &str, client: Option<Client>, opened: &Opened) -> Place {
+        let blobs: Arc<dyn Store> = match client.filter(|_| is_address(log)) {
+            Some(client) => (client.blobs)(log).into(),
+            None => Arc::new(BlobFolder::new(&format!("{log}.blobs"))),
+        };
+        Place { folder, blobs, has_sweeps: opened.kept.origin.settings.retention > 0 }
+    }
+}
+
 /// Serves until it is told to stop; says why where that was not why it ended.
-pub fn run(options: Options, tables: Option<OpenTable>) -> Result<(), String> {
+pub fn run(options: Options, client: Option<Client>) -> Result<(), String> {
     system::outlive_file_limits();
     system::raise_open_files();
     let guard = guard_of(&options)?;
     // An edge that follows is ended by a signal, and leaves nothing.
-    let (folder, opened) = match &options.log {
-        Some(log) => opened(&options, log, tables).and_then(|opened| Ok((Folder::new()?, opened)))?,
+    let (place, opened) = match &options.log {
+        Some(log) => {
+            let opened = opened(&options, log, client)?;
+            (Place::new(Folder::new()?, log, client, &opened), opened)
+        }
         None => {
             let folder = Folder::new()?;
-            let opened = opened(&options, &folder.path("log"), tables)?;
-            (folder, opened)
+            let log = folder.path("log");
+            let opened = opened(&options, &log, client)?;
+            (Place::new(folder, &log, client, &opened), opened)
         }
     };
     let moments = Moments::new(opened.last_moment(), Box::new(MachineClocks::new()));
@@ -72,18 +97,18 @@ pub fn run(options: Options, tables: Option<OpenTable>) -> Result<(), String> {
     let runtime =
         Builder::new_multi_thread().worker_threads(1).enable_all().build().map_err(|fault| fault.to_string())?;
     let (core, threads) = Core::start(opened, moments, options.queue_limit).map_err(|fault| fault.to_string())?;
-    let result = runtime.block_on(serve(&options, guard, core.clone(), &folder));
+    let result = runtime.block_on(serve(&options, guard, core.clone(), &place));
     finish(&core, threads);
     result
 }
 
 /// Opens the service of a log.
-fn opened(options: &Options, log: &str, tables: Option<OpenTable>) -> Result<Opened, String> {
+fn opened(options: &Options, log: &str, client: Option<Client>) -> Result<Opened, String> {
     let has_page = !options.page.is_empty();
-    let opened = match (is_address(log), tables) {
+    let opened = match (is_address(log), client) {
         (false, _) => Opened::of(&options.program, log, &options.named, has_page),
-        (true, Some(open)) => {
-            let connect = Connect::new(open, log, options.silence);
+        (true, Some(client)) => {
+            let connect = Connect::new(client.table, log, options.silence);
             Opened::of_table(&options.program, &connect, &options.named, has_page)
         }
         (true, None) => {
@@ -126,15 +151,15 @@ fn guard_of(options: &Options) -> Result<Guard, String> {
     Ok(Guard::new(token, is_local.then(names)))
 }
 
-async fn serve(options: &Options, guard: Guard, core: Arc<Core>, folder: &Folder) -> Result<(), String> {
+async fn serve(options: &Options, guard: Guard, core: Arc<Core>, place: &Place) -> Result<(), String> {
     let text = |fault: std::io::Error| fault.to_string();
     let connections = Connections::new();
     let mut tasks = Vec::new();
     let page = match options.page.is_empty() {
         true => None,
-        false => Some(serve_page(options, &core, folder, &connections, &mut tasks).map_err(text)?),
+        false => Some(serve_page(options, &core, place, &connections, &mut tasks).map_err(text)?),
     };
-    let front = front_of(options, guard, core.clone(), page);
+    let front = front_of(options, guard, core.clone(), page, place);
     let address = (options.host.as_str(), options.port);
     let listener = TcpListener::bind(address).await.map_err(|fault| format!("{}:{}: {fault}", address.0, address.1))?;
     let port = listener.local_addr().map_err(text)?.port();
@@ -158,22 +183,26 @@ async fn serve(options: &Options, guard: Guard, core: Arc<Core>, folder: &Folder
 fn serve_page(
     options: &Options,
     core: &Arc<Core>,
-    folder: &Folder,
+    place: &Place,
     connections: &Arc<Connections>,
     tasks: &mut Vec<JoinHandle<()>>,
 ) -> std::io::Result<Arc<Page>> {
-    let (edge, asked) = (folder.path("edge"), folder.path("lines"));
-    let page = Arc::new(Page::new(&options.page, folder.path("page"), &edge, &asked));
-    let front = front_of(options, Guard::default(), core.clone(), None);
+    let (edge, asked) = (place.folder.path("edge"), place.folder.path("lines"));
+    let page = Arc::new(Page::new(&options.page, place.folder.path("page"), &edge, &asked, place.has_sweeps));
+    if place.has_sweeps && place.blobs.has_any().unwrap_or(true) {
+        page.want_sweeps();
+    }
+    let front = front_of(options, Guard::default(), core.clone(), None, place);
     tasks.push(tokio::spawn(listen::serve_private(lines::bind(&edge)?, front, connections.clone())));
     tasks.push(tokio::spawn(lines::serve(lines::bind(&asked)?, core.clone(), connections.clone())));
     tasks.push(tokio::spawn(page.clone().run()));
     Ok(page)
 }
 
-fn front_of(options: &Options, guard: Guard, core: Arc<Core>, page: Option<Arc<Page>>) -> Arc<Front> {
+fn front_of(options: &Options, guard: Guard, core: Arc<Core>, page: Option<Arc<Page>>, place: &Place) -> Arc<Front> {
     let is_private = page.is_none() && !options.page.is_empty();
-    Arc::new(Front { core, guard, page, is_private, read_timeout: options.read_timeout })
+    let blobs = place.blobs.clone();
+    Arc::new(Front { core, guard, page, blobs, is_private, read_timeout: options.read_timeout })
 }
 
 /// Says where it serves, and waits until it is told to stop or nothing is served any more.

@@ -1,9 +1,14 @@
-//! What the standard library of Rust 1.63 doesn't have: a lock on a file, the size of a pipe, a private socket.
+//! What the standard library of Rust 1.63 doesn't have: a lock on a file, its moment, the size of a pipe, a private
+//! socket.
 #![allow(unsafe_code)]
 
+use std::ffi::CString;
 use std::fs::File;
 use std::io;
+use std::os::unix::ffi::OsStrExt;
 use std::os::unix::io::AsRawFd;
+use std::path::Path;
+use std::time::Duration;
 
 /// A number that nobody else draws, for the name of a folder.
 pub fn drawn() -> u64 {
@@ -24,6 +29,21 @@ pub fn lock(file: &File) -> io::Result<bool> {
         return Ok(false);
     }
     Err(fault)
+}
+
+/// Sets a file's moments to this one, since 1970; to now where none is given.
+pub fn touch(path: &Path, moment: Option<Duration>) -> io::Result<()> {
+    let name = CString::new(path.as_os_str().as_bytes())?;
+    let at = moment.map_or(libc::timespec { tv_sec: 0, tv_nsec: libc::UTIME_NOW }, |moment| libc::timespec {
+        tv_sec: moment.as_secs() as libc::time_t,
+        tv_nsec: moment.subsec_nanos() as _,
+    });
+    let both = [at, at];
+    // SAFETY: the name ends with a zero, and it and the two moments lie here during the call.
+    match unsafe { libc::utimensat(libc::AT_FDCWD, name.as_ptr(), both.as_ptr(), 0) } {
+        0 => Ok(()),
+        _ => Err(io::Error::last_os_error()),
+    }
 }
 
 /// Has a pipe hold so many bytes. A user may have only so many in pipes: then it keeps what it has.

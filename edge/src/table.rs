@@ -4,7 +4,12 @@
 //! each of which gives the batches to its own program, and one of them leads: it alone adds batches. A leader has an
 //! *epoch*, which is raised by who takes over; a batch of an earlier epoch is refused. That is the fence. What makes a
 //! takeover quick, a lock and a time for which a leader may be silent, decides nothing.
+//!
+//! A compaction puts records of the shards into the database, in pieces, and adds a batch that is the header of the log
+//! from then on: its *generation* says how often the log was compacted. Every edge exchanges its program at this batch
+//! for one that is opened from the records, so all of them serve the same.
 
+use crate::blobs::Store;
 use crate::log_fault::LogFault;
 use std::sync::Arc;
 
@@ -13,7 +18,33 @@ use std::sync::Arc;
 pub struct Batch {
     pub number: u64,
     pub lines: Vec<u8>,
+    /// How often the log was compacted, where it goes on from this batch, its header; 0 of any other batch.
+    pub generation: u64,
 }
+
+/// Where a log goes on from: how often it was compacted, and the number of the batch that is its header since.
+#[derive(Clone, Copy, Debug, PartialEq, Eq)]
+pub struct Start {
+    pub generation: u64,
+    pub number: u64,
+}
+
+impl Default for Start {
+    /// Of a log that was never compacted.
+    fn default() -> Start {
+        Start { generation: 0, number: 1 }
+    }
+}
+
+/// A piece of what a log goes on from: some bytes of a file of this name, behind those of the pieces before.
+#[derive(Clone, Debug, PartialEq, Eq)]
+pub struct Piece {
+    pub name: String,
+    pub data: Vec<u8>,
+}
+
+/// What a compaction puts into a table, piece by piece.
+pub type Pieces<'a> = &'a mut dyn Iterator<Item = Result<Piece, LogFault>>;
 
 /// A table, by a connection of its own.
 pub trait Table: Send {
@@ -34,10 +65,33 @@ pub trait Table: Send {
 
     /// Refuses where another one leads: then what is read here may be old.
     fn confirm(&mut self) -> Result<(), LogFault>;
+
+    /// Where the log goes on from.
+    fn start(&mut self) -> Result<Start, LogFault>;
+
+    /// A piece of what the log of this generation goes on from, numbered from 1. None behind the last one.
+    fn piece(&mut self, generation: u64, number: u64) -> Result<Option<Piece>, LogFault>;
+
+    /// Has the log go on from these pieces, under the epoch of this edge, with this batch as its header. NotCompacted where
+    /// nothing was changed; after any other fault it isn't known.
+    fn compact(&mut self, header: &Batch, pieces: Pieces<'_>) -> Result<(), LogFault>;
+
+    /// Has what is older than the generation before deleted meanwhile, and what a compaction left that was not ended.
+    fn forget(&mut self);
 }
 
 /// How a table is connected to: by the address of a database, and how many milliseconds a leader may be silent.
 pub type OpenTable = fn(&str, u64) -> Result<Box<dyn Table>, LogFault>;
+
+/// How the blobs of a database are connected to: by its address.
+pub type OpenBlobs = fn(&str) -> Box<dyn Store>;
+
+/// A client of a database.
+#[derive(Clone, Copy)]
+pub struct Client {
+    pub table: OpenTable,
+    pub blobs: OpenBlobs,
+}
 
 /// Connects to a table, as often as it is wanted.
 #[derive(Clone)]

@@ -1,13 +1,15 @@
 //! A log in a table: how a program follows it, takes it over, and is started again from it.
 
 use crate::body::for_replay;
+use crate::compaction;
 use crate::kept::{check, Kept, NotServed, Observe, Origin};
 use crate::log::Log;
 use crate::log_fault::LogFault;
 use crate::program::Program;
 use crate::say::say;
 use crate::settings::{Named, Settings};
-use crate::table::{Batch, Connect, Table};
+use crate::table::{Batch, Connect, Pieces, Start, Table};
+use crate::table_records::fetch;
 use std::io::Write;
 use std::time::{Duration, Instant};
 
@@ -37,6 +39,11 @@ struct Place {
 }
 
 impl Place {
+    /// Behind a header.
+    fn behind(header: &Batch) -> Place {
+        Place { batches: header.number, lines: 1, bytes: header.lines.len() as u64 }
+    }
+
     /// Goes on behind a batch of so many lines.
     fn pass(&mut self, batch: &Batch, lines: u64) {
         self.batches = batch.number;
@@ -56,6 +63,11 @@ impl TableLog {
         self.place.bytes
     }
 
+    /// How many batches the table has had.
+    pub fn batches(&self) -> u64 {
+        self.place.batches
+    }
+
     /// Whether it is not known what the table has, or another edge leads.
     pub fn is_broken(&self) -> bool {
         self.is_broken
@@ -71,10 +83,36 @@ impl TableLog {
             text.extend_from_slice(line);
             count += 1;
         }
-        let batch = Batch { number: self.place.batches + 1, lines: text };
+        let batch = Batch { number: self.place.batches + 1, lines: text, generation: 0 };
         self.asked(|table| table.append(&batch))?;
         self.place.pass(&batch, count);
         Ok(())
+    }
+
+    /// Has the table go on from these pieces, behind this header of a generation. The number of the header's batch.
+    /// NotCompacted where all is as it was.
+    pub fn compact(&mut self, header: Vec<u8>, generation: u64, pieces: Pieces<'_>) -> Result<u64, LogFault> {
+        let header = Batch { number: self.place.batches + 1, lines: header, generation };
+        let mut not_done = None;
+        self.asked(|table| match table.compact(&header, pieces) {
+            Err(fault @ LogFault::NotCompacted(_)) => {
+                not_done = Some(fault);
+                Ok(())
+            }
+            other => other,
+        })?;
+        match not_done {
+            Some(fault) => Err(fault),
+            None => {
+                self.place = Place::behind(&header);
+                Ok(header.number)
+            }
+        }
+    }
+
+    /// Has the table delete meanwhile what is not needed any more.
+    pub fn forget(&mut self) {
+        self.table.forget();
     }
 
     /// Refuses where another edge has become the leader.
@@ -103,27 +141,37 @@ pub fn open<O: Observe>(
 ) -> Result<(Kept, O), NotServed> {
     let mut table = connect.table()?;
     let header = header_of(program, table.as_mut(), named)?;
-    let (settings, _) = Settings::of_header(&header.lines, &connect.shown)?;
+    let (settings, generation) = Settings::of_header(&header.lines, &connect.shown)?;
     settings.check(&settings.clone().with(&Named { capacity: None, ..named.clone() }), &connect.shown)?;
-    let origin = Origin::of_table(program, connect, settings);
+    let start = Start { generation, number: header.number };
+    let mut origin = Origin::of_table(program, connect, settings, start)?;
     let mut observer = observer(&origin.settings);
-    let mut follower = Follower { program: origin.start_new()?, place: Place::default() };
-    follower.place.pass(&header, 1);
+    if generation > 0 && !observer.replies(&fetch(table.as_mut(), &origin)?) {
+        return Err(LogFault::Damaged(format!("{}: the replies by keys are damaged", connect.shown)).into());
+    }
+    let last_moment = compaction::last_moment_in(&origin.base, generation)?;
+    let program = origin.start()?;
+    let mut follower = Follower { program, origin, place: Place::behind(&header) };
     if let Err(fault) = follower.follow(table.as_mut(), &mut observer) {
         follower.program.kill();
         return Err(fault);
     }
-    let Follower { program, place } = follower;
+    let Follower { program, origin, place } = follower;
     say!("{}: this edge leads, from line {} on", connect.shown, place.lines);
+    table.forget();
     let log = TableLog { table, shown: connect.shown.clone(), place, is_broken: false };
-    Ok((Kept { origin, log: Log::Table(log), program, last_moment: 0 }, observer))
+    Ok((Kept { origin, log: Log::Table(log), program, last_moment }, observer))
 }
 
-/// The first batch. A table that has none gets the settings that are wanted.
+/// The batch that the log goes on from. A table that has none gets the settings that are wanted.
 fn header_of(program: &str, table: &mut dyn Table, named: &Named) -> Result<Batch, NotServed> {
     loop {
-        if let Some(first) = table.read(0, 1)?.into_iter().next() {
-            return Ok(first);
+        let start = table.start()?;
+        let first = table.read(start.number - 1, 1)?.into_iter().next();
+        match first.filter(|first| first.number == start.number) {
+            Some(first) => return Ok(first),
+            None if start.generation > 0 => return Err(gone(start.number)),
+            None => {}
         }
         let settings = Settings::default().with(named);
         check(program, &settings)?;
@@ -131,9 +179,15 @@ fn header_of(program: &str, table: &mut dyn Table, named: &Named) -> Result<Batc
     }
 }
 
+/// The fault where a batch is not there. An edge that is started again goes on from what is.
+fn gone(number: u64) -> NotServed {
+    LogFault::Damaged(format!("batch {number} of the table is gone: was it compacted meanwhile?")).into()
+}
+
 /// A program that is given the batches of a table.
 struct Follower {
     program: Program,
+    origin: Origin,
     place: Place,
 }
 
@@ -168,8 +222,48 @@ impl Follower {
             }
             let bytes: usize = batches.iter().map(|batch| batch.lines.len()).sum();
             count = (READ_BYTES / (bytes / batches.len()).max(1)).clamp(FEWEST, MOST);
-            self.serve_all(&batches, observer, most)?;
+            self.pass_all(&batches, table, observer, most)?;
         }
+    }
+
+    /// Serves batches, so that so many lines were served at most, and exchanges the program at each header.
+    fn pass_all(
+        &mut self,
+        batches: &[Batch],
+        table: &mut dyn Table,
+        observer: &mut impl Observe,
+        most: u64,
+    ) -> Result<(), NotServed> {
+        let mut rest = batches;
+        while !rest.is_empty() {
+            let count = rest.iter().take_while(|batch| batch.generation == 0).count();
+            self.serve_all(&rest[..count], observer, most)?;
+            rest = &rest[count..];
+            if let Some((header, behind)) = rest.split_first() {
+                self.take_up(header, table)?;
+                rest = behind;
+            }
+        }
+        Ok(())
+    }
+
+    /// Has another program serve what follows a header, one that is opened from the records. All before it was served.
+    fn take_up(&mut self, header: &Batch, table: &mut dyn Table) -> Result<(), NotServed> {
+        if header.number != self.place.batches + 1 {
+            return Err(gone(self.place.batches + 1));
+        }
+        let (settings, generation) = Settings::of_header(&header.lines, &self.origin.log)?;
+        self.origin.settings = settings;
+        self.origin.generation = generation;
+        if let Some(from) = &mut self.origin.table {
+            from.first = header.number;
+        }
+        // Who served all before it knows the replies.
+        fetch(table, &self.origin)?;
+        let next = self.origin.start()?;
+        std::mem::replace(&mut self.program, next).kill();
+        self.place = Place::behind(header);
+        Ok(compaction::remove_leftovers(&self.origin.base, generation)?)
     }
 
     /// Serves batches, so that so many lines were served at most.
@@ -178,7 +272,7 @@ impl Follower {
         for batch in batches {
             let expected = self.place.batches + 1;
             if batch.number != expected {
-                return Err(LogFault::Damaged(format!("batch {expected} of the table is gone")).into());
+                return Err(gone(expected));
             }
             let before = lines.len();
             let left = usize::try_from(most.saturating_sub(self.place.lines - 1)).unwrap_or(usize::MAX);
@@ -228,15 +322,16 @@ fn take_replies(
     Ok(())
 }
 
-/// Has a program serve so many lines of a table, without its header.
-pub fn serve_again(
-    program: Program,
-    connect: &Connect,
-    count: u64,
-    observer: &mut impl Observe,
-) -> Result<Program, NotServed> {
+/// A program of this origin that has served so many lines of its table, without their header.
+pub fn serve_again(origin: &Origin, count: u64, observer: &mut impl Observe) -> Result<Program, NotServed> {
+    let mut origin = origin.clone();
+    let (connect, first) = match &origin.table {
+        Some(from) => (from.connect.clone(), from.first),
+        None => return Err(LogFault::Io(format!("{}: this is no table", origin.log)).into()),
+    };
     let mut table = connect.table()?;
-    let mut follower = Follower { program, place: Place { batches: 1, lines: 1, bytes: 0 } };
+    let program = origin.start()?;
+    let mut follower = Follower { program, origin, place: Place { batches: first, lines: 1, bytes: 0 } };
     match follower.catch_up(table.as_mut(), observer, count) {
         Ok(()) => Ok(follower.program),
         Err(fault) => {
@@ -324,8 +419,8 @@ mod tests {
             kept.log.write(lines).unwrap();
         }
         for count in 0..=4 {
-            let (program, mut seen) = (kept.origin.start_new().map_err(|fault| fault.to_string()), Seen::default());
-            let again = serve_again(program.unwrap(), &place.connect, count, &mut seen);
+            let mut seen = Seen::default();
+            let again = serve_again(&kept.origin, count, &mut seen);
             again.map_err(|fault| fault.to_string()).unwrap().end();
             assert_eq!(seen.0.len() as u64, count);
         }

@@ -7,9 +7,12 @@ import unittest
 
 from the_edge import needs_edge
 
+import test_blobs
+import test_http_api
 import test_orders
 import test_page
 import test_server
+import test_server_backlog
 import test_server_edge
 import test_server_faults
 import test_server_going_on
@@ -119,6 +122,31 @@ class Sockets(test_server_replies.Sockets):
                 connection.sendall(head + lengths + b"\r\n\r\n" + body)
                 self.assertIn(self.answered(connection)[0], (0, 400))
         self.assertEqual((self.log.read_bytes().count(b'"name"'), self.log.read_bytes().count(b"smuggled")), (3, 0))
+
+
+@needs_edge
+class Statuses(test_http_api.Statuses):
+    """docs/openapi.json, held against the compiled edge."""
+
+
+@needs_edge
+class Tokens(test_http_api.Tokens):
+    pass
+
+
+@needs_edge
+class BlobPaths(test_blobs.Paths):
+    pass
+
+
+@needs_edge
+class BlobsOfWorkflows(test_blobs.OverTheServer):
+    pass
+
+
+@needs_edge
+class Queues(test_server_backlog.OverTheServer):
+    pass
 
 
 @needs_edge

@@ -1,15 +1,17 @@
 """What the compiled edge refuses by name, its page as a process beside it, and how it stops."""
 
+import hashlib
 import json
 import os
 import pathlib
 import signal
 import socket
 import subprocess
+import tempfile
 import time
 import unittest
 
-from the_edge import WFEDGE, needs_edge, program_of
+from the_edge import HERE, WFEDGE, needs_edge, program_of
 
 from support.programs import BUILT, needs_program
 from test_server import TOKEN, WithAServer
@@ -77,6 +79,40 @@ class Refused(WithAServer):
             status, _, text = server.asked("POST", "/calls", body.encode())
             self.assertEqual((status, json.loads(text)["error"], said in text), (400, "BadCall", True), text)
         self.assertNotIn(b'"signal"', self.log.read_bytes())
+
+    def test_it_is_refused_by_name_on_the_paths_of_operations_and_blobs_too(self):
+        server = self.serve(program=self.double())
+        deep, name = "[" * 22 + "]" * 22, "0" * 64
+        plain, evil = "Content-Type: text/plain", "Host: evil.test"
+        for method, path, headers, body, status, said in (
+            ("POST", "/calls/signal", (self.HOST, plain), b'{"name":"a"}', 415, "NotJson"),
+            ("POST", "/calls/signal", (evil, self.JSON), b'{"name":"a"}', 403, "WrongHost"),
+            ("POST", "/calls/signal", (self.HOST, self.JSON), b'{"name":"a","name":"b"}', 400, "comes twice"),
+            ("POST", "/calls/signal", (self.HOST, self.JSON), b'{"op":"signal","name":"a"}', 400, "comes twice"),
+            ("POST", "/calls/signal", (self.HOST, self.JSON), f'{{"input":{deep}}}'.encode(), 400, "20 deep"),
+            ("POST", "/calls/signal", (self.HOST, self.JSON), b" " * 1_048_577, 413, "RequestEntityTooLarge"),
+            ("PUT", f"/blobs/{name}", (evil, self.JSON), b"text", 403, "WrongHost"),
+            ("PUT", f"/blobs/{name}", (self.HOST, self.JSON), b"x" * 2_097_153, 413, "BlobTooLarge"),
+        ):
+            asked = posted(body, *headers, path=path).replace(b"POST", method.encode(), 1)
+            found, text = answer_to(server, asked)
+            self.assertEqual((found, said in text), (status, True), text)
+        self.assertNotIn(b'"signal"', self.log.read_bytes())
+        self.assertFalse(pathlib.Path(f"{self.log}.blobs").exists())
+
+    def test_what_is_cut_at_any_byte_counts_once_or_not_at_all(self):
+        server, text = self.serve(program=self.double()), b"a text that is put"
+        path = f"/blobs/{hashlib.sha256(text).hexdigest()}"
+        put = posted(text, self.HOST, path=path).replace(b"POST", b"PUT", 1)
+        for whole in (posted(b'{"name":"cut"}', self.HOST, self.JSON, path="/calls/signal"), put):
+            for size in range(len(whole)):
+                with socket.create_connection((server.host, server.port), timeout=20) as connection:
+                    connection.sendall(whole[:size])
+        self.assertEqual(server.asked("POST", "/calls/signal", b'{"name":"after them"}')[0], 200)
+        self.assertEqual(server.asked("GET", path)[0], 404)
+        self.assertNotIn(b'"cut"', self.log.read_bytes())
+        self.assertEqual(answer_to(server, put)[0], 200)
+        self.assertEqual((server.asked("GET", path)[0], server.stop(), server.said.read_text()), (200, 0, ""))
 
     def test_heads_that_are_too_long_or_no_http_are_refused(self):
         server = self.serve(program=self.double())
@@ -247,6 +283,57 @@ class PageProcess(WithAServer):
         with socket.create_connection(("127.0.0.1", port), timeout=20) as connection:
             connection.sendall(b"GET / HTTP/1.1\r\nHost: localhost\r\nConnection: close\r\n\r\n")
             self.assertTrue(connection.recv(100).startswith(b"HTTP/1.1 404"))
+
+
+# Looks through blobs once, as the page's process does. Its words: the edge's sockets for HTTP and for lines.
+SWEEP = """
+import asyncio, sys, time
+import page
+
+async def main(socket, lines):
+    async with page.ClientSession(connector=page.UnixConnector(socket, limit=0)) as session:
+        edge = page.Edge(session, lines)
+        await edge.catch_up()
+        print(await page.Sweeping(edge, page.BlobsOfEdge(socket), edge.kept.settings.retention).sweep(time.time()))
+
+asyncio.run(main(*sys.argv[1:]))
+"""
+
+
+@needs_edge
+@needs_program
+class BlobsThatNobodyNames(WithAServer):
+    def test_they_are_deleted_once_they_are_old(self):
+        server, octets = self.serve("--retention", str(HOUR)), {"Content-Type": "application/octet-stream"}
+        named, other, young = (hashlib.sha256(text).hexdigest() for text in (b"named", b"other", b"young"))
+        for name, text in ((named, b"named"), (other, b"other"), (young, b"young")):
+            self.assertEqual(server.asked("PUT", f"/blobs/{name}", text, octets)[0], 200)
+        # Where there is a retention, the page's process is there without being asked for.
+        page_of(server.process.pid)
+        server.client().start("w", "T", input=f"blob:{named}:5")
+        folder = pathlib.Path(f"{self.log}.blobs")
+        for name in (named, other):
+            os.utime(folder / name[:2] / name, (1, 1))
+        found = next(pathlib.Path(tempfile.gettempdir()).glob(f"wfedge-{server.process.pid}-*"))
+        words = [os.environ["WFEDGE_PYTHON"], "-c", SWEEP, str(found / "edge"), str(found / "lines")]
+        ran = subprocess.run(words, cwd=HERE.parent, capture_output=True, text=True, timeout=PATIENCE)
+        self.assertEqual((ran.stdout, ran.stderr), ("1\n", ""))
+        self.assertEqual([server.asked("GET", f"/blobs/{it}")[0] for it in (named, other, young)], [200, 404, 200])
+        self.assertEqual(server.asked("POST", "/blobs", b"0")[0], 404)
+
+
+@needs_edge
+class BlobsOnAFullDisk(WithAServer):
+    def test_nothing_is_kept_and_later_ones_are(self):
+        server = self.serve(program=self.double())
+        text, octets = b"x" * 50_000, {"Content-Type": "application/octet-stream"}
+        path = f"/blobs/{hashlib.sha256(text).hexdigest()}"
+        for most, status in ((20_000, 507), (100_000, 200)):
+            subprocess.run(["prlimit", f"--pid={server.process.pid}", f"--fsize={most}:"], check=True)
+            found, _, said = server.asked("PUT", path, text, octets)
+            self.assertEqual((found, json.loads(said).get("error")), (status, "BlobsFull" if status == 507 else None))
+            files = [it.stat().st_size for it in pathlib.Path(f"{self.log}.blobs").rglob("*") if it.is_file()]
+            self.assertEqual(files, [50_000] if status == 200 else [])
 
 
 @needs_edge

@@ -1,9 +1,11 @@
 //! A connection to PostgreSQL, each of whose questions has a limit on its time.
 
+use crate::tls::Asked;
 use std::time::Duration;
 use tokio::runtime::{Builder, Runtime};
+use tokio_postgres::error::SqlState;
 use tokio_postgres::types::ToSql;
-use tokio_postgres::{Client, Config, NoTls, Row, Statement};
+use tokio_postgres::{Client, Config, Row, Statement};
 use wfedge::log_fault::LogFault;
 
 /// Beyond this what became of a question is not known, as where a network is cut.
@@ -21,13 +23,19 @@ pub struct Connection {
 
 fn fault_of(fault: tokio_postgres::Error) -> LogFault {
     let said = fault.as_db_error().map_or_else(|| fault.to_string(), |told| told.message().to_string());
-    LogFault::Io(format!("the database: {said}"))
+    match fault.code() {
+        Some(&SqlState::DISK_FULL) => LogFault::Full(format!("the database: {said}")),
+        _ => LogFault::Io(format!("the database: {said}")),
+    }
 }
 
 impl Connection {
-    /// Connects to the database of an address. A password that it doesn't have is the one of PGPASSWORD.
+    /// Connects to the database of an address, by TLS as it asks. A password that it doesn't have is the one of PGPASSWORD.
     pub fn new(address: &str) -> Result<Connection> {
-        let mut config: Config = address.parse().map_err(fault_of)?;
+        let asked = Asked::of(address)?;
+        let tls = asked.tls()?;
+        let mut config: Config = asked.address.parse().map_err(fault_of)?;
+        config.ssl_mode(asked.mode);
         config.keepalives(true).keepalives_idle(KEEPALIVE).connect_timeout(LONGEST).application_name("wfedge");
         if let (None, Ok(password)) = (config.get_password(), std::env::var("PGPASSWORD")) {
             config.password(password);
@@ -35,7 +43,7 @@ impl Connection {
         let runtime = Builder::new_current_thread().enable_all().build();
         let runtime = runtime.map_err(|fault| LogFault::Io(format!("the database: {fault}")))?;
         let client = runtime.block_on(async {
-            let (client, connection) = config.connect(NoTls).await?;
+            let (client, connection) = config.connect(tls).await?;
             tokio::spawn(connection);
             Ok(client)
         });

@@ -4,16 +4,20 @@
 //! finds its own epoch there, so who raises the epoch waits for a batch under way, and none of an earlier epoch follows.
 //! An advisory lock, which goes with its connection, makes that only one edge tries; a leader says twice in its time of
 //! silence that it lives, and a follower ends the connection of one that does not.
+//!
+//! `wfserve_starts` has a row for each compaction, and `wfserve_records` what the log goes on from then, under the epoch of
+//! the leader that put it there: so pieces of a leader that is none any more are never taken for another one's. A statement
+//! of the same form as a batch's adds the row and the header of the log since: the compaction counts from then on.
 
 use crate::connection::{Connection, Result};
 use crate::planted::Planted;
 use std::sync::atomic::{AtomicBool, Ordering::SeqCst};
 use std::sync::Arc;
 use std::time::Duration;
-use tokio_postgres::Statement;
+use tokio_postgres::{Row, Statement};
 use wfedge::log_fault::LogFault;
 use wfedge::say::line as say_line;
-use wfedge::table::{Batch, Table};
+use wfedge::table::{Batch, Piece, Pieces, Start, Table};
 
 const TABLES: &str = "
     begin;
@@ -24,10 +28,17 @@ const TABLES: &str = "
         (one int primary key check (one = 1), epoch bigint not null, name text not null, until timestamptz not null);
     create table if not exists wfserve_followers
         (name text primary key, number bigint not null, at timestamptz not null);
+    create table if not exists wfserve_starts
+        (generation bigint primary key, number bigint not null unique, epoch bigint not null, at timestamptz not null);
+    create table if not exists wfserve_records
+        (epoch bigint, generation bigint, number bigint, name text not null, data bytea not null,
+        primary key (epoch, generation, number));
     insert into wfserve_leader values (1, 0, '', now()) on conflict do nothing;
     commit";
 const BEGIN: &str = "insert into wfserve_log values (1, 0, $1) on conflict do nothing";
-const READ: &str = "select number, lines from wfserve_log where number > $1 order by number limit $2";
+const READ: &str = "
+    select log.number, lines, coalesce(generation, 0) from wfserve_log log left join wfserve_starts start
+    on start.number = log.number where log.number > $1 order by log.number limit $2";
 const TELL: &str = "
     insert into wfserve_followers values ($1, $2, clock_timestamp())
     on conflict (name) do update set number = excluded.number, at = excluded.at";
@@ -46,6 +57,26 @@ pub const APPEND: &str = "
     with lead as (select 1 from wfserve_leader where epoch = $1 for share)
     insert into wfserve_log select $2, $1, $3 from lead";
 const CONFIRM: &str = "select 1 from wfserve_leader where epoch = $1";
+const START: &str = "select generation, number from wfserve_starts order by generation desc limit 1";
+const PIECE: &str = "
+    select name, data from wfserve_records where number = $2 and generation = $1
+    and epoch = (select epoch from wfserve_starts where generation = $1)";
+const CLEAR: &str = "delete from wfserve_records where epoch = $1 and generation = $2";
+const PUT: &str = "insert into wfserve_records values ($1, $2, $3, $4, $5)";
+const COMPACT: &str = "
+    with lead as (select 1 from wfserve_leader where epoch = $1 for share),
+    start as (insert into wfserve_starts select $4, $2, $1, clock_timestamp() from lead)
+    insert into wfserve_log select $2, $1, $3 from lead";
+// What is older than the generation before, a little at a time.
+const FORGET: [&str; 3] = [
+    "delete from wfserve_log where number in (select number from wfserve_log where number <
+        (select number from wfserve_starts order by generation desc offset 1 limit 1) order by number limit 1000)",
+    "delete from wfserve_starts where generation < (select max(generation) - 1 from wfserve_starts)",
+    "delete from wfserve_records where (epoch, generation, number) in (select epoch, generation, number
+        from wfserve_records record where (epoch < (select epoch from wfserve_leader)
+        or generation < (select max(generation) - 1 from wfserve_starts)) and not exists (select 1
+        from wfserve_starts start where start.epoch = record.epoch and start.generation = record.generation) limit 20)",
+];
 
 /// What is asked often.
 struct Asked {
@@ -55,6 +86,8 @@ struct Asked {
     end_silent: Statement,
     append: Statement,
     confirm: Statement,
+    /// Made ready once it is asked.
+    piece: Option<Statement>,
 }
 
 /// A table by its connection.
@@ -69,6 +102,7 @@ struct Postgres {
     /// Whether nobody hears any more that this edge leads.
     is_unheard: Arc<AtomicBool>,
     planted: Planted,
+    address: String,
 }
 
 /// Connects to the table of an address. A leader may be silent for so many milliseconds.
@@ -82,6 +116,7 @@ pub fn open(address: &str, silence: u64) -> Result<Box<dyn Table>> {
         end_silent: connection.prepare(END_SILENT)?,
         append: connection.prepare(APPEND)?,
         confirm: connection.prepare(CONFIRM)?,
+        piece: None,
     };
     let beating = Connection::new(address)?;
     let beat = beating.prepare(BEAT)?;
@@ -96,6 +131,7 @@ pub fn open(address: &str, silence: u64) -> Result<Box<dyn Table>> {
         epoch: 0,
         beat: Some((beating, beat)),
         is_unheard,
+        address: address.to_string(),
     }))
 }
 
@@ -105,7 +141,7 @@ fn make_tables(connection: &Connection) -> Result<()> {
     if commit == "off" {
         return Err(LogFault::Other("the database's synchronous_commit is off: answers could be lost".to_string()));
     }
-    let is_there: bool = connection.row("select to_regclass('wfserve_leader') is not null", &[])?.get(0);
+    let is_there: bool = connection.row("select to_regclass('wfserve_records') is not null", &[])?.get(0);
     if is_there {
         Ok(())
     } else {
@@ -122,6 +158,18 @@ fn name() -> String {
 impl Postgres {
     fn ousted(&self) -> LogFault {
         LogFault::Broken(format!("another edge leads: epoch {} is over", self.epoch))
+    }
+
+    /// Puts the pieces of a compaction there. They count for nothing yet.
+    fn put_all(&self, generation: i64, pieces: Pieces<'_>) -> Result<()> {
+        let clear = self.connection.prepare(CLEAR)?;
+        self.connection.change(&clear, &[&self.epoch, &generation])?;
+        let put = self.connection.prepare(PUT)?;
+        for (number, piece) in (1_i64..).zip(pieces) {
+            let Piece { name, data } = piece?;
+            self.connection.change(&put, &[&self.epoch, &generation, &number, &name, &data])?;
+        }
+        Ok(())
     }
 
     /// Says that this edge leads, until it can't.
@@ -155,7 +203,9 @@ impl Table for Postgres {
 
     fn read(&mut self, after: u64, most: u32) -> Result<Vec<Batch>> {
         let rows = self.connection.rows(&self.asked.read, &[&(after as i64), &i64::from(most)])?;
-        Ok(rows.iter().map(|row| Batch { number: row.get::<_, i64>(0) as u64, lines: row.get(1) }).collect())
+        let number = |row: &Row, place: usize| row.get::<_, i64>(place) as u64;
+        let batch = |row: &Row| Batch { number: number(row, 0), lines: row.get(1), generation: number(row, 2) };
+        Ok(rows.iter().map(batch).collect())
     }
 
     fn tell(&mut self, number: u64) -> Result<()> {
@@ -191,4 +241,55 @@ impl Table for Postgres {
         }
         Ok(())
     }
+
+    fn start(&mut self) -> Result<Start> {
+        let start = self.connection.prepare(START)?;
+        let found = self.connection.rows(&start, &[])?;
+        let number = |row: &Row, place: usize| row.get::<_, i64>(place) as u64;
+        Ok(found
+            .first()
+            .map_or_else(Start::default, |row| Start { generation: number(row, 0), number: number(row, 1) }))
+    }
+
+    fn piece(&mut self, generation: u64, number: u64) -> Result<Option<Piece>> {
+        if self.asked.piece.is_none() {
+            self.asked.piece = Some(self.connection.prepare(PIECE)?);
+        }
+        let piece = match &self.asked.piece {
+            Some(piece) => piece,
+            None => return Ok(None),
+        };
+        let rows = self.connection.rows(piece, &[&(generation as i64), &(number as i64)])?;
+        Ok(rows.first().map(|row| Piece { name: row.get(0), data: row.get(1) }))
+    }
+
+    fn compact(&mut self, header: &Batch, pieces: Pieces<'_>) -> Result<()> {
+        let put = self.put_all(header.generation as i64, pieces);
+        let compact = put.and_then(|()| self.connection.prepare(COMPACT));
+        let compact = compact.map_err(|fault| LogFault::NotCompacted(fault.to_string()))?;
+        let (number, generation) = (header.number as i64, header.generation as i64);
+        match self.connection.change(&compact, &[&self.epoch, &number, &header.lines, &generation])? {
+            1 if !self.is_unheard.load(SeqCst) => Ok(()),
+            _ => Err(self.ousted()),
+        }
+    }
+
+    fn forget(&mut self) {
+        let address = self.address.clone();
+        std::thread::spawn(move || {
+            if let Err(fault) = forget_all(&address) {
+                say_line(format_args!("what a compaction left stays for now: {fault}"));
+            }
+        });
+    }
+}
+
+/// Deletes what is older than the generation before, and pieces of compactions that were not ended.
+fn forget_all(address: &str) -> Result<()> {
+    let connection = Connection::new(address)?;
+    for statement in FORGET {
+        let forget = connection.prepare(statement)?;
+        while connection.change(&forget, &[])? > 0 {}
+    }
+    Ok(())
 }

@@ -209,18 +209,27 @@ impl Core {
         state.metrics.text(&gauges)
     }
 
-    /// What changed for the list of workflows since it was asked last.
+    /// What changed for the list of workflows since it was asked last, and the polls that wait, as members of an object.
     pub fn changes(&self, from: u64) -> Option<String> {
-        self.lock().changes.as_mut().map(|changes: &mut Changes| changes.text(from))
+        let mut state = self.lock();
+        let counts = state.polls.counts();
+        let polls: Vec<String> = counts.iter().map(|(queue, count)| format!("[{},{count}]", queue.json())).collect();
+        let changes = state.changes.as_mut().map(|changes: &mut Changes| changes.text(from))?;
+        Some(format!("{changes},\"polls\":[{}]", polls.join(",")))
     }
 
-    /// The records that the log goes on from, and what their runs' ids need, as JSON for the page.
+    /// The records that the log goes on from, the queues, and what the ids of runs need, as JSON for the page.
     pub fn records(&self) -> String {
         let origin = self.lock().origin.clone();
-        let files = record_files(&origin.log, origin.generation).unwrap_or_default();
+        let files = record_files(&origin.base, origin.generation).unwrap_or_default();
         let files: Vec<String> = files.iter().map(|file| quoted(&file.to_string_lossy())).collect();
         let (service, retention) = (origin.settings.service, origin.settings.retention);
-        format!("{{\"service\":{service},\"retention\":{retention},\"files\":[{}]}}", files.join(","))
+        let queues: Vec<String> = origin.settings.queues.iter().map(|queue| quoted(queue)).collect();
+        format!(
+            "{{\"service\":{service},\"retention\":{retention},\"queues\":[{}],\"files\":[{}]}}",
+            queues.join(","),
+            files.join(",")
+        )
     }
 
     /// The moment of now.

@@ -11,6 +11,7 @@ use crate::log::Log;
 use crate::log_fault::LogFault;
 use crate::program::Program;
 use crate::say::say;
+use crate::table_records;
 use std::io::Write;
 use std::sync::{MutexGuard, PoisonError};
 use std::time::Instant;
@@ -176,13 +177,20 @@ impl Core {
         let (lines, bytes) = (log.len().saturating_sub(1), log.size());
         let result = match log {
             Log::File(file) => compaction::compact(origin, file, capacity),
-            Log::Table(_) => Err(LogFault::NotCompacted("a log in a table is not compacted".to_string())),
+            Log::Table(table) => {
+                let replies = self.lock().replies.text();
+                table_records::compact(origin, table, capacity, replies)
+            }
         };
         let outcome = match result {
             Ok(program) => {
                 self.take_up(program, log, origin);
-                let records = compaction::records_size(&origin.log, origin.generation);
+                let records = compaction::records_size(&origin.base, origin.generation);
                 Ok(Compacted { lines, bytes, records, capacity: origin.settings.capacity })
+            }
+            Err(fault) if log.is_broken() => {
+                self.end(fault_of(fault.clone()));
+                Err(fault_of(fault))
             }
             Err(fault) => Err(Fault::NotCompacted(fault.to_string())),
         };
@@ -242,7 +250,7 @@ impl Core {
             state = self.wait(state);
         }
         drop(state);
-        if let Err(fault) = compaction::remove_leftovers(&origin.log, origin.generation) {
+        if let Err(fault) = compaction::remove_leftovers(&origin.base, origin.generation) {
             say!("{fault}");
         }
     }

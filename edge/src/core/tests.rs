@@ -4,7 +4,7 @@ use super::{Core, Outcome, Threads};
 use crate::body::asked;
 use crate::fault::Fault;
 use crate::kept::NotServed;
-use crate::line_log::LineLog;
+use crate::line_log::Lines;
 use crate::memory_table::{table_in, Shared};
 use crate::moments::{MachineClocks, Moments};
 use crate::opening::Opened;
@@ -65,8 +65,8 @@ impl Served {
     fn end(self) -> Vec<String> {
         self.core.close();
         assert!(self.threads.join(SECONDS));
-        let (log, mut found) = (LineLog::open(&self.log).unwrap(), Vec::new());
-        let mut lines = log.lines().unwrap();
+        // A process that another test is just starting may hold the log's lock for a moment.
+        let (mut lines, mut found) = (Lines::of(&self.log).unwrap().unwrap(), Vec::new());
         while let Some(line) = lines.next().unwrap() {
             found.push(String::from_utf8(line.to_vec()).unwrap());
         }
