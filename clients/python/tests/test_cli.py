@@ -52,7 +52,11 @@ async def waits(ctx):
 async def stays(ctx):
     await ctx.activity(late, "x", start_to_close=seconds(10), retry=Retry(initial=hours(1)))
 
-WORKFLOWS, ACTIVITIES = [hello, declined, waits, stays], [greet, late]
+@workflow
+async def rests(ctx):
+    await ctx.timer(hours(1))
+
+WORKFLOWS, ACTIVITIES = [hello, declined, waits, stays, rests], [greet, late]
 """
 
 
@@ -110,7 +114,7 @@ class Statuses(unittest.TestCase):
             for words in (["list"], ["describe", "w"], ["start", "t", "w"]):
                 status, _, err = ran(*words, "--url", "http://127.0.0.1:1")
                 self.assertEqual(status, 5, words)
-                self.assertIn("wf: CallLost: ", err)
+                self.assertRegex(err, "^wf: no server answers there: wf dev starts one, .*CallLost: http://127.0.0.1:1: ")
 
     def test_what_is_no_call(self):
         for line in ("{", "[]", "{}", "7"):
@@ -184,6 +188,25 @@ class Dev(unittest.TestCase):
         self.assertIn("this program is not proved", err)
         self.assertIn("nothing is kept", err)
 
+    def test_the_program_is_proved_beside_by_one_at_a_time(self):
+        (self.top / "tools").mkdir()
+        goes_on = self.top / "goes on"
+        text = "import os, pathlib, sys, time\nprint(sys.argv[1], os.nice(0), flush=True)\n" \
+            f"while not pathlib.Path({str(goes_on)!r}).exists(): time.sleep(0.02)\n"
+        (self.top / dev.PROVE).write_text(text, encoding="utf-8")
+        said = self.top / dev.PROVING
+        first = dev.prove_beside(self.top)
+        self.assertIsNone(dev.prove_beside(self.top))
+        late = time.monotonic() + 60
+        while not said.read_text().endswith("\n"):
+            self.assertLess(time.monotonic(), late)
+            time.sleep(0.02)
+        goes_on.touch()
+        self.assertEqual(first.wait(60), 0)
+        self.assertEqual(dev.prove_beside(self.top).wait(60), 0)
+        # Under a tool that has its own priority the proof is that much nicer.
+        self.assertEqual(said.read_text(), f"wfserve {min(19, os.nice(0) + 19)}\n" * 2)
+
     def test_without_aiohttp_it_says_what_installs_it(self):
         with mock.patch("wfserve.cli.dev.python_for_server", return_value=None):
             status, _, err = ran("dev")
@@ -209,7 +232,7 @@ class OverAServer(unittest.TestCase):
         cls.addClassCleanup(folder.cleanup)
         cls.folder = pathlib.Path(folder.name)
         (cls.folder / "greeting.py").write_text(GREETING, encoding="utf-8")
-        cls.server = Server(str(BUILT), cls.folder / "log")
+        cls.server = Server(str(BUILT), cls.folder / "log", "--queues", "main,alone")
         cls.addClassCleanup(cls.server.stop)
         cls.url = ["--url", cls.server.url.rstrip("/")]
         words = [sys.executable, "-m", "wfserve.cli", "work", "greeting", "--threads", "1", "--grace", "30", *cls.url]
@@ -315,11 +338,33 @@ class OverAServer(unittest.TestCase):
         self.assertIn("<!doctype html>", self.wf("trace", "shown-1")[1])
 
     def test_what_is_not_there(self):
-        for words in (["describe", "no-such"], ["result", "no-such"], ["signal", "no-such", "s"], ["show", "no-such"],
-                      ["start", "hello", "elsewhere", "--queue", "no-such"]):
+        for words, said in (
+            (["describe", "no-such"], "there is no workflow no-such (Refused"),
+            (["result", "no-such"], "there is no workflow no-such (Refused"),
+            (["signal", "no-such", "s"], "there is no open workflow no-such (Refused"),
+            (["show", "no-such", "--run", "00000000-0001-8000-8000-000000000009"],
+             "there is no workflow no-such with the run 00000000-0001-8000-8000-000000000009 (Refused"),
+            (["start", "hello", "elsewhere", "--queue", "no-such"], "Refused: "),
+        ):
             status, _, err = self.wf(*words)
             self.assertEqual(status, 3, words)
-            self.assertIn("wf: Refused: ", err)
+            self.assertIn(f"wf: {said}", err)
+
+    def test_a_start_by_a_module_wants_the_arguments_of_its_workflow(self):
+        for words, said in (([], "missing a required argument: 'name'"), (["a", "b"], "too many positional arguments")):
+            status, _, err = self.wf("start", "greeting:hello", "argued-1", *words)
+            self.assertEqual((status, said in err), (2, True), err)
+        self.assertEqual(self.wf("describe", "argued-1")[0], 3)
+
+    def test_a_task_that_no_worker_takes_and_a_timer_say_so(self):
+        self.wf("start", "hello", "alone-1", "World", "--queue", "alone")
+        self.assertRegex(self.wf("describe", "alone-1")[1], "workflow task .* waits for a worker in the queue alone, which no")
+        self.assertIn("which no worker polls", self.wf("tasks", "alone")[1])
+        self.wf("start", "rests", "rests-1")
+        said = self.wait("describe", "rests-1", holds=lambda it: "fires at" in it[1])[1]
+        self.assertRegex(said, "(?m)^timer +1 +.* fires at [0-9]{4}-")
+        found = json.loads(self.wf("describe", "rests-1", "--json")[1])["pending"][0]
+        self.assertEqual(found["due"] - found["since"], 3_600_000)
 
     def test_a_fault_is_json_where_json_is_asked_for(self):
         status, out, _ = self.wf("describe", "no-such", "--json")

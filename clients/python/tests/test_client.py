@@ -6,8 +6,8 @@ from unittest import mock
 from support.programs import BUILT, needs_program
 from wfserve.calls import Calls, Service, answered
 from wfserve.client import Client
-from wfserve.descriptions import Pending, known
-from wfserve.errors import NotCompleted, Refused, StillRunning
+from wfserve.descriptions import ALONE, Pending, known, pending_task
+from wfserve.errors import NotCompleted, NotServed, Refused, StillRunning
 from wfserve.workflows import workflow
 
 FIRST = {"id": 1, "at": 5, "type": "WorkflowExecutionStarted", "attrs": {
@@ -17,6 +17,10 @@ FIRST = {"id": 1, "at": 5, "type": "WorkflowExecutionStarted", "attrs": {
 @workflow
 async def order(ctx, amount):
     return amount
+
+
+TASK = {"id": 2, "at": 6, "type": "WorkflowTaskScheduled", "attrs": {"attempt": 1, "task_queue": "main"}}
+TAKEN = {"id": 3, "at": 7, "type": "WorkflowTaskStarted", "attrs": {"scheduled": 2}}
 
 
 class Stored(Calls):
@@ -137,12 +141,43 @@ class OverPipes(unittest.TestCase):
             found = handle.describe()
             self.assertEqual((found.id, found.run, found.type, found.status), ("w", handle.run, "order", "Running"))
             self.assertEqual((found.input, found.length, found.pending, found.closed), ("[49]", 2, [], None))
+            self.assertEqual(found.pending_workflow_task.state, "waits for a worker in the queue main")
             with self.assertRaises(Refused) as refused:
                 Client(service).start(order, 50, id="w")
             self.assertEqual(refused.exception.name, "AlreadyStarted")
             handle.terminate("enough")
             self.assertEqual(handle.describe().status, "Terminated")
             self.assertEqual([event["type"] for event in handle.history()][-1], "WorkflowExecutionTerminated")
+
+
+
+class WorkflowTasks(unittest.TestCase):
+    """A workflow task that waits is pending too: where it waits, and whether a server knows of nobody who polls there."""
+
+    def state(self, events, server=None):
+        found = pending_task(events, server)
+        return found and (found.kind, found.event, found.since, found.state)
+
+    def server(self, **row):
+        """A server whose queue is so. It is the moment 100,000."""
+        row = {"queue": "main", "kind": "workflow", "polls": 0, "last_poll": None, **row}
+        return mock.Mock(read=lambda path: {"now": 100_000, "queues": [{**row, "kind": "activity", "polls": 1}, row]})
+
+    def test_it_waits_or_a_worker_has_it_or_there_is_none(self):
+        waits = "waits for a worker in the queue main"
+        self.assertEqual(self.state([FIRST, TASK]), ("workflow task", 2, 6, waits))
+        self.assertEqual(self.state([FIRST, TASK, TAKEN]), ("workflow task", 2, 7, "a worker has it"))
+        self.assertIsNone(self.state([FIRST]))
+        self.assertIsNone(self.state(ended("WorkflowExecutionTerminated", reason="")["events"]))
+
+    def test_a_server_knows_whether_nobody_polls(self):
+        last = 100_000 - ALONE
+        for row, alone in (({}, True), ({"last_poll": last}, True), ({"last_poll": last + 1}, False), ({"polls": 1}, False),
+                           ({"polls": None}, False), ({"queue": "other"}, False)):
+            state = self.state([FIRST, TASK], self.server(**row))[3]
+            self.assertEqual(state.endswith("which no worker polls"), alone, row)
+        earlier = mock.Mock(read=mock.Mock(side_effect=NotServed(404, "Not Found")))
+        self.assertEqual(self.state([FIRST, TASK], earlier)[3], "waits for a worker in the queue main")
 
 
 if __name__ == "__main__":

@@ -232,7 +232,9 @@ if sys.stdin.readline():
             self.assertEqual(int(ran.stdout), service.size - header)
 
     def test_a_disk_that_is_full_at_the_opening_leaves_no_service(self):
-        call = [sys.executable, "-c", FULL_AT_THE_OPENING, str(self.log), *self.program]
+        # Nothing is asked of it, and it is started for each byte.
+        quick = ["sh", "-c", "cat > /dev/null"]
+        call = [sys.executable, "-c", FULL_AT_THE_OPENING, str(self.log), *quick]
         ran = subprocess.run(call, stdout=subprocess.PIPE, text=True, check=True)
         self.assertEqual(int(ran.stdout), self.log.stat().st_size)
         self.assertEqual(self.open().lines, 0)

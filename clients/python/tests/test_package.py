@@ -6,6 +6,7 @@ import inspect
 import os
 import pathlib
 import pkgutil
+import re
 import shutil
 import subprocess
 import sys
@@ -37,6 +38,21 @@ def loaded():
                 raise
 
 
+def silent_in(module):
+    """The public names of a module, and of its classes, that have no word on what they are."""
+    own = [name for name, it in vars(module).items() if getattr(it, "__module__", None) == module.__name__]
+    for name in getattr(module, "__all__", own):
+        it = getattr(module, name)
+        if name.startswith("_") or not (inspect.isclass(it) or inspect.isfunction(it)):
+            continue
+        if not (it.__doc__ if inspect.isclass(it) else inspect.getdoc(it)):
+            yield f"{module.__name__}.{name}"
+        for inner, found in vars(it).items() if inspect.isclass(it) else ():
+            is_code = inspect.isfunction(getattr(found, "__func__", found)) or isinstance(found, property)
+            if is_code and not inner.startswith("_") and not inspect.getdoc(getattr(it, inner)):
+                yield f"{module.__name__}.{name}.{inner}"
+
+
 class Package(unittest.TestCase):
     def test_errors_have_one_base(self):
         own = {
@@ -49,6 +65,14 @@ class Package(unittest.TestCase):
     def test_each_module_says_what_it_is(self):
         for module in loaded():
             self.assertTrue(module.__doc__, module.__name__)
+
+    def test_all_that_is_public_says_what_it_is(self):
+        """Of the modules that the package's page lists: each function, class, method and property."""
+        table = (CLIENT / "README.md").read_text(encoding="utf-8").split("## What is in it")[1].split("\n\n`wfserve")[0]
+        names = re.findall(r"`(wfserve\.[a-z_]+)`", table)
+        self.assertGreater(len(names), 12)
+        silent = [it for name in names for it in silent_in(importlib.import_module(name))]
+        self.assertEqual(silent, [])
 
     def test_a_module_that_needs_nothing_loads_with_nothing(self):
         names = [name for name in module_names() if name not in WANTING and not name.endswith("__main__")]

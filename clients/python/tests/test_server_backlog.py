@@ -6,7 +6,8 @@ import unittest
 
 from support.programs import needs_program, needs_server
 from test_server import WithAServer
-from wfserve.server.backlog import LastPolls, open_tasks, queue_rows
+from wfserve.events import open_tasks
+from wfserve.server.backlog import LastPolls, queue_rows
 from wfserve.workflows import Retry, Worker, attempt, hours, seconds, workflow
 
 

@@ -5,17 +5,33 @@ import datetime
 import decimal
 import enum
 import random
+import sys
 import typing
 import unittest
 import uuid
 from typing import Any, Dict, List, Optional, Set, Tuple, Union
 
+from support import CLIENT
 from support.programs import needs_program
 from support.workflow_fixture import WithAService
 from wfserve.client import Client
 from wfserve.workflows import Converter, Gzip, Worker, check, seconds, workflow
 from wfserve.workflows.converter import JSON
 from wfserve.workflows.typed import parameter_hints, result_hint, typed, typed_arguments
+
+
+try:
+    import pydantic
+except ModuleNotFoundError:
+    pydantic = None
+try:
+    sys.path.append(str(CLIENT))
+    from cryptography.fernet import Fernet, InvalidToken
+    from examples.encrypted import Encrypted
+except ModuleNotFoundError:
+    Encrypted = None
+needs_pydantic = unittest.skipUnless(pydantic, "Pydantic is not here: Debian has it as python3-pydantic")
+needs_cryptography = unittest.skipUnless(Encrypted, "cryptography is not here: Debian has it as python3-cryptography")
 
 
 class Size(enum.Enum):
@@ -146,6 +162,52 @@ class Codecs(unittest.TestCase):
         self.assertEqual((converter.text_of(None), converter.value_of("")), ("", None))
 
 
+@needs_pydantic
+class Pydantic(unittest.TestCase):
+    def setUp(self):
+        class Line(pydantic.BaseModel):
+            name: str
+            price: decimal.Decimal
+            size: Optional[Size] = None
+
+        class Cart(pydantic.BaseModel):
+            lines: List[Line]
+            by: datetime.date
+
+        self.line, self.cart = Line, Cart
+        self.value = Cart(
+            lines=[Line(name="pen", price=decimal.Decimal("1.50")), Line(name="cap", price=2, size=Size.LARGE)],
+            by=datetime.date(2026, 1, 2),
+        )
+
+    def test_there_and_back(self):
+        for value, hint in ((self.value, self.cart), ([self.value], List[self.cart]), (self.value.lines[1], Optional[self.line])):
+            made = JSON.value_of(JSON.text_of(value), hint)
+            self.assertEqual((made, type(made)), (value, type(value)))
+        self.assertEqual(JSON.value_of(JSON.text_of(self.value))["lines"][1], {"name": "cap", "price": "2", "size": "l"})
+
+    def test_what_does_not_fit_is_refused(self):
+        for value in ({"lines": [{"name": "pen"}], "by": "2026-01-02"}, {"lines": []}, {"lines": [], "by": "soon"}):
+            with self.assertRaises(ValueError):
+                typed(value, self.cart)
+
+
+@needs_cryptography
+class Encryption(unittest.TestCase):
+    def test_a_key_is_replaced_and_texts_of_before_are_read(self):
+        old, new = Fernet.generate_key(), Fernet.generate_key()
+        before, after = Converter(Gzip(), Encrypted(old)), Converter(Gzip(), Encrypted(new, old))
+        for value in ([1, "two"], {"a": "b"}, "x" * 1_000, "", None):
+            for converter in (before, Converter()):
+                self.assertEqual(after.value_of(converter.text_of(value)), JSON.value_of(JSON.text_of(value)))
+        text = after.text_of("a card")
+        self.assertTrue(text.startswith("fernet:"))
+        self.assertNotIn("card", text)
+        for wrong, converter in ((text, before), (text[:-9] + "A" * 9, after)):
+            with self.assertRaises(InvalidToken):
+                converter.value_of(wrong)
+
+
 class Drawn:
     """Hides texts under a number that is drawn anew each time, as encryption does."""
 
@@ -194,6 +256,20 @@ class PlayedSmaller(Played):
     def test_a_history_from_before_the_codec_is_read(self):
         Client(self.service).start(placed, ORDER, id="w").signal("add", Item("cap"))
         self.assertEqual(self.ended()[0], "Completed")
+
+
+@needs_cryptography
+class PlayedEncrypted(Played):
+    def setUp(self):
+        self.CONVERTER = Converter(Gzip(least=1), Encrypted(Fernet.generate_key()))
+        super().setUp()
+
+    def test_no_value_can_be_read_in_the_history(self):
+        self.result()
+        attrs = [e["attrs"] for e in self.service.history("w")]
+        values = [it[name] for it in attrs for name in ("input", "result") if it.get(name)]
+        self.assertGreater(len(values), 3)
+        self.assertEqual({value.split(":")[0] for value in values}, {"fernet"})
 
 
 class PlayedHidden(Played):

@@ -3,6 +3,7 @@
 import asyncio
 import collections
 import itertools
+import os
 import threading
 import time
 import unittest
@@ -383,6 +384,20 @@ class Stuck(WithAService):
         said = [line for line in self.warned(lambda: self.minute(lambda: worker)) if "is stuck" in line]
         self.assertIn("w is stuck, at attempt 1 of its task: KeyError: 'a bug", said[0])
         self.assertEqual(len(said), 4)
+
+    def test_the_log_has_the_lines_of_the_code_and_none_of_the_package(self):
+        self.start(no_end)
+        worker = self.worker()
+        said = "\n".join(self.warned(lambda: self.minute(lambda: worker)))
+        self.assertRegex(said, r'(?m)^  File ".*test_workflow_worker.py", line [0-9]+, in no_end$')
+        self.assertNotIn(f"wfserve{os.sep}workflows", said)
+
+    def test_where_no_code_was_called_there_are_no_lines(self):
+        self.start(no_end, 1)
+        worker = self.worker()
+        said = "\n".join(self.warned(lambda: self.minute(lambda: worker)))
+        self.assertIn("TypeError: no_end() takes 1 positional argument but 2 were given", said)
+        self.assertNotIn("Traceback", said)
 
     def test_mended_code_goes_on_at_the_next_attempt(self):
         self.start(no_end)

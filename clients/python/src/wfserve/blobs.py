@@ -4,7 +4,8 @@ A text of a history has at most 4,096 bytes. A longer one, up to 2 MB, is put in
 it is handed on in its place. It is in the store, and synced there, before any line names it. The same text has the same
 name, so putting it again changes nothing.
 
-Users see nothing of it: a client and a worker that speak with a server which keeps blobs use it by themselves.
+Users see nothing of it: a client and a worker use it by themselves, over a server that keeps blobs and over a
+DurableService.
 """
 
 from __future__ import annotations
@@ -174,6 +175,19 @@ class FolderStore:
             except FileExistsError:
                 continue
             sync_folder(it.parent)
+
+
+def store_beside(path: str) -> FolderStore:
+    """The store of a log, or of a journal's folder: a folder beside it, which has its name with `.blobs` at the end."""
+    return FolderStore(f"{os.path.abspath(path)}.blobs")
+
+
+def copy_blobs(source: FolderStore, other: FolderStore) -> int:
+    """Puts all that one store has into another one. How many blobs these were. BlobDamaged where one was changed."""
+    count = 0
+    for count, name in enumerate(source.names(), 1):
+        other.put(name, source.get(name))
+    return count
 
 
 def sync_folder(folder: pathlib.Path) -> None:

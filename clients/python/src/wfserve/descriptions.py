@@ -7,18 +7,22 @@ from typing import Any, List, Optional, Type, TypeVar
 
 from wfserve import events as meaning
 from wfserve.calls import Calls
+from wfserve.errors import NotServed
 from wfserve.http import HttpService
 from wfserve.types import Event, Json
 
 Record = TypeVar("Record")
+# So many milliseconds after its last poll a queue counts as one that nobody polls, as on the page.
+ALONE = 60_000
 
 
 @dataclass(frozen=True)
 class Pending:
-    """An activity, a timer or a child that has not ended. Moments are milliseconds since 1970.
+    """An activity, a timer, a child or a workflow task that has not ended. Moments are milliseconds since 1970.
 
-    What follows `since` is what a server saw of an activity's attempts; it is empty for others, and where no server
-    is asked. `next_try` is the moment from which on a worker may take the next attempt.
+    `state` says of a workflow task whether a worker has it, and of an activity what a server saw of it, as what follows
+    does; it is empty for others, and where no server is asked. `next_try` is the moment from which on a worker may take
+    the next attempt, and `due` the one at which a timer fires.
     """
 
     kind: str
@@ -32,6 +36,7 @@ class Pending:
     last_failure_type: Optional[str] = None
     heartbeat: Optional[str] = None
     heartbeat_at: Optional[int] = None
+    due: Optional[int] = None
 
 
 @dataclass(frozen=True)
@@ -39,7 +44,8 @@ class Description:
     """A run. `status` is Running, Completed, Failed, Canceled, Terminated, TimedOut or ContinuedAsNew.
 
     `stuck` says what is wrong where its workflow task fails: `attempt`, `cause` and `message`. `closed` is the
-    moment at which it closed, where it has.
+    moment at which it closed, where it has. `pending_workflow_task` is the workflow task that waits or that a worker
+    has, and `pending` are the activities, timers and children that have not ended.
     """
 
     id: str
@@ -55,6 +61,7 @@ class Description:
     parent_run: Optional[str] = None
     continued_from: Optional[str] = None
     pending: List[Pending] = field(default_factory=list)
+    pending_workflow_task: Optional[Pending] = None
 
 
 def described(service: Calls, workflow_id: str, run: Optional[str]) -> Description:
@@ -63,22 +70,59 @@ def described(service: Calls, workflow_id: str, run: Optional[str]) -> Descripti
         run = run or str(service.describe(workflow_id)["run"])
         answer = service.read("/api/workflows", workflow_id, run)
         events, pending, stuck = answer["events"], answer["pending"], answer["workflow"].get("stuck")
-        return description_of(workflow_id, run, events, pending, stuck)
+        return description_of(workflow_id, run, events, pending, stuck, service)
     reply = service.call("history", workflow_id=workflow_id, run=run)
     events = reply["events"]
     pending = meaning.pending(events) if meaning.status_of(events) == meaning.RUNNING else []
-    return description_of(workflow_id, reply["run"], events, pending, None)
+    return description_of(workflow_id, reply["run"], events, pending, None, None)
+
+
+def pending_task(events: List[Event], server: Optional[HttpService]) -> Optional[Pending]:
+    """The workflow task of a run that has not ended: whether a worker has it, and else where it waits."""
+    for task in meaning.open_tasks(events):
+        if task.kind == meaning.WORKFLOW:
+            state = "a worker has it" if task.begun else waits_in(task.queue, server)
+            return Pending("workflow task", str(task.event), task.event, task.since, state=state)
+    return None
+
+
+def waits_in(queue: str, server: Optional[HttpService]) -> str:
+    """Where a workflow task waits, and where a server is asked, whether nobody polls there."""
+    said = f"waits for a worker in the queue {queue}"
+    if server is None:
+        return said
+    try:
+        answer = server.read("/api/queues")
+    except NotServed:
+        # An earlier server doesn't know.
+        return said
+    for it in answer["queues"]:
+        is_it = (it["queue"], it["kind"]) == (queue, meaning.WORKFLOW)
+        polled = it["last_poll"] is not None and answer["now"] - it["last_poll"] < ALONE
+        if is_it and it["polls"] == 0 and not polled:
+            return f"{said}, which no worker polls"
+    return said
+
+
+def with_moment_of(it: Json, events: List[Event]) -> Json:
+    """What is pending, and of a timer the moment at which it fires."""
+    if it["kind"] != "timer":
+        return it
+    return {**it, "due": it["since"] + events[it["event"] - 1]["attrs"]["duration"]}
 
 
 def description_of(
     workflow_id: str, run: str, events: List[Event], pending: List[Json], stuck: Optional[Json],
+    server: Optional[HttpService],
 ) -> Description:
+    """What the events of a run say, and what a server has seen of it."""
     first, last, status = events[0], events[-1], meaning.status_of(events)
     attrs = first["attrs"]
     return Description(
         workflow_id, run, attrs["workflow_type"], status, attrs["task_queue"], first["at"],
         None if status == meaning.RUNNING else last["at"], len(events), attrs["input"], stuck,
-        attrs.get("parent_run"), attrs.get("continued_from"), [known(Pending, it) for it in pending],
+        attrs.get("parent_run"), attrs.get("continued_from"),
+        [known(Pending, with_moment_of(it, events)) for it in pending], pending_task(events, server),
     )
 
 

@@ -160,7 +160,7 @@ class HttpService(Calls):
             self._own.connection = None
             self._open.discard(connection)
             connection.close()
-            raise CallLost(f"{type(fault).__name__}: {fault}") from fault
+            raise CallLost(f"{self.url}: {type(fault).__name__}: {fault}") from fault
 
     def _connection(self) -> http.client.HTTPConnection:
         connection: Optional[http.client.HTTPConnection] = getattr(self._own, "connection", None)

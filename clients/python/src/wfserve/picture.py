@@ -74,6 +74,7 @@ class Bar:
         self.attempt: int = event["attrs"].get("attempt", 1)
 
     def take(self, at: int, attempt: Optional[int]) -> None:
+        """A worker took it at this moment, for its attempt of this number."""
         self.taken = at
         self.attempt = attempt or self.attempt
 
@@ -108,11 +109,13 @@ class Scale:
         self.first, self.last = min(moments), max(moments)
 
     def x(self, moment: int) -> float:
+        """The place of a moment, in pixels from the left."""
         span = max(self.last - self.first, 1)
         return float(LEFT + WIDTH * (moment - self.first) / span)
 
 
 def rectangle(x: float, y: float, width: float, color: str, opacity: float) -> str:
+    """A bar of at least two pixels, as SVG."""
     return (
         f'<rect x="{x:.1f}" y="{y}" width="{max(width, 2):.1f}" height="10" rx="2" '
         f'fill="{color}" fill-opacity="{opacity}"/>'
@@ -141,6 +144,7 @@ def label(event: Event) -> Tuple[str, str]:
 
 
 def drawn_event(event: Event, scale: Scale, held: Set[int]) -> str:
+    """An event's row, as SVG: its name, what it says and its place. One of `held` has a ring: it was buffered."""
     y = TOP + (event["id"] - 1) * ROW
     name, said = label(event)
     ring = f'<circle cx="{scale.x(event["at"]):.1f}" cy="{y}" r="7" class="ring"/>' if event["id"] in held else ""
@@ -214,6 +218,7 @@ def picture_file(events: List[Event], now: Optional[int] = None) -> str:
 
 
 def page(history: Json) -> str:
+    """A page of HTML that shows a history, given as the reply to `history`."""
     legend = "".join(f'<span style="color:{color}">&#9632;</span> {kind} ' for kind, color in KINDS.items())
     title = escaped(history["run"])
     return (

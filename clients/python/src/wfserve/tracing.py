@@ -8,6 +8,8 @@
 A call of a client is a span where it is made. What a run does is one trace of its own, whose id follows from the run's:
 so its spans are found together, whichever worker made them, and nothing of a trace stands in a history. A span of a
 workflow says when its code began and when it ended, and is left out in a replay.
+
+Tests make spans of a stand-in, and of the package itself only where opentelemetry-sdk is there.
 """
 
 from __future__ import annotations

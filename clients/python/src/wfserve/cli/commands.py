@@ -9,7 +9,7 @@ from typing import Callable, Dict, List, Optional
 
 from wfserve import __version__
 from wfserve.client import Client
-from wfserve.errors import WfserveError
+from wfserve.errors import CallLost, Refused, WfserveError
 
 from .code import add_replay, add_work, replay, work
 from .completion import add_completion, completion
@@ -71,6 +71,8 @@ COMMANDS: Dict[str, Command] = {
     "call": Command("make any call, as docs/PROFILE.md has them", add_call, call),
     "completion": Command("what a shell needs to complete these words", add_completion, runs=completion),
 }
+# A workflow that has closed takes none of these.
+OF_OPEN_ONES = ("signal", "cancel", "terminate")
 # These print nothing that --json would change, or always print JSON.
 WITHOUT_JSON = ("dev", "work", "replay", "trace", "query", "call", "completion")
 
@@ -126,5 +128,17 @@ def say_fault(args: argparse.Namespace, fault: Exception) -> Status:
     status = status_of(fault)
     if getattr(args, "json", False):
         print_json({"error": type(fault).__name__, "said": str(fault), "status": int(status)})
-    print(f"wf: {type(fault).__name__}: {plain(fault)}", file=sys.stderr)
+    print(f"wf: {plain(said_of(args, fault))}", file=sys.stderr)
     return status
+
+
+def said_of(args: argparse.Namespace, fault: Exception) -> str:
+    """A fault for a person: what isn't there by its name, and what to do where no server answers."""
+    text = f"{type(fault).__name__}: {fault}"
+    if isinstance(fault, Refused) and fault.name == "NotFound" and getattr(args, "id", None) is not None:
+        what = "open workflow" if args.command in OF_OPEN_ONES else "workflow"
+        run = f" with the run {args.run}" if getattr(args, "run", None) else ""
+        return f"there is no {what} {args.id}{run} ({text})"
+    if isinstance(fault, CallLost):
+        return f"no server answers there: wf dev starts one, and --url or WFSERVE_URL names another ({text})"
+    return text

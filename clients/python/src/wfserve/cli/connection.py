@@ -23,9 +23,9 @@ def add_connection(parser: argparse.ArgumentParser) -> None:
     )
 
 
-def service_of(args: argparse.Namespace, wait: int = 0, patience: float = PATIENCE) -> HttpService:
-    """The server that the words name. A poll waits for so many milliseconds."""
-    return HttpService(args.url, token_of(args), wait=wait, patience=patience)
+def service_of(args: argparse.Namespace, wait: int = 0, patience: Optional[float] = None) -> HttpService:
+    """The server that the words name. A poll waits for so many milliseconds; without a patience it is a person's."""
+    return HttpService(args.url, token_of(args), wait=wait, patience=PATIENCE if patience is None else patience)
 
 
 def token_of(args: argparse.Namespace) -> Optional[str]:

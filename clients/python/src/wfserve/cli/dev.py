@@ -3,6 +3,7 @@
 from __future__ import annotations
 
 import argparse
+import fcntl
 import os
 import pathlib
 import subprocess
@@ -16,6 +17,9 @@ DEPTH = 5
 PROVED = "out/build/crates/wfserve/out/wfserve"
 UNPROVED = "out/unproved/wfserve"
 BUILD = "tools/unproved_program.py"
+PROVE = "tools/build_program.py"
+# What the proofs beside a server say.
+PROVING = "out/proving.log"
 NEEDS = "aiohttp"
 
 
@@ -25,6 +29,10 @@ def add_dev(parser: argparse.ArgumentParser) -> None:
     parser.add_argument("--port", default="7233", help="the port of the server and its page, 7233 by default")
     parser.add_argument("--queues", help="task queues, with commas between them; main by default")
     parser.add_argument("--shards", help="how many shards a new log has, 1 by default")
+    parser.add_argument(
+        "--prove", action="store_true",
+        help="besides, prove and build the program at the lowest priority, which takes an hour or two: for the next start",
+    )
 
 
 def tree_of(file: str) -> Optional[pathlib.Path]:
@@ -57,6 +65,28 @@ def chosen_program(named: Optional[str], top: Optional[pathlib.Path]) -> Tuple[s
 def build(program: str, top: pathlib.Path) -> bool:
     """Builds the program without proofs, where it is older than a source. Whether it is there now."""
     return subprocess.run([sys.executable, str(top / BUILD), program]).returncode == 0
+
+
+def at_last() -> None:
+    """This process takes only what others leave."""
+    os.nice(19)
+
+
+def prove_beside(top: pathlib.Path) -> "Optional[subprocess.Popen[bytes]]":
+    """Begins to prove and build the program, at the lowest priority. The process that does, which outlives this one;
+    None where another one is at it already, by a lock of the file of what it says."""
+    said = top / PROVING
+    said.parent.mkdir(parents=True, exist_ok=True)
+    with open(said, "a", encoding="utf-8") as file:
+        try:
+            fcntl.flock(file, fcntl.LOCK_EX | fcntl.LOCK_NB)
+        except BlockingIOError:
+            return None
+        words = [sys.executable, str(top / PROVE), "wfserve"]
+        # Its standard output is this very file, and keeps the lock until it ends.
+        return subprocess.Popen(
+            words, stdin=subprocess.DEVNULL, stdout=file, stderr=file, start_new_session=True, preexec_fn=at_last,
+        )
 
 
 def python_for_server() -> Optional[str]:
@@ -95,7 +125,12 @@ def dev(args: argparse.Namespace) -> Status:
         if not build(program, top):
             return Status.USAGE
         say("this program is not proved: it is the same code, with checks in the place of proofs, and slower")
-        say("./serve proves and builds it; the next start then takes that one")
+        if not args.prove:
+            say("./serve, or --prove here, proves and builds it; the next start then takes that one")
+        elif (proving := prove_beside(top)) is None:
+            say(f"it is being proved and built already: {PROVING} says how far it is")
+        else:
+            say(f"process {proving.pid} proves and builds it beside: {PROVING} says how far it is; the next start takes it")
     if not args.log:
         say("nothing is kept: --log FILE names a file that keeps the service")
     sys.stdout.flush()

@@ -72,10 +72,16 @@ def describe(args: argparse.Namespace, client: Client) -> Status:
         print_json(dataclasses.asdict(found))
         return Status.DONE
     print_pairs(pairs_of(found))
-    if found.pending:
+    if pending := pending_in(found):
         print()
-        print_table(("PENDING", "ID", "SINCE", "WHY"), [(it.kind, it.id, moment(it.since), why(it)) for it in found.pending])
+        print_table(("PENDING", "ID", "SINCE", "WHY"), [(it.kind, it.id, moment(it.since), why(it)) for it in pending])
     return Status.DONE
+
+
+def pending_in(found: Description) -> List[Pending]:
+    """All that has not ended, the workflow task first."""
+    task = found.pending_workflow_task
+    return [*([task] if task else []), *found.pending]
 
 
 def pairs_of(found: Description) -> List[List[object]]:
@@ -102,6 +108,8 @@ def why(it: Pending) -> str:
         parts.append(f"the last one failed: {kind}{it.last_failure}")
     if it.heartbeat:
         parts.append(f"its heartbeat told {it.heartbeat}")
+    if it.due is not None:
+        parts.append(f"fires at {moment(it.due)}")
     return ", ".join(parts)
 
 
@@ -114,7 +122,7 @@ def tasks(args: argparse.Namespace, client: Client) -> Status:
             print_json({"id": one.id, "run": one.run, "stuck": one.stuck, **pending_json(one)})
         return Status.DONE
     table = [(one.id, "workflow task", "", stuck_text(one.stuck)) for one in found if one.stuck]
-    table += [(one.id, it.kind, it.id, why(it)) for one in found for it in one.pending]
+    table += [(one.id, it.kind, it.id, why(it)) for one in found for it in pending_in(one) if not is_told(one, it)]
     print_table(("WORKFLOW", "PENDING", "ID", "WHY"), table)
     return Status.DONE
 
@@ -140,7 +148,16 @@ def add_nothing(parser: argparse.ArgumentParser) -> None:
 
 
 def pending_json(found: Description) -> Json:
-    return {"pending": [dataclasses.asdict(it) for it in found.pending]}
+    task = found.pending_workflow_task
+    return {
+        "pending": [dataclasses.asdict(it) for it in found.pending],
+        "pending_workflow_task": dataclasses.asdict(task) if task else None,
+    }
+
+
+def is_told(one: Description, it: Pending) -> bool:
+    """Whether a row says it already: that the workflow task fails."""
+    return one.stuck is not None and it.kind == "workflow task"
 
 
 def stuck_text(stuck: Json) -> str:

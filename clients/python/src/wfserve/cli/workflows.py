@@ -3,8 +3,9 @@
 from __future__ import annotations
 
 import argparse
+import inspect
 import sys
-from typing import Any, List, Optional
+from typing import Any, Optional, Sequence
 
 from wfserve.client import Client, WorkflowHandle
 from wfserve.types import Json
@@ -72,26 +73,31 @@ def started(args: argparse.Namespace, client: Client) -> Json:
         name: value for name in ("reuse", "conflict", "run_timeout", "execution_timeout", "task_timeout")
         if (value := getattr(args, name)) is not None
     }
+    values = [value_of_word(word) for word in args.argument]
     return client.service.call(
-        "start", workflow_id=args.id, workflow_type=type_named(args.type), task_queue=args.queue,
-        input=client.converter.encoded(input_text(args.argument)), request_id=args.id, **fields,
+        "start", workflow_id=args.id, workflow_type=type_named(args.type, values), task_queue=args.queue,
+        input=client.converter.encoded(input_of(values)), request_id=args.id, **fields,
     )
 
 
-def type_named(text: str) -> str:
-    """A workflow's type. MODULE:WORKFLOW has to be there."""
-    return type_of(workflow_named(text)) if ":" in text else text
-
-
-def input_text(words: List[str]) -> str:
-    return input_of([value_of_word(word) for word in words])
+def type_named(text: str, values: Sequence[Any]) -> str:
+    """A workflow's type. MODULE:WORKFLOW has to be there, and to take so many arguments: ValueError else."""
+    if ":" not in text:
+        return text
+    workflow = workflow_named(text)
+    try:
+        inspect.signature(workflow).bind(None, *values)
+    except TypeError as fault:
+        raise ValueError(f"{text}: {fault}") from None
+    return type_of(workflow)
 
 
 def say_existing(args: argparse.Namespace, client: Client, reply: Json) -> Status:
     """Says how a workflow was started that is there already: refused where that was in another way."""
     began = client.service.history(args.id, reply["run"])[0]["attrs"]
-    asked = client.converter.encoded(input_text(args.argument))
-    same = (began["workflow_type"], began["input"]) == (type_named(args.type), asked)
+    values = [value_of_word(word) for word in args.argument]
+    asked = client.converter.encoded(input_of(values))
+    same = (began["workflow_type"], began["input"]) == (type_named(args.type, values), asked)
     if args.json:
         print_json({"id": args.id, "run": reply["run"], "existing": True, "same": same})
     else:

@@ -16,6 +16,7 @@ import re
 import shutil
 from typing import List, Optional, Sequence, Tuple, Type
 
+from wfserve.blobs import copy_blobs, store_beside
 from wfserve.errors import (
     Ended, JournalDamaged, LogDamaged, LogFault, LogInUse, NotOpened, OtherJournal, OtherSettings, RefusedSettings,
 )
@@ -117,8 +118,9 @@ def move_log(command: Sequence[str], log: str, folder: str) -> int:
     """Begins the journal in a folder with all that a log has. How many steps that are.
 
     The folder has to be there, and to have no journal. The log is left as it is: put it away, since only one of the
-    two goes on. Its calls' keys are given up. The journal is there under its name once all of it is on the disk and
-    the program has opened it.
+    two goes on. Its calls' keys are given up, and its long texts are copied beside the folder. The journal is there
+    under its name once all of it is on the disk and the program has opened it. BlobDamaged where a long text was
+    changed on the disk: no journal is begun.
     """
     if os.path.exists(journal_in(folder)):
         raise LogFault(f"{journal_in(folder)}: there is a journal already")
@@ -130,6 +132,7 @@ def move_log(command: Sequence[str], log: str, folder: str) -> int:
     lines = LineLog(log)
     try:
         steps = _written(command, lines, beside)
+        copy_blobs(store_beside(log), store_beside(folder))
     finally:
         lines.close()
     os.rename(journal_in(beside), journal_in(folder))
@@ -165,8 +168,9 @@ def _lines_of(path: str) -> List[bytes]:
 def move_journal(folder: str, log: str, capacity: int = Settings.capacity) -> int:
     """Begins a log with all that the journal in a folder has. How many steps that are.
 
-    There must be no such log. It goes on from records, as one that was compacted. The journal is left as it is: put it
-    away, since only one of the two goes on. LogInUse where a program has it open.
+    There must be no such log. It goes on from records, as one that was compacted, and the long texts are copied beside
+    it. The journal is left as it is: put it away, since only one of the two goes on. LogInUse where a program has it
+    open, and BlobDamaged where a long text was changed on the disk: no log is begun.
     """
     if os.path.exists(log):
         raise LogFault(f"{log}: there is a log already")
@@ -179,6 +183,7 @@ def move_journal(folder: str, log: str, capacity: int = Settings.capacity) -> in
             if journal.settings is None:
                 raise OtherJournal(f"{file.name}: the journal has no settings")
             settings, records = settings_from(journal.settings, capacity), journal.records()
+    copy_blobs(store_beside(folder), store_beside(log))
     _write_records(folder_of(log, 1), records)
     new = LineLog(log)
     try:

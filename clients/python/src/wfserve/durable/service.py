@@ -23,6 +23,9 @@ which is quicker and proved, and there is no log. What a call promises is the sa
 - a disk that is full ends the program: calls are answered by Ended, and the service has to be opened again;
 - a reply's line counts from the opening, and `replayed` is refused, since a journal has no replies;
 - nothing is compacted.
+
+Texts of over 4,096 bytes, up to 2 MB, lie in a folder beside the log, or beside the journal's folder: orders.log.blobs.
+A client and a worker put them there by themselves (`blobs`), and each is synced before a line names it.
 """
 
 from __future__ import annotations
@@ -36,6 +39,7 @@ from dataclasses import dataclass, field
 from types import TracebackType
 from typing import Any, Callable, Deque, Iterable, List, Optional, Sequence, Type, Union
 
+from wfserve.blobs import store_beside
 from wfserve.calls import Calls, Clock, HasMoment, answered, request_of, text_of
 from wfserve.errors import Ended, LogFault, NotCompacted
 from wfserve.operations import READS
@@ -98,7 +102,8 @@ class DurableService(Calls):
     `settings` are those of a new log or journal; one that is there has to have the same. None takes its
     own, or the defaults. `most_a_sync` is how many lines one sync of a log serves at most. `replayed`
     is called with each request of the log and its reply, before the first call; what was done before
-    the log was compacted last is no line of it.
+    the log was compacted last is no line of it. `blobs` keeps long texts: nothing is deleted there but by a server
+    that serves the same log with a retention.
     """
 
     def __init__(
@@ -111,6 +116,7 @@ class DurableService(Calls):
         replayed: Optional[Observe] = None,
     ):
         self.clock: HasMoment = clock or Clock()
+        self.blobs = store_beside(log)
         self.last_moment = 0
         self._most = most_a_sync
         self._changed = threading.Condition()
@@ -168,6 +174,7 @@ class DurableService(Calls):
     # Calls.
 
     def call(self, op: str, **fields: Any) -> Reply:
+        """The reply to a call, once its line is on the disk. Refused, or LogFull where the disk has no room."""
         request = request_of(op, self.clock.now, fields)
         return answered(request, self.send(request).result())
 

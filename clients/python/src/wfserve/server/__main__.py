@@ -35,7 +35,7 @@ from typing import Any, Callable, List, Optional, Set
 
 from aiohttp import web
 
-from wfserve.blobs import FolderStore
+from wfserve.blobs import store_beside
 from wfserve.durable import DurableService, Settings, read_header
 from wfserve.durable.kept import KeptProgram
 from wfserve.durable.log import first_line
@@ -83,7 +83,7 @@ class Opened:
     def __init__(self, said: argparse.Namespace, log: str):
         settings = settings_of(said, log)
         self.workflows, self.deadlines = Workflows(), Deadlines(settings.shards)
-        self.attempts, self.blobs, self.last_polls = Attempts(), FolderStore(f"{log}.blobs"), LastPolls()
+        self.attempts, self.blobs, self.last_polls = Attempts(), store_beside(log), LastPolls()
         self.ledger, self.replies = Ledger(settings.shards), Replies()
         self.observe = Observers(self.workflows, self.deadlines, self.attempts, self.last_polls).observe
         self.kept = KeptProgram([said.program], log, settings, self._replayed)

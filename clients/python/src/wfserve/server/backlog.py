@@ -7,48 +7,14 @@ attempts. So it is what the service would hand out, whatever lies in its queues.
 from __future__ import annotations
 
 from dataclasses import dataclass
-from typing import Callable, Dict, Iterable, List, NamedTuple, Optional, Tuple
+from typing import Callable, Dict, Iterable, List, Optional, Tuple
 
-from wfserve.events import ACTIVITY_ENDS, status_of
+from wfserve.events import ACTIVITY, WORKFLOW, Open
 from wfserve.operations import POLLS
-from wfserve.types import Event, Json, Reply, Request
+from wfserve.types import Json, Reply, Request
 
-WORKFLOW, ACTIVITY = "workflow", "activity"
 # Which tasks a poll asks for.
 POLLED = {"poll_workflow_task": WORKFLOW, "poll_activity_task": ACTIVITY}
-
-
-class Open(NamedTuple):
-    """A task of an open run that has not ended: its kind, its queue, its event, since when, and whether it was begun."""
-
-    kind: str
-    queue: str
-    event: int
-    since: int
-    begun: bool
-
-
-def open_tasks(events: List[Event]) -> List[Open]:
-    """The tasks of a run that have not ended. Whether an activity was begun its history doesn't say before its end."""
-    if status_of(events) != "Running":
-        return []
-    scheduled: Dict[int, Event] = {}
-    task: Optional[Open] = None
-    own = events[0]["attrs"].get("task_queue", "")
-    for event in events:
-        kind, attrs = event["type"], event["attrs"]
-        if kind == "ActivityTaskScheduled":
-            scheduled[event["id"]] = event
-        elif kind in ACTIVITY_ENDS:
-            scheduled.pop(attrs["scheduled"], None)
-        elif kind == "WorkflowTaskScheduled":
-            task = Open(WORKFLOW, attrs.get("task_queue", own), event["id"], event["at"], False)
-        elif kind == "WorkflowTaskStarted" and task is not None:
-            task = task._replace(since=event["at"], begun=True)
-        elif kind.startswith("WorkflowTask"):
-            task = None
-    found = [Open(ACTIVITY, it["attrs"].get("task_queue", own), it["id"], it["at"], False) for it in scheduled.values()]
-    return [task, *found] if task is not None else found
 
 
 @dataclass

@@ -10,12 +10,11 @@ from __future__ import annotations
 from dataclasses import dataclass, field
 from typing import Callable, Dict, Iterable, List, Optional, Tuple
 
-from wfserve.events import NOTHING_WRONG, status_of
+from wfserve.events import NOTHING_WRONG, Open, open_tasks, status_of
 from wfserve.ids import run_of_token, service_of
 from wfserve.operations import READS
 from wfserve.types import Event, Json, Reply, Request
 
-from .backlog import Open, open_tasks
 
 # What the list calls a run that is open, and whose code or worker fails again and again.
 STUCK = "Stuck"

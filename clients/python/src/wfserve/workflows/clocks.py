@@ -33,6 +33,7 @@ class WallClock(Expecting):
 
     @property
     def now(self) -> int:
+        """This moment, in milliseconds since 1970."""
         return time.time_ns() // 1_000_000 + self._ahead
 
     def go_on_from(self, moment: int) -> None:

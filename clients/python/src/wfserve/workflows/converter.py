@@ -41,6 +41,7 @@ class Gzip:
         self._least = least
 
     def encode(self, text: str) -> str:
+        """The text compressed, where that makes it smaller, and else as it is."""
         data = text.encode()
         if len(data) < self._least:
             return text
@@ -48,6 +49,7 @@ class Gzip:
         return made if len(made) < len(data) else text
 
     def decode(self, text: str) -> str:
+        """The text that was compressed. Any other one stays as it is."""
         if not text.startswith(self.MARK) or len(text) == len(self.MARK):
             return text
         try:

@@ -4,11 +4,10 @@ from __future__ import annotations
 
 from typing import Any, Callable, Iterable, Sequence
 
-from wfserve.blobs import Blobs, FolderStore
 from wfserve.durable import DurableService
 
 from .clocks import WallClock
-from .converter import Converter
+from .converter import JSON
 from .definitions import type_of
 from .driver import Driver, run_until_closed
 from .errors import Failure
@@ -22,9 +21,10 @@ def run(
     """The workflow's value, or Failure. Killed at any moment and run again with the same log, it goes on.
 
     Texts that are too long for a history lie in a folder beside the log, with its name and `.blobs` after it."""
-    clock, converter = WallClock(), Converter(Blobs(FolderStore(f"{log}.blobs")))
+    clock = WallClock()
     with DurableService(command, log, clock=clock) as service:
         clock.go_on_from(service.last_moment)
+        converter = JSON.with_blobs(service)
         service.start(workflow_id, type_of(workflow), input=converter.input_of(arguments), request_id=workflow_id)
         worker = Worker(service, workflows=[workflow], activities=activities, clock=clock, converter=converter)
         status = run_until_closed(Driver(service), [worker], clock, workflow_id)

@@ -77,11 +77,13 @@ class Future:
         self._callbacks: List[Callable[[], None]] = []
 
     def set_value(self, value: Any) -> None:
+        """It is done, with this value. What was done before stays so."""
         if not self.done:
             self.value = value
             self._finish()
 
     def set_fault(self, fault: BaseException) -> None:
+        """It is done, by this fault. What was done before stays so."""
         if not self.done:
             self.fault = fault
             self._finish()
@@ -101,6 +103,7 @@ class Future:
             self._callbacks.append(callback)
 
     def result(self) -> Any:
+        """Its value. What it failed by is raised."""
         self.heard = True
         if self.fault is not None:
             raise self.fault
@@ -241,5 +244,6 @@ class Task(Future):
                 inner.passes_on = True
 
     def close(self) -> None:
+        """Ends its code where it stands, without a word of what that raises."""
         with suppress(Exception, Cancelled, ContinueAsNew, ReplayOver):
             self._coroutine.close()

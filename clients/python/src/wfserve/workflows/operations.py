@@ -56,6 +56,7 @@ class Operation(Future):
         return None
 
     def cancel(self) -> None:
+        """Gives it up, as its `cancellation` says. Who waits for it gets Cancelled; what has ended stays as it ended."""
         if self.done or self._cancelling:
             return
         if self.event is None:
@@ -184,6 +185,7 @@ class Word(Operation):
     key = "initiated"
 
     def cancel(self) -> None:
+        """Nobody waits for it any longer. What was sent is not taken back."""
         if self.loop.older:
             self.set_fault(Cancelled())
         else:

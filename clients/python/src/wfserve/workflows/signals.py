@@ -31,18 +31,22 @@ class Signal(Future):
         self.number = 0
 
     def give(self, came: Came) -> None:
+        """This signal came for it."""
         self.number = came.number
         self.set_value(came.value)
 
     @property
     def is_awaited(self) -> bool:
+        """Whether somebody waits for it."""
         return bool(self._callbacks)
 
     def result(self) -> Any:
+        """The signal's value, which nobody else gets then. Cancelled where it was given up."""
         self.taken = True
         return super().result()
 
     def cancel(self) -> None:
+        """Waits for it no longer. A signal that came and was not taken is left for the next who asks."""
         if not self.done:
             self._inbox.forget(self)
             self.set_fault(Cancelled())
@@ -94,6 +98,7 @@ class Inbox:
         return Signals(self, name).drain()
 
     def next(self, name: str) -> Signal:
+        """The next signal of a name that nobody has: one that waits, or the one that comes."""
         signal = Signal(self, name)
         values = self.waiting_values(name)
         if values:
@@ -103,9 +108,11 @@ class Inbox:
         return signal
 
     def waiting_values(self, name: str) -> List[Came]:
+        """The signals of a name that came and that nobody has."""
         return self._values.setdefault(name, [])
 
     def deliver(self, name: str, value: Any) -> None:
+        """A signal came: for its handler, for the first who waits for one, or for the next who asks."""
         self._count += 1
         if self.handlers.handles(name):
             self.handlers.handle(name, value)
@@ -127,6 +134,7 @@ class Inbox:
             insort(self.waiting_values(name), came)
 
     def forget(self, signal: Signal) -> None:
+        """Nobody waits for this one any longer."""
         waiting = self._waiting.get(signal.name, [])
         if signal in waiting:
             waiting.remove(signal)

@@ -40,6 +40,7 @@ class Several(Future):
         return value
 
     def cancel(self) -> None:
+        """Gives up all its parts, and ends once they have ended."""
         if self.done and not self._taken and not self.loop.older:
             self._give_up()
         if self.done or self._cancelling:

@@ -4,6 +4,7 @@ from __future__ import annotations
 
 import functools
 import logging
+import os
 import threading
 import time
 import traceback
@@ -40,6 +41,8 @@ FIRST_PAUSE = 1_000
 # How many runs a worker keeps, whose code goes on by the events that are new.
 KEPT_RUNS = 500
 # How many runs a worker remembers of which it said that they are stuck.
+# What lies below is no code of a workflow.
+PACKAGE = os.path.dirname(os.path.dirname(os.path.abspath(__file__))) + os.sep
 MOST_STUCK = 10_000
 # So often a worker that stops looks whether all has ended, and so long it waits after what was interrupted, in seconds.
 LOOK_SECONDS, LAST_SECONDS = 0.05, 2.0
@@ -309,7 +312,8 @@ class Worker:
             return
         LOG.warning("%s is stuck, at attempt %s of its task: %s", task.workflow_id, task.attempt, message)
         if fault is not None and not isinstance(fault, (NonDeterminism, NotHere, Refused)):
-            LOG.warning("%s", "".join(traceback.format_exception(type(fault), fault, fault.__traceback__)))
+            if trace := trace_of(fault):
+                LOG.warning("%s", trace)
 
     def _expect(self, commands: List[Command]) -> None:
         """A clock that jumps has to know what may be due."""
@@ -387,6 +391,7 @@ def pause_after(faults: int) -> int:
 
 
 def task_timeout(events: List[Event]) -> int:
+    """How long a workflow task of a run may take, in milliseconds."""
     return int(events[0]["attrs"]["task_timeout"])
 
 
@@ -409,3 +414,15 @@ def said_of(fault: BaseException) -> str:
         place = traceback.extract_tb(fault.__traceback__)[-1]
         return f"{fault}, at line {place.lineno} of {place.filename}"
     return f"{type(fault).__name__}: {fault}"
+
+
+def trace_of(fault: BaseException) -> str:
+    """Where a fault came up in a workflow's code, without the lines of this package. Empty where it is none of its."""
+    found = traceback.TracebackException.from_exception(fault)
+    at: Optional[traceback.TracebackException] = found
+    frames = 0
+    while at is not None:
+        own = [frame for frame in at.stack if not frame.filename.startswith(PACKAGE)]
+        at.stack, frames = traceback.StackSummary.from_list(own), frames + len(own)
+        at = at.__cause__ or at.__context__
+    return "".join(found.format()) if frames else ""
