@@ -5,7 +5,8 @@ Usage: bench/journal.py [--program PROGRAM] [--folder DIR] [--scale S] [--rounds
 
     lanes      lines of a file, read 1 MiB at a time: with a journal, and without one
     batches    the same lines by a pipe, so that one read gives 64 KiB at most
-    caller     a caller who waits for each reply, beside a C program that writes as many bytes over zeros and syncs each
+    caller     a caller who waits for each reply, beside one of a C program that writes as many bytes over zeros and
+               syncs each, and beside that program when nobody calls it
     opening    how many entries a second a journal is opened at, and the memory that this takes
     memory     the memory after the first tenth of some steps and after all, with a retention and a journal
 
@@ -125,11 +126,9 @@ class Bench:
 
     # One line at a time.
 
-    def called(self, folder: str, count: int) -> float:
-        """The seconds of calls, each of which waits for its reply."""
-        with subprocess.Popen(
-            self.words("--journal", folder), stdin=subprocess.PIPE, stdout=subprocess.PIPE, bufsize=0,
-        ) as program:
+    def called(self, words: list[str], count: int) -> float:
+        """The seconds of calls of a program, each of which waits for its reply."""
+        with subprocess.Popen(words, stdin=subprocess.PIPE, stdout=subprocess.PIPE, bufsize=0) as program:
             assert program.stdin and program.stdout
             program.stdin.write(text_of({**first_path.start("order"), "at": 0}))
             program.stdout.read(65_536)
@@ -152,11 +151,17 @@ class Bench:
             def written(folder: str) -> float:
                 words = [writer, f"{folder}/file", str(count), str(size)]
                 return float(subprocess.run(words, capture_output=True, text=True, check=True).stdout)
-            calls, writes = self.by_turns(
-                lambda: self.in_folder(lambda folder: self.called(folder, count)), lambda: self.in_folder(written))
+            def called_c(folder: str) -> float:
+                # The first call is not timed.
+                return self.called([writer, f"{folder}/file", str(count + 1), str(size), "called"], count)
+            calls, by_c = self.by_turns(
+                lambda: self.in_folder(lambda folder: self.called(self.words("--journal", folder), count)),
+                lambda: self.in_folder(called_c))
+            writes = [self.in_folder(written) for _ in range(self.rounds)]
         print(f"a caller who waits for each reply: {count:,} calls of {size} bytes in the file; a second "
-              f"{rates(count, calls)}; by C, the writes and syncs alone, {rates(count, writes)}")
-        aim("share of the speed of C", min(writes) / min(calls), 1.0)
+              f"{rates(count, calls)}; of a C program {rates(count, by_c)}; its writes and syncs with no caller "
+              f"{rates(count, writes)}")
+        aim("share of the speed of C", min(by_c) / min(calls), 1.0)
 
     # Opening.
 
@@ -204,7 +209,7 @@ class Bench:
             def feed() -> None:
                 for number in range(runs):
                     stream.write(come_and_go(number))
-                stream.close()
+                stream.flush()
             writer = threading.Thread(target=feed)
             writer.start()
             first = last = 0
@@ -214,7 +219,9 @@ class Bench:
                 if number == RUN_LINES * (runs // 10):
                     first = resident(program.pid)
                 if number == RUN_LINES * runs:
+                    # It ends with its input, so that stays open until now.
                     last = resident(program.pid)
+                    stream.close()
             writer.join()
             size = os.path.getsize(f"{folder}/journal")
         print(f"memory: {RUN_STEPS * runs:,} steps, {size / 1e6:,.1f} MB in the journal; "

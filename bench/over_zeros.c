@@ -1,9 +1,10 @@
 /* Writes a text over zeros that are on the disk already, a line at a time, with one fdatasync each: what a program
  * with a journal does for a caller who waits for each reply, and nothing else.
  *
- *     over_zeros FILE LINES BYTES
+ *     over_zeros FILE LINES BYTES [called]
  *
- * FILE is made anew. Each line has so many bytes. It prints how many seconds the writes and syncs took.
+ * FILE is made anew. Each line has so many bytes. It prints how many seconds the writes and syncs took. With `called`
+ * it reads from standard input before each line, answers on standard output after its sync, and prints no time.
  */
 #include <fcntl.h>
 #include <stdio.h>
@@ -32,9 +33,24 @@ static double seconds(void)
     return now.tv_sec + now.tv_nsec / 1e9;
 }
 
+/* What a caller asks, and what it waits for. */
+static void wait_for_call(void)
+{
+    static char call[65536];
+    if (read(0, call, sizeof call) <= 0)
+        exit(2);
+}
+
+static void answer(void)
+{
+    if (write(1, "{}\n", 3) != 3)
+        exit(2);
+}
+
 int main(int count, char **words)
 {
-    if (count != 4)
+    int called = count == 5 && strcmp(words[4], "called") == 0;
+    if (count != 4 && !called)
         return 2;
     int file = open(words[1], O_RDWR | O_CREAT | O_TRUNC, 0600);
     long lines = atol(words[2]), bytes = atol(words[3]);
@@ -45,6 +61,8 @@ int main(int count, char **words)
     memset(line, 'x', bytes);
     double began = seconds();
     for (long number = 0; number < lines; number++) {
+        if (called)
+            wait_for_call();
         if (at + bytes >= end) {
             add_zeros(file, end);
             end += STEP;
@@ -52,7 +70,10 @@ int main(int count, char **words)
         if (pwrite(file, line, bytes, at) != bytes || fdatasync(file))
             return 2;
         at += bytes;
+        if (called)
+            answer();
     }
-    printf("%.6f\n", seconds() - began);
+    if (!called)
+        printf("%.6f\n", seconds() - began);
     return 0;
 }

@@ -1,6 +1,7 @@
 #!/usr/bin/env python3
 """Hostile use of the built programs for some minutes: a soak, lines that nobody means well with, each
-allocation refused, all of them where no memory is to be taken, and drawn schedules.
+allocation refused, by whole cases and by the leaves' calls, all of them where no memory is to be taken, and
+drawn schedules.
 
     tools/hostile_use.py
 
@@ -23,6 +24,7 @@ ROOT = pathlib.Path(__file__).resolve().parent.parent
 CALLS = ROOT / "crates/cases/out/cases"
 PROGRAM = ROOT / "crates/wfserve/out/wfserve"
 TESTS = ROOT / "crates/service_tests/out/service_tests_tests"
+LEAVES = ROOT / "crates/leaf_tests/out/leaf_tests_tests"
 SOAK_SECONDS, SCHEDULES, REFUSED_SECONDS = 20, 300, 300
 # Twenty times what a part takes on a quiet machine, and more than it waits for a reply.
 LIMIT_SECONDS = 900
@@ -39,7 +41,8 @@ def parts(today):
         Part(f"a soak of {SOAK_SECONDS} s", ["bench/soak.py", str(SOAK_SECONDS), seed], [PROGRAM], False),
         Part("hostile lines", ["bench/hostile.py"], [PROGRAM], False),
         Part("each allocation refused", [*refused, str(CALLS), str(PROGRAM)], [CALLS, PROGRAM], True),
-        Part("no memory where none is taken", ["tools/without_memory.py", str(TESTS)], [TESTS], True),
+        Part("each allocation of the leaves' calls refused", ["tools/refused_leaves.py", str(LEAVES)], [LEAVES], True),
+        Part("no memory where none is taken", ["tools/without_memory.py", str(TESTS), str(LEAVES)], [TESTS, LEAVES], True),
         Part(f"{SCHEDULES} schedules", [*schedules, str(PROGRAM)], [PROGRAM], True),
     ]
 

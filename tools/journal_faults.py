@@ -181,9 +181,9 @@ class Failing(Preloaded):
         self.assertEqual(served(lines[kept:], str(folder)), self.undisturbed[kept:], where)
 
     def test_a_disk_that_is_full_at_each_byte(self) -> None:
-        """The zeros after the settings, and then each batch, are cut where there is no more room."""
+        """The zeros over what a crash left, and then each batch, are cut where there is no more room."""
         lines, zeros = lines_of(4), 1_000
-        begun = framed(SETTINGS.text()) + b"\0" * zeros
+        begun = framed(SETTINGS.text()) + b"\x1d" + b"\0" * (zeros - 1)
         self.quiet(lines, begun)
 
         def full(most: int) -> str:
@@ -217,7 +217,7 @@ class Failing(Preloaded):
                 number, failed = number + every, failed + 1
             print(f"journal_faults: {failed} calls that failed", flush=True)
             if every == 1:
-                self.assertGreater(failed, 8)
+                self.assertGreater(failed, 6)
 
     def fail_at(self, number: int, data: bytes, lines: list[Line]) -> bool:
         """Has one call fail. Whether there is such a call."""

@@ -13,6 +13,7 @@ from __future__ import annotations
 
 import argparse
 import json
+import os
 import pathlib
 import random
 import re
@@ -271,6 +272,26 @@ class Opened(unittest.TestCase):
         self.refused(folder, "the journal is of another --service", *own, "--service", "2")
         read = served([{"op": "history", "workflow_id": "a"}], folder, *own, "--capacity", "7")
         self.assertEqual(read[0]["ok"], "history")
+
+    def test_what_is_refused_is_left_as_it_is_with_a_torn_batch_too(self) -> None:
+        """A batch that a crash left unfinished becomes zeros, but not for a program that is refused."""
+        folder = self.fresh()
+        served([start("a")], folder)
+        file = pathlib.Path(folder, "journal")
+        whole = file.read_bytes().rstrip(b"\0")
+        file.write_bytes(whole + BEGIN + b"00{" + b"\0" * 99)
+        self.refused(folder, "the journal is of another --service", "--service", "2")
+        self.refused(folder, "the journal is of another --shards", "--shards", "3")
+        self.assertEqual(served([], folder), [])
+        self.assertEqual(file.read_bytes(), whole + b"\0" * 103)
+
+    def test_where_zeros_stand_nothing_is_written(self) -> None:
+        folder = self.fresh()
+        served([start("a")], folder)
+        file = pathlib.Path(folder, "journal")
+        os.utime(file, (0, 0))
+        self.assertEqual(served([], folder), [])
+        self.assertEqual(file.stat().st_mtime, 0)
 
     def test_a_second_program_is_refused(self) -> None:
         folder = self.fresh()

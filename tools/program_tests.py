@@ -23,6 +23,7 @@ import threading
 import unittest
 
 import client_package  # noqa: F401
+from wfserve import __version__
 from wfserve.ids import TaskKind, token_text
 
 ROOT = pathlib.Path(__file__).resolve().parent.parent
@@ -66,6 +67,25 @@ def served(lines, *words, **environment):
     if done.returncode or done.stderr:
         raise AssertionError(f"status {done.returncode}: {done.stderr}")
     return [json.loads(line) for line in done.stdout.splitlines()]
+
+
+class Version(unittest.TestCase):
+    """The version of the program, which is the package's."""
+
+    def test_the_version_is_printed(self):
+        for words in (["--version"], ["-V"], ["--shards", "2", "--version"]):
+            with self.subTest(words=words):
+                done = ran([], *words)
+                self.assertEqual((done.returncode, done.stdout, done.stderr), (0, f"wfserve {__version__}\n", ""))
+
+    def test_help_has_it_too(self):
+        self.assertIn(f" Version {__version__}.\n", ran([], "--help").stderr)
+
+    def test_standard_output_that_is_full_is_a_fault(self):
+        with open("/dev/full", "wb") as full:
+            done = subprocess.run([PROGRAM, "--version"], stdout=full, stderr=subprocess.PIPE, timeout=SECONDS)
+        self.assertEqual(done.returncode, 2)
+        self.assertIn(b"standard output", done.stderr)
 
 
 class Typist(unittest.TestCase):
