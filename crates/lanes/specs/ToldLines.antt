@@ -1,15 +1,18 @@
 -- PROOF: what a script over lanes has told of its lines
-use Rattle.std.specs.Prelude.{◌≡◌, ◌⊎◌, ℕ, ◌+◌, List, [], ◌∷◌, ◌++◌, length, map, Bool, false, ◌||◌, Option, Some, Result}
+use Rattle.std.specs.Prelude.{◌≡◌, ◌⊎◌, ℕ, ◌+◌, ◌≤◌, List, [], ◌∷◌, ◌++◌, length, map, All, Bool, false, ◌||◌, Option, Some, Result, Unit, IfErr, OnErr, OnOk}
 use Rattle.std.specs.List.{list_any}
 use Rattle.std.specs.Io.KnownBytes.{Appends, Consumes}
 use Rattle.wire_counted.specs.Written.{AppendsBeginning}
+use Rattle.wire_counted.specs.declared.counted.Counted.{Counted}
 use Rattle.wf_event_values.specs.Gives.{Gives}
 use Rattle.wf_event_values.specs.declared.refusal.Refusal.{Refusal}
 use Rattle.service_model_types.specs.declared.settings.Settings.{Settings}
 use Rattle.service_model_types.specs.Replies.{Reply}
 use Rattle.service.specs.ServiceViews.{Pass}
 use Rattle.wire_requests.specs.declared.calls.Asked.{Asked}
+use Rattle.script.specs.declared.fault.ScriptFault.{ScriptFault}
 use Rattle.script.specs.Asked.{asked}
+use Rattle.script.specs.Endings.{IsWriteFault}
 use Rattle.script.specs.Lines.{Line, all_lines}
 use Rattle.script.specs.Pending.{ended, last, left}
 use Rattle.script.specs.Serving.{is_refusal}
@@ -17,7 +20,9 @@ use Rattle.script.specs.Output.{numbered_from}
 use Rattle.lanes.specs.declared.run.LaneScript.{LaneScript}
 use Rattle.lanes.specs.Calls.{number_at}
 use Rattle.lanes.specs.Course.{AllMet, Serves, Meets, Course, asks_of}
+use Rattle.lanes.specs.declared.reading.Reader.{Reader}
 use Rattle.lanes.specs.Endings.{Beginning, Broke, Ended}
+use Rattle.lanes.specs.Found.{AllRead, lines_of}
 use Rattle.lanes.specs.Lanes.{ArePlain, Waiting, WereAsked, calls_in, calls_of, own_calls, passes_of, place_in}
 use Rattle.lanes.specs.Printed.{PhaseBegun, PhasePrinted}
 
@@ -129,6 +134,10 @@ module _ {Keeper Plan : Type 0} where
     pub same : s' ≡ s
     pub kept : held' ≡ held
 
+  -- what waited was served and printed, where anything did
+  abbrev pub ServedIfAny : Serves → (LaneScript Keeper Plan) → (LaneScript Keeper Plan) → Option (List ℕ) → Option (List ℕ) → Type 0
+  ServedIfAny serves s s' held held' = Unchanged s s' held held' ⊎ Served serves s s' held held'
+
   -- what waited was not served; or it was, and a beginning of it was printed
   abbrev pub Stopped : Serves → (LaneScript Keeper Plan) → (held held' : Option (List ℕ)) → Type 0
   Stopped serves s held held' = (held' ≡ held) ⊎ PhaseBegun serves s.first s.places.items s.lanes.items held held'
@@ -154,6 +163,17 @@ module _ {Keeper Plan : Type 0} where
   TellsLines serves meets K more s s' w w' = (b : Point) (lines : List Line) (held : Option (List ℕ))
       → Told serves meets K b lines s held w → Told serves meets K b (lines ++ more) s' held w'
 
+  -- likewise of whatever lines were read so
+  abbrev pub TellsAny : (Settings → List Line → Type 0) → Serves → Meets → (LaneScript Keeper Plan) → (LaneScript Keeper Plan)
+      → Option (List ℕ) → Option (List ℕ) → Type 0
+  TellsAny Reads serves meets s s' w w' = (K : Settings) (lines : List Line) → Reads K lines → TellsLines serves meets K lines s s' w w'
+
+  -- likewise of the lines that these readers have read, one reader's after another's
+  abbrev pub TellsRead : List Reader → Serves → Meets → (LaneScript Keeper Plan) → (LaneScript Keeper Plan) → Option (List ℕ)
+      → Option (List ℕ) → Type 0
+  TellsRead readers serves meets s s' w w' = (K : Settings) (parts : List (List Line)) → AllRead K readers parts
+      → TellsLines serves meets K (lines_of parts) s s' w w'
+
   -- all was told of the lines before, and then a beginning
   abbrev pub BeginsLine : Serves → Meets → Settings → Line → (LaneScript Keeper Plan) → Option (List ℕ) → Option (List ℕ) → Type 0
   BeginsLine serves meets K line s w w' = (b : Point) (lines : List Line) (held : Option (List ℕ))
@@ -168,6 +188,16 @@ module _ {Keeper Plan : Type 0} where
   abbrev pub BeginsLines : Serves → Meets → Settings → List Line → (LaneScript Keeper Plan) → Option (List ℕ) → Option (List ℕ) → Type 0
   BeginsLines serves meets K more s w w' = (b : Point) (lines : List Line) (held : Option (List ℕ))
       → Told serves meets K b lines s held w → BeginningOf serves meets K b (lines ++ more) held w'
+
+  -- likewise with whatever lines were read so
+  abbrev pub BeginsAny : (Settings → List Line → Type 0) → Serves → Meets → (LaneScript Keeper Plan) → Option (List ℕ)
+      → Option (List ℕ) → Type 0
+  BeginsAny Reads serves meets s w w' = (K : Settings) (lines : List Line) → Reads K lines → BeginsLines serves meets K lines s w w'
+
+  -- likewise with the lines that these readers have read
+  abbrev pub BeginsRead : List Reader → Serves → Meets → (LaneScript Keeper Plan) → Option (List ℕ) → Option (List ℕ) → Type 0
+  BeginsRead readers serves meets s w w' = (K : Settings) (parts : List (List Line)) → AllRead K readers parts
+      → BeginsLines serves meets K (lines_of parts) s w w'
 
   -- all was told of a text, and then of these bytes more
   abbrev pub TellsMore : Serves → Meets → Settings → List ℕ → (LaneScript Keeper Plan) → (LaneScript Keeper Plan) → Option (List ℕ)
@@ -207,3 +237,15 @@ module _ {Keeper Plan : Type 0} where
   abbrev pub BeginsAll : Serves → Meets → Settings → (LaneScript Keeper Plan) → Option (List ℕ) → Option (List ℕ) → Type 0
   BeginsAll serves meets K s w w' = (ps : List Pass) (text : List ℕ) (held : Option (List ℕ))
       → TextTold serves meets K (at_start ps) text s held w → Beginning serves meets K ps (all_lines text) held w'
+
+module _ {Keeper Plan X : Type 0} where
+  -- How a call on the script ends, whatever it does: each lane's pass may be served on, what has to be told was told where the
+  -- call went well, it was begun where not, and a fault of the writer comes only where a write failed in the call
+  pub record Ends (admits : Pass → Type 0) (contents : X → Option (List ℕ)) (writer writer' : Counted X) (s' : LaneScript Keeper Plan)
+      (Tells : LaneScript Keeper Plan → Option (List ℕ) → Option (List ℕ) → Type 0)
+      (Begins : Option (List ℕ) → Option (List ℕ) → Type 0) (result : Result (Unit {0}) ScriptFault) : Type 0 where
+    pub own : All (λ l. admits l.pass) s'.lanes.items
+    pub told : OnOk result (Tells s' (contents writer.inner) (contents writer'.inner))
+    pub begun : OnErr result (Begins (contents writer.inner) (contents writer'.inner))
+    pub grows : writer.failures ≤ writer'.failures
+    pub fault : IfErr result (λ e. IsWriteFault e writer.failures writer'.failures)

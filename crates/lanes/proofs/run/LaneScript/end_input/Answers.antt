@@ -10,7 +10,7 @@ returns-then-is_empty-clause-answered g c = c.requires.answered
 
 pub returns-clause-ended : goal.returns-clause-ended
 returns-clause-ended g c =
-    λ pt text held h. input-ended text c.args.self.now c.end_line.new.self _ held _ _ _ (sym c.is_empty.ensures ∙ c.if-is_empty.false) c.in_ok-end_line.ensures.told c.in_ok-serve_batch.ensures.served h
+    λ pt text held h. input-ended text c.args.self.now c.end_line.new.self _ held _ _ _ (sym c.is_empty.ensures ∙ c.if-is_empty.false) c.in_ok-end_line.ensures.ends.told c.in_ok-serve_batch.ensures.ends.told h
 
 pub returns-clause-answered : goal.returns-clause-answered
 returns-clause-answered g c = c.in_ok-serve_batch.ensures.none

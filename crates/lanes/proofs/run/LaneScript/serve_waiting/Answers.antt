@@ -1,11 +1,12 @@
-use Rattle.std.proofs.Common.{◌≡◌, ◌++◌, drop, length, take, refl, sym, ap, subst, ◌∙◌, arith}
+use Rattle.std.proofs.Common.{rules, ◌≡◌, ◌++◌, drop, length, take, refl, sym, ap, subst, ◌∙◌, arith}
 use Rattle.std.proofs.lemmas.List.{take-append-le, take_all}
 use Rattle.lanes.specs.Printed.{PhasePrinted}
 use Rattle.lanes.proofs.run.LaneScript.serve_waiting.Goals as goal
 
-pub returns-clause-served : goal.returns-clause-served
-returns-clause-served g c =
-    let serves = g.D.Door.serves c.args.door.now in
+pub returns : goal.returns
+returns g c = record {
+  own = search rules;
+  told = (let serves = g.D.Door.serves c.args.door.now in
     let w = g.W.Write.contents c.args.writer.now.inner in
     let w' = g.W.Write.contents c.serve_phase.new.writer.inner in
     let old = c.args.self.now.lanes in
@@ -21,4 +22,8 @@ returns-clause-served g c =
       places = c.clear.ensures.items;
       refused_is = refl;
       line = refl;
-    }
+    });
+  begun = search rules;
+  grows = search rules;
+  fault = search rules;
+}
