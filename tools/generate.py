@@ -333,7 +333,7 @@ def rows(kind: Table, table: Table) -> Part:
 def writer(kind: Table, table: Table) -> Part:
     """The function that writes the rows of a record's line."""
     said, defined = said_of(kind, "put", table), said_of(kind, "rows", table)["name"]
-    head = ("#[tactic(auto, unfolding(wire_rows::specs::Rows::add_row, wire_rows::specs::Rows::add_rows, "
+    head = ("#[tactic(auto, unfolding(wire_record_rows::specs::Rows::add_row, wire_record_rows::specs::Rows::add_rows, "
             f"crate::specs::Trees::{defined}))]")
     call = signature(f"{said['seen']}fn {said['name']}", said["takes"])
     ensures = ["    ensures { OnOk result (sheet_of page.new",

@@ -82,7 +82,7 @@ PROMISES = (
     Promise("a script of one lane", (Calls(("script",), ("run_one", "run_from", "print_trace")),)),
     Promise("a script of several lanes", (Calls(("lanes",), ("run_lanes", "run_lanes_from")),)),
     Promise("records: their text, reading it, and the one history of several",
-            (Calls(("task_token", "wire_steps", "record_text", "trace_text", "history", "service_history")),)),
+            (Calls(("task_token", "wire_record_steps", "record_text", "trace_text", "history", "service_history")),)),
     Promise("the file of a journal", (Calls(("journal_disk", "journal_frames", "journal_file")),)),
     Promise("a script with a journal, and what is found in one",
             (Calls(("script",), ("run_journaled",)), Calls(("journal_text",)))),

@@ -66,12 +66,12 @@ class Generated(unittest.TestCase):
 
     def test_a_part_that_is_not_there_or_there_twice_is_a_fault(self):
         head = "pub record IsStart (q : Start) : Type 0 where"
-        path = self.top / "crates/wire_steps/specs/Limits.antt"
+        path = self.top / "crates/wire_record_steps/specs/Limits.antt"
         text = path.read_text(encoding="utf-8")
         for other in (text.replace(head, "-- " + head), f"{text}\n{head}\n  pub x : IsId q.x\n"):
             path.write_text(other, encoding="utf-8")
             self.assertEqual(generate.look(self.table, self.top, writes=True),
-                             [f"crates/wire_steps/specs/Limits.antt: there is not one part that begins: {head}"])
+                             [f"crates/wire_record_steps/specs/Limits.antt: there is not one part that begins: {head}"])
             self.assertEqual(path.read_text(encoding="utf-8"), other)
 
     def test_a_new_field_of_a_request_is_one_row(self):
@@ -80,24 +80,24 @@ class Generated(unittest.TestCase):
 
         self.assertEqual(self.written_with(change), {
             "service_model_types/src/request.rt": ["    pub identity: Option<Text>,", "            identity: _,"],
-            "wire_steps/proofs/OperationsBack.antt": [
+            "wire_record_steps/proofs/OperationsBack.antt": [
                 "    (then _ (optional_is text_of IsText string field.Identity rows q.identity refl refl "
                 "(text_back field.Identity) h.identity)", "    refl)))))",
             ],
-            "wire_steps/proofs/RequestsBack.antt": [
+            "wire_record_steps/proofs/RequestsBack.antt": [
                 "operation_plain at (operation.Signal q) m h = let run = if_plain IsRun (λ r. string (run_text r)) 4 "
                 "(λ x l. tt) q.run h.run in let request_id = if_plain IsId string 4 (λ x l. tt) q.request_id "
                 "h.request_id in let identity = if_plain IsText string 4 (λ x l. tt) q.identity h.identity in "
                 "search (moment_plain at m, run, request_id, identity)",
             ],
-            "wire_steps/proofs/TextsUtf8.antt": [
+            "wire_record_steps/proofs/TextsUtf8.antt": [
                 "operation_utf8 at (operation.Signal q) h = (tt, (if_utf8 IsText (λ t l. l.1) q.identity h.identity, "
                 "(h.input.1, (h.name.1, (literal _ refl, (if_utf8 IsId (λ t l. l.1) q.request_id h.request_id, "
                 "(if_run_utf8 q.run, (h.workflow_id.1, tt))))))))",
             ],
-            "wire_steps/specs/Limits.antt": ["  pub identity : IfSome q.identity IsText"],
-            "wire_steps/src/put_starts.rt": ['    put_if_text(page, "identity", &signal.identity)?;'],
-            "wire_steps/src/known.rt": ["    known_if_text(&asked.identity);"],
+            "wire_record_steps/specs/Limits.antt": ["  pub identity : IfSome q.identity IsText"],
+            "wire_record_steps/src/put_starts.rt": ['    put_if_text(page, "identity", &signal.identity)?;'],
+            "wire_record_steps/src/known.rt": ["    known_if_text(&asked.identity);"],
             "wire_requests/specs/Operations.antt": [
                 "  identity ← optional text_of field.Identity line", "  Ok (record {",
                 "    workflow_id = workflow_id;", "    run = run;", "    name = name;", "    input = input;",
@@ -106,7 +106,7 @@ class Generated(unittest.TestCase):
             "wire_requests/src/operations.rt": [
                 "    let identity = optional(alloc, line, Field::Identity)?;", "        identity,",
             ],
-            "wire_steps/specs/Trees.antt": [
+            "wire_record_steps/specs/Trees.antt": [
                 '    count (codes "at") at ∷ if_text (codes "identity") q.identity ∷ text (codes "input") q.input',
                 '    ∷ text (codes "name") q.name ∷ text (codes "op") (codes "signal") ∷ '
                 'if_text (codes "request_id") q.request_id',
@@ -183,7 +183,7 @@ class Generated(unittest.TestCase):
         initiated,
         status: status.status,
     })
-''', self.text("wire_transfers/src/contents.rt"))
+''', self.text("wire_record_transfers/src/contents.rt"))
 
     def test_a_new_kind_of_transfer_is_read_by_its_row(self):
         def change(table: dict) -> None:
@@ -191,14 +191,14 @@ class Generated(unittest.TestCase):
             next(one for one in table["names"] if one["name"] == "TransferKind")["variants"].append("Closed closed")
 
         written = self.written_with(change)
-        self.assertEqual(written["wire_transfers/src/contents.rt"], [
+        self.assertEqual(written["wire_record_transfers/src/contents.rt"], [
             "        TransferKind::Closed => Ok(TransferContent::Closed(child_closed(alloc, object)?)),"])
-        self.assertEqual(written["wire_transfers/specs/Reading.antt"], [
+        self.assertEqual(written["wire_record_transfers/specs/Reading.antt"], [
             "content_of kind.Closed d = child_closed_of d >>= (λ c. Ok (content.Closed c))"])
-        self.assertEqual(written["wire_transfers/src/kinds.rt"], [
+        self.assertEqual(written["wire_record_transfers/src/kinds.rt"], [
             "    Closed,", "        TransferContent::Closed(_) => TransferKind::Closed,",
             '            TransferKind::Closed => "closed",', '        "closed" => Some(TransferKind::Closed),'])
-        self.assertEqual(written["wire_transfers/specs/Names.antt"], [
+        self.assertEqual(written["wire_record_transfers/specs/Names.antt"], [
             'transfer_kind_name kind.Closed = codes "closed"',
             "    ∷ kind.SignalExternal ∷ kind.CancelExternal ∷ kind.ExternalDone ∷ kind.Closed ∷ [])",
             "kind_of (content.Closed c) = kind.Closed"])
@@ -236,7 +236,7 @@ class Generated(unittest.TestCase):
             with unittest.mock.patch.object(generate, "TOP", self.top), \
                     unittest.mock.patch.object(generate, "read_table", return_value={**self.table, "enum": []}):
                 self.assertEqual(generate.main([]), 0)
-                (self.top / "crates/wire_steps/src/known.rt").write_text("")
+                (self.top / "crates/wire_record_steps/src/known.rt").write_text("")
                 self.assertEqual(generate.main([]), 1)
         self.assertIn("known.rt: there is not one part that begins: fn known_start", out.getvalue())
 

@@ -12,7 +12,7 @@ use std::alloc::{AllocError, AllocGlobal, Global};
 use std::process::Abort;
 use wf_event_values::Refusal;
 use wire_requests::{Asked, LineReader, read_line};
-use wire_steps::request_text;
+use wire_record_steps::request_text;
 
 const COUNT: u64 = 2000;
 

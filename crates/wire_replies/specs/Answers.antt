@@ -14,7 +14,7 @@ use Rattle.service_model_types.specs.declared.answer.Fired.{Fired}
 use Rattle.service_model_types.specs.declared.answer.History.{History}
 use Rattle.service_model_types.specs.declared.answer.Retrying.{Retrying}
 use Rattle.wire_events.specs.Events.{event_list}
-use Rattle.wire_events.specs.Members.{◌▸◌, boolean_member, number_member, run_member, text_member}
+use Rattle.wire_pages.specs.Members.{◌▸◌, boolean_member, number_member, run_member, text_member}
 use Rattle.wire_replies.specs.Tasks.{workflow_task_members, activity_task_members}
 
 -- the number of the line that is answered

@@ -6,7 +6,7 @@ use Rattle.wf_event_values.specs.declared.refusal.Refusal.{Refusal}
 use Rattle.wf_event_values.specs.declared.refusal.Refusal.TheVariants as refusal
 use Rattle.wf_event_values.specs.Names.{field_name, refusal_name, refusal_number}
 use Rattle.service_model_types.specs.declared.answer.Answer.{Answer}
-use Rattle.wire_events.specs.Members.{◌▸◌, number_member, run_member, text_member}
+use Rattle.wire_pages.specs.Members.{◌▸◌, number_member, run_member, text_member}
 use Rattle.wire_replies.specs.Answers.{answer_members}
 
 -- what a refusal says besides its name and number

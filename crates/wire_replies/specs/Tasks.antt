@@ -8,7 +8,7 @@ use Rattle.task_token.specs.declared.token.TaskToken.{TaskToken}
 use Rattle.task_token.specs.TokenTexts.{token_text}
 use Rattle.service_model_types.specs.declared.answer.WorkflowTask.{WorkflowTask}
 use Rattle.service_model_types.specs.declared.answer.ActivityTask.{ActivityTask}
-use Rattle.wire_events.specs.Members.{◌▸◌, number_member, optional, run_member, text_member}
+use Rattle.wire_pages.specs.Members.{◌▸◌, number_member, optional, run_member, text_member}
 
 -- the token of a task: its kind, run, scheduled event and attempt
 abbrev pub token_of : TaskKind → Run → ℕ → ℕ → TaskToken

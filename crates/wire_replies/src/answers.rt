@@ -1,17 +1,18 @@
 //! The members of a reply, by its answer, in the order of their keys.
 //!
 //! Rules: L7, L10.
-#![tactic(auto, unfolding(wire_events::specs::Pages::add_members, crate::specs::Answers::history_members, crate::specs::Answers::count_members, crate::specs::Answers::description_members, crate::specs::Answers::fired_members))]
+#![tactic(auto, unfolding(wire_pages::specs::Pages::add_members, crate::specs::Answers::history_members, crate::specs::Answers::count_members, crate::specs::Answers::description_members, crate::specs::Answers::fired_members))]
 
 ghost use Rattle.std.specs.Prelude.{◌≡◌, OnOk};
-ghost use Rattle.wire_events.specs.Pages.{sheet_of, add_members};
+ghost use Rattle.wire_pages.specs.Pages.{sheet_of, add_members};
 ghost use Rattle.wire_replies.specs.Answers.{with_run, with_number, task_failed_members, activity_failed_members, retrying_members, heartbeat_members, history_members, description_members, fired_members, acknowledged_name, answer_members, line_member, ok_member};
 
 use crate::tasks::{put_activity_task, put_workflow_task};
 use service_model_types::answer::{Acknowledged, Answer, Description, Fired, History, Retrying};
 use std::alloc::AllocError;
 use wf_event_values::{Cause, RetryState, RunId};
-use wire_events::{Page, put_event_list};
+use wire_events::put_event_list;
+use wire_pages::Page;
 
 fn put_ok(page: &mut Page, line: u64, ok: &str) -> Result<(), AllocError>
     ensures { OnOk result (sheet_of page.new

@@ -4,7 +4,7 @@
 //! Rules: L10.
 
 ghost use Rattle.std.specs.Prelude.{◌≡◌, ◌++◌, ◌∷◌, [], OnOk, IfOk, string_bytes};
-ghost use Rattle.wire_events.specs.Pages.{sheet_of, text_of, add_members, add_value};
+ghost use Rattle.wire_pages.specs.Pages.{sheet_of, text_of, add_members, add_value};
 ghost use Rattle.wire_replies.specs.Answers.{line_member};
 ghost use Rattle.wire_replies.specs.Replies.{refusal_members, reply_tree, reply_line, line_of};
 
@@ -13,13 +13,13 @@ use crate::quick::put_quickly;
 use service_model_types::answer::Reply;
 use std::alloc::{AllocError, Global};
 use wf_event_values::Refusal;
-use wire_events::Page;
+use wire_pages::Page;
 
 /// The bytes that a reply's text has room for before it grows: most replies are shorter.
 const USUAL_LENGTH: usize = 256;
 
 /// What a refusal is, with what it says besides its name and number.
-#[tactic(auto, unfolding(wire_events::specs::Pages::add_members))]
+#[tactic(auto, unfolding(wire_pages::specs::Pages::add_members))]
 fn put_refusal(page: &mut Page, line: u64, refusal: &Refusal) -> Result<(), AllocError>
     ensures { OnOk result (sheet_of page.new
         ≡ add_members (refusal_members refusal.now (line_member line)) (sheet_of page.old)) }
@@ -36,7 +36,7 @@ fn put_refusal(page: &mut Page, line: u64, refusal: &Refusal) -> Result<(), Allo
     Ok(())
 }
 
-#[tactic(auto, unfolding(wire_events::specs::Pages::add_value, crate::specs::Replies::reply_tree))]
+#[tactic(auto, unfolding(wire_pages::specs::Pages::add_value, crate::specs::Replies::reply_tree))]
 fn put_reply(page: &mut Page, line: u64, reply: &Reply) -> Result<(), AllocError>
     ensures { OnOk result (sheet_of page.new
         ≡ add_value (reply_tree line reply.now) (sheet_of page.old)) }
@@ -68,7 +68,7 @@ pub fn reply_text(alloc: Global, line: u64, reply: &Reply) -> Result<String, All
 }
 
 /// The reply's line, as [`reply_text`] gives it, in the memory of another text.
-#[tactic(auto, using(wire_events::proofs::Printed::printed), unfolding(crate::specs::Replies::reply_line))]
+#[tactic(auto, using(wire_pages::proofs::Printed::printed), unfolding(crate::specs::Replies::reply_line))]
 pub fn reply_text_in(
     alloc: Global,
     mut text: String,

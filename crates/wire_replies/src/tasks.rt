@@ -1,12 +1,12 @@
 //! Tasks that were taken, with the tokens that their outcomes are handed back under.
 //!
 //! Rules: L10.
-#![tactic(auto, unfolding(wire_events::specs::Pages::add_members, crate::specs::Tasks::workflow_task_members, crate::specs::Tasks::activity_members, crate::specs::Tasks::activity_task_members))]
+#![tactic(auto, unfolding(wire_pages::specs::Pages::add_members, crate::specs::Tasks::workflow_task_members, crate::specs::Tasks::activity_members, crate::specs::Tasks::activity_task_members))]
 
 ghost use Rattle.std.specs.Prelude.{◌≡◌, OnOk, codes};
 ghost use Rattle.serde_json.specs.Data.{string};
 ghost use Rattle.task_token.specs.TokenTexts.{token_text};
-ghost use Rattle.wire_events.specs.Pages.{sheet_of, add_member, add_members};
+ghost use Rattle.wire_pages.specs.Pages.{sheet_of, add_member, add_members};
 ghost use Rattle.wire_replies.specs.Answers.{line_member};
 ghost use Rattle.wire_replies.specs.Tasks.{token_of, workflow_task_members, activity_task_members};
 
@@ -14,7 +14,7 @@ use service_model_types::answer::{ActivityTask, WorkflowTask};
 use std::alloc::AllocError;
 use task_token::{TOKEN_TEXT_LENGTH, TaskToken};
 use wf_event_values::{RunId, TaskKind};
-use wire_events::Page;
+use wire_pages::Page;
 
 /// The task's token.
 fn put_token(

@@ -1,4 +1,4 @@
-use Rattle.wire_events.specs.Pages.{add_members}
+use Rattle.wire_pages.specs.Pages.{add_members}
 use Rattle.wire_replies.proofs.answers.put_task_failed.Goals as goal
 
 pub returns : goal.returns

@@ -4,8 +4,8 @@ use Rattle.task_token.specs.RunTexts.{run_text}
 use Rattle.task_token.specs.TokenTexts.{token_text}
 use Rattle.wf_event_values.specs.declared.policies.TaskKind.TheVariants.{Activity}
 use Rattle.service_model_types.specs.declared.answer.ActivityTask.{ActivityTask}
-use Rattle.wire_events.specs.Members.{optional, text_member}
-use Rattle.wire_events.specs.Pages.{Sheet, sheet_of, add_member, add_members}
+use Rattle.wire_pages.specs.Members.{optional, text_member}
+use Rattle.wire_pages.specs.Pages.{Sheet, sheet_of, add_member, add_members}
 use Rattle.wire_replies.specs.Answers.{line_member}
 use Rattle.wire_replies.specs.Tasks.{activity_members, activity_task_members, token_of}
 use Rattle.wire_replies.proofs.tasks.put_activity_task.Goals as goal

@@ -1,4 +1,4 @@
-use Rattle.wire_events.specs.Pages.{add_members}
+use Rattle.wire_pages.specs.Pages.{add_members}
 use Rattle.wire_replies.specs.Tasks.{workflow_task_members}
 use Rattle.wire_replies.proofs.tasks.put_workflow_task.Goals as goal
 

@@ -1,7 +1,0 @@
-use Rattle.wire_rows.specs.Rows.{add_row, add_rows}
-use Rattle.wire_commands.specs.Trees.{cancel_activity_rows}
-use Rattle.wire_commands.proofs.commands.put_cancel_activity.Goals as goal
-
-pub returns : goal.returns
-unfolding add_row add_rows
-returns c = simp (c.in_ok-number.ensures) at c.text.ensures

@@ -1,6 +1,0 @@
-use Rattle.wire_rows.specs.Rows.{add_row, add_rows}
-use Rattle.wire_commands.proofs.commands.put_one.Goals as goal
-
-pub returns : goal.returns
-unfolding add_row add_rows
-returns c = simp (c.in_ok-text.ensures) at c.text-2.ensures

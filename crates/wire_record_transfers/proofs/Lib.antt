@@ -1,0 +1,3 @@
+pub mod NamesBack
+pub mod TransfersBack
+pub mod TextsUtf8

@@ -1,5 +1,0 @@
-pub mod Again
-pub mod RowLemmas
-pub mod RowTexts
-pub mod NoControl
-pub mod Utf8Texts

@@ -1,3 +1,0 @@
-pub mod KeysBack
-pub mod TransfersBack
-pub mod TextsUtf8
