@@ -1,4 +1,4 @@
-use Rattle.std.proofs.Common.{◌≡◌, suc, All, List, ◌∷◌, map, refl, sym, ap₂, subst, ◌∙◌, arith}
+use Rattle.std.proofs.Common.{◌≡◌, ◌∷◌, map, refl, sym, ap₂, subst, ◌∙◌, arith}
 use Rattle.std.proofs.lemmas.List.{get_or-set_other, length-set}
 use Rattle.std.proofs.Math.Seq.{map-set_same}
 use Rattle.lanes.specs.declared.lane.Lane.{Lane}

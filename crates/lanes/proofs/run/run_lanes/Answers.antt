@@ -35,7 +35,7 @@ returns-then-branch-clause-ran g c =
       text = p.text;
       read = p.read;
       at_end = c.in_ok-turn.ensures.end c.if-branch.true;
-      told = ended-same c.in_ok-passes.ensures (c.in_ok-finish.ensures.ended _ p.text _ p.told);
+      told = ended-same c.in_ok-passes.ensures (c.in_ok-finish.ensures.told _ p.text _ p.told);
     }
 
 pub returns-then-branch-clause-own : goal.returns-then-branch-clause-own
@@ -48,7 +48,7 @@ returns-in_err-passes-clause-halted g c =
       text = p.text;
       read = p.read;
       at_end = c.in_ok-turn.ensures.end c.if-branch.true;
-      begun = ended-begun p.text _ _ _ _ (c.in_ok-finish.ensures.ended _ p.text _ p.told);
+      begun = ended-begun p.text _ _ _ _ (c.in_ok-finish.ensures.told _ p.text _ p.told);
     }))
 
 pub loop-preserved : goal.loop-preserved

@@ -25,7 +25,7 @@ pub returns-then-not-closes-clause-ends : goal.returns-then-not-closes-clause-en
 returns-then-not-closes-clause-ends g c = record {
   own = own-same (g.D.Door.admits c.args.door.now) c.args.self.now.lanes.items c.add.new.self.lanes.items c.add.ensures.passes c.requires;
   told = (λ K line gives ps lines held h. let is = found-is c.args.found (asked K line) gives c.in-Ok.ensures.known in
-    told-line lines line c.args.self.now _ held _ (subst (λ a. Added a c.args.self.now c.add.new.self) (sym is) c.in-Ok.ensures.added) (ap (λ a. is_barrier (place_in a)) is ∙ (sym c.in-Ok.ensures.barrier ∙ c.if-not-closes.true)) h);
+      told-line lines line c.args.self.now _ held _ (subst (λ a. Added a c.args.self.now c.add.new.self) (sym is) c.in-Ok.ensures.added) (ap (λ a. is_barrier (place_in a)) is ∙ (sym c.in-Ok.ensures.barrier ∙ c.if-not-closes.true)) h);
   begun = search rules;
   grows = search rules;
   fault = search rules;
@@ -35,7 +35,7 @@ pub returns-clause-ends : goal.returns-clause-ends
 returns-clause-ends g c = record {
   own = search rules;
   told = (λ K line gives ps lines held h. let is = found-is c.args.found (asked K line) gives c.in-Ok.ensures.known in
-    told-barrier lines line c.args.self.now c.add.new.self _ held _ _ (subst (λ a. Added a c.args.self.now c.add.new.self) (sym is) c.in-Ok.ensures.added) (ap (λ a. is_barrier (place_in a)) is ∙ (sym c.in-Ok.ensures.barrier ∙ c.if-not-closes.false)) c.in_ok-close.ensures.told h);
+      told-barrier lines line c.args.self.now c.add.new.self _ held _ _ (subst (λ a. Added a c.args.self.now c.add.new.self) (sym is) c.in-Ok.ensures.added) (ap (λ a. is_barrier (place_in a)) is ∙ (sym c.in-Ok.ensures.barrier ∙ c.if-not-closes.false)) c.in_ok-close.ensures.told h);
   begun = search rules;
   grows = search rules;
   fault = search rules;
@@ -46,9 +46,9 @@ returns-in_err-close-clause-ends g c = record {
   own = search rules;
   told = search rules;
   begun = (on_any_err c.from_residual.result _
-    (λ K line gives ps lines held h.
-    let is = found-is c.args.found (asked K line) gives c.in-Ok.ensures.known in
-    begins-barrier lines line c.args.self.now c.add.new.self held _ _ (subst (λ a. Added a c.args.self.now c.add.new.self) (sym is) c.in-Ok.ensures.added) (ap (λ a. is_barrier (place_in a)) is ∙ (sym c.in-Ok.ensures.barrier ∙ c.if-not-closes.false)) c.in_err-close.ensures.begun h));
+      (λ K line gives ps lines held h.
+      let is = found-is c.args.found (asked K line) gives c.in-Ok.ensures.known in
+      begins-barrier lines line c.args.self.now c.add.new.self held _ _ (subst (λ a. Added a c.args.self.now c.add.new.self) (sym is) c.in-Ok.ensures.added) (ap (λ a. is_barrier (place_in a)) is ∙ (sym c.in-Ok.ensures.barrier ∙ c.if-not-closes.false)) c.in_err-close.ensures.begun h));
   grows = search rules;
   fault = search rules;
 }

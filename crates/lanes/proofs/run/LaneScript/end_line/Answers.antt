@@ -17,7 +17,7 @@ returns-in_err-end_found-clause-ends g c = record {
   own = search rules;
   told = search rules;
   begun = (on_any_err c.from_residual.result _
-    (λ ps lines held h. c.in_err-end_found.ensures.ends.begun c.args.settings.now c.args.self.now.line c.asked-found.ensures ps lines held (told-longer lines c.args.self.now _ held _ refl refl refl refl h)));
+      (λ ps lines held h. c.in_err-end_found.ensures.ends.begun c.args.settings.now c.args.self.now.line c.asked-found.ensures ps lines held (told-longer lines c.args.self.now _ held _ refl refl refl refl h)));
   grows = search rules;
   fault = search rules;
 }

@@ -35,10 +35,10 @@ returns-in_err-take_line g c = record {
   own = search rules;
   told = search rules;
   begun = (let so_far = c.loop-part.invariant in
-    let line = c.in-Some.part.now ++ 10 ∷ [] in
-    let is = next_done c.args.chunk.now so_far.done c.loop-part.rest.now c.in-Some.part.now c.in-Some.behind.now so_far.parts c.in-Some.ensures.parts in
-    on_any_err c.from_residual.result _
-    (λ ps text held h. begins-chunk text c.args.chunk.now so_far.done line c.in-Some.behind.now held _ is (c.in_err-take_line.ensures.ends.begun ps (text ++ so_far.done) held (so_far.told ps text held h))));
+      let line = c.in-Some.part.now ++ 10 ∷ [] in
+      let is = next_done c.args.chunk.now so_far.done c.loop-part.rest.now c.in-Some.part.now c.in-Some.behind.now so_far.parts c.in-Some.ensures.parts in
+      on_any_err c.from_residual.result _
+      (λ ps text held h. begins-chunk text c.args.chunk.now so_far.done line c.in-Some.behind.now held _ is (c.in_err-take_line.ensures.ends.begun ps (text ++ so_far.done) held (so_far.told ps text held h))));
   grows = search rules;
   fault = search rules;
 }
@@ -48,9 +48,9 @@ returns-in_err-extend g c = record {
   own = search rules;
   told = search rules;
   begun = (let so_far = c.loop-part.invariant in
-    let rest = c.loop-part.rest.now in
-    on_any_err c.from_residual-in_err-extend.result _
-    (λ ps text held h. begins-chunk text c.args.chunk.now so_far.done rest [] held _ (so_far.parts ∙ sym (append-nil (so_far.done ++ rest))) (begins-part (text ++ so_far.done) rest _ held _ (so_far.told ps text held h))));
+      let rest = c.loop-part.rest.now in
+      on_any_err c.from_residual-in_err-extend.result _
+      (λ ps text held h. begins-chunk text c.args.chunk.now so_far.done rest [] held _ (so_far.parts ∙ sym (append-nil (so_far.done ++ rest))) (begins-part (text ++ so_far.done) rest _ held _ (so_far.told ps text held h))));
   grows = search rules;
   fault = search rules;
 }
@@ -59,8 +59,8 @@ pub returns : goal.returns
 returns g c = record {
   own = search rules;
   told = (let so_far = c.loop-part.invariant in
-    λ ps text held h.
-    text-whole text c.args.chunk.now so_far.done c.loop-part.rest.now c.loop-part.self _ held _ so_far.parts c.in_default.ensures.none c.in_ok-extend.ensures refl refl refl refl (so_far.told ps text held h));
+      λ ps text held h.
+      text-whole text c.args.chunk.now so_far.done c.loop-part.rest.now c.loop-part.self _ held _ so_far.parts c.in_default.ensures.none c.in_ok-extend.ensures refl refl refl refl (so_far.told ps text held h));
   begun = search rules;
   grows = search rules;
   fault = search rules;

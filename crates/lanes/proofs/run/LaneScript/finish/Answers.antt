@@ -45,7 +45,7 @@ returns-in_err-close-2 g c = record {
   own = search rules;
   told = search rules;
   begun = (on_any_err c.from_residual-in_err-close-2.result _
-    (λ ps text held h. begins-behind text c.args.self.now c.end_line.new.self held _ _ _ (sym c.is_empty.ensures ∙ c.if-is_empty.false) c.in_ok-end_line.ensures.ends.told c.in_err-close-2.ensures.begun h));
+      (λ ps text held h. begins-behind text c.args.self.now c.end_line.new.self held _ _ _ (sym c.is_empty.ensures ∙ c.if-is_empty.false) c.in_ok-end_line.ensures.ends.told c.in_err-close-2.ensures.begun h));
   grows = search rules;
   fault = search rules;
 }

@@ -42,17 +42,17 @@ returns-in_err-take_read-clause-ends g c = record {
   own = search rules;
   told = search rules;
   begun = (let h = c.loop-reader.invariant in
-    let i = c.loop-reader.reader-index in
-    let item = c.reader-item.result in
-    let xs = c.args.readers.now in
-    let below : i < length xs = omega (arith, h.count) in
-    on_any_err c.from_residual.result _
-    (λ K parts read.
-    let next = get_or parts i [] in
-    let own : IsRead K (get_or c.loop-reader.reader-items i item) next = subst (λ r. IsRead K r next) (sym (h.rest i item (omega arith))) (read-at K xs parts i item read below) in
-    subst (λ ls. BeginsLines (g.D.Door.serves c.args.door.now) (g.D.Door.meets c.args.door.now) K ls c.args.self.now (g.W.Write.contents c.args.writer.now.inner) (g.W.Write.contents c.take_read.new.writer.inner))
-    (sym (lines-split parts i (omega (arith, below, read-count K xs parts read))))
-    (begins-within K (lines_of (take i parts)) next (lines_of (drop (i + 1) parts)) c.args.self.now c.loop-reader.self _ _ _ (h.told K parts read) (c.in_err-take_read.ensures.ends.begun K next own))));
+      let i = c.loop-reader.reader-index in
+      let item = c.reader-item.result in
+      let xs = c.args.readers.now in
+      let below : i < length xs = omega (arith, h.count) in
+      on_any_err c.from_residual.result _
+      (λ K parts read.
+      let next = get_or parts i [] in
+      let own : IsRead K (get_or c.loop-reader.reader-items i item) next = subst (λ r. IsRead K r next) (sym (h.rest i item (omega arith))) (read-at K xs parts i item read below) in
+      subst (λ ls. BeginsLines (g.D.Door.serves c.args.door.now) (g.D.Door.meets c.args.door.now) K ls c.args.self.now (g.W.Write.contents c.args.writer.now.inner) (g.W.Write.contents c.take_read.new.writer.inner))
+      (sym (lines-split parts i (omega (arith, below, read-count K xs parts read))))
+      (begins-within K (lines_of (take i parts)) next (lines_of (drop (i + 1) parts)) c.args.self.now c.loop-reader.self _ _ _ (h.told K parts read) (c.in_err-take_read.ensures.ends.begun K next own))));
   grows = search rules;
   fault = search rules;
 }
@@ -61,11 +61,11 @@ pub returns-clause-ends : goal.returns-clause-ends
 returns-clause-ends g c = record {
   own = search rules;
   told = (let h = c.loop-reader.invariant in
-    let i = c.loop-reader.reader-index in
-    let xs = c.args.readers.now in
-    λ K parts read.
-    subst (λ t. TellsLines (g.D.Door.serves c.args.door.now) (g.D.Door.meets c.args.door.now) K (lines_of t) c.args.self.now c.loop-reader.self (g.W.Write.contents c.args.writer.now.inner) (g.W.Write.contents c.loop-reader.writer.inner))
-    (take_all i parts (omega (arith, h.count, c.loop-reader-test.false, read-count K xs parts read))) (h.told K parts read));
+      let i = c.loop-reader.reader-index in
+      let xs = c.args.readers.now in
+      λ K parts read.
+      subst (λ t. TellsLines (g.D.Door.serves c.args.door.now) (g.D.Door.meets c.args.door.now) K (lines_of t) c.args.self.now c.loop-reader.self (g.W.Write.contents c.args.writer.now.inner) (g.W.Write.contents c.loop-reader.writer.inner))
+      (take_all i parts (omega (arith, h.count, c.loop-reader-test.false, read-count K xs parts read))) (h.told K parts read));
   begun = search rules;
   grows = search rules;
   fault = search rules;

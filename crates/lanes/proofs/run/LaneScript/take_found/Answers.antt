@@ -27,9 +27,9 @@ returns-in_err-end_found-clause-ends g c = record {
   own = search rules;
   told = search rules;
   begun = (let h = c.loop-found.invariant in
-    on_any_err c.from_residual.result _
-    (λ K lines found. taking-begun K lines c.in-Some.found _ _ c.loop-found.self _ _ _ c.in_err-end_found.ensures.ends.begun
-    (subst (λ fs. Taking (g.D.Door.serves c.args.door.now) (g.D.Door.meets c.args.door.now) K lines fs c.args.self.now c.loop-found.self (g.W.Write.contents c.args.writer.now.inner) (g.W.Write.contents c.loop-found.writer.inner)) c.in-Some.ensures.some (h.taking K lines found))));
+      on_any_err c.from_residual.result _
+      (λ K lines found. taking-begun K lines c.in-Some.found _ _ c.loop-found.self _ _ _ c.in_err-end_found.ensures.ends.begun
+      (subst (λ fs. Taking (g.D.Door.serves c.args.door.now) (g.D.Door.meets c.args.door.now) K lines fs c.args.self.now c.loop-found.self (g.W.Write.contents c.args.writer.now.inner) (g.W.Write.contents c.loop-found.writer.inner)) c.in-Some.ensures.some (h.taking K lines found))));
   grows = search rules;
   fault = search rules;
 }
@@ -38,8 +38,8 @@ pub returns-clause-ends : goal.returns-clause-ends
 returns-clause-ends g c = record {
   own = search rules;
   told = (let h = c.loop-found.invariant in
-    λ K lines found. taking-all K lines _ _ _ _
-    (subst (λ fs. Taking (g.D.Door.serves c.args.door.now) (g.D.Door.meets c.args.door.now) K lines fs c.args.self.now c.loop-found.self (g.W.Write.contents c.args.writer.now.inner) (g.W.Write.contents c.loop-found.writer.inner)) c.in_default.ensures.none (h.taking K lines found)));
+      λ K lines found. taking-all K lines _ _ _ _
+      (subst (λ fs. Taking (g.D.Door.serves c.args.door.now) (g.D.Door.meets c.args.door.now) K lines fs c.args.self.now c.loop-found.self (g.W.Write.contents c.args.writer.now.inner) (g.W.Write.contents c.loop-found.writer.inner)) c.in_default.ensures.none (h.taking K lines found)));
   begun = search rules;
   grows = search rules;
   fault = search rules;

@@ -40,7 +40,7 @@ returns-in_err-take_found-clause-ends g c = record {
   own = search rules;
   told = search rules;
   begun = (on_any_err c.from_residual-in_err-take_found.result _
-    (λ K lines read. read-begins K _ _ lines c.args.self.now c.append.new.self _ _ c.in_ok-append.ensures.added c.in_err-take_found.ensures.ends.begun (read c.if-reader.false)));
+      (λ K lines read. read-begins K _ _ lines c.args.self.now c.append.new.self _ _ c.in_ok-append.ensures.added c.in_err-take_found.ensures.ends.begun (read c.if-reader.false)));
   grows = search rules;
   fault = search rules;
 }
