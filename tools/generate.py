@@ -1,7 +1,7 @@
 #!/usr/bin/env python3
 """Writes what follows mechanically from the fields of requests, commands, transfers and events.
 
-    tools/generate.py            says which parts of crates/ are not what tools/fields.toml gives; 1 if there are any
+    tools/generate.py            says which parts of the sources are not what tools/fields.toml gives; 1 if there are any
     tools/generate.py --write    writes these parts anew
     tools/generate.py --parts    lists all parts that are generated, a line each
 
@@ -30,6 +30,8 @@ except ModuleNotFoundError:
 TOP = Path(__file__).resolve().parent.parent
 TABLE = "tools/fields.toml"
 TYPES = "tools/fields"
+# Where the client says what events mean, and the status of a run that no event has closed.
+HISTORIES, RUNNING = "clients/python/src/wfserve/events.py", "Running"
 # Rust's formatter breaks a line that is longer, and a pattern's fields that are.
 WIDTH = 100
 PATTERN_WIDTH = 18
@@ -49,13 +51,18 @@ NAMES = {
 
 
 class Part(NamedTuple):
-    """A part of a file of crates/: which file, the line with which it begins, and its text without a last line feed.
-    A part of one line is found by how that line begins."""
+    """A part of a file: which file, the line with which it begins, and its text without a last line feed. A part of one
+    line is found by how that line begins. A file is one of crates/, or of the client by its path from the top."""
 
     file: str
     head: str
     text: str
     is_line: bool = False
+
+    @property
+    def path(self) -> str:
+        """The file's path from the top of the repository."""
+        return self.file if self.file.startswith("clients/") else f"crates/{self.file}"
 
 
 class Field(NamedTuple):
@@ -568,6 +575,31 @@ def kind_definitions(listed: Table) -> Iterator[Part]:
     yield Part(file, head, "\n".join([head, *(f'kind_name kind.{name} = codes "{name}"' for name, _ in every)]))
 
 
+def python_table(head: str, rows: list[str]) -> Part:
+    """A table of the client that reads histories."""
+    return Part(HISTORIES, head, "\n".join([head, *(f"    {row}," for row in rows), "}"]))
+
+
+def endings(table: Table) -> Iterator[Part]:
+    """Which event opens what in a history, which one ends it, and which status a run has that an event closes."""
+    openings = table["opening"]
+    yield python_table("OPENINGS: Dict[str, Opening] = {", [
+        f'"{it["event"]}": Opening({it["key"].upper()}, "{it["kind"]}", "{it["name"]}")' for it in openings if "kind" in it])
+    yield python_table("ENDS: Dict[str, str] = {", [
+        f'"{end}": {it["key"].upper()}' for it in openings if "kind" in it for end in it["ends"]])
+    yield python_table("SETTLES: Dict[str, str] = {", [
+        f'"{end}": {it["key"].upper()}' for it in openings for end in settled_by(it)])
+    statuses, = (listed for listed in table["names"] if listed["name"] == "Status")
+    yield python_table("STATUS: Dict[str, str] = {", [
+        f'"WorkflowExecution{word}": "{word}"' for _, word in rows_of(statuses) if word != RUNNING])
+
+
+def settled_by(opening: Table) -> list[str]:
+    """The ends that a workflow's code learns of."""
+    said = opening.get("settles", [])
+    return opening["ends"] if said is True else said
+
+
 MAKERS: dict[str, Callable[[Table, Table], Part]] = {
     "limits": limits, "rows": rows, "put": writer, "known": known, "members": event_members, "event": event_writer,
     "fields_of": line_fields, "reader": line_reader, "back": read_back,
@@ -598,6 +630,7 @@ def parts_of(table: Table) -> Iterator[Part]:
             yield from content_kinds(listed)
     for listed in table["names"]:
         yield from names(listed)
+    yield from endings(table)
 
 
 def place_of(text: str, part: Part) -> tuple[int, int] | None:
@@ -615,13 +648,13 @@ def look(table: Table, top: Path, writes: bool) -> list[str]:
     """The parts that stand in the files in another way than the table gives. They are written where that is asked."""
     faults = []
     for part in parts_of(table):
-        path = top / "crates" / part.file
+        path = top / part.path
         text = path.read_text(encoding="utf-8") if path.is_file() else ""
         place = place_of(text, part)
         if not place:
-            faults.append(f"crates/{part.file}: there is not one part that begins: {part.head}")
+            faults.append(f"{part.path}: there is not one part that begins: {part.head}")
         elif text[place[0]:place[1]] != part.text:
-            faults.append(f"crates/{part.file}: not what {TABLE} gives: {part.head}")
+            faults.append(f"{part.path}: not what {TABLE} gives: {part.head}")
             if writes:
                 path.write_text(text[:place[0]] + part.text + text[place[1]:], encoding="utf-8")
     return faults
@@ -645,7 +678,7 @@ def main(words: list[str]) -> int:
     table = read_table()
     if asked.parts:
         parts = list(parts_of(table))
-        print("\n".join(f"crates/{part.file}: {part.head} ({part.text.count(chr(10)) + 1} lines)" for part in parts))
+        print("\n".join(f"{part.path}: {part.head} ({part.text.count(chr(10)) + 1} lines)" for part in parts))
         print(f"{len(parts)} parts, {sum(part.text.count(chr(10)) + 1 for part in parts):,} lines", file=sys.stderr)
         return 0
     faults = look(table, TOP, asked.write)

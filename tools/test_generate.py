@@ -1,4 +1,4 @@
-"""What is generated is what stands in crates/, and a table that is changed changes each place and no other line."""
+"""What is generated is what stands in the sources, and a table that is changed changes each place and no other line."""
 
 import contextlib
 import copy
@@ -24,12 +24,12 @@ class Generated(unittest.TestCase):
         self.top = Path(folder.name)
         self.table = generate.read_table()
         self.parts = list(generate.parts_of(self.table))
-        for file in {part.file for part in self.parts}:
-            (self.top / "crates" / file).parent.mkdir(parents=True, exist_ok=True)
-            shutil.copy(generate.TOP / "crates" / file, self.top / "crates" / file)
+        for path in {part.path for part in self.parts}:
+            (self.top / path).parent.mkdir(parents=True, exist_ok=True)
+            shutil.copy(generate.TOP / path, self.top / path)
 
     def text(self, file: str) -> str:
-        return (self.top / "crates" / file).read_text(encoding="utf-8")
+        return (self.top / generate.Part(file, "", "").path).read_text(encoding="utf-8")
 
     def type_named(self, table: dict, name: str) -> dict:
         return next(kind for kind in table["type"] if kind["name"] == name)
@@ -57,11 +57,11 @@ class Generated(unittest.TestCase):
     def test_each_line_that_is_changed_by_hand_is_found_and_written_back(self):
         for part in self.parts[::12]:
             with self.subTest(head=part.head):
-                path, lines = self.top / "crates" / part.file, part.text.split("\n")
+                path, lines = self.top / part.path, part.text.split("\n")
                 text = path.read_text(encoding="utf-8")
                 path.write_text(text.replace(part.text, "\n".join([*lines[:-1], lines[-1] + " "])), encoding="utf-8")
                 faults = generate.look(self.table, self.top, writes=True)
-                self.assertEqual(faults, [f"crates/{part.file}: not what {generate.TABLE} gives: {part.head}"])
+                self.assertEqual(faults, [f"{part.path}: not what {generate.TABLE} gives: {part.head}"])
                 self.assertEqual(path.read_text(encoding="utf-8"), text)
 
     def test_a_part_that_is_not_there_or_there_twice_is_a_fault(self):
@@ -73,6 +73,31 @@ class Generated(unittest.TestCase):
             self.assertEqual(generate.look(self.table, self.top, writes=True),
                              [f"crates/wire_record_steps/specs/Limits.antt: there is not one part that begins: {head}"])
             self.assertEqual(path.read_text(encoding="utf-8"), other)
+
+    def test_what_ends_something_names_the_event_that_opened_it(self):
+        types = {kind["name"]: generate.fields_of(kind) for kind in self.table["type"]}
+        attributes, = (listed for listed in self.table["enum"] if listed["name"] == "Attributes")
+        carried = {name: of.removeprefix("Boxed<").rstrip(">") for name, of in generate.variants_of(attributes)}
+        ended = [end for opening in self.table["opening"] for end in opening["ends"]]
+        self.assertEqual(len(ended), len(set(ended)))
+        for opening in self.table["opening"]:
+            self.assertIn(opening["event"], carried)
+            if "name" in opening:
+                self.assertIn(opening["name"], [field.key for field in types[carried[opening["event"]]]])
+            for end in opening["ends"]:
+                self.assertIn(opening["key"], [field.key for field in types[carried[end]]], end)
+            self.assertLessEqual(set(generate.settled_by(opening)), set(opening["ends"]))
+        closing = next(part for part in self.parts if part.head.startswith("STATUS"))
+        for event in closing.text.split('"')[1::4]:
+            self.assertIn(event, carried)
+
+    def test_an_event_that_ends_something_is_one_row(self):
+        def change(table: dict) -> None:
+            table["opening"][1]["ends"].append("ActivityTaskSkipped")
+
+        # It ends a bar, and settles what code waits for.
+        row = '    "ActivityTaskSkipped": SCHEDULED,'
+        self.assertEqual(self.written_with(change), {generate.HISTORIES: [row, row]})
 
     def test_a_new_field_of_a_request_is_one_row(self):
         def change(table: dict) -> None:

@@ -5,7 +5,7 @@ use crate::http::{answer, in_time, read_body, Answer, Front, Refusal, JSON};
 use crate::json::{Object, Value};
 use crate::log_fault::LogFault;
 use crate::say::say;
-use hyper::body::{Bytes, HttpBody};
+use hyper::body::Bytes;
 use hyper::header::{HeaderName, HeaderValue, CACHE_CONTROL, CONTENT_DISPOSITION, CONTENT_SECURITY_POLICY};
 use hyper::header::{ALLOW, X_CONTENT_TYPE_OPTIONS};
 use hyper::{Body, Method, Request};
@@ -29,7 +29,7 @@ pub fn named_in(path: &str) -> Option<&str> {
 
 impl Front {
     /// Answers a request for a blob of this name.
-    pub async fn blob(&self, request: Request<Body>) -> Answer {
+    pub async fn blob(&self, request: &mut Request<Body>) -> Answer {
         let name = named_in(request.uri().path()).unwrap_or_default().to_string();
         let blobs = self.blobs.clone();
         match *request.method() {
@@ -45,12 +45,9 @@ impl Front {
     }
 
     /// Keeps a body by its hash. It is synced once this is answered.
-    async fn put_blob(&self, blobs: Arc<dyn Store>, name: String, request: Request<Body>) -> Answer {
+    async fn put_blob(&self, blobs: Arc<dyn Store>, name: String, request: &mut Request<Body>) -> Answer {
         let too_large = || Refusal::new(413, "BlobTooLarge", format!("a blob has at most {MOST_BYTES} bytes"));
-        if request.body().size_hint().lower() > MOST_BYTES as u64 {
-            return Err(too_large());
-        }
-        let body = in_time(self.read_timeout, read_body(request.into_body(), MOST_BYTES)).await?;
+        let body = in_time(self.read_timeout, read_body(request.body_mut(), MOST_BYTES)).await?;
         let data = body.ok_or_else(too_large)?;
         let length = data.len();
         let kept = blocking(move || match name_of(&data) == name {
@@ -74,7 +71,7 @@ impl Front {
 
     /// For the page too: the body says which blobs are named at a moment, and before which one all are deleted that were put
     /// and named last before it. Moments are in seconds since 1970.
-    pub async fn sweep_blobs(&self, request: Request<Body>) -> Answer {
+    pub async fn sweep_blobs(&self, request: &mut Request<Body>) -> Answer {
         let body = self.body_of(request).await?;
         let Sweep { named, at, before } =
             sweep_of(&body).ok_or_else(|| Refusal::new(400, "BadCall", "the body is no sweep"))?;

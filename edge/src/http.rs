@@ -21,8 +21,8 @@ use std::time::Duration;
 const BODY_LIMIT: usize = 1_048_576;
 /// So many bytes the first line of a request and its headers may have, with their line ends.
 pub const HEAD_LIMIT: usize = 16_384;
-/// Of a body that is too long so much is read and dropped, so that its client reads why it is refused.
-const DROPPED: usize = 16 << 20;
+/// The rest of a body that has at most so many bytes is read before its request is refused: the connection goes on then.
+const SHORT_BODY: u64 = 1 << 16;
 /// After so many seconds a call that was not taken may be made again.
 const RETRY_SECONDS: u16 = 1;
 pub const JSON: &str = "application/json; charset=utf-8";
@@ -93,30 +93,42 @@ fn closing(mut response: Response<Body>) -> Response<Body> {
     response
 }
 
+/// Whether the connection is closed after this answer, with what its client still sends.
+pub fn is_last(response: &Response<Body>) -> bool {
+    response.headers().contains_key(CONNECTION)
+}
+
 impl Front {
-    /// Answers a request.
-    pub async fn answer(&self, request: Request<Body>) -> Response<Body> {
+    /// Answers a request. Where its body was not read to its end, nothing is read after it.
+    pub async fn answer(&self, mut request: Request<Body>) -> Response<Body> {
         if head_bytes(&request) > HEAD_LIMIT {
             let said = format!("a request's head has at most {HEAD_LIMIT} bytes");
             return closing(refused(&Refusal::new(431, "HeadTooLong", said)));
         }
+        // Where something in front of the edge reads a chunked body otherwise, nothing follows it.
         let is_chunked = request.headers().contains_key(TRANSFER_ENCODING);
         if is_chunked && request.headers().contains_key(CONTENT_LENGTH) {
-            // Its body is read by the one length, so that its client reads why it is refused.
-            let _ = tokio::time::timeout(self.read_timeout, read_body(request.into_body(), BODY_LIMIT)).await;
             return closing(refused(&Refusal::new(400, "BadRequest", "a body has one length")));
         }
         let response = match self.guarded(&request) {
             Some(response) => response,
-            None => self.route(request).await.unwrap_or_else(|refusal| refused(&refusal)),
+            None => self.route(&mut request).await.unwrap_or_else(|refusal| refused(&refusal)),
         };
-        // Where something in front of the edge reads a chunked body otherwise, nothing follows it.
         let is_slow = response.status() == StatusCode::REQUEST_TIMEOUT;
-        if is_chunked || is_slow {
-            closing(response)
-        } else {
-            response
+        match is_chunked || is_slow || !self.has_read(request.body_mut()).await {
+            true => closing(response),
+            false => response,
         }
+    }
+
+    /// Whether a body was read to its end. The rest of a short one is read and dropped.
+    async fn has_read(&self, body: &mut Body) -> bool {
+        if body.is_end_stream() {
+            return true;
+        }
+        let is_short = body.size_hint().upper().map_or(false, |most| most <= SHORT_BODY);
+        let rest = async { while let Some(Ok(_)) = body.data().await {} };
+        is_short && tokio::time::timeout(self.read_timeout, rest).await.is_ok() && body.is_end_stream()
     }
 
     /// The answer to a request that is not let in.
@@ -138,7 +150,7 @@ impl Front {
         }
     }
 
-    async fn route(&self, request: Request<Body>) -> Answer {
+    async fn route(&self, request: &mut Request<Body>) -> Answer {
         let (is_get, is_post) = (request.method() == Method::GET, request.method() == Method::POST);
         match request.uri().path() {
             "/calls" if is_post => self.call(request, None).await,
@@ -148,7 +160,7 @@ impl Front {
             "/health/live" if is_get => Ok(answer(200, JSON, "{\"status\": \"live\"}")),
             "/health/ready" if is_get => Ok(self.ready()),
             "/metrics" if is_get => Ok(answer(200, "text/plain; charset=utf-8", self.core.metrics())),
-            "/feed" if is_get && self.is_private => self.feed(&request),
+            "/feed" if is_get && self.is_private => self.feed(request),
             "/blobs" if is_get && self.is_private => self.has_blobs().await,
             "/blobs" if is_post && self.is_private => self.sweep_blobs(request).await,
             "/records" if is_get && self.is_private => Ok(answer(200, JSON, self.core.records())),
@@ -156,14 +168,17 @@ impl Front {
             path if named_in(path).is_some() => Ok(not_allowed("POST")),
             "/health/live" | "/health/ready" | "/metrics" => Ok(not_allowed("GET")),
             _ => match &self.page {
-                Some(page) if is_get => page.answer(request).await.map_err(|said| Refusal::new(503, "NoPage", said)),
+                Some(page) if is_get => {
+                    let asked = without_body(request);
+                    page.answer(asked).await.map_err(|said| Refusal::new(503, "NoPage", said))
+                }
                 _ => Err(Refusal::new(404, "NotFound", "404: Not Found")),
             },
         }
     }
 
     /// Answers a call whose operation the path names, by the status of its reply.
-    async fn call_named(&self, request: Request<Body>) -> Answer {
+    async fn call_named(&self, request: &mut Request<Body>) -> Answer {
         let name = named_in(request.uri().path()).unwrap_or_default().to_string();
         match is_operation(&name) {
             true => self.call(request, Some(&name)).await,
@@ -172,7 +187,7 @@ impl Front {
     }
 
     /// Answers a call by its reply. Its operation is the body's, or this one.
-    async fn call(&self, request: Request<Body>, named: Option<&str>) -> Answer {
+    async fn call(&self, request: &mut Request<Body>, named: Option<&str>) -> Answer {
         let key = match request.headers().get("idempotency-key") {
             None => None,
             Some(value) => Some(call_key(value.to_str().unwrap_or("")).map_err(Refusal::from)?),
@@ -191,7 +206,7 @@ impl Front {
     }
 
     /// Compacts the log while it is served, with room for so many tasks in its queues. Calls wait meanwhile.
-    async fn compact(&self, request: Request<Body>) -> Answer {
+    async fn compact(&self, request: &mut Request<Body>) -> Answer {
         let body = self.body_of(request).await?;
         let outcome = self.core.compact(capacity_of(&body)?)?;
         let done = outcome.await.unwrap_or(Err(Fault::Draining))?;
@@ -225,14 +240,14 @@ impl Front {
     }
 
     /// The body of a call, which has to come within so many seconds.
-    pub async fn body_of(&self, request: Request<Body>) -> Result<Bytes, Refusal> {
+    pub async fn body_of(&self, request: &mut Request<Body>) -> Result<Bytes, Refusal> {
         // A page of another site can't send this type without asking first.
         let kind = request.headers().get(CONTENT_TYPE).and_then(|kind| kind.to_str().ok()).unwrap_or("");
         let kind = kind.split(';').next().unwrap_or("").trim();
         if !kind.eq_ignore_ascii_case("application/json") {
             return Err(Refusal::new(415, "NotJson", "a call is application/json"));
         }
-        let body = in_time(self.read_timeout, read_body(request.into_body(), BODY_LIMIT)).await?;
+        let body = in_time(self.read_timeout, read_body(request.body_mut(), BODY_LIMIT)).await?;
         body.ok_or_else(|| Refusal::new(413, "RequestEntityTooLarge", format!("a body has at most {BODY_LIMIT} bytes")))
     }
 }
@@ -253,14 +268,27 @@ fn head_bytes(request: &Request<Body>) -> usize {
     first + headers.map(|(name, value)| name.as_str().len() + value.len() + ": \r\n".len()).sum::<usize>()
 }
 
+/// A request for the page, which reads no bodies. Its body stays where it was.
+fn without_body(request: &mut Request<Body>) -> Request<Body> {
+    let mut asked = std::mem::take(request);
+    std::mem::swap(asked.body_mut(), request.body_mut());
+    for name in [CONTENT_LENGTH, TRANSFER_ENCODING] {
+        asked.headers_mut().remove(name);
+    }
+    asked
+}
+
 fn not_allowed(method: &'static str) -> Response<Body> {
     let mut response = refused(&Refusal::new(405, "MethodNotAllowed", "405: Method Not Allowed"));
     response.headers_mut().insert(ALLOW, HeaderValue::from_static(method));
     response
 }
 
-/// Reads a body. None where it has more than so many bytes.
-pub async fn read_body(mut body: Body, most: usize) -> Result<Option<Bytes>, Refusal> {
+/// Reads a body. None where it has more than so many bytes: what is left of it stays unread.
+pub async fn read_body(body: &mut Body, most: usize) -> Result<Option<Bytes>, Refusal> {
+    if body.size_hint().lower() > most as u64 {
+        return Ok(None);
+    }
     let hung_up = |_| Refusal::new(400, "BadCall", "the client hung up");
     let first = match body.data().await {
         Some(first) => first.map_err(hung_up)?,
@@ -269,18 +297,14 @@ pub async fn read_body(mut body: Body, most: usize) -> Result<Option<Bytes>, Ref
     if body.is_end_stream() && first.len() <= most {
         return Ok(Some(first));
     }
-    let (mut whole, mut read) = (first.to_vec(), first.len());
-    while let Some(piece) = body.data().await {
-        let piece = piece.map_err(hung_up)?;
-        read += piece.len();
-        if read > DROPPED {
-            break;
-        }
-        if read <= most {
-            whole.extend_from_slice(&piece);
+    let mut whole = first.to_vec();
+    while whole.len() <= most {
+        match body.data().await {
+            Some(piece) => whole.extend_from_slice(&piece.map_err(hung_up)?),
+            None => return Ok(Some(whole.into())),
         }
     }
-    Ok((read <= most).then(|| whole.into()))
+    Ok(None)
 }
 
 /// For how many tasks a request to compact wants room in the queues; 0 where it doesn't say.

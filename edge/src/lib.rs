@@ -25,6 +25,7 @@ mod kept;
 mod ledger;
 mod line_log;
 mod lines;
+mod lingering;
 mod listen;
 mod local;
 mod log;

@@ -11,6 +11,7 @@ use crate::listen::Connections;
 use crate::system::privately;
 use hyper::body::Bytes;
 use std::os::unix::fs::FileTypeExt;
+use std::sync::atomic::{AtomicBool, Ordering::SeqCst};
 use std::sync::Arc;
 use std::time::Duration;
 use tokio::io::{AsyncReadExt, AsyncWriteExt, Interest};
@@ -24,6 +25,9 @@ const ON_THEIR_WAY: usize = 128;
 /// So many bytes of answers are written at once.
 const WRITTEN_AT_ONCE: usize = 1 << 16;
 const PAUSE: Duration = Duration::from_millis(50);
+/// Of what a client sends behind a line that is too long so much is dropped, for so long.
+const DROPPED: usize = 16 << 20;
+const LINGERS: Duration = Duration::from_secs(5);
 
 /// What becomes of a line: its outcome is waited for, or it was refused.
 type Asked = Result<Outcome, Fault>;
@@ -58,12 +62,13 @@ pub async fn serve(listener: UnixListener, core: Arc<Core>, connections: Arc<Con
 
 /// Serves one connection, until all that it asked is answered or its client has hung up.
 async fn talk(socket: UnixStream, core: Arc<Core>, connections: &Connections) {
-    let (mut input, output) = socket.into_split();
+    let (mut input, mut output) = socket.into_split();
     let (ask, asked) = mpsc::channel(ON_THEIR_WAY);
     let mut stop = connections.told_to_stop();
+    let is_unread = AtomicBool::new(false);
     let hung_up = async {
         tokio::select! {
-            () = read_lines(&mut input, &core, ask) => {}
+            is_whole = read_lines(&mut input, &core, ask) => is_unread.store(!is_whole, SeqCst),
             _ = stop.changed() => {}
         }
         while !is_closed(&input).await {
@@ -71,8 +76,22 @@ async fn talk(socket: UnixStream, core: Arc<Core>, connections: &Connections) {
         }
     };
     tokio::select! {
-        () = answer(output, asked) => {}
+        () = answer(&mut output, asked) => {}
         () = hung_up => {}
+    }
+    if is_unread.load(SeqCst) && output.shutdown().await.is_ok() {
+        let _ = tokio::time::timeout(LINGERS, drop_rest(&mut input)).await;
+    }
+}
+
+/// Drops what a client still sends, up to some bytes: it reads its answers then, and no reset.
+async fn drop_rest(input: &mut OwnedReadHalf) {
+    let (mut dropped, mut data) = (0, [0; 1 << 14]);
+    while dropped < DROPPED {
+        match input.read(&mut data).await {
+            Ok(count) if count > 0 => dropped += count,
+            _ => return,
+        }
     }
 }
 
@@ -81,8 +100,8 @@ async fn is_closed(input: &OwnedReadHalf) -> bool {
     input.ready(Interest::WRITABLE).await.map_or(true, |ready| ready.is_write_closed())
 }
 
-/// Reads lines and asks them.
-async fn read_lines(input: &mut OwnedReadHalf, core: &Core, ask: mpsc::Sender<Asked>) {
+/// Reads lines and asks them. False where one was too long, of which the rest is unread.
+async fn read_lines(input: &mut OwnedReadHalf, core: &Core, ask: mpsc::Sender<Asked>) -> bool {
     let mut data = Vec::with_capacity(1 << 14);
     loop {
         let mut begin = 0;
@@ -90,17 +109,17 @@ async fn read_lines(input: &mut OwnedReadHalf, core: &Core, ask: mpsc::Sender<As
             let line = &data[begin..begin + length];
             begin += length + 1;
             if ask.send(asked(core, line)).await.is_err() {
-                return;
+                return true;
             }
         }
         data.drain(..begin);
         if data.len() > LINE_LIMIT {
             let fault = Fault::BadCall(format!("a line has at most {LINE_LIMIT} bytes"));
             let _ = ask.send(Err(fault)).await;
-            return;
+            return false;
         }
         if !matches!(input.read_buf(&mut data).await, Ok(count) if count > 0) {
-            return;
+            return true;
         }
     }
 }
@@ -111,13 +130,13 @@ fn asked(core: &Core, line: &[u8]) -> Asked {
 }
 
 /// Writes the answers in the order of the lines.
-async fn answer(mut output: OwnedWriteHalf, mut asked: mpsc::Receiver<Asked>) {
+async fn answer(output: &mut OwnedWriteHalf, mut asked: mpsc::Receiver<Asked>) {
     let mut text = Vec::new();
     while let Some(first) = asked.recv().await {
         put(&mut text, outcome_of(first).await);
         while text.len() < WRITTEN_AT_ONCE {
             match asked.try_recv() {
-                Ok(next) => put_next(&mut output, &mut text, next).await,
+                Ok(next) => put_next(output, &mut text, next).await,
                 Err(_) => break,
             }
         }

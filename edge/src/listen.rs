@@ -1,6 +1,7 @@
 //! The edge's sockets: HTTP over TCP, and over a private socket for the page.
 
-use crate::http::{Front, HEAD_LIMIT};
+use crate::http::{is_last, Front, HEAD_LIMIT};
+use crate::lingering::Lingering;
 use hyper::server::conn::Http;
 use hyper::service::service_fn;
 use std::convert::Infallible;
@@ -61,20 +62,42 @@ impl Connections {
     }
 }
 
-/// When something was asked or answered on a connection last.
-struct Activity {
+/// What is going on on a connection, and when something was asked or answered on it last.
+pub struct Activity {
     last: Mutex<Instant>,
     is_serving: AtomicUsize,
     was_asked: AtomicBool,
+    /// Whether an answer was the last one, so that what its client still sends is not read.
+    is_unread: AtomicBool,
+    /// Whether the edge was told to stop.
+    is_stopped: AtomicBool,
 }
 
 impl Activity {
-    fn new() -> Activity {
+    pub fn new() -> Activity {
         Activity {
             last: Mutex::new(Instant::now()),
             is_serving: AtomicUsize::new(0),
             was_asked: AtomicBool::new(false),
+            is_unread: AtomicBool::new(false),
+            is_stopped: AtomicBool::new(false),
         }
+    }
+
+    /// Notes that nothing more is read after an answer.
+    pub fn leave_unread(&self) {
+        self.is_unread.store(true, SeqCst);
+    }
+
+    /// Notes that the edge was told to stop.
+    pub fn stop(&self) {
+        self.is_stopped.store(true, SeqCst);
+    }
+
+    /// Whether its client may still send something, and so is waited for. An edge that stops waits for no client whose
+    /// requests are all answered.
+    pub fn lingers(&self) -> bool {
+        self.is_unread.load(SeqCst) || !self.is_stopped.load(SeqCst)
     }
 
     fn note(&self) {
@@ -143,12 +166,16 @@ where
         async move {
             activity.begin();
             let response = front.answer(request).await;
+            if is_last(&response) {
+                activity.leave_unread();
+            }
             activity.end();
             Ok::<_, Infallible>(response)
         }
     });
     let mut http = Http::new();
     http.http1_only(true).max_buf_size(HEAD_BUFFER).http1_header_read_timeout(read_timeout);
+    let socket = Lingering::new(socket, activity.clone(), read_timeout);
     let connection = http.serve_connection(socket, service);
     tokio::pin!(connection);
     loop {
@@ -158,7 +185,10 @@ where
         };
         tokio::select! {
             _ = &mut connection => return,
-            _ = stop.changed() => connection.as_mut().graceful_shutdown(),
+            _ = stop.changed() => {
+                activity.stop();
+                connection.as_mut().graceful_shutdown();
+            }
             _ = tokio::time::sleep(rest + PAUSE) => {}
         }
     }

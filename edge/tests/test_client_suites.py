@@ -13,6 +13,7 @@ import test_orders
 import test_page
 import test_server
 import test_server_backlog
+import test_server_early
 import test_server_edge
 import test_server_faults
 import test_server_going_on
@@ -37,6 +38,11 @@ class FiftyClients(test_server.FiftyClients):
 
 @needs_edge
 class Health(test_server_edge.Health):
+    pass
+
+
+@needs_edge
+class Early(test_server_early.Early):
     pass
 
 

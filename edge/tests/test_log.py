@@ -172,7 +172,7 @@ class ByHand(WithAServer):
             server.start()
         try:
             return server.asked("GET", "/health/ready")[0] == 200
-        except OSError:
+        except (OSError, http.client.HTTPException):
             return False
 
     def test_what_clients_had_is_what_the_log_gives(self):

@@ -9,6 +9,7 @@ import unittest
 from unittest import mock
 
 from support.programs import has_loopback
+from support.served import until
 from wfserve import http as http_calls
 from wfserve.calls import Task
 from wfserve.errors import CallLost, NotServed, Refused
@@ -125,7 +126,7 @@ class HttpCalls(unittest.TestCase):
         begun = time.monotonic()
         with self.assertRaises(NotServed):
             service.complete_activity(TASK)
-        self.assertLess(time.monotonic() - begun, 10)
+        self.assertLess(time.monotonic() - begun, 30)
         self.assertIn(len(self.server.asked), range(2, 60))
 
     def test_an_activity_does_not_wait_long_for_its_heartbeat(self):
@@ -133,7 +134,7 @@ class HttpCalls(unittest.TestCase):
         begun = time.monotonic()
         with self.assertRaises(NotServed):
             self.service.heartbeat(TASK)
-        self.assertLess(time.monotonic() - begun, http_calls.HEARTBEAT_PATIENCE + 10)
+        self.assertLess(time.monotonic() - begun, http_calls.HEARTBEAT_PATIENCE + 30)
 
     def test_pauses_grow_up_to_the_longest_and_are_not_all_the_same(self):
         for drawn, share in ((0.0, 0.5), (1.0, 1.0)):
@@ -153,9 +154,9 @@ class HttpCalls(unittest.TestCase):
 
         calling = threading.Thread(target=call)
         calling.start()
-        time.sleep(0.2)
+        until(lambda: self.server.asked)
         self.service.close()
-        calling.join(10)
+        calling.join(60)
         self.assertEqual(len(faults), 1)
 
     def test_connections_that_were_lost_are_not_kept(self):

@@ -18,7 +18,7 @@ from concurrent.futures import ThreadPoolExecutor
 
 from support import CLIENT
 from support.programs import BUILT, COUNTING, SERVER, SERVER_PYTHON, memory_folder, needs_program, needs_server
-from support.served import Server
+from support.served import Server, until
 from examples import children
 from wfserve.errors import CallLost, NotServed, Refused
 from wfserve.ids import run_id, run_of_token
@@ -190,13 +190,13 @@ class Served(WithAServer):
     def test_a_long_poll_gets_the_task_when_it_comes(self):
         server = self.serve()
         found = []
-        poller = threading.Thread(target=lambda: found.append(server.client(wait=20_000).poll_workflow_task()))
+        poller = threading.Thread(target=lambda: found.append(server.client(wait=60_000).poll_workflow_task()))
         poller.start()
-        time.sleep(0.3)
+        server.has_polls(1)
         begun = time.monotonic()
         run = server.client().start("w", "spoken")
         poller.join()
-        self.assertLess(time.monotonic() - begun, 5)
+        self.assertLess(time.monotonic() - begun, 30)
         self.assertEqual(found[0].run, run)
         self.assertEqual(run_of_token(found[0].token, 1), run)
         self.assertIsNone(server.client(wait=100).poll_workflow_task())
@@ -204,12 +204,11 @@ class Served(WithAServer):
     def test_a_poll_of_a_client_that_hung_up_takes_no_task(self):
         server = self.serve()
         gone = socket.create_connection((server.host, server.port))
-        gone.sendall(posted({"op": "poll_workflow_task", "task_queue": "main", "wait": 20_000}))
-        time.sleep(0.3)
+        gone.sendall(posted({"op": "poll_workflow_task", "task_queue": "main", "wait": 60_000}))
+        server.has_polls(1)
         gone.close()
-        time.sleep(0.1)
         server.client().start("w", "spoken")
-        self.assertIsNotNone(server.client(wait=5_000).poll_workflow_task())
+        self.assertIsNotNone(server.client(wait=20_000).poll_workflow_task())
 
     def test_workers_over_http_run_workflows(self):
         server, stop = self.serve(), threading.Event()
@@ -248,10 +247,7 @@ class Served(WithAServer):
         self.assertIn("no hotel for a trip without cars", client.history("booking-1")[-1]["attrs"]["result"])
 
     def wait(self, holds):
-        late = time.monotonic() + 30
-        while not holds():
-            self.assertLess(time.monotonic(), late)
-            time.sleep(0.05)
+        until(holds)
 
     def test_a_server_that_is_killed_goes_on(self):
         server = self.serve()

@@ -5,6 +5,7 @@ import time
 import unittest
 
 from support.programs import BUILT, needs_program, needs_server
+from support.served import until
 from wfserve.calls import Clock
 from wfserve.durable import DurableService
 from wfserve.server.moments import Moments
@@ -78,7 +79,7 @@ class Clocks(unittest.TestCase):
 class GoingOn(WithAServer):
     def test_a_poll_finds_what_waits_after_hints_of_what_is_over(self):
         server = self.serve("--capacity", "2")
-        client = server.client(wait=10_000)
+        client = server.client(wait=60_000)
         for name in "abcde":
             client.start(name, "naps", request_id=name)
         for name in "abcd":
@@ -87,15 +88,14 @@ class GoingOn(WithAServer):
         time.sleep(0.3)
         begun = time.monotonic()
         self.assertEqual(client.poll_workflow_task().workflow_id, "e")
-        self.assertLess(time.monotonic() - begun, 5)
+        self.assertLess(time.monotonic() - begun, 30)
 
     def test_a_full_queue_is_emptied_by_polls_alone(self):
         server = self.serve("--capacity", "2")
         client = server.client(wait=10_000)
         for number in range(9):
             client.start(f"w{number}", "naps")
-        time.sleep(0.3)
-        self.assertTrue(server.read("/health/ready")["queue_full"])
+        until(lambda: server.read("/health/ready")["queue_full"])
         found = {client.poll_workflow_task().workflow_id for _ in range(9)}
         self.assertEqual(found, {f"w{number}" for number in range(9)})
         self.assertFalse(server.read("/health/ready")["queue_full"])
@@ -118,7 +118,7 @@ class GoingOn(WithAServer):
         worker = threading.Thread(target=Worker(client, workflows=[naps]).run, args=(stop,))
         worker.start()
         try:
-            late = time.monotonic() + 15
+            late = time.monotonic() + 60
             while client.describe("before")["status"] == "Running" and time.monotonic() < late:
                 time.sleep(0.1)
         finally:

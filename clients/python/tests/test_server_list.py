@@ -12,6 +12,7 @@ import time
 import unittest
 
 from support.programs import BUILT, needs_program, needs_server
+from support.served import until
 from wfserve.calls import Clock
 from wfserve.durable import DurableService, Settings
 from wfserve.ids import run_id
@@ -162,10 +163,7 @@ class Lists(WithAServer):
         working = threading.Thread(target=worker.run, args=(stop,))
         working.start()
         try:
-            late = time.monotonic() + 20
-            while not done():
-                self.assertLess(time.monotonic(), late)
-                time.sleep(0.05)
+            until(done)
         finally:
             stop.set()
             working.join()
@@ -242,8 +240,7 @@ class Lists(WithAServer):
         self.assertEqual(server.asked("POST", "/compact", b"{}")[0], 200)
         server.stop()
         server.start()
-        time.sleep(1.2)
-        self.assertEqual(self.found(server), [("kept", "child", "Running"), ("w", "child", "Running")])
+        until(lambda: self.found(server) == [("kept", "child", "Running"), ("w", "child", "Running")])
 
     def test_a_workflow_whose_code_fails_is_shown_as_stuck(self):
         server = self.serve()

@@ -127,7 +127,7 @@ class Again(OverALog):
                     task = json.loads(await asyncio.wait_for(again, 10))
                     self.assertEqual((task["workflow_id"], gone.done()), (key, False))
                 gone = served.submit("c", **poll)
-                await asyncio.sleep(0.5)
+                await served.idle()
                 joined = served.submit("c", **poll)
                 self.assertEqual(json.loads(await asyncio.wait_for(joined, 10))["ok"], "empty")
                 self.assertEqual(gone.result(), joined.result())
@@ -243,7 +243,7 @@ class Disturbed(WithAServer):
             server.start()
         try:
             return server.asked("GET", "/health/ready")[0] == 200
-        except OSError:
+        except (OSError, http.client.HTTPException):
             return False
 
     def test_each_call_by_key_is_answered_once(self):

@@ -1,7 +1,7 @@
 """What the types of events mean: which event opens what, which one ends it, and how a run closes.
 
 An event that belongs to an earlier one names it by an attribute, its *key*: `scheduled`, `started` or `initiated`,
-whose value is the earlier event's id.
+whose value is the earlier event's id. In the tree tools/generate.py writes the tables.
 """
 
 from __future__ import annotations
@@ -28,44 +28,55 @@ OPENINGS: Dict[str, Opening] = {
     "TimerStarted": Opening(STARTED, "timer", "timer_id"),
     "StartChildWorkflowExecutionInitiated": Opening(INITIATED, "child", "workflow_id"),
 }
-# By which key an event names the workflow task, activity, timer or child that it ends.
-WORKFLOW_TASK_ENDS: Dict[str, str] = dict.fromkeys(
-    ("WorkflowTaskCompleted", "WorkflowTaskFailed", "WorkflowTaskTimedOut"), SCHEDULED
-)
-ACTIVITY_ENDS: Dict[str, str] = dict.fromkeys(
-    ("ActivityTaskCompleted", "ActivityTaskFailed", "ActivityTaskTimedOut", "ActivityTaskCanceled"), SCHEDULED
-)
-TIMER_FIRED, TIMER_CANCELED = "TimerFired", "TimerCanceled"
-CHILD_ENDS: Dict[str, str] = dict.fromkeys(
-    (
-        "ChildWorkflowExecutionCompleted", "ChildWorkflowExecutionFailed", "ChildWorkflowExecutionCanceled",
-        "ChildWorkflowExecutionTimedOut", "ChildWorkflowExecutionTerminated", "StartChildWorkflowExecutionFailed",
-    ),
-    INITIATED,
-)
-WORD_ENDS: Dict[str, str] = dict.fromkeys(
-    (
-        "ExternalWorkflowExecutionSignaled", "ExternalWorkflowExecutionCancelRequested",
-        "SignalExternalWorkflowExecutionFailed", "RequestCancelExternalWorkflowExecutionFailed",
-    ),
-    INITIATED,
-)
-# What ends what a picture has a bar of.
+
+# What ends what a picture has a bar of: by which key it names the workflow task, activity, timer or child.
 ENDS: Dict[str, str] = {
-    **WORKFLOW_TASK_ENDS, **ACTIVITY_ENDS, TIMER_FIRED: STARTED, TIMER_CANCELED: STARTED, **CHILD_ENDS,
+    "WorkflowTaskCompleted": SCHEDULED,
+    "WorkflowTaskFailed": SCHEDULED,
+    "WorkflowTaskTimedOut": SCHEDULED,
+    "ActivityTaskCompleted": SCHEDULED,
+    "ActivityTaskFailed": SCHEDULED,
+    "ActivityTaskTimedOut": SCHEDULED,
+    "ActivityTaskCanceled": SCHEDULED,
+    "TimerFired": STARTED,
+    "TimerCanceled": STARTED,
+    "ChildWorkflowExecutionCompleted": INITIATED,
+    "ChildWorkflowExecutionFailed": INITIATED,
+    "ChildWorkflowExecutionCanceled": INITIATED,
+    "ChildWorkflowExecutionTimedOut": INITIATED,
+    "ChildWorkflowExecutionTerminated": INITIATED,
+    "StartChildWorkflowExecutionFailed": INITIATED,
 }
+
 # What a workflow's code learns of: the end of what it asked for. A timer that it canceled itself is no news.
-SETTLES: Dict[str, str] = {**ACTIVITY_ENDS, TIMER_FIRED: STARTED, **CHILD_ENDS, **WORD_ENDS}
+SETTLES: Dict[str, str] = {
+    "ActivityTaskCompleted": SCHEDULED,
+    "ActivityTaskFailed": SCHEDULED,
+    "ActivityTaskTimedOut": SCHEDULED,
+    "ActivityTaskCanceled": SCHEDULED,
+    "TimerFired": STARTED,
+    "ChildWorkflowExecutionCompleted": INITIATED,
+    "ChildWorkflowExecutionFailed": INITIATED,
+    "ChildWorkflowExecutionCanceled": INITIATED,
+    "ChildWorkflowExecutionTimedOut": INITIATED,
+    "ChildWorkflowExecutionTerminated": INITIATED,
+    "StartChildWorkflowExecutionFailed": INITIATED,
+    "ExternalWorkflowExecutionSignaled": INITIATED,
+    "SignalExternalWorkflowExecutionFailed": INITIATED,
+    "ExternalWorkflowExecutionCancelRequested": INITIATED,
+    "RequestCancelExternalWorkflowExecutionFailed": INITIATED,
+}
 
 # The status that each closing event leaves a run with.
 STATUS: Dict[str, str] = {
     "WorkflowExecutionCompleted": "Completed",
     "WorkflowExecutionFailed": "Failed",
-    "WorkflowExecutionTimedOut": "TimedOut",
     "WorkflowExecutionCanceled": "Canceled",
     "WorkflowExecutionTerminated": "Terminated",
     "WorkflowExecutionContinuedAsNew": "ContinuedAsNew",
+    "WorkflowExecutionTimedOut": "TimedOut",
 }
+
 RUNNING = "Running"
 # A workflow task that failed for this cause says nothing of the code: the next one knows what came meanwhile.
 NOTHING_WRONG = "UnhandledCommand"
@@ -124,7 +135,7 @@ def open_tasks(events: List[Event]) -> List[Open]:
         kind, attrs = event["type"], event["attrs"]
         if kind == "ActivityTaskScheduled":
             scheduled[event["id"]] = event
-        elif kind in ACTIVITY_ENDS:
+        elif kind.startswith("ActivityTask") and kind in ENDS:
             scheduled.pop(attrs["scheduled"], None)
         elif kind == "WorkflowTaskScheduled":
             task = Open(WORKFLOW, attrs.get("task_queue", own), event["id"], event["at"], False)

@@ -55,6 +55,20 @@ def counts_once(request: Request) -> bool:
     return request["op"] in READS or request["op"] in POLLS or any(mark in request for mark in MARKS)
 
 
+def answer_to(
+    connection: http.client.HTTPConnection, method: str, path: str, body: Optional[bytes], headers: Dict[str, str],
+) -> http.client.HTTPResponse:
+    """The answer to a request, also where it came before all was sent and the other end read no more."""
+    try:
+        connection.request(method, path, body, headers)
+    except (BrokenPipeError, ConnectionResetError) as cut:
+        try:
+            return connection.getresponse()
+        except (OSError, http.client.HTTPException):
+            raise cut from None
+    return connection.getresponse()
+
+
 class HttpService(Calls):
     """The calls of Service, over HTTP. The server's clock says when.
 
@@ -153,8 +167,7 @@ class HttpService(Calls):
     def _exchange(self, method: str, path: str, body: Optional[bytes], headers: Dict[str, str]) -> Tuple[int, str]:
         connection = self._connection()
         try:
-            connection.request(method, path, body, {**self._headers, **headers})
-            response = connection.getresponse()
+            response = answer_to(connection, method, path, body, {**self._headers, **headers})
             return response.status, response.read().decode()
         except (OSError, http.client.HTTPException) as fault:
             self._own.connection = None

@@ -5,9 +5,23 @@ import json
 import pathlib
 import re
 import subprocess
+import time
 
 from support.programs import SERVER, SERVER_PYTHON
-from wfserve.http import HttpService
+from wfserve.http import HttpService, answer_to
+
+
+# So many seconds something may take that is so at once where the machine has nothing else to do.
+PATIENCE = 60
+
+
+def until(holds, seconds=PATIENCE):
+    """Waits until something is so."""
+    late = time.monotonic() + seconds
+    while not holds():
+        if time.monotonic() > late:
+            raise AssertionError(f"after {seconds} s it is not so")
+        time.sleep(0.02)
 
 
 class Server:
@@ -43,14 +57,21 @@ class Server:
         """The status, the headers and the text of an answer."""
         connection = http.client.HTTPConnection(self.host, self.port, timeout=30)
         try:
-            connection.request(method, path, body, {"Content-Type": "application/json", **(headers or {})})
-            answer = connection.getresponse()
+            answer = answer_to(connection, method, path, body, {"Content-Type": "application/json", **(headers or {})})
             return answer.status, answer.headers, answer.read().decode()
         finally:
             connection.close()
 
     def read(self, path):
         return json.loads(self.asked("GET", path)[2])
+
+    def gauge(self, name):
+        """A value of now of its metrics."""
+        return float(re.search(rf"^wfserve_{name} (.+)$", self.asked("GET", "/metrics")[2], re.MULTILINE)[1])
+
+    def has_polls(self, count):
+        """Waits until so many polls wait for a task."""
+        until(lambda: self.gauge("polls_waiting") == count)
 
     def kill(self):
         self.process.kill()

@@ -50,6 +50,7 @@ from .connections import Connections
 from .core import Core
 from .http import Calls, Guard, Health, answer_faults
 from .ledger import Ledger
+from .lingering import Handler
 from .listing import Workflows
 from .moments import Moments
 from .pages import Pages
@@ -121,19 +122,23 @@ class Listening:
         self._runner = web.AppRunner(application(said, core, opened, self._connections))
         self._front: Optional[Front] = None
         if Front is not None:
-            self._front = Front(core, guard_of(said), lambda: self._http(), said.read_timeout)
+            self._front = Front(core, guard_of(said), self._by_aiohttp, said.read_timeout)
         self._looking: List["asyncio.Task[None]"] = []
 
     @property
     def _http(self) -> web.Server:
-        """What serves a connection by aiohttp."""
+        """What serves connections by aiohttp."""
         assert self._runner.server is not None
         return self._runner.server
+
+    def _by_aiohttp(self) -> asyncio.Protocol:
+        """Serves a connection by aiohttp."""
+        return Handler(self._http, asyncio.get_running_loop(), self._said.read_timeout)
 
     async def start(self) -> None:
         """Listens, and says where."""
         await self._runner.setup()
-        connect: Callable[[], asyncio.BaseProtocol] = self._http
+        connect: Callable[[], asyncio.BaseProtocol] = self._by_aiohttp
         if self._front is not None:
             connect = self._front.connect
         said, loop = self._said, asyncio.get_running_loop()

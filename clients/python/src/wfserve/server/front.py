@@ -23,6 +23,7 @@ from .calls import call_of, key_of
 from .core import Core
 from .http import RETRY_SECONDS, Guard, fault_of
 from .lines import Receiver
+from .lingering import linger
 from .statuses import named_call_of, op_of, status_of
 
 
@@ -93,7 +94,7 @@ class Front:
         self.hand_on = hand_on
         self.date = b""
         self.connections: Set[Connection] = set()
-        self._read_seconds = read_seconds
+        self.read_seconds = read_seconds
         self._tell_date()
 
     def _tell_date(self) -> None:
@@ -110,7 +111,7 @@ class Front:
             self._tell_date()
             now = time.monotonic()
             for connection in list(self.connections):
-                connection.look(now, self._read_seconds)
+                connection.look(now, self.read_seconds)
 
     def close(self) -> None:
         """Closes all connections."""
@@ -160,6 +161,13 @@ class Connection(asyncio.Protocol):
         """Closes it once what was written is sent."""
         if self._transport is not None:
             self._transport.close()
+
+    def _end(self) -> None:
+        """Closes it once the client has read what was written, and dropped is what it still sends."""
+        transport, self._transport = self._transport, None
+        self._front.connections.discard(self)
+        if transport is not None:
+            linger(transport, self._front.read_seconds)
 
     def look(self, now: float, read_seconds: float) -> None:
         """Closes it where a request doesn't come, or none any more."""
@@ -279,7 +287,7 @@ class Connection(asyncio.Protocol):
         self._transport.write(HEAD % (status, REASONS[status], len(text), self._front.date, more) + text)
         self._serving, self._since = None, time.monotonic()
         if not request.keeps:
-            self.close()
+            self._end()
         elif self._asked:
             asyncio.get_running_loop().call_soon(self._serve_next)
 
