@@ -11,8 +11,8 @@ use service_model_types::settings::{Settings, main_queue};
 use std::alloc::{AllocError, AllocGlobal, Global};
 use std::process::Abort;
 use wf_event_values::Refusal;
-use wire_requests::{Asked, LineReader, read_line};
 use wire_record_steps::request_text;
+use wire_requests::{Asked, LineReader, read_line};
 
 const COUNT: u64 = 2000;
 

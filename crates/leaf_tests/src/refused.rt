@@ -17,8 +17,8 @@ use task_token::TaskToken;
 use timeouts::{ByPlace, Deadlines, Due};
 use transfer::{Inbox, Outbox};
 use wf_event_values::{DeadlineClass, Field, Id, Refusal, RunId, TaskKind, Text};
-use wire_requests::{Asked, LineReader, read_line};
 use wire_record_steps::request_text;
+use wire_requests::{Asked, LineReader, read_line};
 
 /// The sizes by which the allocator is told from where on, and up to where, it counts.
 const COUNT_FROM: usize = 1_000_037;
