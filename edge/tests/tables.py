@@ -197,6 +197,33 @@ class Database:
         return ["--load", str(place)]
 
 
+class Session:
+    """A connection of the edges' role to a database, which is asked now and then."""
+
+    def __init__(self, database):
+        words = ["psql", "-h", str(database.folder), "-p", str(database.port), "-U", "edge", "-At", "-X", "orders"]
+        environment = {**os.environ, "PGPASSWORD": PASSWORD}
+        self._process = subprocess.Popen(
+            [str(POSTGRES / words[0]), *words[1:]], stdin=subprocess.PIPE, stdout=subprocess.PIPE, stderr=subprocess.DEVNULL, text=True,
+            env=environment)
+
+    def ask(self, question):
+        """The first value of an answer. Empty where the connection has ended."""
+        try:
+            self._process.stdin.write(f"{question};\n")
+            self._process.stdin.flush()
+        except BrokenPipeError:
+            return ""
+        return self._process.stdout.readline().strip()
+
+    def __enter__(self):
+        return self
+
+    def __exit__(self, *_):
+        self._process.kill()
+        self._process.communicate()
+
+
 def free_port():
     with socket.create_server(("127.0.0.1", 0)) as found:
         return found.getsockname()[1]
