@@ -12,7 +12,6 @@ import pwd
 import random
 import shutil
 import signal
-import socket
 import statistics
 import subprocess
 import sys
@@ -27,6 +26,7 @@ from the_edge import WFEDGE, program_of
 
 from by_hand import left_undone, replies_of, sweep_of
 from support.programs import BUILT, memory_folder
+from support.served import free_port
 from wfserve.durable.settings import read_header
 
 SEED = int(os.environ.get("WFSERVE_SEED", random.randrange(1 << 32)))
@@ -222,11 +222,6 @@ class Session:
     def __exit__(self, *_):
         self._process.kill()
         self._process.communicate()
-
-
-def free_port():
-    with socket.create_server(("127.0.0.1", 0)) as found:
-        return found.getsockname()[1]
 
 
 class Node:
