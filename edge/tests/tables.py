@@ -12,7 +12,6 @@ import pwd
 import random
 import shutil
 import signal
-import socket
 import statistics
 import subprocess
 import sys
@@ -27,6 +26,7 @@ from the_edge import WFEDGE, program_of
 
 from by_hand import left_undone, replies_of, sweep_of
 from support.programs import BUILT, memory_folder
+from support.served import free_port
 from wfserve.durable.settings import read_header
 
 SEED = int(os.environ.get("WFSERVE_SEED", random.randrange(1 << 32)))
@@ -197,9 +197,31 @@ class Database:
         return ["--load", str(place)]
 
 
-def free_port():
-    with socket.create_server(("127.0.0.1", 0)) as found:
-        return found.getsockname()[1]
+class Session:
+    """A connection of the edges' role to a database, which is asked now and then."""
+
+    def __init__(self, database):
+        words = ["psql", "-h", str(database.folder), "-p", str(database.port), "-U", "edge", "-At", "-X", "orders"]
+        environment = {**os.environ, "PGPASSWORD": PASSWORD}
+        self._process = subprocess.Popen(
+            [str(POSTGRES / words[0]), *words[1:]], stdin=subprocess.PIPE, stdout=subprocess.PIPE, stderr=subprocess.DEVNULL, text=True,
+            env=environment)
+
+    def ask(self, question):
+        """The first value of an answer. Empty where the connection has ended."""
+        try:
+            self._process.stdin.write(f"{question};\n")
+            self._process.stdin.flush()
+        except BrokenPipeError:
+            return ""
+        return self._process.stdout.readline().strip()
+
+    def __enter__(self):
+        return self
+
+    def __exit__(self, *_):
+        self._process.kill()
+        self._process.communicate()
 
 
 class Node:

@@ -107,7 +107,7 @@ class Sockets(test_server_replies.Sockets):
         server = self.serve(program=self.double())
         body = self.request("in chunks", "c").split(b"\r\n\r\n", 1)[1]
         head = b"POST /calls HTTP/1.1\r\nHost: 127.0.0.1\r\nContent-Type: application/json\r\n"
-        with socket.create_connection((server.host, server.port), timeout=20) as connection:
+        with socket.create_connection((server.host, server.port), timeout=60) as connection:
             connection.sendall(self.request("first", "a"))
             self.assertEqual(self.answered(connection)[0], 200)
             connection.sendall(b"GET /health/live HTTP/1.1\r\nHost: 127.0.0.1\r\n\r\n")
@@ -120,11 +120,11 @@ class Sockets(test_server_replies.Sockets):
             (b"Content-Length: 9\r\nTransfer-Encoding: chunked", 400), (b"Transfer-Encoding: chunked\r\nContent-Length: 9", 200),
         ):
             sent = head + lengths + b"\r\n\r\n%x\r\n%s\r\n0\r\n\r\n" % (len(body), body)
-            with socket.create_connection((server.host, server.port), timeout=20) as connection:
+            with socket.create_connection((server.host, server.port), timeout=60) as connection:
                 connection.sendall(sent + self.request("smuggled"))
                 self.assertEqual((self.answered(connection)[0], connection.recv(1)), (status, b""))
             # What is not in chunks is no body: the connection ends, with a word or without.
-            with socket.create_connection((server.host, server.port), timeout=20) as connection:
+            with socket.create_connection((server.host, server.port), timeout=60) as connection:
                 connection.sendall(head + lengths + b"\r\n\r\n" + body)
                 self.assertIn(self.answered(connection)[0], (0, 400))
         self.assertEqual((self.log.read_bytes().count(b'"name"'), self.log.read_bytes().count(b"smuggled")), (3, 0))

@@ -18,8 +18,9 @@ import unittest
 from the_edge import WFEDGE, needs_edge
 
 from support.programs import BUILT, needs_program
+from support.served import until
 from tables import (
-    CLIENTS, HOUR, PASSWORD, PATIENCE, SEED, TOKEN, Caller, Database, OverATable, needs_client, needs_postgres,
+    CLIENTS, HOUR, PASSWORD, PATIENCE, SEED, TOKEN, Caller, Database, Node, OverATable, Session, needs_client, needs_postgres,
 )
 
 PLANTED = WFEDGE.parent / "wfedge-planted"
@@ -132,6 +133,26 @@ class TwoEdges(OverATable):
         """Waits until another edge has served all that a leader added."""
         question = "select 1 from wfserve_followers where number >= (select max(number) from wfserve_log) - 1 and at > now() - interval '2 s'"
         self.becomes(question, ["1"])
+
+    def test_who_is_about_to_lead_is_not_taken_for_silent(self):
+        """It has the lock, and what is said of when the leader was heard is still of the one before."""
+        self.machines = (None,)
+        first, = self.nodes(WFEDGE)
+        self.leader([first])
+        first.stop()
+        with Session(self.database) as session:
+            self.assertEqual(session.ask("select pg_try_advisory_lock(7233, hashtext(current_schema()))"), "t")
+            self.database.rows("update wfserve_leader set until = now() - interval '1 h'")
+            options = ["--shards", "2", "--token-file", str(self.token_file), "--silence", "6000"]
+            other = Node(WFEDGE, self.address, self.folder / "said-other", *options)
+            self.addCleanup(other.stop)
+            until(lambda: "this edge follows" in other.said.read_text(), PATIENCE)
+            for _ in range(10):
+                self.assertEqual(session.ask("select 1"), "1")
+                time.sleep(0.1)
+            # Once it asks nothing any more it is silent.
+            self.leader([other])
+            self.assertEqual(session.ask("select 1"), "")
 
     def test_blobs_are_in_the_database_for_both(self):
         nodes = self.nodes(WFEDGE)

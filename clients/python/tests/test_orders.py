@@ -7,6 +7,8 @@ rounds of 50, each over WFSERVE_ORDERS orders, 200 without it.
 """
 
 import collections
+import contextlib
+import http.client
 import json
 import os
 import pathlib
@@ -129,12 +131,13 @@ class Killer:
             return
         if kind == "program":
             for program in children_of(self.server.process.pid):
-                os.kill(program, signal.SIGKILL)
+                with contextlib.suppress(ProcessLookupError):
+                    os.kill(program, signal.SIGKILL)
             self._go_on()
             return
         self.server.kill()
         time.sleep(pause)
-        self._start_again()
+        self.server.start()
 
     def _go_on(self):
         """The server starts its program again; it ends where that was killed twice at one line, and says so."""
@@ -142,21 +145,11 @@ class Killer:
             try:
                 if self.server.asked("GET", "/health/ready")[0] == 200:
                     return
-            except OSError:
+            except (OSError, http.client.HTTPException):
                 pass
             time.sleep(0.05)
         self.server.kill()
-        self._start_again()
-
-    def _start_again(self):
-        """A client that looks for the server may have its port for a moment."""
-        for left in (2, 1, 0):
-            try:
-                return self.server.start()
-            except AssertionError:
-                if not left:
-                    raise
-                time.sleep(0.5)
+        self.server.start()
 
     def _end(self, worker):
         self.killed.add(worker.pid)

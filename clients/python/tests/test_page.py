@@ -17,7 +17,7 @@ from wfserve.ids import run_id
 from wfserve.workflows import Retry, Worker, attempt, hours, input_of, seconds, workflow
 from test_server import TOKEN, WithAServer
 
-SECONDS = 20
+SECONDS = 60
 MARKUP = "<img src=x onerror=\"document.title='taken over'\">"
 
 

@@ -18,7 +18,7 @@ from concurrent.futures import ThreadPoolExecutor
 
 from support import CLIENT
 from support.programs import BUILT, COUNTING, SERVER, SERVER_PYTHON, memory_folder, needs_program, needs_server
-from support.served import Server, until
+from support.served import PATIENCE, Server, until
 from examples import children
 from wfserve.errors import CallLost, NotServed, Refused
 from wfserve.ids import run_id, run_of_token
@@ -127,7 +127,7 @@ class Guarded(WithAServer):
         path.write_text("#!/bin/sh\nread line || exit 0\nexit 3\n", encoding="utf-8")
         path.chmod(0o755)
         server = self.serve(program=str(path))
-        self.assertEqual(server.process.wait(timeout=20), 2)
+        self.assertEqual(server.process.wait(timeout=PATIENCE), 2)
         self.assertIn("the program ended with status 3", server.said.read_text())
         server.stop()
 

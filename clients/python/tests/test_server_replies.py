@@ -172,7 +172,7 @@ class Client:
             time.sleep(self._draw.random() / 50)
 
     def _asked(self, key, body):
-        connection = http.client.HTTPConnection(self._server.host, self._server.port, timeout=20)
+        connection = http.client.HTTPConnection(self._server.host, self._server.port, timeout=60)
         try:
             connection.request("POST", "/calls", body, {**JSON, "Idempotency-Key": key})
             if self._draw.random() < 0.1:
@@ -364,7 +364,7 @@ class Sockets(WithAServer):
     def test_many_bad_calls_at_once_are_each_refused(self):
         server, count = self.serve(program=self.double()), 3_000
         bad = b"POST /calls HTTP/1.1\r\nHost: 127.0.0.1\r\nContent-Type: application/json\r\nContent-Length: 1\r\n\r\n{"
-        with socket.create_connection((server.host, server.port), timeout=30) as connection:
+        with socket.create_connection((server.host, server.port), timeout=60) as connection:
             sending = threading.Thread(target=connection.sendall, args=(bad * count + self.request("last"),))
             sending.start()
             data = b""
@@ -376,7 +376,7 @@ class Sockets(WithAServer):
 
     def test_what_is_no_plain_call_is_answered_on_the_same_connection(self):
         server = self.serve(program=self.double())
-        with socket.create_connection((server.host, server.port), timeout=20) as connection:
+        with socket.create_connection((server.host, server.port), timeout=60) as connection:
             connection.sendall(self.request("first", "a"))
             self.assertEqual(self.answered(connection)[0], 200)
             body = self.request("in chunks", "c").split(b"\r\n\r\n", 1)[1]
@@ -388,7 +388,7 @@ class Sockets(WithAServer):
             connection.sendall(self.request("last", "d"))
             self.assertEqual(self.answered(connection)[0], 200)
         both = self.request("x").replace(b"Content-Length", b"Transfer-Encoding: chunked\r\nContent-Length")
-        with socket.create_connection((server.host, server.port), timeout=20) as connection:
+        with socket.create_connection((server.host, server.port), timeout=60) as connection:
             connection.sendall(both)
             self.assertEqual(self.answered(connection)[0], 400)
 

@@ -442,18 +442,18 @@ class Local(unittest.TestCase):
                 target=lambda: found.append(run([str(BUILT)], log, rings, [], "w")), daemon=True
             )
             running.start()
-            running.join(30)
+            running.join(60)
             self.assertEqual(found, ["rang"])
 
 
 class Waiting(Calls):
-    """A service whose polls wait for four seconds, as a server's do."""
+    """A service whose polls wait for eight seconds, as a server's do."""
 
     def __init__(self, service):
         self._service = service
 
     def call(self, op, **fields):
-        late = time.monotonic() + 4
+        late = time.monotonic() + 8
         while True:
             reply = self._service.call(op, **fields)
             if reply.get("ok") != "empty" or time.monotonic() > late:
@@ -481,7 +481,7 @@ class Running(unittest.TestCase):
         threads = [threading.Thread(target=run, args=(loop,)) for loop in loops]
         for thread in threads:
             thread.start()
-        self.addCleanup(lambda: [thread.join(10) for thread in threads])
+        self.addCleanup(lambda: [thread.join(60) for thread in threads])
         self.addCleanup(self.stop.set)
         return threads
 
@@ -492,13 +492,13 @@ class Running(unittest.TestCase):
         self.service.start("w", "five", request_id="w")
         while self.service.describe("w")["status"] == "Running":
             # One after another they would take five waits.
-            self.assertLess(time.monotonic() - begun, 18)
+            self.assertLess(time.monotonic() - begun, 36)
             time.sleep(0.02)
 
     def test_a_queue_that_is_not_there_ends_the_worker(self):
         worker = Worker(self.service, "nosuch", workflows=[five], activities=[charge])
         thread, = self.begin(worker.run)
-        thread.join(10)
+        thread.join(60)
         self.assertFalse(thread.is_alive())
         self.assertEqual(self.faults[0].name, "UnknownTaskQueue")
         self.assertFalse(self.stop.is_set(), "others were told to stop")
@@ -514,7 +514,7 @@ class Running(unittest.TestCase):
 
         with self.assertLogs("wfserve.workflows", "WARNING") as logged, mock.patch("wfserve.workflows.reports.FIRST_LOOK", 0):
             self.begin(Worker(Gone(), workflows=[five]).run)
-            late = time.monotonic() + 20
+            late = time.monotonic() + 60
             while len(logged.output) < 6 and time.monotonic() < late:
                 time.sleep(0.02)
         said = [record.getMessage() for record in logged.records]
@@ -526,7 +526,7 @@ class Running(unittest.TestCase):
                 raise NotServed(401, "no token")
 
         thread, = self.begin(Worker(Closed(), workflows=[five]).run)
-        thread.join(10)
+        thread.join(60)
         self.assertEqual(str(self.faults[0]), "status 401: no token")
 
 

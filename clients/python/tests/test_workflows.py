@@ -536,7 +536,7 @@ class AtTheWallsClock(unittest.TestCase):
             self.assertEqual(service.history(f"w{number}")[-1]["attrs"]["result"], f'"number {number}"')
 
     def until(self, holds):
-        late = time.monotonic() + 30
+        late = time.monotonic() + 60
         while not holds():
             self.assertLess(time.monotonic(), late)
             time.sleep(0.02)

@@ -3,7 +3,7 @@
 //! `wfserve_leader` has one row with the epoch. A batch is added by a statement that reads this row under a lock and
 //! finds its own epoch there, so who raises the epoch waits for a batch under way, and none of an earlier epoch follows.
 //! An advisory lock, which goes with its connection, makes that only one edge tries; a leader says twice in its time of
-//! silence that it lives, and a follower ends the connection of one that does not.
+//! silence that it lives, and a follower ends the connection of one that does not, and has asked nothing for as long.
 //!
 //! `wfserve_starts` has a row for each compaction, and `wfserve_records` what the log goes on from then, under the epoch of
 //! the leader that put it there: so pieces of a leader that is none any more are never taken for another one's. A statement
@@ -43,9 +43,11 @@ const TELL: &str = "
     insert into wfserve_followers values ($1, $2, clock_timestamp())
     on conflict (name) do update set number = excluded.number, at = excluded.at";
 const TRY: &str = "select pg_try_advisory_lock(7233, hashtext(current_schema()))";
+// Who has the lock and is about to raise the epoch has the moment of the leader before: it has just asked something.
 const END_SILENT: &str = "
-    select pg_terminate_backend(pid) from pg_locks, wfserve_leader
-    where locktype = 'advisory' and classid = 7233 and granted and until < clock_timestamp()
+    select pg_terminate_backend(holder.pid) from pg_locks holder, wfserve_leader, pg_stat_activity asked
+    where locktype = 'advisory' and classid = 7233 and granted and until < clock_timestamp() and asked.pid = holder.pid
+    and coalesce(asked.query_start < clock_timestamp() - $1::bigint * interval '1 ms', true)
     and objid::bigint = (hashtext(current_schema())::bigint & 4294967295)
     and database = (select oid from pg_database where datname = current_database())";
 const LEAD: &str = "
@@ -215,7 +217,7 @@ impl Table for Postgres {
     fn try_lead(&mut self) -> Result<bool> {
         let found = self.connection.rows(&self.asked.try_lock, &[])?;
         if !found.first().map_or(false, |row| row.try_get(0).unwrap_or(false)) {
-            self.connection.rows(&self.asked.end_silent, &[])?;
+            self.connection.rows(&self.asked.end_silent, &[&self.silence])?;
             return Ok(false);
         }
         self.epoch = self.connection.row(LEAD, &[&self.name, &self.silence])?.get(0);

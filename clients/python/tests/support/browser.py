@@ -74,7 +74,7 @@ class Browser:
             raise RuntimeError(json.dumps(result["exceptionDetails"]))
         return result["result"].get("value")
 
-    def wait(self, expression, seconds=20):
+    def wait(self, expression, seconds=60):
         """Waits until an expression holds; what goes wrong while a page loads is waited for too."""
         late = time.monotonic() + seconds
         while True:

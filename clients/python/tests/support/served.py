@@ -3,7 +3,9 @@
 import http.client
 import json
 import pathlib
+import random
 import re
+import socket
 import subprocess
 import time
 
@@ -24,11 +26,30 @@ def until(holds, seconds=PATIENCE):
         time.sleep(0.02)
 
 
+def free_port():
+    """A port on which nobody listens, and which the system gives no client for its own end. One that looks for a server
+    that is away would hold such a port, and find itself there."""
+    try:
+        first = int(pathlib.Path("/proc/sys/net/ipv4/ip_local_port_range").read_text(encoding="utf-8").split()[0])
+    except OSError:
+        first = 32_768
+    # Another process draws other ones, whatever this one's tests have seeded.
+    draw = random.SystemRandom()
+    for _ in range(1_000):
+        port = draw.randrange(10_000, max(first, 11_000))
+        try:
+            with socket.create_server(("127.0.0.1", port)):
+                return port
+        except OSError:
+            pass
+    raise AssertionError("no port is free")
+
+
 class Server:
     """A server over a log, on a port of its own. Killed and started again it has the same port."""
 
     def __init__(self, program, log, *options):
-        self._clients, self.port = [], 0
+        self._clients, self.port = [], free_port()
         self.said = pathlib.Path(f"{log}.said")
         self._command = [
             SERVER_PYTHON, *SERVER, "--program", program, "--log", str(log), *options
