@@ -10,15 +10,18 @@ ghost use Rattle.service_model.specs.Pending.{is_cancel_request_of};
 ghost use Rattle.wf_event.specs.declared.role.Class.TheVariants.{Signal, Cancel};
 ghost use Rattle.wf_event_values.specs.declared.policies.Cause.TheVariants.{PendingSignalsLimitExceeded, PendingRequestCancelLimitExceeded};
 ghost use Rattle.wf_command.specs.declared.command.Command.TheVariants as a_command;
+ghost use Rattle.task_completion.specs.Faults.{Judges};
 ghost use Rattle.task_completion.specs.Outward.{external_signal, external_cancel};
-ghost use Rattle.task_completion.specs.Judging.{asked, event_named, HasGoodPolicy, is_asked, activity_scheduled, activity_asked, cancel_asked, timer_started, timer_canceled, recorded, closed, continued, by_kind, judged_now, Leaves};
+ghost use Rattle.task_completion.specs.Judging.{asked, event_named, HasGoodPolicy, is_asked, activity_scheduled, activity_asked, cancel_asked, timer_started, timer_canceled, recorded, closed, continued, by_kind, judged_now, Agrees};
 
+use crate::fault::Fault;
 use crate::follows::{continued_as_new, queue_after};
 use crate::named::NamedRows;
 use crate::outward::{Outward, child_asked, external_cancel, external_signal};
 use crate::rows::{count_pending, has_pending_row, has_row, is_firing_of, is_running, was_asked};
 use crate::scheduled::scheduled;
 use mutable_state::{NotedActivity, Used};
+use mutable_state_keeper::{KeepsRun, Run};
 use service_model_types::content::Setup;
 use service_model_types::limits::MOST_PENDING;
 use std::alloc::{AllocError, Global};
@@ -28,10 +31,10 @@ use wf_command::command::{
     StartChild, StartTimer,
 };
 use wf_command::{Command, check};
-use wf_event::Attributes;
 use wf_event::payloads::{
     ActivityTaskCanceled, MarkerRecorded, TimerEnd, TimerStarted, WorkflowExecutionStarted,
 };
+use wf_event::{Attributes, Class};
 use wf_event_values::{Cause, Id, RunId, Text};
 
 /// How many commands that name a thing are judged by a walk over what is in use. For more of them its
@@ -100,87 +103,71 @@ impl<'a> Model for SoFar<'a> {
 }
 
 impl<'a> SoFar<'a> {
-    /// Before any command. The first one's event gets this id.
-    pub fn new(
+    /// Before any command of a completion of this run. The run that would follow it gets this id.
+    pub fn begin<T: KeepsRun>(
         alloc: Global,
+        run: &'a Run<T>,
         setup: &'a Setup,
         next: RunId,
-        started: &'a WorkflowExecutionStarted,
-        first: u64,
-        timers: Vec<Used<'a>>,
-        activities: Vec<Used<'a>>,
-        notes: Vec<NotedActivity>,
-        held: Vec<Option<u64>>,
-        outward: Outward,
-    ) -> SoFar<'a>
-        ensures setup { result.setup ≡ setup.now }
-        ensures next { result.next ≡ next }
-        ensures began { result.began ≡ started.now }
-        ensures facts { result.facts ≡ [] }
-        ensures open_run { result.is_closed ≡ false }
-        ensures first { result.first ≡ first }
-        ensures timers { result.timers ≡ timers.entry.items }
-        ensures activities { result.activities ≡ activities.entry.items }
-        ensures notes { result.notes ≡ notes.items }
-        ensures held { result.held ≡ held.items }
-        ensures outward { result.outward ≡ outward }
+    ) -> Result<SoFar<'a>, AllocError>
+        ensures agrees { IfOk result (Agrees setup.now next run.now.state) }
+        ensures facts { IfOk result (λ so_far. so_far.facts ≡ []) }
     {
-        SoFar {
+        let shown = run.shown(alloc)? as u64;
+        let timers = run.used(alloc, Class::Timer)?;
+        let activities = run.used(alloc, Class::Activity)?;
+        let notes = run.noted_activities(alloc)?;
+        let held = run.held_firings(alloc)?;
+        let pending = run.pending(alloc)?;
+        let outward = Outward {
+            children: pending.children,
+            signals: pending.signals,
+            cancels: pending.cancels,
+        };
+        Ok(SoFar {
             alloc,
             setup,
             next,
-            started,
+            started: run.started(),
             facts: Vec::new(alloc),
             is_closed: false,
-            first,
+            first: shown + 2,
             timers: NamedRows::new(timers),
             activities: NamedRows::new(activities),
             notes,
             held,
             outward,
-        }
+        })
     }
 
     /// Collects the names in use, where it pays for so many commands that name something.
-    pub fn expect(&mut self, commands: &[Command]) -> Result<(), AllocError>
+    pub fn collect_names(&mut self, commands: &[Command]) -> Result<(), AllocError>
         ensures { self.new ≡ self.old }
     {
-        if FEW
-            < commands
-                .iter()
-                .filter(|command| is_about_timer(command))
-                .count()
-        {
+        if are_many(commands, Class::Timer) {
             self.timers.collect_names(self.alloc)?;
         }
-        if FEW
-            < commands
-                .iter()
-                .filter(|command| is_new_activity(command))
-                .count()
-        {
+        if are_many(commands, Class::Activity) {
             self.activities.collect_names(self.alloc)?;
         }
         Ok(())
     }
 
     /// Judges one more command: its facts are added, or it is faulty.
-    pub fn judge(&mut self, command: &'a Command) -> Result<Result<(), Cause>, AllocError>
-        ensures { IfOk result (Leaves self.new (judged_now self.old command.now)) }
+    pub fn judge(&mut self, command: &'a Command) -> Result<(), Fault>
+        ensures { Judges result self.new (judged_now self.old command.now) }
     {
         if self.is_closed {
-            return Ok(Err(Cause::CommandAfterClose));
+            return Err(Cause::CommandAfterClose.into());
         }
-        if let Err(cause) = check(command) {
-            return Ok(Err(cause));
-        }
+        check(command)?;
         self.judge_checked(command)
     }
 
     /// Judges a command whose own fields have no fault.
-    fn judge_checked(&mut self, command: &'a Command) -> Result<Result<(), Cause>, AllocError>
+    fn judge_checked(&mut self, command: &'a Command) -> Result<(), Fault>
         requires { HasGoodPolicy command.now }
-        ensures { IfOk result (Leaves self.new (by_kind self.old command.now)) }
+        ensures { Judges result self.new (by_kind self.old command.now) }
     {
         match command {
             Command::ScheduleActivityTask(activity) => self.schedule_activity(activity),
@@ -218,40 +205,37 @@ impl<'a> SoFar<'a> {
     }
 
     /// The id of an activity is free once what ends it is written.
-    fn schedule_activity(
-        &mut self,
-        activity: &'a ScheduleActivityTask,
-    ) -> Result<Result<(), Cause>, AllocError>
+    fn schedule_activity(&mut self, activity: &'a ScheduleActivityTask) -> Result<(), Fault>
         requires { IsTrue (good_policy activity.now.retry) }
-        ensures { IfOk result (Leaves self.new (activity_scheduled activity.now self.old)) }
+        ensures { Judges result self.new (activity_scheduled activity.now self.old) }
     {
         if !self.setup.knows_queue(&activity.task_queue) {
-            return Ok(Err(Cause::BadScheduleActivityAttributes));
+            return Err(Cause::BadScheduleActivityAttributes.into());
         }
         if self.activities.event_named(&activity.activity_id).is_some() {
-            return Ok(Err(Cause::ScheduleActivityDuplicateId));
+            return Err(Cause::ScheduleActivityDuplicateId.into());
         }
         if MOST_PENDING <= count_pending(self.activities.rows()) as u64 {
-            return Ok(Err(Cause::PendingActivitiesLimitExceeded));
+            return Err(Cause::PendingActivitiesLimitExceeded.into());
         }
         let event = self.next_event()?;
         self.facts.push(scheduled(self.alloc, activity)?)?;
         self.activities
             .push(Used::new(event, Some(&activity.activity_id), false))?;
-        Ok(Ok(()))
+        Ok(())
     }
 
     /// A pending activity of which no attempt is running is canceled at once.
-    fn request_cancel_activity(&mut self, scheduled: u64) -> Result<Result<(), Cause>, AllocError>
-        ensures { IfOk result (Leaves self.new (activity_asked scheduled self.old)) }
+    fn request_cancel_activity(&mut self, scheduled: u64) -> Result<(), Fault>
+        ensures { Judges result self.new (activity_asked scheduled self.old) }
     {
         if !has_row(self.activities.rows(), scheduled) || self.is_asked(scheduled) {
-            return Ok(Err(Cause::BadRequestCancelActivityAttributes));
+            return Err(Cause::BadRequestCancelActivityAttributes.into());
         }
         let is_pending = has_pending_row(self.activities.rows(), scheduled);
         let is_running = is_running(self.notes.as_slice(), scheduled);
         self.ask_to_cancel(scheduled, is_pending && !is_running)?;
-        Ok(Ok(()))
+        Ok(())
     }
 
     /// Whether an activity was asked to cancel, before or by the commands so far.
@@ -281,11 +265,11 @@ impl<'a> SoFar<'a> {
     }
 
     /// The id of a timer is free once it fired or was canceled.
-    fn start_timer(&mut self, timer: &'a StartTimer) -> Result<Result<(), Cause>, AllocError>
-        ensures { IfOk result (Leaves self.new (timer_started timer.now self.old)) }
+    fn start_timer(&mut self, timer: &'a StartTimer) -> Result<(), Fault>
+        ensures { Judges result self.new (timer_started timer.now self.old) }
     {
         if self.timers.event_named(&timer.timer_id).is_some() {
-            return Ok(Err(Cause::StartTimerDuplicateId));
+            return Err(Cause::StartTimerDuplicateId.into());
         }
         let event = self.next_event()?;
         let timer_id = timer.timer_id.clone()?;
@@ -295,100 +279,94 @@ impl<'a> SoFar<'a> {
         }))?;
         self.timers
             .push(Used::new(event, Some(&timer.timer_id), false))?;
-        Ok(Ok(()))
+        Ok(())
     }
 
     /// A timer whose firing is buffered may be canceled: the firing is removed.
-    fn cancel_timer(&mut self, timer_id: &Id) -> Result<Result<(), Cause>, AllocError>
-        ensures { IfOk result (Leaves self.new (timer_canceled timer_id.now
-            (event_named timer_id.now self.old.timers) self.old)) }
+    fn cancel_timer(&mut self, timer_id: &Id) -> Result<(), Fault>
+        ensures { Judges result self.new (timer_canceled timer_id.now
+            (event_named timer_id.now self.old.timers) self.old) }
     {
         let Some(started) = self.timers.event_named(timer_id) else {
-            return Ok(Err(Cause::BadCancelTimerAttributes));
+            return Err(Cause::BadCancelTimerAttributes.into());
         };
         let timer_id = timer_id.clone()?;
         self.facts
             .push(Attributes::TimerCanceled(TimerEnd { timer_id, started }))?;
         self.timers.remove(started);
         self.held.retain(|fired| !is_firing_of(fired, started));
-        Ok(Ok(()))
+        Ok(())
     }
 
-    fn record(&mut self, marker: &RecordMarker) -> Result<Result<(), Cause>, AllocError>
-        ensures { IfOk result (Leaves self.new (recorded marker.now self.old)) }
+    fn record(&mut self, marker: &RecordMarker) -> Result<(), Fault>
+        ensures { Judges result self.new (recorded marker.now self.old) }
     {
         let name = marker.name.clone()?;
         let details = marker.details.clone()?;
         self.facts.push(Attributes::MarkerRecorded(MarkerRecorded { name, details }))?;
-        Ok(Ok(()))
+        Ok(())
     }
 
     /// A run isn't closed while an event is buffered, of which the worker does not know.
-    fn close(&mut self, attributes: Attributes) -> Result<Result<(), Cause>, AllocError>
-        ensures { IfOk result (Leaves self.new (closed attributes self.old)) }
+    fn close(&mut self, attributes: Attributes) -> Result<(), Fault>
+        ensures { Judges result self.new (closed attributes self.old) }
     {
         if self.held.len() > 0 {
-            return Ok(Err(Cause::UnhandledCommand));
+            return Err(Cause::UnhandledCommand.into());
         }
         self.facts.push(attributes)?;
         self.is_closed = true;
-        Ok(Ok(()))
+        Ok(())
     }
 
     /// Closes the run, which another one follows. What the command leaves out is as it was in this one.
-    fn continue_as_new(
-        &mut self,
-        command: &'a ContinueAsNew,
-    ) -> Result<Result<(), Cause>, AllocError>
-        ensures { IfOk result (Leaves self.new (continued command.now self.old)) }
+    fn continue_as_new(&mut self, command: &'a ContinueAsNew) -> Result<(), Fault>
+        ensures { Judges result self.new (continued command.now self.old) }
     {
         if !self.setup.knows_queue(queue_after(command, self.started)) {
-            return Ok(Err(Cause::BadContinueAsNewAttributes));
+            return Err(Cause::BadContinueAsNewAttributes.into());
         }
         let event = continued_as_new(self.alloc, command, self.started, self.next)?;
         self.close(event)
     }
 
-    fn start_child(&mut self, command: &StartChild) -> Result<Result<(), Cause>, AllocError>
-        ensures { IfOk result (Leaves self.new
-            (by_kind self.old (a_command.StartChildWorkflowExecution command.now))) }
+    fn start_child(&mut self, command: &StartChild) -> Result<(), Fault>
+        ensures { Judges result self.new
+            (by_kind self.old (a_command.StartChildWorkflowExecution command.now)) }
     {
         if !self.setup.knows_queue(&command.task_queue) {
-            return Ok(Err(Cause::BadStartChildExecutionAttributes));
+            return Err(Cause::BadStartChildExecutionAttributes.into());
         }
         if MOST_PENDING <= self.outward.children {
-            return Ok(Err(Cause::PendingChildWorkflowsLimitExceeded));
+            return Err(Cause::PendingChildWorkflowsLimitExceeded.into());
         }
         self.facts.push(child_asked(self.alloc, command)?)?;
         self.outward.children += 1;
-        Ok(Ok(()))
+        Ok(())
     }
 
-    fn signal_external(&mut self, command: &SignalExternal) -> Result<Result<(), Cause>, AllocError>
-        ensures { IfOk result (Leaves self.new (asked Signal
-            PendingSignalsLimitExceeded (external_signal command.now) self.old)) }
+    fn signal_external(&mut self, command: &SignalExternal) -> Result<(), Fault>
+        ensures { Judges result self.new (asked Signal
+            PendingSignalsLimitExceeded (external_signal command.now) self.old) }
     {
         if MOST_PENDING <= self.outward.signals {
-            return Ok(Err(Cause::PendingSignalsLimitExceeded));
+            return Err(Cause::PendingSignalsLimitExceeded.into());
         }
         self.facts.push(external_signal(self.alloc, command)?)?;
         self.outward.signals += 1;
-        Ok(Ok(()))
+        Ok(())
     }
 
-    fn request_cancel_external(
-        &mut self,
-        command: &RequestCancelExternal,
-    ) -> Result<Result<(), Cause>, AllocError>
-        ensures { IfOk result (Leaves self.new (asked Cancel
-            PendingRequestCancelLimitExceeded (external_cancel command.now) self.old)) }
+    fn request_cancel_external(&mut self, command: &RequestCancelExternal) -> Result<(), Fault>
+        ensures { Judges result self.new (asked Cancel
+            PendingRequestCancelLimitExceeded (external_cancel command.now) self.old) }
     {
         if MOST_PENDING <= self.outward.cancels {
-            return Ok(Err(Cause::PendingRequestCancelLimitExceeded));
+            return Err(Cause::PendingRequestCancelLimitExceeded.into());
         }
         self.facts.push(external_cancel(self.alloc, command)?)?;
         self.outward.cancels += 1;
-        Ok(Ok(()))
+        Ok(())
     }
 
     /// Whether an event is still buffered.
@@ -427,13 +405,21 @@ impl<'a> SoFar<'a> {
     }
 }
 
-/// Whether a command starts a timer or cancels one.
-fn is_about_timer(command: &Command) -> bool {
-    matches!(command, Command::StartTimer(_) | Command::CancelTimer(_))
+/// Whether many commands name something of a class: for a few a walk over what is in use costs less.
+fn are_many(commands: &[Command], class: Class) -> bool {
+    FEW < commands
+        .iter()
+        .filter(|command| is_naming(command, class))
+        .count()
 }
 
-fn is_new_activity(command: &Command) -> bool {
-    matches!(command, Command::ScheduleActivityTask(_))
+/// Whether a command names something of a class by the worker's id.
+fn is_naming(command: &Command, class: Class) -> bool {
+    match command {
+        Command::StartTimer(_) | Command::CancelTimer(_) => matches!(class, Class::Timer),
+        Command::ScheduleActivityTask(_) => matches!(class, Class::Activity),
+        _ => false,
+    }
 }
 
 /// Whether one of the facts asks the activity to cancel.

@@ -19,8 +19,8 @@ returns c =
     c.in_ok-push.ensures.items ∙ ap (λ n. a.facts.items ++ TimerCanceled (record { timer_id = n; started = started }) ∷ []) same in
     let held : c.retain.new.self.items ≡ filter (λ f. not (is_firing_of started f)) a.held.items = filter_same _ (λ f. not (is_firing_of started f)) _ (λ x b q h. search rules) _ _ c.retain.ensures.filtered in
     let made : List Attributes → List UsedRow → List (Option ℕ) → After = λ fs ts hs. Ok (record { setup = a.setup.now; next = a.next; began = a.started.now; facts = fs; is_closed = a.is_closed; first = a.first; timers = ts; activities = a.activities; notes = a.notes.items; held = hs; outward = a.outward }) in
-    ap (λ fs. made fs c.remove.new.self c.retain.new.self.items) facts
+    sym (ap (λ fs. made fs c.remove.new.self c.retain.new.self.items) facts
     ∙ ap (λ ts. made (a.facts.items ++ TimerCanceled (record { timer_id = id; started = started }) ∷ []) ts c.retain.new.self.items) c.remove.ensures
     ∙ ap (made (a.facts.items ++ TimerCanceled (record { timer_id = id; started = started }) ∷ []) (filter (λ (r : UsedRow). not (r.event == started)) a.timers)) held
     ∙ ap (λ o. timer_canceled id o k) (sym named)
-    ∙ ap (λ (v : Kept). timer_canceled id (event_named id v.timers) v) c.self.view_is
+    ∙ ap (λ (v : Kept). timer_canceled id (event_named id v.timers) v) c.self.view_is)
