@@ -194,7 +194,7 @@ def line_fields(kind: Table, table: Table) -> Part:
     """What a line's fields are read as, as a definition: their faults are looked for in the order of the struct."""
     said, fields = said_of(kind, "fields_of", table), fields_of(kind)
     head = f"unfoldable pub {said['name']} : Data → Result {said['as']} Refusal"
-    body = [f"  {field.name} ← {taken(field, table['kind'][field.kind])} {place_in(field)} {said['of']}"
+    body = [f"  {field.name} ← {defined_as(field, table['kind'][field.kind], said['of'])}"
             for field in read_order(kind, said)]
     whole = f"  Ok (record {{ {'; '.join(f'{field.name} = {field.name}' for field in fields)} }})"
     ends = ["  Ok (record {", *(f"    {field.name} = {field.name};" for field in fields), "  })"]
@@ -208,11 +208,10 @@ def text_lines(kind: Table, table: Table) -> Iterator[Part]:
     every = {field.key: filled(table["kind"][field.kind]["utf8"], field.name, f"{said['of']}.{field.name}")
              for field in fields_of(kind) if "utf8" in table["kind"][field.kind]}
     every |= {key: table["kind"][which]["utf8"] for key, which, _ in kind.get("also", [])}
-    members_of = [every[key] for key in sorted(every)]
-    nested = "tt" if not members_of else "".join(f"({member}, " for member in members_of) + "tt" + ")" * len(members_of)
+    facts = nested([every[key] for key in sorted(every)])
     for variant in kind["lemmas"]:
         head = said["head"].replace("VARIANT", variant)
-        yield Part(said["file"], head, f"{head} {nested}", is_line=True)
+        yield Part(said["file"], head, f"{head} {facts}", is_line=True)
 
 
 def plain_lines(kind: Table, table: Table) -> Iterator[Part]:
@@ -227,6 +226,31 @@ def plain_lines(kind: Table, table: Table) -> Iterator[Part]:
     for variant in kind["lemmas"]:
         head = said["head"].replace("VARIANT", variant)
         yield Part(said["file"], head, f"{head} {lets}search ({', '.join(facts)})", is_line=True)
+
+
+def plain_row_lines(kind: Table, table: Table) -> Iterator[Part]:
+    """The lines of the lemma that the values of rows are plain: one for each variant of this type."""
+    said = table["group"][kind["group"]]["plain_rows"]
+    facts = [filled(table["kind"][field.kind]["plain_row"], field.name, f"{said['of']}.{field.name}")
+             for field in sorted(fields_of(kind), key=lambda field: field.key)]
+    for variant in kind["lemmas"]:
+        head = said["head"].replace("VARIANT", variant)
+        yield Part(said["file"], head, f"{head} {nested(facts)}", is_line=True)
+
+
+def variant_lines(kind: Table, table: Table) -> Iterator[Part]:
+    """The lines that say of each variant of this type what is said of the type: in definitions and lemmas."""
+    for said in table["group"][kind["group"]].get("lines", []):
+        words = {part.upper(): said_of(kind, part, table)["name"] for part in said["names"]}
+        text = re.sub("|".join(words) or "$^", lambda found: words[found[0]], said["text"])
+        for variant in kind["lemmas"]:
+            head = said["head"].replace("VARIANT", variant)
+            yield Part(said["file"], head, f"{head} {text}", is_line=True)
+
+
+def nested(facts: list[str]) -> str:
+    """Facts of a list's members, one within another."""
+    return "tt" if not facts else "".join(f"({fact}, " for fact in facts) + "tt" + ")" * len(facts)
 
 
 def read_back(kind: Table, table: Table) -> Part:
@@ -247,14 +271,18 @@ def read_back(kind: Table, table: Table) -> Part:
 def back_step(field: Field, kind: Table, of: str) -> str:
     """How a lemma says that one field is read as it was written."""
     value, name = f"{of}.{field.name}", place_in(field)
+    if "step_back" in kind:
+        return filled(kind["step_back"], field.key, value)
     back = filled(kind["back"], field.name, value).replace("FIELD", "field.Line" if field.is_keyed else name)
+    if field.is_keyed and field.kind.startswith("if_"):
+        return f"if_keyed_is {kind['of']} {kind['data']} {name} rows {value} refl refl ({back}) h.{field.name}"
     if field.is_keyed:
         return f"keyed_is {kind['of']} {name} rows _ {value} refl refl {back if back == 'refl' else f'({back})'}"
     if "left_out" in kind:
         return f"left_out_is {kind['of']} {kind['empty']} {name} rows _ {value} refl refl ({back})"
     if not field.kind.startswith("if_"):
         how = f"default_is {kind['of']} {kind['empty']}" if field.has_default else f"required_is {kind['of']}"
-        return f"{how} {name} rows _ {value} refl refl ({back})"
+        return f"{how} {name} rows _ {value} refl refl {back if back == 'refl' else f'({back})'}"
     return f"optional_is {kind['of']} {kind['data']} {name} rows {value} refl refl ({back}) h.{field.name}"
 
 
@@ -271,10 +299,17 @@ def place_in(field: Field) -> str:
 def taken(field: Field, kind: Table) -> str:
     """How the definitions take a field from a line."""
     if field.is_keyed:
-        return f"keyed {kind['of']}"
+        return f"{'if_keyed' if field.kind.startswith('if_') else 'keyed'} {kind['of']}"
     if field.has_default:
         return f"or_default {kind['of']} {kind['empty']}"
     return f"{'optional' if field.kind.startswith('if_') else 'required'} {kind['of']}"
+
+
+def defined_as(field: Field, kind: Table, of: str) -> str:
+    """What the definitions say a field is in a line."""
+    if "defined" in kind:
+        return filled(kind["defined"], field.key, "").replace("OF", of)
+    return f"{taken(field, kind)} {place_in(field)} {of}"
 
 
 def camel(words: str) -> str:
@@ -303,13 +338,13 @@ def field_reader(field: Field, kind: Table, said: Table) -> list[str]:
     """The lines that read one field into a local. A default that makes the call too wide gets a local before."""
     local = kind.get("read_into", field.name) + (f": {kind['read_as']}" if "read_as" in kind else "")
     place = f'"{field.key}"' if field.is_keyed else f"Field::{camel(field.key)}"
-    how, before = taken(field, kind).split()[0], []
+    how, before = "" if "read" in kind else taken(field, kind).split()[0], []
     arguments = ["alloc", said["of"], place, *([kind["empty_value"]] if field.has_default else [])]
     if field.has_default and field.kind == "text" and "texts" in said:
         how, arguments = said["texts"], arguments[:-1]
     if len(", ".join(arguments)) > CALL_WIDTH:
         before, arguments[-1] = [f"let by_default = {arguments[-1]};"], "by_default"
-    whole = kind["read"].replace("VALUE", said["of"]) if "read" in kind else f"{how}({', '.join(arguments)})"
+    whole = filled(kind["read"], field.key, said["of"]) if "read" in kind else f"{how}({', '.join(arguments)})"
     return [*before, f"let {local} = {whole}?;"]
 
 
@@ -510,19 +545,26 @@ def variant_readers(listed: Table, table: Table) -> Iterator[Part]:
     arms: list[str] = []
     lines: list[str] = []
     for variant, carried in variants_of(listed):
+        kind = f"{read['prefix']}.{variant}" if read["prefix"] else variant
+        if not carried:
+            arms.append(f"        {read['kind']}::{variant} => Ok({name}::{variant}),")
+            lines.append(f"{read['defined']} {kind} d = Ok {read['made']}.{variant}")
+            continue
         if variant in read.get("fields", {}):
             field, = fields_of({"fields": [read["fields"][variant]]})
             arms += [f"        {read['kind']}::{variant} => {{",
                      *(f"            {line}" for line in field_reader(field, kinds[field.kind], read)),
                      f"            Ok({name}::{variant}({field.name}))", "        }"]
-            reads = f"{taken(field, kinds[field.kind])} {place_in(field)}"
+            reads = defined_as(field, kinds[field.kind], "d")
         else:
-            made = f"{said_of(types[carried], 'reader', table)['name']}(alloc, {read['of']})?"
-            arms += read_arm(f"{read['kind']}::{variant}", f"{name}::{variant}", made, read.get("within", False))
-            reads = said_of(types[carried], "fields_of", table)["name"]
-        kind = f"{read['prefix']}.{variant}" if read["prefix"] else variant
+            of_type = types[carried.removeprefix("Boxed<").removesuffix(">")]
+            call, reads = read.get("calls", {}).get(variant, (
+                f"{said_of(of_type, 'reader', table)['name']}(alloc, {read['of']})?",
+                f"{said_of(of_type, 'fields_of', table)['name']} d"))
+            arms += boxed_arm(read, name, variant, call) if carried.startswith("Boxed<") else read_arm(
+                f"{read['kind']}::{variant}", f"{name}::{variant}", call, read)
         made = f"(λ {read['as']}. Ok ({read['made']}.{variant} {read['as']}))"
-        lines.append(f"{read['defined']} {kind} d = {reads} d >>= {made}")
+        lines.append(f"{read['defined']} {kind} d = {reads} >>= {made}")
     call = signature(read["call"], read["takes"], f"Result<{name}, Refusal>")
     ensures = f"    ensures {{ Gives result ({read['stands']}) }}"
     yield Part(read["file"], call[0], "\n".join([
@@ -531,12 +573,23 @@ def variant_readers(listed: Table, table: Table) -> Iterator[Part]:
     yield Part(read["definition"], head, "\n".join([head, *lines]))
 
 
-def read_arm(kind: str, variant: str, value: str, is_within: bool) -> list[str]:
-    """An arm that reads a struct. One that is too wide has a block, or is broken within the innermost call."""
+def boxed_arm(read: Table, name: str, variant: str, value: str) -> list[str]:
+    """An arm that reads a struct and puts it into a box."""
+    return [f"        {read['kind']}::{variant} => {{", f"            let {read['local']} = Boxed::new(alloc, {value})?;",
+            f"            Ok({name}::{variant}({read['local']}))", "        }"]
+
+
+def read_arm(kind: str, variant: str, value: str, read: Table) -> list[str]:
+    """An arm that reads a struct. One that is too wide has a block, with a local where the table names one, or is
+    broken within the innermost call."""
     whole = f"        {kind} => Ok({variant}({value})),"
     if len(whole) <= WIDTH:
         return [whole]
-    if not is_within:
+    if "local" in read:
+        local = read["local"]
+        return [f"        {kind} => {{", f"            let {local} = {value};", f"            Ok({variant}({local}))",
+                "        }"]
+    if not read.get("within", False):
         return [f"        {kind} => {{", f"            Ok({variant}({value}))", "        }"]
     call, arguments = value.removesuffix(")?").split("(")
     return [f"        {kind} => Ok({variant}({call}(", f"            {arguments},", "        )?)),"]
@@ -553,6 +606,12 @@ def content_kinds(listed: Table) -> Iterator[Part]:
     head = f"abbrev pub kind_of : {name} → {of['kind']}"
     yield Part(of["definition"], head, "\n".join([head, *(
         f"kind_of ({of['made']}.{variant} {of['as']}) = kind.{variant}" for variant, _ in variants_of(listed))]))
+
+
+def kinds_as_names(listed: Table) -> Table:
+    """The kinds of an enum's variants, as a list of names that is read."""
+    return {"name": "Kind", "function": "kind_name", "prefix": "kind", "read": listed["kind_read"],
+            "variants": [f"{variant} {variant}" for variant, _ in variants_of(listed)]}
 
 
 def kind_calls(listed: Table) -> Part:
@@ -606,6 +665,12 @@ MAKERS: dict[str, Callable[[Table, Table], Part]] = {
 }
 
 
+# Lines for each variant of a type.
+LINE_MAKERS: dict[str, Callable[[Table, Table], Iterator[Part]]] = {
+    "utf8": text_lines, "plain": plain_lines, "plain_rows": plain_row_lines, "lines": variant_lines,
+}
+
+
 def parts_of(table: Table) -> Iterator[Part]:
     """All parts that the table gives."""
     for kind in table["type"]:
@@ -613,7 +678,7 @@ def parts_of(table: Table) -> Iterator[Part]:
         if kind.get("drop", table["group"][kind["group"]].get("drop", False)):
             yield destructor(kind, table)
         yield from (MAKERS[part](kind, table) for part in kind.get("parts", []))
-        for lemma, lines in (("utf8", text_lines), ("plain", plain_lines)):
+        for lemma, lines in LINE_MAKERS.items():
             if "lemmas" in kind and lemma in table["group"][kind["group"]]:
                 yield from lines(kind, table)
     for listed in table["enum"]:
@@ -624,6 +689,8 @@ def parts_of(table: Table) -> Iterator[Part]:
         if "kinds" in listed:
             yield from (kinds_enum(listed), kind_names(listed), kind_calls(listed))
             yield from kind_definitions(listed)
+        if "kind_read" in listed:
+            yield from names_reader(kinds_as_names(listed))
         if "read" in listed:
             yield from variant_readers(listed, table)
         if "kind_of" in listed:

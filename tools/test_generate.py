@@ -141,10 +141,33 @@ class Generated(unittest.TestCase):
 
     def test_a_new_field_of_an_event_is_one_row(self):
         def change(table: dict) -> None:
-            self.type_named(table, "MarkerRecorded")["fields"].append("at_moment moment key=when")
+            self.type_named(table, "MarkerRecorded")["fields"].append("at_moment moment key=when keyed")
 
         self.assertEqual(self.written_with(change), {
             "wf_event/src/payloads.rt": ["    pub at_moment: Moment,"],
+            "wire_record_events/proofs/PayloadsBack.antt": [
+                '    (then _ (keyed_is moment_of (codes "when") rows _ a.at_moment refl refl '
+                "(moment_back field.Line a.at_moment h.at_moment))",
+            ],
+            "wire_record_events/proofs/RowsPlain.antt": [
+                "attributes_plain (event.MarkerRecorded a) h = (tt, (tt, (moment_plain a.at_moment h.at_moment, tt)))",
+            ],
+            "wire_record_events/proofs/TextsUtf8.antt": [
+                "attributes_utf8 (event.MarkerRecorded a) h = (h.details.1, (h.name.1, (tt, tt)))",
+            ],
+            "wire_record_events/specs/Limits.antt": ["  pub at_moment : IsMoment a.at_moment"],
+            "wire_record_events/specs/Reading.antt": [
+                '  at_moment ← keyed moment_of (codes "when") d',
+                "  Ok (record { name = name; details = details; at_moment = at_moment })",
+            ],
+            "wire_record_events/specs/Trees.antt": [
+                '    text (codes "details") a.details ∷ text (codes "name") a.name ∷ count (codes "when") a.at_moment ∷ []',
+            ],
+            "wire_record_events/src/activities.rt": [
+                '    let at_moment = keyed(alloc, object, "when")?;', "    Ok(MarkerRecorded {", "        name,",
+                "        details,", "        at_moment,",
+            ],
+            "wire_record_events/src/known.rt": ["    let _at_moment = attributes.at_moment.millis();"],
             "wire_events/specs/Activities.antt": ['    ▸ number_member (codes "when") a.at_moment'],
             "wire_events/src/activities.rt": [
                 '    page.text("name", attributes.name.as_str())?;',
@@ -154,9 +177,23 @@ class Generated(unittest.TestCase):
 
     def test_a_new_kind_of_event_is_one_row(self):
         def change(table: dict) -> None:
-            next(one for one in table["enum"] if one["name"] == "Attributes")["variants"].append("WorkflowPaused Text")
+            listed = next(one for one in table["enum"] if one["name"] == "Attributes")
+            listed["variants"].append("WorkflowPaused Text")
+            listed["read"]["fields"]["WorkflowPaused"] = "reason text"
 
         self.assertEqual(self.written_with(change), {
+            "wire_record_events/specs/Names.antt": [
+                "    ∷ kind.ExternalWorkflowExecutionSignaled ∷ kind.ExternalWorkflowExecutionCancelRequested "
+                "∷ kind.WorkflowPaused ∷ [])",
+            ],
+            "wire_record_events/specs/Reading.antt": [
+                "attributes_of kind.WorkflowPaused d = required text_of field.Reason d "
+                ">>= (λ a. Ok (event.WorkflowPaused a))",
+            ],
+            "wire_record_events/src/by_kind.rt": [
+                "        Kind::WorkflowPaused => {", "            Ok(Attributes::WorkflowPaused(reason))",
+            ],
+            "wire_record_events/src/names.rt": ['        "WorkflowPaused" => Some(Kind::WorkflowPaused),'],
             "wf_event/src/attributes.rt": [
                 "    WorkflowPaused(Text),", "            Attributes::WorkflowPaused(_) => {}",
                 "            Attributes::WorkflowPaused(a) => Ok(Attributes::WorkflowPaused(a.clone()?)),"],
@@ -166,6 +203,25 @@ class Generated(unittest.TestCase):
             "wf_event/specs/Kinds.antt": ["kind_of (event.WorkflowPaused a) = kind.WorkflowPaused",
                                           'kind_name kind.WorkflowPaused = codes "WorkflowPaused"'],
         })
+
+    def test_a_new_kind_of_event_of_a_struct_is_read_by_its_row(self):
+        def change(table: dict) -> None:
+            listed = next(one for one in table["enum"] if one["name"] == "Attributes")
+            listed["variants"] += ["TimerPaused TimerEnd", "MarkerMoved Boxed<MarkerRecorded>"]
+            self.type_named(table, "TimerStarted")["fields"] += ["why cause keyed", "since if_number keyed"]
+
+        written = self.written_with(change)
+        self.assertEqual(written["wire_record_events/src/by_kind.rt"], [
+            "        Kind::TimerPaused => Ok(Attributes::TimerPaused(timer_end(alloc, object)?)),",
+            "        Kind::MarkerMoved => {", "            let event = Boxed::new(alloc, marker(alloc, object)?)?;",
+            "            Ok(Attributes::MarkerMoved(event))"])
+        self.assertEqual(written["wire_record_events/src/activities.rt"], [
+            '    let since = if_keyed(alloc, object, "since")?;', '    let why = cause_in(word(object, "why")?)?;',
+            "    Ok(TimerStarted {", "        timer_id,", "        duration,", "        why,", "        since,"])
+        self.assertIn('  why ← keyed string_of (codes "why") d >>= cause_in',
+                      written["wire_record_events/specs/Reading.antt"])
+        self.assertIn("    (then _ (then cause_in (keyed_is string_of (codes \"why\") rows _ (cause_name a.why) refl refl refl) "
+                      "(cause_back a.why))", written["wire_record_events/proofs/PayloadsBack.antt"])
 
     def test_a_field_that_may_be_missing_has_its_default(self):
         def change(table: dict) -> None:

@@ -11,6 +11,8 @@ mod devices;
 #[cfg(test)]
 mod drawn_lines;
 #[cfg(test)]
+mod event_texts;
+#[cfg(test)]
 mod lines;
 #[cfg(test)]
 mod listed;
