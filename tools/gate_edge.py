@@ -19,7 +19,11 @@ SECONDS = 600
 CLASS_SECONDS, SOCKETS_SECONDS = 240, 1_200
 # What the client's own tests draw at full length against the Python server is drawn shorter here. By hand more of it is
 # drawn, by these names.
-DRAWN = {"WFSERVE_KILLS": "12", "WFSERVE_ORDERS": "50", "WFEDGE_KILLS": "10", "WFEDGE_TAKEOVERS": "6"}
+DRAWN = {
+    "WFSERVE_KILLS": "12", "WFSERVE_ORDERS": "50", "WFEDGE_KILLS": "10", "WFEDGE_TAKEOVERS": "6",
+    # A machine that stalls for two seconds exchanges no leader.
+    "WFEDGE_SILENCE": "4000",
+}
 BUILD = ["cargo", "build", "--release", "--offline"]
 LOOKED_OVER = ["cargo", "clippy", "-q", "--offline", "--all-targets", "--", "-D", "warnings"]
 # A part's title, its command, and what has to be there for it.
