@@ -58,7 +58,12 @@ REPLIES: dict[str, Json] = {
                      "class", "retry", "status"), {"type": "string"}),
     "cancel_requested": FLAG, "events": {"type": "array", "items": {"$ref": "#/components/schemas/Event"}},
 }
-WAIT: Json = {"type": "integer", "minimum": 0, "maximum": 60_000, "description": "for how many milliseconds it waits for a task"}
+WAIT: Json = {"type": "integer", "minimum": 0, "maximum": 60_000}
+# What these operations wait for.
+WAITS = {
+    **dict.fromkeys(POLLS, "for how many milliseconds it waits for a task"),
+    "describe": "for how many milliseconds it waits until the run has closed",
+}
 
 
 def table() -> list[list[str]]:
@@ -147,8 +152,8 @@ def responses() -> Json:
 
 def operation(op: str, fields: list[tuple[str, bool]], replies: list[Json]) -> Json:
     members = {name: FIELDS[name] for name, _ in fields}
-    if op in POLLS:
-        members["wait"] = WAIT
+    if op in WAITS:
+        members["wait"] = {**WAIT, "description": WAITS[op]}
     body: Json = {"type": "object", "properties": members}
     required = [name for name, needed in fields if needed]
     if required:

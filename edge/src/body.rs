@@ -24,7 +24,7 @@ pub struct Asked {
     /// The line's text without its last brace, its moment and its key.
     pub begin: Vec<u8>,
     pub facts: Facts,
-    /// For how many milliseconds a poll may wait.
+    /// For how many milliseconds a poll or a description may wait.
     pub wait: u64,
 }
 
@@ -72,13 +72,13 @@ fn object_in(body: &[u8]) -> Result<Object<'_>, Fault> {
 
 fn asked_of(body: &[u8], mut request: Object<'_>, shards: Shard) -> Result<Asked, Fault> {
     let op = request.text("op").map_or(Op::Unknown, Op::of);
+    let wait = if op.is_poll() || op == Op::Describe { wait_of(&request)? } else { 0 };
     let (before, is_named) = (request.0.len(), request.text("op").map_or(false, |name| !name.is_empty()));
     request.0.retain(|member| op.has_key(&member.0) || (member.0 == "op" && is_named));
     if is_any_too_deep(&request) {
         return Err(Fault::BadCall(format!("its values lie more than {DEEPEST} deep")));
     }
     let facts = Facts::of(op, &request, shards);
-    let wait = if op.is_poll() { wait_of(&request)? } else { 0 };
     let begin = if request.0.len() == before && is_named { begin_of(body) } else { written(&request, is_named) };
     Ok(Asked { begin, facts, wait })
 }
@@ -106,7 +106,7 @@ fn written(request: &Object<'_>, is_named: bool) -> Vec<u8> {
     text
 }
 
-/// For how many milliseconds a poll may wait.
+/// For how many milliseconds a poll or a description may wait.
 fn wait_of(request: &Object<'_>) -> Result<u64, Fault> {
     let wait = request.get("wait").map_or(Some(0), Value::whole);
     let fault = || Fault::BadCall(format!("wait is a whole number of milliseconds, at most {MOST_WAIT}"));

@@ -4,6 +4,7 @@ use crate::blob_paths;
 use crate::blobs::Store;
 use crate::body::{asked, asked_of_fields, call_key};
 use crate::core::Core;
+use crate::ends;
 use crate::fault::Fault;
 use crate::guard::{Guard, Verdict};
 use crate::json::{quoted, Object, Value};
@@ -195,14 +196,12 @@ impl Front {
         let body = self.body_of(request).await?;
         let shards = self.core.shards();
         let asked = named.map_or_else(|| asked(&body, shards), |op| asked_of_fields(op, &body, shards))?;
-        match self.core.submit(asked, key)?.await {
-            Ok(reply) => {
-                let reply = reply?;
-                let status = named.map_or(200, |_| status_of(&reply));
-                Ok(with_retry(answer(status, JSON, reply)))
-            }
-            Err(_) => Err(Fault::Ended("the call was dropped".to_string()).into()),
-        }
+        let reply = match ends::waits(&asked) {
+            true => ends::until_closed(&self.core, asked).await?,
+            false => self.core.reply_to(asked, key).await?,
+        };
+        let status = named.map_or(200, |_| status_of(&reply));
+        Ok(with_retry(answer(status, JSON, reply)))
     }
 
     /// Compacts the log while it is served, with room for so many tasks in its queues. Calls wait meanwhile.

@@ -16,6 +16,7 @@ mod changes;
 mod compaction;
 mod core;
 mod deadlines;
+mod ends;
 mod facts;
 mod fault;
 mod guard;

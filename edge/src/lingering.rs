@@ -39,7 +39,7 @@ impl<S> Lingering<S> {
 impl<S: AsyncRead + Unpin> Lingering<S> {
     /// Drops what comes; ready once nothing does any more, or no longer may.
     fn poll_drop(&mut self, late: Pin<&mut Sleep>, context: &mut Context<'_>) -> Poll<()> {
-        if late.poll(context).is_ready() {
+        if late.poll(context).is_ready() || !self.activity.lingers() {
             return Poll::Ready(());
         }
         let mut space = [0; DROPPED_AT_ONCE];

@@ -1,7 +1,8 @@
 """What the tests over a table of PostgreSQL share: a database, edges over it, clients that make calls by keys, and what is
 looked at afterwards: the table's lines, given to a program by hand, give the replies that clients had.
 
-WFSERVE_SEED draws other moments, WFEDGE_TAKEOVERS more of them, and WFEDGE_CLIENTS makes more clients.
+WFSERVE_SEED draws other moments, WFEDGE_TAKEOVERS more of them, and WFEDGE_CLIENTS makes more clients. WFEDGE_SILENCE is
+for how many milliseconds a leader may be silent.
 """
 
 import http.client
@@ -33,7 +34,7 @@ SEED = int(os.environ.get("WFSERVE_SEED", random.randrange(1 << 32)))
 TAKEOVERS = int(os.environ.get("WFEDGE_TAKEOVERS", 8))
 CLIENTS, HOUR = int(os.environ.get("WFEDGE_CLIENTS", 8)), 3_600_000
 # For how many milliseconds a leader may be silent.
-SILENCE = 2_000
+SILENCE = int(os.environ.get("WFEDGE_SILENCE", 2_000))
 # So many seconds something may take that is done at once where the machine has nothing else to do.
 PATIENCE = 120
 # Between two tries of a call, in seconds; and between two calls of a client, so that a log stays short.

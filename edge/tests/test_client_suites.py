@@ -15,6 +15,7 @@ import test_server
 import test_server_backlog
 import test_server_early
 import test_server_edge
+import test_server_ends
 import test_server_faults
 import test_server_going_on
 import test_server_list
@@ -63,6 +64,16 @@ class Answers(test_server_edge.Answers):
         self.assertEqual((status, json.loads(text)["error"]), (500, "Fault"))
         self.assertIn("picture.svg", server.said.read_text())
         self.assertEqual(server.asked("GET", "/health/live")[0], 200)
+
+
+@needs_edge
+class Waiting(test_server_ends.Waiting):
+    pass
+
+
+@needs_edge
+class Results(test_server_ends.Results):
+    pass
 
 
 @needs_edge

@@ -1,5 +1,6 @@
 """What the compiled edge refuses by name, its page as a process beside it, and how it stops."""
 
+import contextlib
 import hashlib
 import json
 import os
@@ -148,7 +149,9 @@ class Refused(WithAServer):
 def children_of(pid):
     found = []
     for children in pathlib.Path(f"/proc/{pid}/task").glob("*/children"):
-        found += [int(child) for child in children.read_text(encoding="utf-8").split()]
+        # A thread may have ended meanwhile.
+        with contextlib.suppress(OSError):
+            found += [int(child) for child in children.read_text(encoding="utf-8").split()]
     return found
 
 
@@ -310,7 +313,9 @@ class BlobsThatNobodyNames(WithAServer):
         folder = pathlib.Path(f"{self.log}.blobs")
         for name in (named, other):
             os.utime(folder / name[:2] / name, (1, 1))
-        found = next(pathlib.Path(tempfile.gettempdir()).glob(f"wfedge-{server.process.pid}-*"))
+        # One that was killed leaves its folder, and another process may have its number.
+        folders = pathlib.Path(tempfile.gettempdir()).glob(f"wfedge-{server.process.pid}-*")
+        found = max(folders, key=lambda it: it.stat().st_mtime)
         words = [os.environ["WFEDGE_PYTHON"], "-c", SWEEP, str(found / "edge"), str(found / "lines")]
         ran = subprocess.run(words, cwd=HERE.parent, capture_output=True, text=True, timeout=PATIENCE)
         self.assertEqual((ran.stdout, ran.stderr), ("1\n", ""))

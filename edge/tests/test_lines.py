@@ -137,6 +137,7 @@ class Lines(WithASocket):
         self.assertEqual([json.loads(replies.readline())["ok"] for _ in range(3)], ["signaled"] * 3)
         self.assertEqual(json.loads(poll.makefile("rb").readline())["ok"], "empty")
         self.assertEqual(server.process.wait(timeout=PATIENCE), 0)
+        server.stop()
 
 
 @needs_edge

@@ -2,6 +2,7 @@
 and are followed by the other one. The table's lines, given to a program by hand, give the replies that clients had.
 """
 
+import contextlib
 import hashlib
 import http.client
 import os
@@ -72,7 +73,9 @@ class TwoEdges(OverATable):
         late, states = time.monotonic() + PATIENCE, {"?"}
         while states != {"T"} and time.monotonic() < late:
             tasks = pathlib.Path(f"/proc/{node.process.pid}/task").glob("*/stat")
-            states = {path.read_text().rpartition(") ")[2][0] for path in tasks}
+            # A thread may have ended meanwhile.
+            with contextlib.suppress(OSError):
+                states = {path.read_text().rpartition(") ")[2][0] for path in tasks}
             time.sleep(0.01)
 
     def test_settings_that_are_others_are_refused_and_followers_are_told(self):

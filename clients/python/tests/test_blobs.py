@@ -142,6 +142,24 @@ class Codecs(unittest.TestCase):
         named = self.blobs.encode(text)
         self.assertEqual((self.blobs.decode(named), asked), (text, []))
 
+    def test_what_was_put_or_read_long_ago_is_put_again_before_it_is_named(self):
+        """No history may have named it since, and a server with a retention has deleted it."""
+        now = [1_000.0]
+        with mock.patch("wfserve.blobs.time.monotonic", lambda: now[0]):
+            text = drawn(LONG)
+            named = self.blobs.encode(text)
+            for seconds_more, is_put in ((3_000, False), (3_000, True), (3_000, False), (90_000, True)):
+                now[0] += seconds_more
+                self.store._kept.clear()
+                self.assertEqual((self.blobs.encode(text), bool(self.store._kept)), (named, is_put))
+            # Who has read it has seen it there.
+            other = Blobs(self.store)
+            self.assertEqual(other.decode(named), text)
+            self.store._kept.clear()
+            self.assertEqual((other.encode(text), bool(self.store._kept)), (named, False))
+            now[0] += 4_000
+            self.assertEqual((other.encode(text), bool(self.store._kept)), (named, True))
+
     def test_memory_has_an_end(self):
         with mock.patch("wfserve.blobs.KEPT_BYTES", 3 * LONG):
             for seed in range(10):

@@ -101,7 +101,7 @@ class Statuses(WithAServer):
         return reply
 
     def poll(self, op):
-        return self.ask(op, 200, "task", task_queue="main", wait=5_000)["token"]
+        return self.ask(op, 200, "task", task_queue="main", wait=60_000)["token"]
 
     def test_each_operation_by_its_path(self):
         began = {"workflow_type": "W", "task_queue": "main"}

@@ -21,7 +21,7 @@ from wfserve.errors import WfserveError
 NO_EXCEPTIONS = {"Blocked", "Cancelled", "ContinueAsNew", "ReplayOver"}
 # These need aiohttp or httptools.
 WANTING = ("wfserve.server.__main__", "wfserve.server.blobs", "wfserve.server.connections", "wfserve.server.front",
-           "wfserve.server.http", "wfserve.server.pages")
+           "wfserve.server.http", "wfserve.server.lingering", "wfserve.server.pages")
 
 
 def module_names():

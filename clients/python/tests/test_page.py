@@ -160,7 +160,7 @@ class Page(WithAServer):
 
     def test_a_run_that_is_stuck_is_shown_so(self):
         run = self.start("order-1")
-        client = self.server.client(wait=5_000)
+        client = self.server.client(wait=60_000)
         for _ in range(2):
             client.fail_workflow_task(client.poll_workflow_task(), f"a fault {MARKUP}")
         self.browser.open(self.server.url)

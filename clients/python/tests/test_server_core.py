@@ -116,15 +116,16 @@ class Batches(OverALog):
     def test_more_calls_than_may_wait_are_refused_and_polls_are_counted_for_themselves(self):
         async def called():
             async with self.served(COUNTING, limit=3) as served:
-                polls = [served.submit(op="poll_workflow_task", task_queue="main", wait=1_000) for _ in range(3)]
+                polls = [served.submit(op="poll_workflow_task", task_queue="main", wait=60_000) for _ in range(3)]
                 await served.idle()
                 asked = [served.submit(op="signal", name=f"{number}") for number in range(3)]
                 with self.assertRaises(Busy):
                     served.submit(op="signal", name="3")
                 await asyncio.gather(*asked)
-                late = served.submit(op="poll_workflow_task", task_queue="main", wait=1_000)
+                late = served.submit(op="poll_workflow_task", task_queue="main", wait=60_000)
                 with self.assertRaises(Busy):
                     await late
+                served.end_polls()
                 self.assertEqual([json.loads(text)["ok"] for text in await asyncio.gather(*polls)], ["empty"] * 3)
                 self.assertEqual((served.core.waiting, len(served.core.polls)), (0, 0))
 
@@ -258,7 +259,7 @@ class Polled(OverALog):
                 ]
                 await served.idle()
                 await asyncio.gather(*[self.started(served, f"w{number}") for number in range(30)])
-                tasks = [json.loads(text) for text in await asyncio.wait_for(asyncio.gather(*polls), 10)]
+                tasks = [json.loads(text) for text in await asyncio.wait_for(asyncio.gather(*polls), 60)]
                 self.assertEqual({task["workflow_id"] for task in tasks}, {f"w{number}" for number in range(30)})
                 self.assertEqual({json.loads(text)["ok"] for text in await asyncio.gather(*others)}, {"empty"})
 
@@ -283,7 +284,7 @@ class Polled(OverALog):
                     with waking as left, mock.patch.object(served.core, "_let_go", wraps=served.core._let_go) as let_go:
                         let_go.side_effect = hang_up
                         await self.started(served, f"w {waits}")
-                        task = json.loads(await asyncio.wait_for(other or self.poll(served), 5))
+                        task = json.loads(await asyncio.wait_for(other or self.poll(served), 60))
                     self.assertEqual((task["workflow_id"], left.call_count), (f"w {waits}", 1))
                     self.assertFalse(gone.done())
                     reply = await served.call(op="complete_workflow_task", token=task["token"], commands=[])

@@ -103,7 +103,8 @@ class Early(WithAServer):
                 answer.close()
 
     def test_who_is_slow_is_told(self):
-        server = self.serve("--read-timeout", "1", program=self.double())
+        # For as long the server drops what comes after its answer.
+        server = self.serve("--read-timeout", "4", program=self.double())
         for method, path in (("POST", "/calls"), ("PUT", f"/blobs/{HASH}")):
             body = b"x" * 600_000
             with socket.create_connection((server.host, server.port), timeout=60) as connection:

@@ -87,7 +87,7 @@ class Again(OverALog):
     def test_replies_are_had_again_after_a_restart(self):
         calls = {
             "start": {"op": "start", "workflow_id": "w", "workflow_type": "T", "task_queue": "main"},
-            "poll": {"op": "poll_workflow_task", "task_queue": "main", "wait": 5_000},
+            "poll": {"op": "poll_workflow_task", "task_queue": "main", "wait": 60_000},
             "refused": {"op": "signal", "workflow_id": "nobody", "name": "s"},
             "signal": {"op": "signal", "workflow_id": "w", "name": "s"},
         }
@@ -112,7 +112,7 @@ class Again(OverALog):
     def test_a_poll_that_waits_is_joined_by_its_key_or_made_anew(self):
         async def called():
             async with self.served() as served:
-                poll = {"op": "poll_workflow_task", "task_queue": "main", "wait": 1_000}
+                poll = {"op": "poll_workflow_task", "task_queue": "main", "wait": 60_000}
                 for key, looked_at in (("a", False), ("b", True)):
                     hung_up = []
                     gone = served.submit(key, is_gone=lambda: bool(hung_up), **poll)
@@ -124,12 +124,13 @@ class Again(OverALog):
                     again = served.submit(key, **poll)
                     await served.idle()
                     await served.call(op="start", workflow_id=key, workflow_type="T", task_queue="main")
-                    task = json.loads(await asyncio.wait_for(again, 10))
+                    task = json.loads(await asyncio.wait_for(again, 60))
                     self.assertEqual((task["workflow_id"], gone.done()), (key, False))
                 gone = served.submit("c", **poll)
                 await served.idle()
                 joined = served.submit("c", **poll)
-                self.assertEqual(json.loads(await asyncio.wait_for(joined, 10))["ok"], "empty")
+                served.end_polls()
+                self.assertEqual(json.loads(await asyncio.wait_for(joined, 60))["ok"], "empty")
                 self.assertEqual(gone.result(), joined.result())
                 self.assertEqual(served.core._by_key, {})
 

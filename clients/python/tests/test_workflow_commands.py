@@ -131,6 +131,8 @@ class WithAServer(unittest.TestCase):
     def test_what_keeps_a_worker_from_going_on_is_shown_and_ends_with_1(self):
         class Garbled(http.server.BaseHTTPRequestHandler):
             def do_POST(self):
+                # What is left unread would reset the connection.
+                self.rfile.read(int(self.headers["Content-Length"]))
                 self.send_response(200)
                 self.end_headers()
                 self.wfile.write(b"this is no reply")

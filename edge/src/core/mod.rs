@@ -33,6 +33,7 @@ use crate::system;
 use hyper::body::Bytes;
 use state::{Answers, State};
 use std::process::ChildStdin;
+use std::sync::atomic::{AtomicUsize, Ordering::SeqCst};
 use std::sync::{Arc, Condvar, Mutex, MutexGuard, PoisonError};
 use std::thread::{Builder, JoinHandle};
 use std::time::{Duration, Instant};
@@ -60,6 +61,8 @@ pub struct Core {
     over: Notify,
     shards: Shard,
     limit: usize,
+    /// How many descriptions wait until a run has closed.
+    pub ends: AtomicUsize,
 }
 
 /// The threads of a core, for who ends it.
@@ -116,6 +119,7 @@ impl Core {
             over: Notify::new(),
             shards,
             limit,
+            ends: AtomicUsize::new(0),
         });
         let threads = core.clone().spawn(log, origin, program)?;
         Ok((core, threads))
@@ -178,6 +182,26 @@ impl Core {
         taken.map(|()| outcome)
     }
 
+    /// The reply to a call, once it is there.
+    pub async fn reply_to(&self, asked: Asked, key: Option<Box<str>>) -> Result<Bytes, Fault> {
+        self.submit(asked, key)?.await.unwrap_or_else(|_| Err(Fault::Ended("the call was dropped".to_string())))
+    }
+
+    /// How many calls may wait, and as many polls, and descriptions.
+    pub fn limit(&self) -> usize {
+        self.limit
+    }
+
+    /// How many lines the log has.
+    pub fn lines(&self) -> u64 {
+        self.lock().log.lines
+    }
+
+    /// Whether no more calls are taken, as the edge was told to stop.
+    pub fn is_closing(&self) -> bool {
+        self.lock().flags.is_closing
+    }
+
     /// How things are.
     pub fn health(&self) -> Health {
         let clock_ahead = self.moments.lock().unwrap_or_else(PoisonError::into_inner).ahead();
@@ -196,9 +220,10 @@ impl Core {
     pub fn metrics(&self) -> String {
         let ahead = self.moments.lock().unwrap_or_else(PoisonError::into_inner).ahead();
         let state = self.lock();
-        let gauges: [Gauge; 8] = [
+        let gauges: [Gauge; 9] = [
             ("calls_waiting", "Calls of clients that wait for their answers.", state.count as f64),
             ("polls_waiting", "Polls that wait for a task.", state.polls.len() as f64),
+            ("ends_waiting", "Descriptions that wait until a run has closed.", self.ends.load(SeqCst) as f64),
             ("log_lines", "Lines of the log.", state.log.lines as f64),
             ("log_bytes", "Bytes of the log.", state.log.bytes as f64),
             ("program_bytes", "Memory of the program.", resident_bytes(state.pid) as f64),

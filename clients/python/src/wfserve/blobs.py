@@ -16,6 +16,7 @@ import os
 import pathlib
 import re
 import threading
+import time
 from collections import OrderedDict
 from typing import Dict, FrozenSet, Iterator, Optional, Protocol
 
@@ -31,6 +32,9 @@ NAMED = re.compile(r"blob:([0-9a-f]{64}):([0-9]{1,7})")
 HASH = re.compile(r"[0-9a-f]{64}")
 # So many bytes of blobs that were put or read are kept in memory.
 KEPT_BYTES = 16 << 20
+# What was put or read longer ago is put again before it is named: no history may name it any more, and it may be gone. A
+# store keeps what it was given, or a history names, for a day and longer.
+SURE_SECONDS = 3_600.0
 
 
 class BlobTooLarge(WfserveError, ValueError):
@@ -210,6 +214,8 @@ class Blobs:
         # Texts of so many bytes and less are left as they are.
         self._least = least
         self._known: "OrderedDict[str, str]" = OrderedDict()
+        # When the store had each of these last.
+        self._had: Dict[str, float] = {}
         self._bytes = 0
         self._lock = threading.Lock()
 
@@ -220,7 +226,7 @@ class Blobs:
             return text
         checked_size(len(data))
         name = name_of(data)
-        if self._found(name) is None:
+        if self._found(name) is None or not self._is_sure(name):
             self._store.put(name, data)
             self._keep(name, text)
         return f"{MARK}{name}:{len(data)}"
@@ -243,11 +249,19 @@ class Blobs:
                 self._known.move_to_end(name)
             return text
 
+    def _is_sure(self, name: str) -> bool:
+        """Whether the store is sure to have a blob still."""
+        with self._lock:
+            return time.monotonic() < self._had.get(name, -SURE_SECONDS) + SURE_SECONDS
+
     def _keep(self, name: str, text: str) -> None:
         with self._lock:
+            self._had[name] = time.monotonic()
             if name in self._known:
                 return
             self._known[name] = text
             self._bytes += len(text)
             while self._bytes > KEPT_BYTES:
-                self._bytes -= len(self._known.popitem(last=False)[1])
+                gone, text = self._known.popitem(last=False)
+                self._bytes -= len(text)
+                del self._had[gone]

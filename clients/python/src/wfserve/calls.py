@@ -145,6 +145,12 @@ class Calls:
         """A run in numbers, and its status."""
         return self.call("describe", workflow_id=workflow_id, run=run)
 
+    def describe_end(self, workflow_id: str, run: Optional[str], seconds: float) -> Reply:
+        """A description, for which a server waits until the run has closed, so many seconds at most.
+
+        Elsewhere it is answered at once."""
+        return self.describe(workflow_id, run)
+
     # Workers.
 
     def poll_workflow_task(self, task_queue: str = "main") -> Optional[Task]:

@@ -14,6 +14,7 @@ Unavailable where it isn't there.
 
 from __future__ import annotations
 
+import math
 import time
 import uuid
 from types import TracebackType
@@ -183,12 +184,16 @@ class WorkflowHandle:
     def _end(self, run: Optional[str], late: Optional[float]) -> Event:
         """The last event of a run that has closed."""
         for pause in pauses(FIRST_LOOK, LAST_LOOK):
-            reply = self._service.describe(self.id, run)
+            begun = time.monotonic()
+            reply = self._service.describe_end(self.id, run, math.inf if late is None else max(late - begun, 0))
             if reply["status"] in STATUS.values():
                 return self._service.history(self.id, reply["run"])[-1]
-            if late is not None and time.monotonic() + pause > late:
+            now = time.monotonic()
+            if late is not None and now + pause > late:
                 raise StillRunning(f"{self.id} is still running")
-            self._client.pause(pause)
+            # A server that has waited needs no pause.
+            if not isinstance(self._service, HttpService) or now - begun < pause:
+                self._client.pause(pause)
         raise AssertionError("pauses have no end")
 
     def _value(self, last: Event) -> Any:

@@ -36,6 +36,8 @@ from wfserve.types import Event, Json, Reply, Request
 MARKS = ("request_id", "token")
 # Seconds between a call and the same call made again: twice as many each time, up to the longest.
 FIRST_PAUSE, LONGEST_PAUSE = 0.05, 2.0
+# For so many seconds the server waits for a run's end before it is asked again.
+MOST_WAIT = 20.0
 # What a server answers that has no such path, or no such blob.
 NOT_THERE = (404, 405)
 # For how many seconds a call is made again, a heartbeat, for which an activity waits, and a poll.
@@ -108,6 +110,13 @@ class HttpService(Calls):
         if op in POLLS and self._wait:
             request["wait"] = self._wait
         return answered(request, json.loads(self._served(request)))
+
+    def describe_end(self, workflow_id: str, run: Optional[str], seconds: float) -> Reply:
+        """A description, for which the server waits until the run has closed, so many seconds at most.
+
+        An earlier server doesn't wait."""
+        wait = min(seconds, MOST_WAIT, self._timeout / 2)
+        return self.call("describe", workflow_id=workflow_id, run=run, wait=int(wait * 1_000) or None)
 
     def history_from(self, workflow_id: str, run: str, first: int) -> List[Event]:
         """The events of a run from the one of this id on. Those before it are not read out of the answer."""

@@ -69,6 +69,12 @@ class Served:
         while core._own or core._asked or core._sent or core._is_syncing or core._planned:
             await asyncio.sleep(0.001)
 
+    def end_polls(self):
+        """Has all polls that wait end, as where the server is told to stop. It goes on afterwards."""
+        self.core.closing = True
+        self.core.end_polls()
+        self.core.closing = False
+
     def lines(self):
         """The log's lines for the program."""
         return [piece.split(b" ", 2)[2] for piece in pathlib.Path(self.kept.log.path).read_bytes().splitlines()][1:]

@@ -33,11 +33,12 @@ from __future__ import annotations
 import json
 import os
 import threading
+import time
 from collections import deque
 from concurrent.futures import Future
 from dataclasses import dataclass, field
 from types import TracebackType
-from typing import Any, Callable, Deque, Iterable, List, Optional, Sequence, Type, Union
+from typing import Any, Callable, Deque, Iterable, Iterator, List, Optional, Sequence, Type, Union
 
 from wfserve.blobs import store_beside
 from wfserve.calls import Calls, Clock, HasMoment, answered, request_of, text_of
@@ -47,8 +48,10 @@ from wfserve.types import Reply, Request
 
 from .journaled import JournaledProgram
 from .kept import KeptProgram, Replayed, for_read
+from .log import open_lines
 from .program import Program
 from .settings import Settings
+from .sweeping import sweep
 
 
 # Told a request and its reply.
@@ -102,7 +105,7 @@ class DurableService(Calls):
     `settings` are those of a new log or journal; one that is there has to have the same. None takes its
     own, or the defaults. `most_a_sync` is how many lines one sync of a log serves at most. `replayed`
     is called with each request of the log and its reply, before the first call; what was done before
-    the log was compacted last is no line of it. `blobs` keeps long texts: nothing is deleted there but by a server
+    the log was compacted last is no line of it. `blobs` keeps long texts: `sweep_blobs` deletes there, and a server
     that serves the same log with a retention.
     """
 
@@ -166,6 +169,26 @@ class DurableService(Calls):
     def record_lines(self) -> Iterable[Iterable[bytes]]:
         """The lines of the records that the log goes on from, by their shards; with a journal, of all its steps."""
         return self._kept.record_lines()
+
+    def requests(self) -> Iterator[bytes]:
+        """The lines of its records, each with a request, and those that its log has since, each a request; of a journal all
+        its steps. What is asked meanwhile may be there or not."""
+        kept = self._kept
+        for record in kept.record_lines():
+            yield from record
+        if isinstance(kept, KeptProgram):
+            lines = open_lines(kept.log.path)
+            next(lines, None)
+            yield from lines
+
+    def sweep_blobs(self, now: Optional[float] = None) -> int:
+        """Deletes the long texts beside the log or the journal that no history names any more. How many these were.
+
+        It wants a retention, and to be called at least once a day: as every hour, by a thread. A text goes once the
+        retention and a day are over in which it was neither put nor named. The histories of all workflows are read for
+        it; of a journal these reads are steps. `now` is in seconds since 1970.
+        """
+        return sweep(self, self.blobs, time.time() if now is None else now)
 
     def read_all(self, requests: Sequence[Request]) -> List[Reply]:
         """The replies to reads, refusals as the replies that they are."""

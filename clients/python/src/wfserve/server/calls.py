@@ -85,7 +85,8 @@ def kept_of(request: Request) -> Request:
     return {name: value for name, value in request.items() if name in ALLOWED[op]}
 
 
-ALLOWED = {op: {"op", "wait", *keys} if op in POLLS else {"op", *keys} for op, keys in KEYS.items()}
+DESCRIBE = "describe"
+ALLOWED = {op: {"op", "wait", *keys} if op in (*POLLS, DESCRIBE) else {"op", *keys} for op, keys in KEYS.items()}
 
 
 def request_of(body: bytes) -> Json:
@@ -101,7 +102,7 @@ def key_of(text: Optional[str]) -> Optional[str]:
 
 
 def wait_of(request: Request) -> int:
-    """For how many milliseconds a poll may wait."""
+    """For how many milliseconds a poll or a description may wait."""
     wait = request.get("wait", 0)
     if not isinstance(wait, int) or isinstance(wait, bool) or not 0 <= wait <= MOST_WAIT:
         raise BadCall(f"wait is a whole number of milliseconds, at most {MOST_WAIT}")

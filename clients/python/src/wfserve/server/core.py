@@ -15,7 +15,7 @@ import json
 import logging
 import time
 from collections import deque
-from typing import Any, Callable, Deque, Dict, Iterable, List, Optional, Set
+from typing import TYPE_CHECKING, Any, Callable, Deque, Dict, Iterable, List, Optional, Set
 
 from wfserve.durable.kept import KeptProgram
 from wfserve.durable.program import numbered
@@ -31,6 +31,9 @@ from .moments import Moments
 from .pipes import Pipes, Syncer
 from .polls import Polls
 from .replies import Replies, ended_line
+
+if TYPE_CHECKING:
+    from .ends import UntilClosed
 
 
 LOG = logging.getLogger("wfserve.server")
@@ -62,6 +65,10 @@ class Core:
         self.ledger = ledger
         self.metrics = Metrics()
         self.polls = Polls(self._forget_key)
+        # The descriptions that wait until a run has closed.
+        self.ends: Set[UntilClosed] = set()
+        # So many calls may wait, so many polls, and so many descriptions.
+        self.limit = limit
         self.closing = False
         # Set where nothing is served any more, to why.
         self.over: "asyncio.Future[Exception]" = asyncio.get_running_loop().create_future()
@@ -69,7 +76,6 @@ class Core:
         self.called = True
         # Until when no turns are made.
         self.resting = 0.0
-        self._limit = limit
         self._observe = observe
         self._replies = replies
         self._by_key: Dict[str, Call] = {}
@@ -152,7 +158,7 @@ class Core:
         return left is not None
 
     def _take_in(self, call: Call) -> None:
-        if self._count >= self._limit or self._bytes >= MOST_WAITING_BYTES:
+        if self._count >= self.limit or self._bytes >= MOST_WAITING_BYTES:
             self.metrics.refused["Busy"] += 1
             raise Busy(f"{self._count} calls wait already")
         self._count += 1
@@ -320,7 +326,7 @@ class Core:
         now = time.monotonic()
         if said != "empty" or left is not None or self.closing or call.late <= now:
             return False
-        if len(self.polls) >= self._limit:
+        if len(self.polls) >= self.limit:
             self._fail(call, Busy(f"{len(self.polls)} polls wait already"))
             return True
         self._count -= 1
@@ -488,6 +494,8 @@ class Core:
         """Takes no more calls, ends the polls that wait, and lets those on their way and a compaction be answered."""
         self.closing = True
         self.end_polls()
+        for waiting in list(self.ends):
+            waiting.end()
         late = time.monotonic() + seconds
         while (self._count or self.compacting) and time.monotonic() < late and not self.over.done():
             await asyncio.sleep(0.01)

@@ -21,6 +21,7 @@ from wfserve.types import Json
 
 from .calls import call_of, key_of
 from .core import Core
+from .ends import submit
 from .http import RETRY_SECONDS, Guard, fault_of
 from .lines import Receiver
 from .lingering import linger
@@ -258,7 +259,7 @@ class Connection(asyncio.Protocol):
         try:
             call, begin = request.call()
             key = key_of(request.header(b"idempotency-key"))
-            self._front.core.submit(call, begin, request, key)
+            submit(self._front.core, call, begin, request, key)
         except Exception as fault:
             request.fail(fault)
 

@@ -19,6 +19,7 @@ from wfserve.types import Json
 
 from .calls import BadCall, Busy, Draining, KeyReused, call_of, key_of
 from .core import Core
+from .ends import submit
 from .lines import Waiter
 from .metrics import resident_bytes
 from .statuses import PREFIX, named_call_of, op_of, status_of
@@ -198,7 +199,7 @@ class Calls:
     async def _asked(self, request: web.Request, call: Json, begin: bytes) -> bytes:
         """The reply's text."""
         waiter = Waiter(lambda: is_gone(request))
-        self._core.submit(call, begin, waiter, key_of(request.headers.get("Idempotency-Key")))
+        submit(self._core, call, begin, waiter, key_of(request.headers.get("Idempotency-Key")))
         return await waiter.future
 
     async def compact(self, request: web.Request) -> web.Response:
@@ -241,6 +242,7 @@ class Health:
         gauges = {
             "calls_waiting": ("Calls of clients that wait for their answers.", core.waiting),
             "polls_waiting": ("Polls that wait for a task.", len(core.polls)),
+            "ends_waiting": ("Descriptions that wait until a run has closed.", len(core.ends)),
             "log_lines": ("Lines of the log.", core.kept.lines),
             "log_bytes": ("Bytes of the log.", core.kept.log.size),
             "program_bytes": ("Memory of the program.", resident_bytes(core.kept.program.pid)),
