@@ -33,7 +33,7 @@ KILLS = int(os.environ.get("WFSERVE_KILLS", 50))
 ROUNDS = max(KILLS // 50, 1)
 WORKERS, CLIENTS = 3, 8
 # Seconds for which the orders may go on after the last kill.
-LATEST = 150
+LATEST = 400
 ENDS = ("shipped", "shipped", "shipped", "cancelled", "timeout", "declined")
 
 
