@@ -39,7 +39,7 @@ class Events(unittest.TestCase):
         """The fields of a type of the program's tables, each with its own type."""
         found = re.search(rf'^name = "{name}"\n(.*?)(?=^\[\[|\Z)', self.TABLES, re.DOTALL | re.MULTILINE)
         self.assertIsNotNone(found, f"no type is named {name}")
-        return dict(re.findall(r'^    "(\w+) ?(?:Boxed<)?(\w*)>?"', found[1], re.MULTILINE))
+        return dict(re.findall(r'^    "(\w+) ?(?:Boxed<)?(\w*)>?(?: [\w ]+)?"', found[1], re.MULTILINE))
 
     def keys_of(self, event):
         """The fields of an event."""
