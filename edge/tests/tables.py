@@ -23,7 +23,7 @@ import unittest
 from collections import Counter, defaultdict
 from concurrent.futures import ThreadPoolExecutor
 
-from the_edge import WFEDGE, program_of
+from the_edge import WFEDGE, program_of, reply_by_key
 
 from by_hand import left_undone, replies_of, sweep_of
 from support.programs import BUILT, memory_folder
@@ -315,13 +315,7 @@ class Caller:
             self._connection = http.client.HTTPConnection(self._nodes[0].host, self._nodes[0].port, timeout=seconds)
             self._connection.connect()
         self._connection.sock.settimeout(seconds)
-        headers = {"Content-Type": "application/json", "Idempotency-Key": key, "Authorization": f"Bearer {TOKEN}"}
-        self._connection.request("POST", "/calls", body, headers)
-        answer = self._connection.getresponse()
-        text = answer.read()
-        if answer.status not in (200, 500, 503):
-            raise AssertionError(f"{answer.status}: {text}")
-        return text if answer.status == 200 else None
+        return reply_by_key(self._connection, body, key, (500, 503), Authorization=f"Bearer {TOKEN}")
 
     def close(self):
         if self._connection is not None:

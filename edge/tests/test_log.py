@@ -17,7 +17,7 @@ import time
 import unittest
 from concurrent.futures import ThreadPoolExecutor
 
-from the_edge import needs_edge, program_of
+from the_edge import needs_edge, program_of, reply_by_key
 
 from by_hand import left_undone, lines_of, replies_of, sweep_of
 from support.programs import BUILT, needs_program
@@ -74,13 +74,7 @@ class ByHttp:
     def ask(self, body, key):
         if self._connection is None:
             self._connection = http.client.HTTPConnection(self._server.host, self._server.port, timeout=20)
-        headers = {"Content-Type": "application/json", "Idempotency-Key": key}
-        self._connection.request("POST", "/calls", json.dumps(body), headers)
-        answer = self._connection.getresponse()
-        text = answer.read()
-        if answer.status not in (200, 500, 503, 507):
-            raise AssertionError(f"{answer.status}: {text}")
-        return text if answer.status == 200 else None
+        return reply_by_key(self._connection, json.dumps(body), key, (500, 503, 507))
 
     def close(self):
         if self._connection is not None:

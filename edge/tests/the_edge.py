@@ -55,3 +55,14 @@ if WFEDGE.exists() and programs.SERVER_PYTHON:
     os.environ["WFEDGE"] = str(WFEDGE)
     os.environ["WFEDGE_PYTHON"] = programs.SERVER_PYTHON
     take_the_edge()
+
+
+def reply_by_key(connection, body, key, silent, **headers):
+    """The text that a call by this key is answered. None where the status is one of those that say to ask again."""
+    headers = {"Content-Type": "application/json", "Idempotency-Key": key, **headers}
+    connection.request("POST", "/calls", body, headers)
+    answer = connection.getresponse()
+    text = answer.read()
+    if answer.status not in (200, *silent):
+        raise AssertionError(f"{answer.status}: {text}")
+    return text if answer.status == 200 else None
