@@ -1,6 +1,6 @@
 //! The requests that a run remembers.
 
-ghost use Rattle.std.specs.Prelude.{◌≡◌, ◌+◌, ◌≤◌, ◌++◌, ◌||◌, [], None, false, is_some, option_to_list, IfOk, OnOk};
+ghost use Rattle.std.specs.Prelude.{◌≡◌, ◌+◌, ◌≤◌, ◌++◌, ◌||◌, [], None, false, is_some, option_copied, option_to_list, IfOk, OnOk};
 ghost use Rattle.service_model.specs.Journal.{first_some};
 ghost use Rattle.service_model.specs.Signals.{was_signaled};
 ghost use Rattle.indexmap.specs.IndexSet.{spare};
@@ -120,6 +120,26 @@ impl Requests {
         match &kept.cancel {
             Some(request) => Ok(Some(request.copied()?)),
             None => Ok(None),
+        }
+    }
+
+    /// The request ids of signals, in their order.
+    pub(crate) fn signals(&self) -> &[String]
+        ensures { texts result.now ≡ self.now.signals }
+    {
+        match &self.kept {
+            Some(kept) => kept.signals.as_slice(),
+            None => &[],
+        }
+    }
+
+    /// The last request to cancel the run.
+    pub(crate) fn last_cancel(&self) -> Option<&CancelRequest>
+        ensures { option_copied result ≡ self.now.cancel }
+    {
+        match &self.kept {
+            Some(kept) => kept.cancel.as_ref(),
+            None => None,
         }
     }
 

@@ -12,8 +12,10 @@ mod readings;
 mod run;
 mod start;
 mod tables;
+mod tells_run;
 
 pub use keeps_run::KeepsRun;
 pub use kept_history::KeptHistory;
 pub use run::Run;
 pub use start::Start;
+pub use tells_run::TellsRun;

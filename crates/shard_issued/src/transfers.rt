@@ -2,11 +2,11 @@
 //!
 //! Rules: X7.
 
-ghost use Rattle.std.specs.Prelude.{◌≡◌, ◌+◌, ◌<◌, ◌^◌, None, Some, IfOk, IfSome, OnErr, OnOk, length, option_map, option_to_list, replicate, slice_get, slice_index_or, slice_set};
+ghost use Rattle.std.specs.Prelude.{◌≡◌, ◌+◌, ◌<◌, ◌^◌, None, Some, IfOk, IfSome, OnErr, OnOk, length, map, option_map, option_to_list, replicate, slice_get, slice_index_or, slice_set};
 ghost use Rattle.service_model.specs.Counts.{acknowledgement_of};
 ghost use Rattle.service_model.specs.Deliveries.{accepted_from, delivery_of};
 ghost use Rattle.service_model_types.specs.declared.transfer.Delivery.TheVariants.{Accepted as IsNext};
-ghost use Rattle.transfer.specs.Logs.{count_issued, none_waits};
+ghost use Rattle.transfer.specs.Logs.{count_issued, counted_off, none_waits};
 ghost use Rattle.transfer.specs.Outboxes.{counted_to, waiting_to, with_all_sent};
 
 use service_model_types::answer::Acknowledged;
@@ -79,6 +79,31 @@ impl Transfers {
         })
     }
 
+    /// Of those to each shard so many were acknowledged, by the shard's number, and none waits; of those
+    /// from each so many were accepted.
+    ///
+    /// # Errors
+    /// Where memory was refused.
+    pub fn restored(
+        alloc: Global,
+        acknowledged: &[u64],
+        accepted: Vec<u64>,
+    ) -> Result<Transfers, AllocError>
+        ensures { IfOk result (λ t. t ≡ record {
+          sent = map counted_off acknowledged.now;
+          accepted = accepted.items;
+          unsent = None;
+          answer = None;
+        }) }
+    {
+        Ok(Transfers {
+            outbox: Outbox::restored(alloc, acknowledged)?,
+            inbox: Inbox::restored(accepted),
+            unsent: None,
+            answer: None,
+        })
+    }
+
     /// The events whose transfers were not looked up.
     pub fn unsent(&self) -> Option<Unsent>
         ensures { result ≡ self.now.unsent }
@@ -142,6 +167,14 @@ impl Transfers {
             f.0 ≡ (waiting_to self.now.sent to).counted + 1) }
     {
         self.outbox.first_to(to)
+    }
+
+    /// How many transfers were issued to a shard.
+    pub fn issued(&self, to: u16) -> u64
+        requires { to < length self.now.sent }
+        ensures { result ≡ count_issued (waiting_to self.now.sent to) }
+    {
+        self.outbox.issued(to)
     }
 
     /// What an acknowledgement of this number by a shard would be.

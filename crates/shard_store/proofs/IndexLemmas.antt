@@ -76,6 +76,15 @@ latest_run-push id runs run key there named =
     ∙ ap (λ b. cond (b && bytes_eq (id_of run.state) id) (Some (length runs + 1)) (latest_run (states runs) id)) there
     ∙ ap (λ w. cond (bytes_eq w id) (Some (length runs + 1)) (latest_run (states runs) id)) named
 
+-- the place of a run that was deleted is no workflow ID's latest run's
+pub latest_run-gone : (id : List ℕ) (runs : List RunView) (run : RunView) → is_there run.state ≡ false → latest_run (states (runs ++ run ∷ [])) id ≡ latest_run (states runs) id
+unfolding latest_run latest_from
+latest_run-gone id runs run gone =
+    let all : latest_run (states runs ++ run.state ∷ []) id ≡ first_some (cond (bears id run.state) (Some (length (states runs) + 1)) None) (latest_run (states runs) id) = latest_from-append 1 id (states runs) run.state in
+    ap (λ t. latest_run t id) (states-push runs run) ∙ all
+    ∙ first_some_cond (bears id run.state) (length (states runs) + 1) (latest_run (states runs) id)
+    ∙ ap (λ b. cond (b && bytes_eq (id_of run.state) id) (Some (length (states runs) + 1)) (latest_run (states runs) id)) gone
+
 -- the same by how the run began
 abbrev bears_by : List ℕ → Option Beginning → Bool
 bears_by id o = is_some o && bytes_eq (unwrap_or (option_map (λ (b : Beginning). b.attributes.workflow_id) o) []) id

@@ -80,7 +80,7 @@ impl<T: KeepsRun> Store<T> {
     }
 
     /// Notes the answer to a transfer, if the step gives one.
-    fn answer_by(&mut self, answer: Option<Boxed<Sent>>)
+    pub(crate) fn answer_by(&mut self, answer: Option<Boxed<Sent>>)
         requires { MayAnswer self.old answer }
         ensures state { state self.new ≡ after_answer answer (state self.old) }
         ensures runs { self.new.runs ≡ self.old.runs }
@@ -126,7 +126,7 @@ impl<T: KeepsRun> Store<T> {
     }
 
     /// Adds a run.
-    fn add(&mut self, created: NewRun<T>)
+    pub(crate) fn add(&mut self, created: NewRun<T>)
         requires { HasPlace self.old created }
         ensures { state self.new ≡ after_created (Some created) (state self.old) }
     {

@@ -37,7 +37,7 @@ impl<T: KeepsRun> Store<T> {
     }
 
     /// Makes room for one more run.
-    fn reserve_run(&mut self) -> Result<(), AllocError>
+    pub(crate) fn reserve_run(&mut self) -> Result<(), AllocError>
         ensures same { state self.new ≡ state self.old }
         ensures runs { self.new.runs ≡ self.old.runs }
         ensures room { OnOk result (0 < self.new.room) }

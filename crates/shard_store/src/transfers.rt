@@ -59,6 +59,15 @@ impl<T: KeepsRun> Store<T> {
         self.transfers.first_to(to)
     }
 
+    /// How many transfers were issued to a shard.
+    pub fn issued_to(&self, to: u16) -> u64
+        requires caught_up { IsCaughtUp self.now.changed }
+        requires there { to < self.now.setup.shards }
+        ensures { result ≡ count_issued (waiting_to self.now.outgoing to) }
+    {
+        self.transfers.issued(to)
+    }
+
     /// What an acknowledgement of this number by a shard would be.
     pub fn judge_acknowledgement(&self, to: u16, number: u64) -> Acknowledged
         requires caught_up { IsCaughtUp self.now.changed }

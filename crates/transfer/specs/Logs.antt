@@ -12,6 +12,10 @@ pub record Waiting (T : Type 0) : Type 0 where
 abbrev pub none_waits : {T : Type 0} → Waiting T
 none_waits = record { items = []; counted = 0 }
 
+-- so many were issued and counted, and nothing waits
+abbrev pub counted_off : {T : Type 0} → ℕ → Waiting T
+counted_off n = record { items = []; counted = n }
+
 -- how many were issued
 abbrev pub count_issued : {T : Type 0} → Waiting T → ℕ
 count_issued w = w.counted + length w.items

@@ -40,6 +40,13 @@ impl Inbox {
         Ok(Inbox { accepted })
     }
 
+    /// The inbox of a shard that accepted so many from each source, by its number.
+    pub fn restored(accepted: Vec<u64>) -> Inbox
+        ensures { result ≡ accepted.items }
+    {
+        Inbox { accepted }
+    }
+
     /// What the shard would say about a transfer.
     pub fn judge(&self, transfer: &Transfer) -> Delivery
         requires { transfer.now.from < length self.now }

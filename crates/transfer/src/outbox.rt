@@ -1,8 +1,8 @@
 //! The transfers that a shard issued.
 
-ghost use Rattle.std.specs.Prelude.{◌≡◌, ℕ, ◌+◌, ◌<◌, ◌≤◌, ◌==◌, length, slice_get, option_map, replicate, IfOk, OnErr, OnOk, IfSome, if◌then◌else◌};
+ghost use Rattle.std.specs.Prelude.{◌≡◌, ℕ, ◌+◌, ◌<◌, ◌≤◌, ◌==◌, length, map, slice_get, option_map, replicate, IfOk, OnErr, OnOk, IfSome, if◌then◌else◌};
 ghost use Rattle.service_model.specs.Counts.{acknowledgement_of};
-ghost use Rattle.transfer.specs.Logs.{count_issued, none_waits};
+ghost use Rattle.transfer.specs.Logs.{count_issued, counted_off, none_waits};
 ghost use Rattle.transfer.specs.Outboxes.{outgoing, room_to, issued_to, acknowledged_to, counted_to, sent_to, waiting_to, with_all_sent, HasRoomFor};
 
 use crate::issue_log::IssueLog;
@@ -42,6 +42,22 @@ impl Outbox {
         let mut logs = Vec::new(alloc);
         for _shard in 0..shards {
             logs.push(IssueLog::new(alloc))?;
+        }
+        Ok(Outbox { logs })
+    }
+
+    /// The outbox of a shard of whose transfers each destination acknowledged so many, by its number:
+    /// none waits.
+    ///
+    /// # Errors
+    /// Where memory was refused.
+    pub fn restored(alloc: Global, acknowledged: &[u64]) -> Result<Outbox, AllocError>
+        ensures value { IfOk result (λ o. outgoing o ≡ map counted_off acknowledged.now) }
+        ensures shards { IfOk result (λ o. length o ≡ length acknowledged.now) }
+    {
+        let mut logs = Vec::new(alloc);
+        for count in acknowledged {
+            logs.push(IssueLog::restored(alloc, *count))?;
         }
         Ok(Outbox { logs })
     }
@@ -145,6 +161,15 @@ impl Outbox {
     {
         let log = &self.logs[usize::from(to)];
         log.first()
+    }
+
+    /// How many transfers were issued to a destination.
+    pub fn issued(&self, to: u16) -> u64
+        requires { to < length self.now }
+        ensures { result ≡ count_issued (waiting_to (outgoing self.now) to) }
+    {
+        let log = &self.logs[usize::from(to)];
+        log.issued()
     }
 
     /// What an acknowledgement of this number by a destination would be.
