@@ -17,7 +17,7 @@ use Rattle.service_model_types.specs.declared.transfer.Sent.{Sent}
 use Rattle.service_model_types.specs.declared.transfer.Transfer.{Transfer}
 use Rattle.service_model.specs.Deliveries.{accepted_from, answers_pending, asked_before, by_delivery, cancel_external, close_by_policy, close_child, comes_from, deliver, delivery_of, effect, is_child_of, is_for_shard, is_new, signal_external}
 use Rattle.service_model.specs.IdPolicy.{decide}
-use Rattle.service_model.specs.Outcome.{Added, Counting, CountsNothing, AcceptsFrom, AcknowledgesTo, CountsDispatch, Outcome, Runs, latest_run, open_run, refused, run_at}
+use Rattle.service_model.specs.Outcome.{Added, Counting, CountsNothing, AcceptsFrom, AcknowledgesTo, CountsDispatch, Outcome, Runs, latest_run, refused, run_at}
 use Rattle.service_model.specs.RunState.{parent_of}
 use Rattle.service_model_types.specs.Routing.{knows_queue}
 use Rattle.service_model.specs.Service.{after, answer, content_after, dispatched_for, dispatched_new, moment_of, outcome, runs_of, sent_for, with_added, with_all_sent, with_count, with_created, with_removed}

@@ -4,14 +4,13 @@ use Rattle.std.proofs.lemmas.List.{length-map}
 use mathlib.Core.List.{map-map}
 use Rattle.std.specs.Prelude.{Result, IfErr, map}
 use Rattle.std.specs.List.{range_with_len}
-use Rattle.service_model_types.specs.declared.content.Content.{Content}
 use Rattle.service_model_types.specs.declared.content.Dispatch.{Dispatch}
 use Rattle.service_model_types.specs.declared.request.Hint.{Hint}
 use Rattle.service_model_types.specs.declared.settings.Settings.{Settings}
 use Rattle.wf_event_values.specs.declared.refusal.Refusal.{Refusal}
 use Rattle.service_model.specs.Service.{Entry}
 use Rattle.gate.specs.SlotRule.{at}
-use Rattle.shard_gate.specs.Starts.{Start, from_setups, opened_with, records_in, starting_empty, waiting_in}
+use Rattle.shard_gate.specs.Starts.{Start, from_setups, opened_with, starting_empty, waiting_in}
 use Rattle.shard_gate.specs.declared.source.Source.{Source}
 use Rattle.service.specs.Contents.{setup_of}
 use Rattle.service.specs.HeldHints.{OpensFrom}

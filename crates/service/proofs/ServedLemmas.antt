@@ -1,8 +1,8 @@
 -- a step of the gate is one of the service
-use Rattle.std.proofs.Common.{◌≡◌, ℕ, ◌+◌, ◌<◌, ◌≤◌, Bool, true, false, List, refl, sym, ap, subst, ◌∙◌, arith, zero, suc, Option, Some, None, IfOk, IfErr, Ok, Err}
+use Rattle.std.proofs.Common.{◌≡◌, ℕ, ◌<◌, ◌≤◌, Bool, true, false, List, refl, sym, ap, subst, ◌∙◌, arith, Option, Some, None, IfOk, IfErr, Ok, Err}
 use Rattle.std.proofs.lemmas.Bool.Decides.{nat_tests}
 use Rattle.std.proofs.lemmas.Nat.{mod_below}
-use Rattle.std.specs.Prelude.{length, map, slice_get, unwrap_or, if◌then◌else◌, nat_lt, ◌&&◌, Result}
+use Rattle.std.specs.Prelude.{length, slice_get, if◌then◌else◌, nat_lt, ◌&&◌, Result}
 use Rattle.std.specs.Option.{option_or}
 use Rattle.wf_event_values.specs.declared.field.Field.TheVariants as field
 use Rattle.wf_event_values.specs.declared.refusal.Refusal.{Refusal}

@@ -1,9 +1,9 @@
 -- what is so of the contents at which the shards of a service start, and of all that follow
-use Rattle.std.proofs.Common.{◌≡◌, ℕ, ◌+◌, ◌<◌, Bool, true, false, zero, suc, List, [], ◌∷◌, ◌++◌, refl, sym, ap, ◌∙◌, subst, arith, Option, Some, None}
+use Rattle.std.proofs.Common.{◌≡◌, ℕ, ◌+◌, ◌<◌, Bool, true, false, zero, suc, List, [], ◌∷◌, refl, sym, ap, ◌∙◌, subst, arith, Option, Some, None}
 use Rattle.std.proofs.lemmas.List.{length-replicate}
 use Rattle.std.proofs.lemmas.List.FromFn.{length-map-range_with_len}
 use Rattle.std.proofs.lemmas.Option.{slice_get_within}
-use Rattle.std.specs.Prelude.{All, cond, filter, filter_map, flat_map, length, map, option_and_then, option_map, slice_get, slice_index_or, ◌&&◌, ◌==◌}
+use Rattle.std.specs.Prelude.{All, cond, filter_map, flat_map, length, map, option_and_then, option_map, slice_get, slice_index_or, ◌&&◌, ◌==◌}
 use Rattle.std.specs.List.{AllByRecursion, cons_option, enumerate_from, range_with_len}
 use Rattle.wf_event.specs.declared.attributes.Attributes.{Attributes}
 use Rattle.wf_event.specs.declared.attributes.Attributes.TheVariants.{WorkflowTaskScheduled, ActivityTaskScheduled}
@@ -143,7 +143,7 @@ all-there source K (g ∷ gs) below =
     (all-weaker (IsOf (content_behind g).setup.shard) (IsThere K) (hinted source (content_behind g)) (λ d is. subst (λ n. n < K.shards) (sym is) low) (hints-name source (content_behind g)))
     (all-there source K gs (λ k S there. below (suc k) S there))
 
--- all tasks that wait behind such contents name shards that are there
+-- all tasks that wait after these records name shards that are there
 pub waiting-below : (source : Source) (K : Settings) (gs : List Start) → AreStarts K (opened_with gs) → All (λ (d : Dispatch). d.hint.shard < K.shards) (waiting_in source gs)
 waiting-below source K gs starts = λ k d below.
     each-at (IsThere K) (waiting_in source gs)

@@ -87,8 +87,8 @@ impl<S: ShardObject> Service<S> {
     /// Each shard comes with the content at which it starts (`S.opening`), for which it stands, and with
     /// the record of what was done since. It goes on where that ends, as [`Service::open_from`] goes on
     /// where records end: every pass has seen the record, and the hints of the tasks that wait are in
-    /// their queues again, by shard, run and event, as pushed by the first pass. What the service says
-    /// of each step it says from that content on.
+    /// their queues again, by shard, run and event, as pushed by the first pass. Each reply is the
+    /// sequential service's from that content on.
     ///
     /// # Errors
     /// `InvalidArgument` with the first setting out of its range, in the order of `open`; `QueueFull`

@@ -30,8 +30,8 @@ impl Starts for Brand {
     ghost start = { λ _. some_content };
 }
 
-/// A shard that is resumed in a slot: it starts at the content that `H` says of that. One that is opened
-/// without runs starts at its own.
+/// A shard that is resumed in a slot: it starts at the content that `H` has for that slot. One that is
+/// opened without runs starts at its own.
 pub struct Resumed<S, H> {
     shard: S,
     slot: Option<usize>,

@@ -1,4 +1,4 @@
-use Rattle.std.proofs.Common.{◌≡◌, List, ap, sym, ◌∙◌, subst, arith}
+use Rattle.std.proofs.Common.{◌≡◌, ap, sym, ◌∙◌, subst, arith}
 use Rattle.std.specs.Prelude.{◌<◌, All, Ok}
 use Rattle.service_model_types.specs.declared.content.Dispatch.{Dispatch}
 use Rattle.shard_gate.specs.Starts.{from_setups}

@@ -1,4 +1,4 @@
-use Rattle.std.proofs.Common.{◌≡◌, List, ap, sym, ◌∙◌, subst, arith, length, map}
+use Rattle.std.proofs.Common.{sym, ◌∙◌, subst, arith, map}
 use Rattle.std.proofs.lemmas.List.{length-map}
 use Rattle.std.specs.Prelude.{◌<◌, All}
 use Rattle.service_model_types.specs.declared.content.Dispatch.{Dispatch}
