@@ -1,4 +1,4 @@
-use Rattle.std.proofs.Common.{◌≡◌, ◌∙◌, ◌++◌, ap, sym, subst}
+use Rattle.std.proofs.Common.{◌∙◌, sym, subst}
 use Rattle.service_model.specs.WholeRuns.{IsWhole, Whole}
 use Rattle.service.specs.Contents.{setup_of}
 use Rattle.service.specs.AtClose.{base_of}
