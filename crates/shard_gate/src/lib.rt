@@ -4,6 +4,9 @@
 //! an object of the gate that answers as the sequential service does ([`ShardObject`]). Here the gate's
 //! promises on any object are told in that service's words, once for all calls above, and without the
 //! type of what keeps a shard.
+//!
+//! A shard starts without runs, or at a content for which it stands ([`Resumed`]). What its record adds
+//! is told from there on.
 #![tactic(auto)]
 
 mod close;
