@@ -15,7 +15,9 @@ use Rattle.matching.specs.Named as matching
 use Rattle.matching.specs.Queues as of_hints
 use Rattle.gate.specs.AtClose.{HasDone, IsEnd}
 use Rattle.gate.specs.Passes.{IsFresh, base, number}
+use Rattle.shard_gate.specs.GateViews as gates
 use Rattle.service.specs.AtClose.{base_of, held_at, parts_at}
+use Rattle.service.specs.Contents.{opening_contents}
 use Rattle.service.specs.HeldHints.{HoldsAtOpening}
 use Rattle.service.specs.Reopening.{opens, record_at}
 use Rattle.service.specs.Services.{IsPassOf, known_by, settings_of}
@@ -75,12 +77,13 @@ device-from K R QueueFull r r' w w' h = absurd h
 -- ---- the opening and the close
 
 pub opened-from : (K : Settings) (R : List (List Entry)) (x : Service) (passes : List Pass) → settings_of x ≡ K → length passes ≡ K.passes → ((k : ℕ) (p : Pass) → slice_get passes k ≡ Some p → IsPassOf p x) → ((k : ℕ) (p : Pass) → slice_get passes k ≡ Some p → IsFresh k (known_by p))
-    → ((s : ℕ) → base_of x s ≡ record_at R s) → HoldsAtOpening K R passes → IsOpenedFrom K R x passes
-opened-from K R x passes is count own fresh bases held = record {
+    → gates.starts_of x.gate ≡ opening_contents K → ((s : ℕ) → base_of x s ≡ record_at R s) → HoldsAtOpening K R passes → IsOpenedFrom K R x passes
+opened-from K R x passes is count own fresh starts bases held = record {
   settings = is;
   count = count;
   own = own;
   fresh = fresh;
+  starts = starts;
   bases = λ k p there s. base-is x p R (own k p there) bases s;
   held = held;
 }

@@ -17,7 +17,9 @@ use Rattle.gate.specs.Passes.{IsFresh, base, seen, tickets as tickets_seen}
 use Rattle.gate.specs.Records.{Begins}
 use Rattle.matching.specs.AtClose as of_queue
 use Rattle.matching.specs.Named as matching
+use Rattle.shard_gate.specs.GateViews as gates
 use Rattle.service.specs.AtClose.{IsHistoryOf, parts_at}
+use Rattle.service.specs.Contents.{opening_contents}
 use Rattle.service.specs.HeldHints.{HoldsAtOpening}
 use Rattle.service.specs.Ranges.{range_fault}
 use Rattle.service.specs.Reopening.{opens, record_at}
@@ -30,13 +32,14 @@ use Rattle.script.specs.Output.{trace_if}
 use Rattle.lanes.specs.Endings as over
 use Rattle.lanes.specs.Meetings.{PassServed, PassesMet}
 
--- A service was opened from these records, and gave these passes: each is new and begins with the record of each shard, and knows the
--- hints of the tasks that wait in what the records leave
+-- A service was opened from these records, before which no shard has runs, and gave these passes: each is new and begins with the record
+-- of each shard, and knows the hints of the tasks that wait in what the records leave
 pub record IsOpenedFrom (K : Settings) (R : List (List Entry)) (x : Service) (passes : List Pass) : Type 0 where
   pub settings : settings_of x ≡ K
   pub count : length passes ≡ K.passes
   pub own : (k : ℕ) (p : Pass) → slice_get passes k ≡ Some p → IsPassOf p x
   pub fresh : (k : ℕ) (p : Pass) → slice_get passes k ≡ Some p → IsFresh k (known_by p)
+  pub starts : gates.starts_of x.gate ≡ opening_contents K
   pub bases : (k : ℕ) (p : Pass) → slice_get passes k ≡ Some p → (s : ℕ) → base (known_by p) s ≡ record_at R s
   pub held : HoldsAtOpening K R passes
 

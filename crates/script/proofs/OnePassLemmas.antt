@@ -20,8 +20,10 @@ use Rattle.service.specs.ServiceViews.{Service}
 use Rattle.service.specs.Contents.{setup_of}
 use Rattle.service.specs.Reopening.{record_at}
 use Rattle.service.specs.Services.{Answered, IsServedAtLast, IsServedOn}
+use Rattle.service.specs.Starting.{start_of}
+use Rattle.service.proofs.StartLemmas.{found-at}
 use Rattle.script.specs.Sorted.{steps_seen}
-use Rattle.script.specs.OnePass.{KnowsAll, content_seen, contents_seen, records_seen, world_seen}
+use Rattle.script.specs.OnePass.{KnowsAll, content_seen, contents_seen, records_seen, start_seen, world_seen}
 use Rattle.script.specs.World.{Came, World, content_at, entry_of, recorded, stepped, unless}
 use Rattle.script.proofs.TicketLemmas.{steps-more, steps-same, ticket-behind}
 
@@ -147,9 +149,14 @@ content-here K v s below = get_or-map-range_with_len (content_seen K v) 0 K.shar
 pub record-here : (K : Settings) (v : View Request Content) (s : ℕ) → s < K.shards → record_at (records_seen K v) s ≡ gate.seen v s
 record-here K v s below = get_or-map-range_with_len (gate.seen v) 0 K.shards s s [] below (omega arith)
 
+-- it started where it did
+start-same : (K : Settings) (v w : View Request Content) (s : ℕ) → gate.IsSame v w → start_seen K w s ≡ start_seen K v s
+start-same K v w s same = ap (λ o. slice_index_or o.starts s (opening (setup_of K s))) same.1
+
 -- the contents and the records are as they were where nothing was seen
 pub contents-same : (K : Settings) (v w : View Request Content) → gate.SeenNothing v w → contents_seen K w ≡ contents_seen K v
-contents-same K v w nothing = same-map (content_seen K v) (content_seen K w) 0 K.shards (λ k there. ap (replay after (opening (setup_of K k))) (nothing.sees k))
+contents-same K v w nothing = same-map (content_seen K v) (content_seen K w) 0 K.shards (λ k there.
+    ap (λ c. replay after c (gate.seen w k)) (start-same K v w k nothing.same) ∙ ap (replay after (start_seen K v k)) (nothing.sees k))
 
 pub records-same : (K : Settings) (v w : View Request Content) → gate.SeenNothing v w → records_seen K w ≡ records_seen K v
 records-same K v w nothing = same-map (gate.seen v) (gate.seen w) 0 K.shards (λ k there. nothing.sees k)
@@ -159,13 +166,13 @@ contents-served : (x : Service) (v w : View Request Content) (s : ℕ) (q : Requ
     contents_seen x.settings w ≡ slice_set (contents_seen x.settings v) s (after (content_at x.settings (contents_seen x.settings v) s) q)
 contents-served x v w s q r h below done =
     let K = x.settings in
-    let start = opening (setup_of K s) in
+    let start = start_seen K v s in
     let here : content_seen K w s ≡ after (content_at K (contents_seen K v) s) q =
-    ap (replay after start) done.step.last ∙ replay-push start done.step.front (record { pass = gate.number v; request = q })
+    ap (λ c. replay after c (gate.seen w s)) (start-same K v w s done.same) ∙ ap (replay after start) done.step.last ∙ replay-push start done.step.front (record { pass = gate.number v; request = q })
     ∙ ap (λ c. after c q) (ap (replay after start) (front-is x v w s q r h done) ∙ sym (content-here K v s below)) in
     map-set (content_seen K v) (content_seen K w) 0 K.shards s _ below
     (ap (content_seen K w) (omega arith) ∙ here)
-    (λ k apart. ap (replay after (opening (setup_of K k))) (done.step.others k (λ e. apart (e ∙ omega arith))).0)
+    (λ k apart. ap (λ c. replay after c (gate.seen w k)) (start-same K v w k done.same) ∙ ap (replay after (start_seen K v k)) (done.step.others k (λ e. apart (e ∙ omega arith))).0)
 
 -- the record of each shard after a step: that of the step is one entry longer
 records-served : (x : Service) (v w : View Request Content) (s : ℕ) (q : Request) (r : Reply) → KnowsAll v → s < x.settings.shards → IsServedOn x v w s q r →
@@ -181,7 +188,7 @@ records-served x v w s q r h below done =
 
 -- the shard of a step is there
 served-within : (x : Service) (v w : View Request Content) (s : ℕ) (q : Request) (r : Reply) → KnowsAll v → IsServedOn x v w s q r → s < gate.width v
-served-within x v w s q r h done = let low = slice_get_within (gate.starts v) s (opening (setup_of x.settings s)) done.opened in omega (arith, low, h.wide)
+served-within x v w s q r h done = let low = slice_get_within (gate.starts v) s (start_of x s) done.opened in omega (arith, low, h.wide)
 
 -- the steps after a step: that one is the last
 steps-served : (x : Service) (v w : View Request Content) (s : ℕ) (q : Request) (r : Reply) → KnowsAll v → IsServedOn x v w s q r → steps_seen w ≡ steps_seen v ++ (s, entry_of q) ∷ []
@@ -199,7 +206,9 @@ reply-served : (x : Service) (v w : View Request Content) (s : ℕ) (q : Request
     r ≡ answer (content_at x.settings (contents_seen x.settings v) s) q
 reply-served x v w s q r h below done =
     let K = x.settings in
-    let found : replay after (opening (setup_of K s)) done.step.front ≡ content_seen K v s = ap (replay after (opening (setup_of K s))) (front-is x v w s q r h done) in
+    let started : start_of x s ≡ start_seen K v s = found-at (gate.starts v) s (opening (setup_of K s)) (start_of x s) done.opened in
+    let found : replay after (start_of x s) done.step.front ≡ content_seen K v s =
+    ap (λ c. replay after c done.step.front) started ∙ ap (replay after (start_seen K v s)) (front-is x v w s q r h done) in
     done.answered.reply ∙ ap (λ t. answer t q) (found ∙ sym (content-here K v s below))
 
 -- what a call came to

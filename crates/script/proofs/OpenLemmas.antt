@@ -1,9 +1,8 @@
 -- the one pass of a service that was just opened from records
-use Rattle.std.proofs.Common.{◌≡◌, ◌≢◌, ℕ, ◌*◌, ◌<◌, Bool, true, false, List, [], ◌∷◌, ◌++◌, length, refl, sym, ap, ◌∙◌, arith, Option, None, Some, slice_index_or, slice_set, length-append, append-nil, replicate}
+use Rattle.std.proofs.Common.{◌≡◌, ◌≢◌, ℕ, zero, suc, ◌+◌, ◌*◌, ◌<◌, Bool, true, false, List, [], ◌∷◌, ◌++◌, length, refl, sym, ap, ◌∙◌, arith, Option, None, Some, slice_index_or, slice_set, length-append, append-nil, replicate, subst}
 use Rattle.std.specs.Prelude.{map, nat_lt, slice_get, if◌then◌else◌, Result, Ok, Err}
 use Rattle.std.specs.List.{range_with_len}
 use Rattle.std.proofs.lemmas.List.{ext_get_or, length-map, length-replicate, length-set}
-use Rattle.std.proofs.lemmas.List.FromFn.{length-map-range_with_len}
 use Rattle.std.proofs.lemmas.Option.{slice_get-get_or}
 use Rattle.std.proofs.Math.ListN.{get_or-map}
 use Rattle.wf_event_values.specs.declared.field.Field.{Field}
@@ -26,7 +25,7 @@ use Rattle.matching.specs.Queues as one
 use Rattle.matching.proofs.Exact.{opens_exactly}
 use Rattle.service.specs.ServiceViews.{Service}
 use Rattle.service.specs.ServiceViews.{Pass}
-use Rattle.service.specs.Contents.{setup_of}
+use Rattle.service.specs.Contents.{opening_contents, setup_of}
 use Rattle.service.specs.AtClose.{base_of}
 use Rattle.service.specs.HeldHints.{HoldsFrom}
 use Rattle.service.specs.Ranges.{range_fault}
@@ -34,9 +33,10 @@ use Rattle.service.specs.Reopening.{are_records, content_from, contents_from, he
 use Rattle.shard_gate.specs.declared.source.Source.{Source}
 use Rattle.shard_gate.specs.declared.source.Source.TheVariants.{Records as FromRecords}
 use Rattle.service.specs.Services.{IsPassOf, hints_by, known_by}
+use Rattle.service.specs.Starting.{StartsEmpty}
 use Rattle.shard_gate.proofs.OpenLemmas.{replay-same}
 use Rattle.script.specs.Sorted.{steps_seen}
-use Rattle.script.specs.OnePass.{IsOnePass, KnowsAll, KnowsQueues, content_seen, contents_seen, records_seen, world_seen}
+use Rattle.script.specs.OnePass.{IsOnePass, KnowsAll, KnowsQueues, content_seen, contents_seen, records_seen, start_seen, world_seen}
 use Rattle.script.specs.World.{World, held_at_opening, opening_from}
 use Rattle.script.proofs.OnePassLemmas.{same-map}
 use Rattle.script.proofs.TicketLemmas.{steps-none}
@@ -56,14 +56,31 @@ fresh-all x p own alone wide new = record {
   one = ap (λ o. o.passes) own.own.1 ∙ own.opened.passes ∙ alone;
   alone = λ s. new.sees s ∙ sym (append-nil (gate.base (known_by p) s)) ∙ ap (λ m. gate.base (known_by p) s ++ m) (sym (new.has s));
   paired = λ s. ap length (new.bare s) ∙ ap length (sym (new.has s));
-  wide = ap (λ o. length o.starts) own.own.1 ∙ ap length own.opened.starts ∙ length-map-range_with_len _ 0 x.settings.shards ∙ sym wide ∙ ap (λ o. length o.bases) (sym own.own.1);
+  wide = ap (λ o. length o.starts) own.own.1 ∙ own.opened.starts.count ∙ sym wide ∙ ap (λ o. length o.bases) (sym own.own.1);
 }
 
-contents-fresh : (x : Service) (p : Pass) (R : List (List Entry)) → IsPassOf p x → ((s : ℕ) → base_of x s ≡ record_at R s) → gate.IsFresh 0 (known_by p) → contents_seen x.settings (known_by p) ≡ contents_from x.settings R
-contents-fresh x p R own is new =
+opening-from : (K : Settings) (n m k : ℕ) → slice_index_or (map (λ i. opening (setup_of K i)) (range_with_len n m)) k (opening (setup_of K (n + k))) ≡ opening (setup_of K (n + k))
+opening-from K n zero k = refl
+opening-from K n (suc m) zero = ap (λ i. opening (setup_of K i)) (omega arith)
+opening-from K n (suc m) (suc k) =
+    let place : (n + 1) + k ≡ n + suc k = omega arith in
+    subst (λ j. slice_index_or (map (λ i. opening (setup_of K i)) (range_with_len (n + 1) m)) k (opening (setup_of K j)) ≡ opening (setup_of K j)) place (opening-from K (n + 1) m k)
+
+-- where a service was opened, each shard started without runs
+fresh-start : (x : Service) (p : Pass) (k : ℕ) → IsPassOf p x → StartsEmpty x → start_seen x.settings (known_by p) k ≡ opening (setup_of x.settings k)
+fresh-start x p k own empty =
+    let K = x.settings in
+    let place : 0 + k ≡ k = omega arith in
+    ap (λ o. slice_index_or o.starts k (opening (setup_of K k))) own.own.1
+    ∙ ap (λ cs. slice_index_or cs k (opening (setup_of K k))) empty
+    ∙ subst (λ j. slice_index_or (opening_contents K) k (opening (setup_of K j)) ≡ opening (setup_of K j)) place (opening-from K 0 K.shards k)
+
+contents-fresh : (x : Service) (p : Pass) (R : List (List Entry)) → IsPassOf p x → StartsEmpty x → ((s : ℕ) → base_of x s ≡ record_at R s) → gate.IsFresh 0 (known_by p) → contents_seen x.settings (known_by p) ≡ contents_from x.settings R
+contents-fresh x p R own empty is new =
     let K = x.settings in
     same-map (content_from K R) (content_seen K (known_by p)) 0 K.shards (λ k there.
-    ap (replay after (opening (setup_of K k))) (fresh-seen x p R k own (is k) new) ∙ replay-same (opening (setup_of K k)) (record_at R k))
+    ap (λ c. replay after c (gate.seen (known_by p) k)) (fresh-start x p k own empty)
+    ∙ ap (replay after (opening (setup_of K k))) (fresh-seen x p R k own (is k) new) ∙ replay-same (opening (setup_of K k)) (record_at R k))
 
 records-fresh : (x : Service) (p : Pass) (R : List (List Entry)) → IsPassOf p x → ((s : ℕ) → base_of x s ≡ record_at R s) → gate.IsFresh 0 (known_by p) → records_seen x.settings (known_by p) ≡ map (record_at R) (range_with_len 0 x.settings.shards)
 records-fresh x p R own is new = same-map (record_at R) (gate.seen (known_by p)) 0 x.settings.shards (λ k there. fresh-seen x p R k own (is k) new)
@@ -173,10 +190,10 @@ waiting-fresh K p held count new =
 pub fresh-one : (source : Source) (x : Service) (p : Pass) (R : List (List Entry)) (passes : List Pass) → IsPassOf p x → x.settings.passes ≡ 1 → length x.gate.origin.bases ≡ x.settings.shards → gate.IsFresh 0 (known_by p) → slice_get passes 0 ≡ Some p → HoldsFrom source x.settings R passes → IsOnePass x p
 fresh-one source x p R passes own alone wide new first h = record { own = own; all = fresh-all x p own alone wide new; queues = fresh-queues x p h.held own (fresh-at source x.settings R passes p h alone first) }
 
-pub world-fresh : (source : Source) (x : Service) (p : Pass) (R : List (List Entry)) (passes : List Pass) → IsPassOf p x → x.settings.passes ≡ 1 → ((s : ℕ) → base_of x s ≡ record_at R s) → gate.IsFresh 0 (known_by p) → slice_get passes 0 ≡ Some p → HoldsFrom source x.settings R passes →
+pub world-fresh : (source : Source) (x : Service) (p : Pass) (R : List (List Entry)) (passes : List Pass) → IsPassOf p x → StartsEmpty x → x.settings.passes ≡ 1 → ((s : ℕ) → base_of x s ≡ record_at R s) → gate.IsFresh 0 (known_by p) → slice_get passes 0 ≡ Some p → HoldsFrom source x.settings R passes →
     world_seen x.settings (known_by p) (hints_by p) ≡ opening_from source x.settings R
 unfolding opening_from
-world-fresh source x p R passes own alone is new first h =
+world-fresh source x p R passes own empty alone is new first h =
     let K = x.settings in
     let knows = fresh-at source K R passes p h alone first in
     let queues = fresh-queues x p h.held own knows in
@@ -186,7 +203,7 @@ world-fresh source x p R passes own alone is new first h =
     let with_waiting : Lists → World = λ t. world_of (contents_from K R) t (records_seen K (known_by p)) (steps_seen (known_by p)) in
     let with_records : List (List Entry) → World = λ logs. world_of (contents_from K R) (held_at_opening (opens_from source K R)) logs (steps_seen (known_by p)) in
     let with_steps : List (ℕ × Entry) → World = world_of (contents_from K R) (held_at_opening (opens_from source K R)) (map (record_at R) (range_with_len 0 K.shards)) in
-    ap with_contents (contents-fresh x p R own is new) ∙ ap with_waiting held ∙ ap with_records (records-fresh x p R own is new) ∙ ap with_steps (steps-none (known_by p) new.bare)
+    ap with_contents (contents-fresh x p R own empty is new) ∙ ap with_waiting held ∙ ap with_records (records-fresh x p R own is new) ∙ ap with_steps (steps-none (known_by p) new.bare)
 
 -- the queues hold what the opening world says
 pub opened-is : (source : Source) (K : Settings) (R : List (List Entry)) (passes : List Pass) → HoldsFrom source K R passes → opens_from source K R ≡ Ok (opening_from source K R).waiting

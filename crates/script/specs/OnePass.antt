@@ -1,5 +1,5 @@
 -- PROOF: a service with one pass: what the pass has seen is all that was there and all that was done
-use Rattle.std.specs.Prelude.{◌≡◌, ℕ, ◌*◌, ◌<◌, ◌++◌, List, length, map}
+use Rattle.std.specs.Prelude.{◌≡◌, ℕ, ◌*◌, ◌<◌, ◌++◌, List, length, map, slice_index_or}
 use Rattle.std.specs.List.{range_with_len}
 use Rattle.service_model_types.specs.declared.content.Content.{Content}
 use Rattle.service_model_types.specs.declared.request.Request.{Request}
@@ -18,9 +18,13 @@ use Rattle.service.specs.Services.{IsPassOf, hints_by, known_by, settings_of}
 use Rattle.script.specs.Sorted.{steps_seen}
 use Rattle.script.specs.World.{World}
 
+-- the content at which a shard started
+abbrev pub start_seen : Settings → View Request Content → ℕ → Content
+start_seen K v shard = slice_index_or (starts v) shard (opening (setup_of K shard))
+
 -- a shard's content after the record that was seen of it
 abbrev pub content_seen : Settings → View Request Content → ℕ → Content
-content_seen K v shard = replay after (opening (setup_of K shard)) (seen v shard)
+content_seen K v shard = replay after (start_seen K v shard) (seen v shard)
 
 -- the shards' contents after the records that were seen
 abbrev pub contents_seen : Settings → View Request Content → List Content

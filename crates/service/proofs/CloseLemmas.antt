@@ -1,14 +1,12 @@
 -- how a service is closed
 use Rattle.std.proofs.Common.{◌≡◌, ℕ, ◌<◌, List, Some, subst}
 use Rattle.std.specs.Prelude.{slice_get}
-use Rattle.service_model_types.specs.declared.content.Content.{Content}
 use Rattle.service_model.specs.Service.{Entry, after}
 use Rattle.gate.specs.AtClose.{IsEnd, HasDone, IsHistory}
 use Rattle.gate.specs.Passes.{number}
 use Rattle.gate.specs.Records.{grounds_by}
 use Rattle.shard_gate.specs.Grounding.{grounds}
 use Rattle.shard_gate.specs.GateViews as gates
-use Rattle.service.specs.Contents.{opening_contents}
 use Rattle.service.specs.AtClose.{base_of}
 use Rattle.service.specs.Services.{known_by, IsOpened, IsPassOf}
 use Rattle.service.specs.ServiceViews.{Pass, Service}
@@ -28,8 +26,7 @@ has-done x g same k log p h = subst (λ (y : gates.GateView). HasDone (gates.bas
 
 -- the gate's history is the service's
 pub history-as : (x : Service) (g : gates.GateView) → g ≡ x.gate → IsOpened x → (logs : ℕ → List Entry) (tickets : ℕ → List ℕ)
-    → gates.IsHistoryOf g logs tickets → IsHistory (grounds_by grounds after (opening_contents x.settings)) (base_of x) x.settings.shards logs tickets
+    → gates.IsHistoryOf g logs tickets → IsHistory (grounds_by grounds after (gates.starts_of x.gate)) (base_of x) x.settings.shards logs tickets
 history-as x g same opened logs tickets h =
     let own = subst (λ (y : gates.GateView). gates.IsHistoryOf y logs tickets) same h in
-    let by_starts = subst (λ (s : List Content). IsHistory (grounds_by grounds after s) (base_of x) (gates.slots x.gate) logs tickets) opened.starts own in
-    subst (λ (n : ℕ). IsHistory (grounds_by grounds after (opening_contents x.settings)) (base_of x) n logs tickets) opened.slots by_starts
+    subst (λ (n : ℕ). IsHistory (grounds_by grounds after (gates.starts_of x.gate)) (base_of x) n logs tickets) opened.slots own

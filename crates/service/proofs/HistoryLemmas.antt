@@ -19,6 +19,7 @@ use Rattle.service_model.proofs.WholeLemmas.{in-order}
 use Rattle.service.specs.Contents.{opening_contents, setup_of}
 use Rattle.service.specs.AtClose.{base_of}
 use Rattle.service.specs.HistoryLaws.{HistoriesInOrder}
+use Rattle.shard_gate.specs.GateViews as gates
 
 content-there : (starts : List Content) (logs : ℕ → List Entry) (j : ℕ) (S : Content) → slice_get (contents after starts logs) j ≡ Some S → (T : Content) × (slice_get starts j ≡ Some T) × (S ≡ replay after T (logs j))
 content-there [] logs j S e = absurd (cc e)
@@ -65,6 +66,8 @@ opened-as : (K : Settings) (j : ℕ) (S : Content) → slice_get (opening_conten
 opened-as K j S e = opened-range (λ n. opening (setup_of K n)) 0 K.shards j S e ∙ ap (λ n. opening (setup_of K n)) (omega arith)
 
 pub histories-in-order : HistoriesInOrder
-histories-in-order x records tickets none h =
-    let whole = whole-of (setup_of x.settings) (opening_contents x.settings) (opened-as x.settings) (base_of x) none _ _ _ h in
+histories-in-order x records tickets empty none h =
+    let opened : (j : ℕ) (S : Content) → slice_get (gates.starts_of x.gate) j ≡ Some S → S ≡ opening (setup_of x.settings j) =
+    λ j S there. opened-as x.settings j S (ap (λ t. slice_get t j) (sym empty) ∙ there) in
+    let whole = whole-of (setup_of x.settings) (gates.starts_of x.gate) opened (base_of x) none _ _ _ h in
     (whole, λ front rest is from to. in-order (setup_of x.settings) h.run whole front rest is from to)

@@ -25,7 +25,9 @@ use Rattle.gate.specs.SlotRule.{at}
 use Rattle.matching.specs.Holding.{held_by, pushed}
 use Rattle.matching.specs.Named.{IsFresh, place_in}
 use Rattle.matching.specs.declared.queues.QueuesPass.{QueuesPass}
-use Rattle.shard_gate.specs.Opening.{IsSetup, opened_with, waiting_in}
+use Rattle.shard_gate.specs.Opening.{IsSetup}
+use Rattle.shard_gate.specs.Starts.{Start, content_behind, from_setups, opened_with, starting_empty, waiting_in}
+use Rattle.shard_gate.proofs.OpenLemmas.{replay-same}
 use Rattle.service.specs.Contents.{opening_contents, setup_of}
 use Rattle.service.specs.HeldHints.{HoldAtOpening}
 use Rattle.service.specs.Ranges.{range_fault}
@@ -125,27 +127,28 @@ setups-fit K gs range same =
     let count = given-count K gs same in
     setups-from K range 0 gs (omega (arith, count, range.few_shards)) (each-of K gs (λ (g : Given). g.0) (λ k. setup_of K k) count same)
 
--- the contents with which they are opened
-pub opens-with : (K : Settings) (gs : List Given) → map (λ (g : Given). g.0) gs ≡ map (λ k. setup_of K k) (range_with_len 0 K.shards) → opened_with gs ≡ opening_contents K
+-- the contents at which they start
+pub opens-with : (K : Settings) (gs : List Given) → map (λ (g : Given). g.0) gs ≡ map (λ k. setup_of K k) (range_with_len 0 K.shards) → opened_with (from_setups gs) ≡ opening_contents K
 opens-with K gs same =
-    sym (map-map opening (λ (g : Given). g.0) gs) ∙ ap (map opening) same ∙ map-map opening (λ k. setup_of K k) (range_with_len 0 K.shards)
+    map-map (λ (s : Start). s.0) starting_empty gs
+    ∙ sym (map-map opening (λ (g : Given). g.0) gs) ∙ ap (map opening) same ∙ map-map opening (λ k. setup_of K k) (range_with_len 0 K.shards)
 
 waits-from : (source : Source) (K : Settings) (R : List (List Entry)) (n : ℕ) (gs : List Given)
     → map (λ (g : Given). g.0) gs ≡ map (λ k. setup_of K k) (range_with_len n (length gs))
     → map (λ (g : Given). g.1) gs ≡ map (record_at R) (range_with_len n (length gs))
-    → waiting_in source gs ≡ flat_map (hinted source) (map (content_from K R) (range_with_len n (length gs)))
+    → waiting_in source (from_setups gs) ≡ flat_map (hinted source) (map (content_from K R) (range_with_len n (length gs)))
 waits-from source K R n [] setups logs = refl
 waits-from source K R n (g ∷ gs) setups logs =
-    let here : hinted source (replay g.0 g.1) ≡ hinted source (content_from K R n) =
-    ap (λ s. hinted source (replay s g.1)) (heads (λ (g : Given). g.0) n (λ k. setup_of K k) g gs setups) ∙ ap (λ l. hinted source (replay (setup_of K n) l)) (heads (λ (g : Given). g.1) n (record_at R) g gs logs) in
+    let here : hinted source (content_behind (starting_empty g)) ≡ hinted source (content_from K R n) =
+    ap (hinted source) (replay-same (opening g.0) g.1) ∙ ap (λ s. hinted source (replay s g.1)) (heads (λ (g : Given). g.0) n (λ k. setup_of K k) g gs setups) ∙ ap (λ l. hinted source (replay (setup_of K n) l)) (heads (λ (g : Given). g.1) n (record_at R) g gs logs) in
     let rest = waits-from source K R (n + 1) gs (tails (λ (g : Given). g.0) n (λ k. setup_of K k) g gs setups) (tails (λ (g : Given). g.1) n (record_at R) g gs logs) in
-    ap (λ t. t ++ waiting_in source gs) here ∙ ap (λ t. hinted source (content_from K R n) ++ t) rest
+    ap (λ t. t ++ waiting_in source (from_setups gs)) here ∙ ap (λ t. hinted source (content_from K R n) ++ t) rest
 
 -- the tasks that wait on them are those that wait in the contents which the records leave
 pub waiting-is : (source : Source) (K : Settings) (R : List (List Entry)) (gs : List Given)
     → map (λ (g : Given). g.0) gs ≡ map (λ k. setup_of K k) (range_with_len 0 K.shards)
     → map (λ (g : Given). g.1) gs ≡ map (record_at R) (range_with_len 0 K.shards)
-    → waiting_in source gs ≡ waiting_from source K R
+    → waiting_in source (from_setups gs) ≡ waiting_from source K R
 waiting-is source K R gs setups logs =
     let count = given-count K gs setups in
     waits-from source K R 0 gs (each-of K gs (λ (g : Given). g.0) (λ k. setup_of K k) count setups) (each-of K gs (λ (g : Given). g.1) (record_at R) count logs)
@@ -216,7 +219,7 @@ all-go source K R n (suc m) below =
 pub waiting-go : (source : Source) (K : Settings) (R : List (List Entry)) → AllByRecursion (GoesToQueue K) (waiting_from source K R)
 waiting-go source K R = all-go source K R 0 K.shards (omega arith)
 
-each-at : {A : Type 0} (P : A → Type 0) (xs : List A) → AllByRecursion P xs → (k : ℕ) (d : A) → k < length xs → P (slice_index_or xs k d)
+pub each-at : {A : Type 0} (P : A → Type 0) (xs : List A) → AllByRecursion P xs → (k : ℕ) (d : A) → k < length xs → P (slice_index_or xs k d)
 each-at P [] h k d below = absurd (omega arith)
 each-at P (x ∷ xs) h zero d below = h.0
 each-at P (x ∷ xs) h (suc k) d below = each-at P xs h.1 k d (omega arith)

@@ -1,9 +1,8 @@
 -- a step of the gate is one of the service
-use Rattle.std.proofs.Common.{◌≡◌, ℕ, ◌+◌, ◌<◌, ◌≤◌, Bool, true, false, List, refl, sym, ap, subst, ◌∙◌, arith, zero, suc, Option, Some, None, IfOk, IfErr, Ok, Err}
+use Rattle.std.proofs.Common.{◌≡◌, ℕ, ◌<◌, ◌≤◌, Bool, true, false, List, refl, sym, ap, subst, ◌∙◌, arith, Option, Some, None, IfOk, IfErr, Ok, Err}
 use Rattle.std.proofs.lemmas.Bool.Decides.{nat_tests}
 use Rattle.std.proofs.lemmas.Nat.{mod_below}
-use Rattle.std.specs.Prelude.{length, map, slice_get, unwrap_or, if◌then◌else◌, nat_lt, ◌&&◌, Result}
-use Rattle.std.specs.List.{range_with_len}
+use Rattle.std.specs.Prelude.{length, slice_get, if◌then◌else◌, nat_lt, ◌&&◌, Result}
 use Rattle.std.specs.Option.{option_or}
 use Rattle.wf_event_values.specs.declared.field.Field.TheVariants as field
 use Rattle.wf_event_values.specs.declared.refusal.Refusal.{Refusal}
@@ -27,31 +26,20 @@ use Rattle.service_model_types.specs.Homes.{Home, Workflow, Token, Part, home}
 use Rattle.service_model_types.specs.Routing.{hash_of}
 use Rattle.service_model.specs.Service.{Entry, answer, answer_to, after, after_asking, opening}
 use Rattle.service_model.specs.TransferLaws.{DeliversOnce, delivers}
-use Rattle.service_model.proofs.TakenLemmas.{accepts-exactly}
 use Rattle.gate.specs.declared.object.Refused.{Refused}
 use Rattle.gate.specs.declared.view.View.{View}
 use Rattle.gate.specs.Passes as gate
 use Rattle.gate.specs.SlotRule as rule
 use Rattle.gate.specs.Records.{Begins, past, replay}
 use Rattle.shard_gate.specs.GateViews as gates
-use Rattle.shard_gate.proofs.OpenLemmas.{replay-same}
 use Rattle.service.specs.ServiceViews.{Service}
 use Rattle.service.specs.ServiceViews.{Pass}
-use Rattle.service.specs.Contents.{setup_of, commands_refusal, ends_refusal, home_refusal, is_token, opening_contents, refusal_of, refusal_of_step, shard_at, shard_of, shard_refusal, slot_of_step}
+use Rattle.service.specs.Contents.{setup_of, commands_refusal, ends_refusal, home_refusal, is_token, refusal_of, refusal_of_step, shard_at, shard_of, shard_refusal, slot_of_step}
 use Rattle.service.specs.Headline.{IsSequential, content_of}
-use Rattle.service.specs.Services.{known_by, Answered, IsPassOf, IsServedAtLast, IsServedOn, IsServedOnBy, IsTriedOn}
-
-get-range : {X : Type 0} (f : ℕ → X) (a n k : ℕ) → k < n → slice_get (map f (range_with_len a n)) k ≡ Some (f (a + k))
-get-range f a zero k h = absurd (omega arith)
-get-range f a (suc n) zero h = ap (λ m. Some (f m)) (omega arith)
-get-range f a (suc n) (suc k) h = get-range f (a + 1) n k (omega arith) ∙ ap (λ m. Some (f m)) (omega arith)
-
--- the content with which a shard was opened
-pub opening-at : (K : Settings) (starts : List Content) (shard : ℕ) (start : Content) → starts ≡ opening_contents K → shard < K.shards → slice_get starts shard ≡ Some start → start ≡ opening (setup_of K shard)
-opening-at K starts shard start all below is =
-    let found : Some start ≡ Some (opening (setup_of K (0 + shard))) =
-    sym is ∙ ap (λ t. slice_get t shard) all ∙ get-range (λ n. opening (setup_of K n)) 0 K.shards shard below in
-    ap (λ o. unwrap_or o start) found ∙ ap (λ n. opening (setup_of K n)) (omega arith)
+use Rattle.service.specs.Starting.{start_of}
+use Rattle.service.proofs.OnceLemmas.{delivered-once}
+use Rattle.service.proofs.StartLemmas.{counts-all, found-at, start-is-fit}
+use Rattle.service.specs.Services.{known_by, Answered, IsOpened, IsPassOf, IsServedAtLast, IsServedOn, IsServedOnBy, IsTriedOn}
 
 -- nothing refuses, so the test holds
 unrefused : (b : Bool) (rest : Option Refusal) (e : Refusal) → ◌≡◌ {A = Option Refusal} (if b then rest else Some e) None → b ≡ true
@@ -97,16 +85,15 @@ call-below K (call.Request q) some none = shard-below K q.operation some none
 call-below K (call.StartTask c) some none = named-below K c.hint.shard none
 call-below K (call.TimerTurn t) some none = named-below K t.shard none
 
--- the content that a pass knows a shard to have been opened with
-start-is : (p : Pass) (x : Service) (shard : ℕ) (start : Content) → IsPassOf p x → shard < x.settings.shards → slice_get (gate.starts (known_by p)) shard ≡ Some start → start ≡ opening (setup_of x.settings shard)
-start-is p x shard start own below is =
-    let starts : gate.starts (known_by p) ≡ opening_contents x.settings = ap (λ o. o.starts) own.own.1 ∙ own.opened.starts in
-    opening-at x.settings (gate.starts (known_by p)) shard start starts below is
+-- the content that a pass knows a shard to have started at
+start-is : (p : Pass) (x : Service) (shard : ℕ) (start : Content) → IsPassOf p x → slice_get (gate.starts (known_by p)) shard ≡ Some start → start ≡ start_of x shard
+start-is p x shard start own is =
+    found-at x.gate.origin.starts shard (opening (setup_of x.settings shard)) start (ap (λ o. slice_get o.starts shard) (sym own.own.1) ∙ is)
 
 -- what is delivered after a record takes effect once at most
-delivers-once : (x : Service) (shard : ℕ) (front : List Entry) (at : ℕ) (t : Transfer) → DeliversOnce (content_of x shard front) at t
-delivers-once x shard front at t =
-    subst (λ (S : Content). DeliversOnce S at t) (sym (replay-same (opening (setup_of x.settings shard)) front)) (accepts-exactly (setup_of x.settings shard) front at t)
+delivers-once : (x : Service) → IsOpened x → (shard : ℕ) (front : List Entry) (at : ℕ) (t : Transfer) → DeliversOnce (content_of x shard front) at t
+delivers-once x opened shard front at t =
+    delivered-once (content_of x shard front) at t (counts-all x.settings shard (start_of x shard) front (start-is-fit x opened shard))
 
 -- a request is what it asks, at its moment
 answer-asked : (S : Content) (q : Request) (t : Transfer) → q.operation ≡ Deliver t → answer S q ≡ answer S (delivers q.at t)
@@ -118,27 +105,27 @@ unfolding after
 after-asked S q t is = ap (after_asking S q.at) is
 
 -- a reply that is the sequential service's after a record says about transfers what that does
-sequential : (x : Service) (v w : View Request Content) (shard : ℕ) (front : List Entry) (q : Request) (r : Reply) → r ≡ answer (content_of x shard front) q
+sequential : (x : Service) → IsOpened x → (v w : View Request Content) (shard : ℕ) (front : List Entry) (q : Request) (r : Reply) → r ≡ answer (content_of x shard front) q
     → KeepsHistories (content_of x shard (gate.seen v shard)) (content_of x shard (gate.seen w shard)) → IsSequential x v w shard front q r
-sequential x v w shard front q r reply kept = record {
+sequential x opened v w shard front q r reply kept = record {
   reply = reply;
   kept = kept;
   once = λ t n is accepted.
       let S = content_of x shard front in
-      let d = delivers-once x shard front q.at t in
+      let d = delivers-once x opened shard front q.at t in
       let may = (d.only n (sym (answer-asked S q t is) ∙ sym reply ∙ accepted)).0 in
       (may.next, ap (λ (T : Content). accepted_from T.accepted t.from) (after-asked S q t is) ∙ (d.taken may).counted);
   only = λ t is other.
       let S = content_of x shard front in
-      ap (λ (T : Content). T.runs) (after-asked S q t is ∙ (delivers-once x shard front q.at t).otherwise (λ e. other t.number (reply ∙ answer-asked S q t is ∙ e)));
+      ap (λ (T : Content). T.runs) (after-asked S q t is ∙ (delivers-once x opened shard front q.at t).otherwise (λ e. other t.number (reply ∙ answer-asked S q t is ∙ e)));
 }
 
--- a step of the gate, from the content with which the shard was opened, is one of the service
-step-served : (x : Service) (v w : View Request Content) (shard : ℕ) (q : Request) (r : Reply) (step : gate.Stepped after answer KeepsHistories v w shard q r)
-    → step.start ≡ opening (setup_of x.settings shard) → gate.Stamped v w shard → IsServedOn x v w shard q r
-step-served x v w shard q r step start stamp = record {
+-- a step of the gate, from the content at which the shard started, is one of the service
+step-served : (x : Service) → IsOpened x → (v w : View Request Content) (shard : ℕ) (q : Request) (r : Reply) (step : gate.Stepped after answer KeepsHistories v w shard q r)
+    → step.start ≡ start_of x shard → gate.Stamped v w shard → IsServedOn x v w shard q r
+step-served x opened v w shard q r step start stamp = record {
   step = record { front = step.front; extends = step.extends; last = step.last; based = step.based; own = step.own; adds = step.adds; others = step.others };
-  answered = sequential x v w shard step.front q r
+  answered = sequential x opened v w shard step.front q r
       (step.reply ∙ ap (λ (c : Content). answer (replay after c step.front) q) start)
       (subst (λ (c : Content). KeepsHistories (replay after c (gate.seen v shard)) (replay after c (gate.seen w shard))) start step.kept);
   same = step.same;
@@ -148,8 +135,8 @@ step-served x v w shard q r step start stamp = record {
   ticket = stamp;
 }
 
-pub served : (p : Pass) (w : View Request Content) (x : Service) (shard : ℕ) (q : Request) (r : Reply) → IsPassOf p x → shard < x.settings.shards → gate.Stepped after answer KeepsHistories (known_by p) w shard q r → gate.Stamped (known_by p) w shard → IsServedOn x (known_by p) w shard q r
-served p w x shard q r own below step stamp = step-served x (known_by p) w shard q r step (start-is p x shard step.start own below step.opened) stamp
+pub served : (p : Pass) (w : View Request Content) (x : Service) (shard : ℕ) (q : Request) (r : Reply) → IsPassOf p x → gate.Stepped after answer KeepsHistories (known_by p) w shard q r → gate.Stamped (known_by p) w shard → IsServedOn x (known_by p) w shard q r
+served p w x shard q r own step stamp = step-served x own.opened (known_by p) w shard q r step (start-is p x shard step.start own step.opened) stamp
 
 -- a ticket is above all that the pass had seen before it was turned away
 stamped-behind : (v u w : View Request Content) (s : ℕ) → gate.SeenNothing v u → gate.Stamped v w s → gate.Stamped u w s
@@ -163,10 +150,10 @@ stamped-behind v u w s nothing t = record {
   others = λ k apart. t.others k apart ∙ sym (nothing.tickets k);
 }
 
-pub served-at-last : (p : Pass) (w : View Request Content) (x : Service) (shard : ℕ) (q : Request) (r : Reply) → IsPassOf p x → shard < x.settings.shards → gate.SteppedAt after answer KeepsHistories (known_by p) w shard q r → gate.Stamped (known_by p) w shard → IsServedAtLast x (known_by p) w shard q r
-served-at-last p w x shard q r own below (met, waited, step) stamp =
+pub served-at-last : (p : Pass) (w : View Request Content) (x : Service) (shard : ℕ) (q : Request) (r : Reply) → IsPassOf p x → gate.SteppedAt after answer KeepsHistories (known_by p) w shard q r → gate.Stamped (known_by p) w shard → IsServedAtLast x (known_by p) w shard q r
+served-at-last p w x shard q r own (met, waited, step) stamp =
     let same : slice_get (gate.starts (known_by p)) shard ≡ Some step.start = ap (λ o. slice_get o.starts shard) (sym waited.nothing.same.1) ∙ step.opened in
-    record { met = met; waited = waited; served = step-served x met w shard q r step (start-is p x shard step.start own below same) (stamped-behind (known_by p) met w shard waited.nothing stamp) }
+    record { met = met; waited = waited; served = step-served x own.opened met w shard q r step (start-is p x shard step.start own same) (stamped-behind (known_by p) met w shard waited.nothing stamp) }
 
 -- what a client may ask needs nothing in other shards
 pub needs-nothing : (contents : List Content) (shard : ℕ) (o : Operation) → is_clients o ≡ true → Grounds contents shard o
@@ -210,40 +197,38 @@ weaker (Ok x) P Q f h = f x h
 weaker (Err e) P Q f h = tt
 
 -- A step of the gate is one of the service, whichever way its parts are seen: x and p as they lie in memory are y and q as clauses read them
-pub tried : (x y : Service) (p q : Pass) (w : gates.PassView) → x ≡ y → p ≡ q → (refusal : Option Refusal) (shard : ℕ) (a : Request) (result : Result Reply (Refused × Request)) → IsPassOf q y → refusal ≡ None → shard < y.settings.shards
+pub tried : (x y : Service) (p q : Pass) (w : gates.PassView) → x ≡ y → p ≡ q → (refusal : Option Refusal) (shard : ℕ) (a : Request) (result : Result Reply (Refused × Request)) → IsPassOf q y → refusal ≡ None
     → gates.IsPassOf w x.gate → gate.number w.known ≡ gate.number p.inner.known
     → IfOk result (λ r. gate.Stepped after answer KeepsHistories p.inner.known w.known shard a r) → IfOk result (λ r. gate.Stamped p.inner.known w.known shard)
     → IfErr result (λ e. e.1 ≡ a) → IfErr result (λ e. gate.Refuses e.0 p.inner.known w.known shard)
     → IsTriedOn y q (record { inner = w; hints = p.hints }) refusal shard a result
-tried x y p q w is same refusal shard a result own none below kept named step stamp back err =
+tried x y p q w is same refusal shard a result own none kept named step stamp back err =
     let whole : Pass = record { inner = w; hints = p.hints } in
     let own_here : IsPassOf p x = subst (λ (z : Service). IsPassOf p z) (sym is) (subst (λ (u : Pass). IsPassOf u y) (sym same) own) in
-    let below_here : shard < x.settings.shards = subst (λ (z : Service). shard < z.settings.shards) (sym is) below in
     let here : IsTriedOn x p whole refusal shard a result = record {
       own = record { opened = own_here.opened; own = kept; hints = own_here.hints };
       named = named;
       hints = refl;
-      ok = both result _ _ _ (λ r stepped stamped. by-step _ _ _ _ r none (served p w.known x shard a r own_here below_here stepped stamped)) step stamp;
+      ok = both result _ _ _ (λ r stepped stamped. by-step _ _ _ _ r none (served p w.known x shard a r own_here stepped stamped)) step stamp;
       back = back;
       err = err;
     } in
     subst (λ (u : Pass). IsTriedOn y u whole refusal shard a result) same (subst (λ (z : Service). IsTriedOn z p whole refusal shard a result) is here)
 
 -- the same, where it may have waited
-pub served-on : {E : Type 0} (x y : Service) (p q : Pass) (w : gates.PassView) → x ≡ y → p ≡ q → (refusal : Option Refusal) (shard : ℕ) (a : Request) (result : Result Reply (E × Request)) → IsPassOf q y → refusal ≡ None → shard < y.settings.shards
+pub served-on : {E : Type 0} (x y : Service) (p q : Pass) (w : gates.PassView) → x ≡ y → p ≡ q → (refusal : Option Refusal) (shard : ℕ) (a : Request) (result : Result Reply (E × Request)) → IsPassOf q y → refusal ≡ None
     → gates.IsPassOf w x.gate → gate.number w.known ≡ gate.number p.inner.known
     → IfOk result (λ r. gate.SteppedAt after answer KeepsHistories p.inner.known w.known shard a r) → IfOk result (λ r. gate.Stamped p.inner.known w.known shard)
     → IfErr result (λ e. e.1 ≡ a) → IfErr result (λ e. gate.Waited p.inner.known w.known shard)
     → IsServedOnBy y q (record { inner = w; hints = p.hints }) refusal shard a result
-served-on x y p q w is same refusal shard a result own none below kept named step stamp back err =
+served-on x y p q w is same refusal shard a result own none kept named step stamp back err =
     let whole : Pass = record { inner = w; hints = p.hints } in
     let own_here : IsPassOf p x = subst (λ (z : Service). IsPassOf p z) (sym is) (subst (λ (u : Pass). IsPassOf u y) (sym same) own) in
-    let below_here : shard < x.settings.shards = subst (λ (z : Service). shard < z.settings.shards) (sym is) below in
     let here : IsServedOnBy x p whole refusal shard a result = record {
       own = record { opened = own_here.opened; own = kept; hints = own_here.hints };
       named = named;
       hints = refl;
-      ok = both result _ _ _ (λ r stepped stamped. by-step _ _ _ _ r none (served-at-last p w.known x shard a r own_here below_here stepped stamped)) step stamp;
+      ok = both result _ _ _ (λ r stepped stamped. by-step _ _ _ _ r none (served-at-last p w.known x shard a r own_here stepped stamped)) step stamp;
       back = back;
       err = err;
     } in

@@ -13,17 +13,19 @@ use Rattle.service_model_types.specs.declared.content.Content.{Content}
 use Rattle.service_model_types.specs.declared.request.Hint.{Hint}
 use Rattle.service_model_types.specs.declared.request.Request.{Request}
 use Rattle.service_model_types.specs.Replies.{dispatch_of, Reply}
-use Rattle.service_model.specs.Service.{Entry, after, opening}
-use Rattle.service_model.proofs.DispatchLemmas.{NamesShard, names-after, names-opening, next-named}
+use Rattle.service_model_types.specs.declared.content.Setup.{Setup}
+use Rattle.service_model.specs.Service.{Entry, after}
+use Rattle.service_model.proofs.DispatchLemmas.{NamesShard, names-after, next-named}
 use Rattle.gate.specs.declared.view.View.{View}
 use Rattle.gate.specs.Records.{replay}
 use Rattle.service.specs.ServiceViews.{Service}
 use Rattle.matching.specs.declared.view.View.{View as HintView}
 use Rattle.matching.specs.Named.{Pops, Pushes, capacity_of}
 use Rattle.service.specs.CallRequests.{to_next_dispatch, to_start_task}
-use Rattle.service.specs.Contents.{setup_of}
 use Rattle.service.specs.Headline.{content_of}
-use Rattle.service.specs.Services.{Answered, IsServedAtLast}
+use Rattle.service.specs.Services.{Answered, IsOpened, IsServedAtLast}
+use Rattle.service.specs.Starting.{start_of}
+use Rattle.service.proofs.StartLemmas.{start-is-fit}
 use Rattle.service.specs.Turns.{AfterDispatch, AfterNext, AnsweredOn, Polls, Turns, place_of}
 
 names-replayed : (shard : ℕ) (S : Content) (R : List Entry) → NamesShard shard S → NamesShard shard (replay after S R)
@@ -31,13 +33,15 @@ names-replayed shard S [] h = h
 names-replayed shard S (e ∷ R) h = names-replayed shard (after S e.request) R (names-after shard S e.request h)
 
 -- the dispatch that the next one of a shard is names that shard, so one that is there
-pub next-below : (x : Service) (shard at : ℕ) (v w : View Request Content) (r : Reply) → AnsweredOn x shard v w (to_next_dispatch at) r → (d : NumberedDispatch) → dispatch_of r ≡ Some d → d.dispatch.hint.shard < x.settings.shards
-next-below x shard at v w r done d is = by_test (nat_lt shard x.settings.shards) refl done
+pub next-below : (x : Service) → IsOpened x → (shard at : ℕ) (v w : View Request Content) (r : Reply) → AnsweredOn x shard v w (to_next_dispatch at) r → (d : NumberedDispatch) → dispatch_of r ≡ Some d → d.dispatch.hint.shard < x.settings.shards
+next-below x opened shard at v w r done d is = by_test (nat_lt shard x.settings.shards) refl done
   where
     served : nat_lt shard x.settings.shards ≡ true → IsServedAtLast x v w shard (to_next_dispatch at) r → d.dispatch.hint.shard < x.settings.shards
     served below h =
         let front = h.served.step.front in
-        let named : d.dispatch.hint.shard ≡ shard = next-named shard (content_of x shard front) at d (names-replayed shard (opening (setup_of x.settings shard)) front (names-opening (setup_of x.settings shard))) (ap dispatch_of (sym h.served.answered.reply) ∙ is) in
+        let start = start-is-fit x opened shard in
+        let names : NamesShard shard (start_of x shard) = record { own = ap (λ (u : Setup). u.shard) start.setup; all = start.dispatches } in
+        let named : d.dispatch.hint.shard ≡ shard = next-named shard (content_of x shard front) at d (names-replayed shard (start_of x shard) front names) (ap dispatch_of (sym h.served.answered.reply) ∙ is) in
         grind (arith, nat_tests)
 
     by_test : (b : Bool) → nat_lt shard x.settings.shards ≡ b → Answered (if b then None else Some (InvalidArgument field.Shard)) (IsServedAtLast x v w shard (to_next_dispatch at) r) v w r → d.dispatch.hint.shard < x.settings.shards

@@ -6,7 +6,6 @@ use Rattle.gate.specs.AtClose as of_gate_end
 use Rattle.shard_gate.specs.GateViews as gates
 use Rattle.gate.specs.Records.{grounds_by}
 use Rattle.shard_gate.specs.Grounding.{grounds}
-use Rattle.service.specs.Contents.{opening_contents}
 use Rattle.matching.specs.Named as matching
 use Rattle.matching.specs.declared.view.Part.{Part}
 use Rattle.service.specs.ServiceViews.{Pass}
@@ -27,5 +26,5 @@ parts_at passes slot = matching.parts_at (map (λ (p : Pass). p.hints) passes) s
 -- These records and tickets are those of one history of all shards since the opening: each step has its own ticket, from 1 on,
 -- and what comes before a step in it grounds the step's request
 abbrev pub IsHistoryOf : Service → List (List Entry) → List (List ℕ) → Type 0
-IsHistoryOf x records tickets = of_gate_end.IsHistory (grounds_by grounds after (opening_contents x.settings))
+IsHistoryOf x records tickets = of_gate_end.IsHistory (grounds_by grounds after (gates.starts_of x.gate))
     (base_of x) x.settings.shards (λ k. slice_index_or records k []) (λ k. slice_index_or tickets k [])

@@ -11,16 +11,16 @@ use Rattle.service_model_types.specs.declared.transfer.Transfer.{Transfer}
 use Rattle.service_model_types.specs.Replies.{Reply}
 use Rattle.service_model.specs.Deliveries.{accepted_from}
 use Rattle.service_model.specs.Growth.{KeepsHistories}
-use Rattle.service_model.specs.Service.{Entry, answer, after, opening}
+use Rattle.service_model.specs.Service.{Entry, answer, after}
 use Rattle.gate.specs.declared.view.View.{View}
 use Rattle.gate.specs.Passes.{Agree, AgreeTickets, base, mine, number, seen}
 use Rattle.gate.specs.Records.{Begins, by, past, replay}
-use Rattle.service.specs.Contents.{setup_of}
 use Rattle.service.specs.ServiceViews.{Service}
+use Rattle.service.specs.Starting.{start_of}
 
 -- what the sequential service makes of a shard by a record of it: the content after its entries, one after another
 abbrev pub content_of : Service → ℕ → List Entry → Content
-content_of x shard log = replay after (opening (setup_of x.settings shard)) log
+content_of x shard log = replay after (start_of x shard) log
 
 -- "Each answered step leaves its caller a record of that shard": the caller's pass knew v, and then knows w
 pub record LeavesARecord (v w : View Request Content) (shard : ℕ) (q : Request) : Type 0 where

@@ -11,7 +11,9 @@ use Rattle.shard_gate.specs.declared.source.Source.TheVariants.{Records as FromR
 use Rattle.matching.specs.Named as matching
 use Rattle.service.specs.ServiceViews.{Pass}
 use Rattle.service.specs.ServiceViews.{Service}
+use Rattle.shard_gate.specs.GateViews as gates
 use Rattle.service.specs.AtClose.{base_of}
+use Rattle.service.specs.Contents.{opening_contents}
 use Rattle.service.specs.Ranges.{range_fault}
 use Rattle.service.specs.Reopening.{held_from, opens_from, record_at}
 use Rattle.service.specs.Services.{IsPassOf, known_by, settings_of}
@@ -39,6 +41,8 @@ pub record OpensFrom (source : Source) (K : Settings) (logs : List (List Entry))
   pub fresh : (k : ℕ) (p : Pass) → slice_get passes k ≡ Some p → IsFresh k (known_by p)
   pub records : (s : ℕ) → base_of x s ≡ record_at logs s
   pub width : length x.gate.origin.bases ≡ K.shards
+  -- before its record each shard has no runs
+  pub starts : gates.starts_of x.gate ≡ opening_contents K
   pub held : HoldsFrom source K logs passes
   pub settings : settings_of x ≡ K
   pub count : length passes ≡ K.passes

@@ -11,5 +11,7 @@ pub mod Ranges
 pub mod Reopening
 pub mod JournalLaws
 pub mod Services
+pub mod Starting
+pub mod Resuming
 pub mod TransferTurns
 pub mod Turns

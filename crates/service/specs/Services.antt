@@ -9,7 +9,6 @@ use Rattle.service_model_types.specs.declared.settings.Settings.{Settings}
 use Rattle.service_model_types.specs.Calls.{request_of}
 use Rattle.service_model_types.specs.Limits.{most_capacity, most_passes, most_queues, most_shards, service_numbers}
 use Rattle.service_model_types.specs.Replies.{Reply}
-use Rattle.service_model.specs.Service.{opening}
 use Rattle.gate.specs.declared.object.Refused.{Refused}
 use Rattle.gate.specs.declared.view.View.{View}
 use Rattle.gate.specs.Passes as gate
@@ -21,7 +20,8 @@ use Rattle.matching.specs.declared.view.View.{View as HintView}
 use Rattle.matching.specs.Named as matching
 use Rattle.service.specs.Ranges.{are_different}
 use Rattle.service.specs.Headline.{IsSequential, LeavesARecord}
-use Rattle.service.specs.Contents.{setup_of, opening_contents, refusal_of, slot_of, refusal_of_step, slot_of_step}
+use Rattle.service.specs.Starting.{AreStarts, start_of}
+use Rattle.service.specs.Contents.{refusal_of, slot_of, refusal_of_step, slot_of_step}
 
 abbrev pub settings_of : Service → Settings
 settings_of x = x.settings
@@ -52,11 +52,11 @@ pub record IsInRange (K : Settings) : Type 0 where
   pub few_capacity : K.capacity ≤ most_capacity
   pub retention : IsSpan K.retention
 
--- the service was opened by its settings
+-- the service was opened by its settings, or resumed
 pub record IsOpened (x : Service) : Type 0 where
   pub range : IsInRange x.settings
   pub slots : gates.slots x.gate ≡ x.settings.shards
-  pub starts : gates.starts_of x.gate ≡ opening_contents x.settings
+  pub starts : AreStarts x.settings (gates.starts_of x.gate)
   pub passes : gates.given x.gate ≡ x.settings.passes
   pub names : matching.names_of x.queues ≡ x.settings.queues
   pub capacity : matching.capacity_of x.queues ≡ x.settings.capacity
@@ -78,7 +78,7 @@ pub record IsServedOn (x : Service) (v w : View Request Content) (shard : ℕ) (
   pub given : FromGiven (gate.passes v) (past (gate.base v shard) (gate.seen w shard))
   -- no enter was turned away
   pub turns : (k : ℕ) → gate.turned w k ≡ gate.turned v k
-  pub opened : slice_get (gate.starts v) shard ≡ Some (opening (setup_of x.settings shard))
+  pub opened : slice_get (gate.starts v) shard ≡ Some (start_of x shard)
   -- the step has a ticket of its own, above all that the pass had seen
   pub ticket : gate.Stamped v w shard
 

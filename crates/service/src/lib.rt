@@ -4,7 +4,8 @@
 //! Many threads call one service at once, each with a [`Pass`] of its own. A shard, whatever keeps it,
 //! lies with its record in one slot of a gate; a call enters that slot, serves its request, adds an
 //! entry to the record and leaves. So each reply is the sequential service's at that place of the
-//! record.
+//! record. A service that is [opened](Service::open) starts without runs and goes on where its records
+//! end; one that is [resumed](Service::resume) starts at a content of each shard.
 //!
 //! Two passes that [meet](Service::meet) agree on what was done so far, and [`Service::close`]
 //! gives the records, which settle any dispute, and their tickets, by which all steps of all shards

@@ -1,14 +1,19 @@
-//! How a service is opened.
+//! How a service is opened or resumed.
 //!
 //! The settings are looked at first, then how many records there are. The shards are opened behind
 //! their gate, each as its record left it. The hints of all tasks that wait are put into their queues.
 //! The gate gives as many passes as the settings say, so do the task queues, and one of each becomes a
 //! pass of the service. The room that `close` needs is made here.
 
-ghost use Rattle.std.specs.Prelude.{◌≡◌, ◌≢◌, ℕ, ◌<◌, All, Some, Err, length, map, slice_get, IfOk, IfErr};
+ghost use Rattle.std.specs.Prelude.{◌≡◌, ◌≢◌, ℕ, ◌<◌, All, List, Some, Ok, Err, length, map, slice_get, IfOk, IfErr};
+ghost use Rattle.gate.specs.Records.{Each};
+ghost use Rattle.shard_gate.specs.Opening.{Opens as OpensBehind};
+ghost use Rattle.shard_gate.specs.Starts.{Start, opened_with, starting};
 ghost use Rattle.matching.specs.Named.{IsPassOf as IsPassOfQueues, capacity_of, given_of, names_of, shards_of};
 ghost use Rattle.service.specs.HeldHints.{HoldAtOpening, Opens, OpensFrom};
 ghost use Rattle.service.specs.Reopening.{held_from, most_held, opens, opens_from, records_fault};
+ghost use Rattle.service.specs.Resuming.{Resumes, resumes_from};
+ghost use Rattle.service.specs.Starting.{AreStarts};
 ghost use Rattle.service.specs.Ranges.{are_different, are_queues, range_fault, stands_in};
 ghost use Rattle.service.specs.ServiceViews.{Pass as PassView};
 ghost use Rattle.service.specs.Services.{IsInRange};
@@ -73,22 +78,77 @@ impl<S: ShardObject> Service<S> {
         check_ranges(settings)?;
         check_records(settings, &records)?;
         let given = setups_and_records(alloc, settings, records)?;
-        let Opened {
-            gate,
-            passes: inner,
-            waiting,
-        } = ShardGate::open(alloc, given, source, settings.passes as usize)?;
-        let (queues, hints) = open_queues(alloc, source, settings, waiting)?;
-        let passes = paired(alloc, inner, hints)?;
-        let room = PassRoom::new(alloc)?;
-        let service = Service {
-            settings: settings.copy(alloc)?,
-            gate,
-            queues,
-            handed_down: Mutex::new(room),
-        };
-        Ok((service, passes))
+        let opened = ShardGate::open(alloc, given, source, settings.passes as usize)?;
+        behind_gate(alloc, source, settings, opened)
     }
+
+    /// Resumes a service from its shards and gives its passes, numbered from 0.
+    ///
+    /// Each shard comes with the content at which it starts (`S.opening`), for which it stands, and with
+    /// the record of what was done since. It goes on where that ends, as [`Service::open_from`] goes on
+    /// where records end: every pass has seen the record, and the hints of the tasks that wait are in
+    /// their queues again, by shard, run and event, as pushed by the first pass. Each reply is the
+    /// sequential service's from that content on.
+    ///
+    /// # Errors
+    /// `InvalidArgument` with the first setting out of its range, in the order of `open`; `QueueFull`
+    /// where the hints don't fit, from records alone; `UnknownTaskQueue` where one is of a queue that the
+    /// settings don't have; `NoMemory`.
+    pub fn resume(
+        alloc: Global,
+        source: Source,
+        settings: &Settings,
+        shards: Vec<(S, Record<Request>)>,
+    ) -> Result<(Service<S>, Vec<Pass<S>>), Refusal>
+        requires starts { AreStarts settings.now
+            (opened_with (map (starting S.opening) shards.items)) }
+        requires standing { Each shards.items (λ k x. S.stands x.0 (S.opening x.0)) }
+        ensures ok { IfOk result (λ r. Resumes source settings.now
+            (map (starting S.opening) shards.items) r.0 r.1.items) }
+        ensures err { IfErr result (λ e. e ≢ Refusal.NoMemory
+            → resumes_from source settings.now (map (starting S.opening) shards.items)
+            ≡ Err e) }
+    {
+        check_ranges(settings)?;
+        let opened = ShardGate::resume(alloc, shards, source, settings.passes as usize)?;
+        behind_gate(alloc, source, settings, opened)
+    }
+}
+
+/// The service behind a gate that was opened, with its passes. The hints of the tasks that wait are put
+/// into their queues.
+fn behind_gate<S: ShardObject>(
+    alloc: Global,
+    source: Source,
+    settings: &Settings,
+    opened: Opened<S>,
+) -> Result<(Service<S>, Vec<Pass<S>>), Refusal>
+    requires range { range_fault settings.now ≡ Ok tt }
+    requires count { length opened.passes.items ≡ settings.now.passes }
+    requires shards { All (λ d. d.hint.shard < settings.now.shards) opened.waiting.items }
+    ensures ok { IfOk result (λ r. (shards : List Start)
+        → OpensBehind source shards settings.now.passes
+        opened.gate opened.passes.items opened.waiting.items
+        → AreStarts settings.now (opened_with shards)
+        → Resumes source settings.now shards r.0 r.1.items) }
+    ensures err { IfErr result (λ e. e ≢ Refusal.NoMemory
+        → held_from source settings.now opened.waiting.items ≡ Err e) }
+{
+    let Opened {
+        gate,
+        passes: inner,
+        waiting,
+    } = opened;
+    let (queues, hints) = open_queues(alloc, source, settings, waiting)?;
+    let passes = paired(alloc, inner, hints)?;
+    let room = PassRoom::new(alloc)?;
+    let service = Service {
+        settings: settings.copy(alloc)?,
+        gate,
+        queues,
+        handed_down: Mutex::new(room),
+    };
+    Ok((service, passes))
 }
 
 /// There may be no record, or one of each shard.

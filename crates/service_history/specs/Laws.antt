@@ -5,6 +5,7 @@ use Rattle.history.specs.Merged.{AreTicketed, IsMerged}
 use Rattle.service.specs.Contents.{setup_of}
 use Rattle.service.specs.AtClose.{base_of, IsHistoryOf}
 use Rattle.service.specs.Services.{settings_of}
+use Rattle.service.specs.Starting.{StartsEmpty}
 use Rattle.service.specs.ServiceViews.{Service}
 use Rattle.service_model.specs.Service.{Entry}
 use Rattle.service_model.specs.WholeRuns.{Whole, InOrder, IsWhole}
@@ -12,6 +13,7 @@ use Rattle.service_model.specs.WholeRuns.{Whole, InOrder, IsWhole}
 -- What is known at the close of a service that was opened without records: there is a record of each shard, and the
 -- tickets are those of one history
 pub record IsClosed (x : Service) (records : List (List Entry)) (tickets : List (List ℕ)) : Type 0 where
+  pub starts : StartsEmpty x
   pub bases : (k : ℕ) → base_of x k ≡ []
   pub count : length records ≡ (settings_of x).shards
   pub history : IsHistoryOf x records tickets

@@ -1,4 +1,5 @@
-//! How shards are opened, each as its record left it.
+//! How shards are opened, each as its record left it: from nothing before it, or from a content for
+//! which the shard stands.
 
 ghost use Rattle.std.specs.Prelude.{◌≡◌, ◌≤◌, List, length, map, IfOk};
 ghost use Rattle.std.specs.List.{AllByRecursion};
@@ -6,9 +7,10 @@ ghost use Rattle.gate.specs.Passes.{view as seen_by};
 ghost use Rattle.gate.specs.Records.{Each, KeepsAll, replay};
 ghost use Rattle.service_model_types.specs.declared.content.Content.{Content};
 ghost use Rattle.service_model_types.specs.declared.content.Setup.{Setup as TheSetup};
-ghost use Rattle.service_model.specs.Service.{Entry as TheEntry, opening, replay as replayed_by};
-ghost use Rattle.shard_gate.specs.Opening.{IsSetup, Opens, opened_with, records_in, waiting_in};
+ghost use Rattle.service_model.specs.Service.{Entry as TheEntry, after};
+ghost use Rattle.shard_gate.specs.Opening.{IsSetup, Opens};
 ghost use Rattle.shard_gate.specs.Sources.{hinted};
+ghost use Rattle.shard_gate.specs.Starts.{from_setups, starting, waiting_in};
 ghost use Rattle.shard_gate.specs.GateViews.{PassView};
 
 use crate::close::{Closed, GatePasses};
@@ -68,19 +70,19 @@ fn hinted<S: ShardObject>(
 fn reopen<S: ShardObject>(
     alloc: Global,
     source: Source,
-    setup: Setup,
+    start: S,
     log: Record<Request>,
 ) -> Result<Reopened<S>, AllocError>
-    requires { IsSetup setup }
-    ensures opening { IfOk result (λ r. S.opening r.shard ≡ opening setup) }
+    requires { S.stands start (S.opening start) }
+    ensures opening { IfOk result (λ r. S.opening r.shard ≡ S.opening start) }
     ensures log { IfOk result (λ r. r.log ≡ log) }
     ensures stands { IfOk result (λ r.
         S.stands r.shard (replay S.after (S.opening r.shard) r.log)) }
     ensures keeping { IfOk result (λ r. KeepsAll S.after S.keeps (S.opening r.shard) r.log) }
-    ensures waiting { IfOk result (λ r. r.waiting.items ≡ hinted source (replayed_by setup log)) }
+    ensures waiting { IfOk result (λ r.
+        r.waiting.items ≡ hinted source (replay after (S.opening start) log)) }
 {
-    let fresh = S::open(alloc, setup)?;
-    let (mut shard, log) = replayed(alloc, fresh, log)?;
+    let (mut shard, log) = replayed(alloc, start, log)?;
     let waiting = hinted(alloc, source, &mut shard)?;
     Ok(Reopened {
         shard,
@@ -93,26 +95,26 @@ fn reopen<S: ShardObject>(
 fn lay<S: ShardObject>(
     alloc: Global,
     source: Source,
-    given: Vec<(Setup, Record<Request>)>,
+    given: Vec<(S, Record<Request>)>,
 ) -> Result<Laid<S>, AllocError>
-    requires { AllByRecursion (λ (g : TheSetup × List TheEntry). IsSetup g.0) given.items }
+    requires { Each given.items (λ k x. S.stands x.0 (S.opening x.0)) }
     ensures starts { IfOk result (λ l.
-        map (λ x. S.opening x.0) l.objects.items ≡ opened_with given.items) }
-    ensures records { IfOk result (λ l. map (λ x. x.1) l.objects.items ≡ records_in given.items) }
+        map (starting S.opening) l.objects.items ≡ map (starting S.opening) given.items) }
     ensures standing { IfOk result (λ l. Each l.objects.items (λ k x.
         S.stands x.0 (replay S.after (S.opening x.0) x.1))) }
     ensures keeping { IfOk result (λ l. Each l.objects.items (λ k x.
         KeepsAll S.after S.keeps (S.opening x.0) x.1)) }
-    ensures waiting { IfOk result (λ l. l.waiting.items ≡ waiting_in source given.items) }
+    ensures waiting { IfOk result (λ l.
+        l.waiting.items ≡ waiting_in source (map (starting S.opening) given.items)) }
 {
     let mut objects = Vec::new(alloc);
     let mut all = Vec::new(alloc);
-    for (setup, log) in given {
+    for (start, log) in given {
         let Reopened {
             shard,
             log,
             mut waiting,
-        } = reopen(alloc, source, setup, log)?;
+        } = reopen(alloc, source, start, log)?;
         objects.push((shard, log))?;
         all.append(&mut waiting)?;
     }
@@ -120,6 +122,24 @@ fn lay<S: ShardObject>(
         objects,
         waiting: all,
     })
+}
+
+/// Shards without runs, each beside its record.
+fn without_runs<S: ShardObject>(
+    alloc: Global,
+    given: Vec<(Setup, Record<Request>)>,
+) -> Result<Vec<(S, Record<Request>)>, AllocError>
+    requires { AllByRecursion (λ (g : TheSetup × List TheEntry). IsSetup g.0) given.items }
+    ensures starts { IfOk result (λ v.
+        map (starting S.opening) v.items ≡ from_setups given.items) }
+    ensures standing { IfOk result (λ v. Each v.items (λ k x. S.stands x.0 (S.opening x.0))) }
+{
+    let mut objects = Vec::new(alloc);
+    for (setup, log) in given {
+        let shard = S::open(alloc, setup)?;
+        objects.push((shard, log))?;
+    }
+    Ok(objects)
 }
 
 /// The passes of a gate as those of its shards.
@@ -141,7 +161,7 @@ fn as_shard_passes<S: ShardObject>(
 
 impl<S: ShardObject> ShardGate<S> {
     /// Opens a gate over 1 to 64 shards, each as its record left it, and gives 1 to 256 passes,
-    /// numbered from 0.
+    /// numbered from 0. Before its record each shard has no runs.
     ///
     /// # Errors
     /// Where memory was refused.
@@ -155,10 +175,32 @@ impl<S: ShardObject> ShardGate<S> {
         requires passes { (1 ≤ passes) × (passes ≤ 256) }
         requires setups { AllByRecursion
             (λ (g : TheSetup × List TheEntry). IsSetup g.0) given.items }
-        ensures { IfOk result (λ r.
-            Opens source given.items passes r.gate r.passes.items r.waiting.items) }
+        ensures { IfOk result (λ r. Opens source
+            (from_setups given.items) passes r.gate r.passes.items r.waiting.items) }
     {
-        let Laid { objects, waiting } = lay(alloc, source, given)?;
+        let shards = without_runs(alloc, given)?;
+        ShardGate::resume(alloc, shards, source, passes)
+    }
+
+    /// Opens a gate over 1 to 64 shards as `open` does, where each shard starts at the content with
+    /// which it comes (`S.opening`), whatever that is, and for which it stands. Its record is what was
+    /// done since.
+    ///
+    /// # Errors
+    /// Where memory was refused.
+    pub fn resume(
+        alloc: Global,
+        shards: Vec<(S, Record<Request>)>,
+        source: Source,
+        passes: usize,
+    ) -> Result<Opened<S>, AllocError>
+        requires slots { (1 ≤ length shards.items) × (length shards.items ≤ 64) }
+        requires passes { (1 ≤ passes) × (passes ≤ 256) }
+        requires standing { Each shards.items (λ k x. S.stands x.0 (S.opening x.0)) }
+        ensures { IfOk result (λ r. Opens source
+            (map (starting S.opening) shards.items) passes r.gate r.passes.items r.waiting.items) }
+    {
+        let Laid { objects, waiting } = lay(alloc, source, shards)?;
         let count = objects.len();
         let (gate, inner) = Gate::open(alloc, objects, passes)?;
         let passes = as_shard_passes(alloc, inner)?;

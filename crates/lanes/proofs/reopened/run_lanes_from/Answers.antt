@@ -18,7 +18,7 @@ returns-in_err-ended-clause-halted g c =
     on_any_err c.from_residual.result _ (inr (inl (record {
       service = c.in-Ok.opened.0;
       passes = c.in-Ok.opened.1.items;
-      opened = opened-from c.args.settings.now c.args.records.items c.in-Ok.opened.0 c.in-Ok.opened.1.items o.settings o.count o.own o.fresh o.records o.held;
+      opened = opened-from c.args.settings.now c.args.records.items c.in-Ok.opened.0 c.in-Ok.opened.1.items o.settings o.count o.own o.fresh o.starts o.records o.held;
       halted = c.in_err-ended.ensures.halted;
     })))
 
@@ -47,7 +47,7 @@ returns-clause-ran g c =
     let x = c.in-Ok.opened.0 in
     let logs = c.close-closed.result.records.items in
     let some : 0 < length c.in-Ok.opened.1.items = let range = (in-range c.args.settings.now o.range).some_pass in let count = o.count in omega (arith, range, count) in
-    let opened = opened-from c.args.settings.now c.args.records.items x c.in-Ok.opened.1.items o.settings o.count o.own o.fresh o.records o.held in
+    let opened = opened-from c.args.settings.now c.args.records.items x c.in-Ok.opened.1.items o.settings o.count o.own o.fresh o.starts o.records o.held in
     record {
       service = x;
       passes = c.in-Ok.opened.1.items;
@@ -70,7 +70,7 @@ returns-in_err-print_trace-clause-halted g c =
     on_any_err c.from_residual-in_err-print_trace.result _ (inr (inr (record {
       service = x;
       passes = c.in-Ok.opened.1.items;
-      opened = opened-from c.args.settings.now c.args.records.items x c.in-Ok.opened.1.items o.settings o.count o.own o.fresh o.records o.held;
+      opened = opened-from c.args.settings.now c.args.records.items x c.in-Ok.opened.1.items o.settings o.count o.own o.fresh o.starts o.records o.held;
       refused = c.in_ok-ended.ended.refused;
       ends = c.in_ok-ended.ended.passes.items;
       replied = g.W.Write.contents c.run_lanes.new.writer.inner;

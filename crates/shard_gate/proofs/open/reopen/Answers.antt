@@ -6,5 +6,5 @@ use Rattle.shard_gate.proofs.open.reopen.Goals as goal
 pub returns-clause-waiting : goal.returns-clause-waiting
 returns-clause-waiting g c =
     let found = c.in_ok-shard in
-    let opened = found.ensures.opening ∙ c.in_ok-fresh.ensures.opened in
-    c.in_ok-waiting.ensures.tasks _ found.ensures.stands ∙ ap (hinted c.args.source) (replay-as _ g.met.S.ShardObject.goes_on _ c.args.setup opened found.log c.args.log found.ensures.log)
+    c.in_ok-waiting.ensures.tasks _ found.ensures.stands
+    ∙ ap (hinted c.args.source) (replay-as _ g.met.S.ShardObject.goes_on _ _ found.ensures.opening found.log c.args.log found.ensures.log)

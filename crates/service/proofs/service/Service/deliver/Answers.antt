@@ -26,7 +26,7 @@ acknowledge-requires-clause-grounds g c =
     let v = known_by c.args.pass.now in
     let met = known_by c.serve_there.new.pass in
     let step = subst (λ q. IsServedAtLast x v met c.args.turn.to q c.in_ok-reply.reply) c.request-asked.ensures c.in_ok-reply.ensures.ok in
-    let grounds = delivery-grounds x v met c.args.turn.from c.args.turn.to c.args.turn.at c.args.turn.stop c.in_ok-reply.reply c.args.transfer step c.requires.source c.requires.grounds (sym c.goes_on.ensures ∙ c.if-not-goes_on.false) in
+    let grounds = delivery-grounds x c.requires.own.opened v met c.args.turn.from c.args.turn.to c.args.turn.at c.args.turn.stop c.in_ok-reply.reply c.args.transfer step c.requires.source c.requires.grounds (sym c.goes_on.ensures ∙ c.if-not-goes_on.false) in
     subst (λ (t : Transfer). SeenGrounds met c.args.turn.from (to_acknowledge c.args.turn.at c.args.turn.to t.number)) (sym c.get.ensures) grounds
 
 pub returns-then-not-goes_on-clause-ok : goal.returns-then-not-goes_on-clause-ok

@@ -14,5 +14,5 @@ returns-clause-shard g c =
     let w = known_by c.serve_named.new.pass in
     let A : Reply → Type 0 = λ r. AnsweredOn x c.args.shard v w c.asked_by_client-asked.result r in
     let B : Reply → Type 0 = λ r. (d : NumberedDispatch) → dispatch_of r ≡ Some d → d.dispatch.hint.shard < x.settings.shards in
-    let below : (r : Reply) → A r → B r = λ r done. next-below x c.args.shard c.args.at v w r (subst (λ q. AnsweredOn x c.args.shard v w q r) c.asked_by_client-asked.ensures done) in
+    let below : (r : Reply) → A r → B r = λ r done. next-below x c.requires.opened c.args.shard c.args.at v w r (subst (λ q. AnsweredOn x c.args.shard v w q r) c.asked_by_client-asked.ensures done) in
     weaker c.serve_named.result A B below c.serve_named.ensures.ok

@@ -22,7 +22,7 @@ returns-in-None g c =
     let same = c.into_request.ensures.same in
     let v = c.pass.inside.inner.known in
     let w = c.step.new.pass in
-    served-on _ c.args.self.now _ c.args.pass.now w c.self.view_is c.pass.view_is c.args.refusal c.args.slot c.args.request c.step.result c.requires.own c.in-None.is (c.requires.there c.in-None.is)
+    served-on _ c.args.self.now _ c.args.pass.now w c.self.view_is c.pass.view_is c.args.refusal c.args.slot c.args.request c.step.result c.requires.own c.in-None.is
     c.step.ensures.own c.step.ensures.named
     (subst (λ q. IfOk c.step.result (λ r. SteppedAt after answer KeepsHistories v w.known c.args.slot q r)) same c.step.ensures.ok)
     c.step.ensures.ticket

@@ -22,4 +22,4 @@ returns-in-Ok-clause-ok g c =
     let T : ℕ → Type 0 = λ s. Stamped (known_by c.args.pass.now) w s in
     let step = subst (λ v. SteppedAt after answer KeepsHistories v w c.from.result c.args.asked c.in-Ok.reply) same c.in-Ok.ensures.ok in
     let stamp = subst (λ v. Stamped v w c.from.result) same c.in-Ok.ensures.ticket in
-    served-at-last c.args.pass.now w c.args.self.now c.args.shard c.args.asked c.in-Ok.reply c.requires.own c.requires.there (subst S c.from.ensures step) (subst T c.from.ensures stamp)
+    served-at-last c.args.pass.now w c.args.self.now c.args.shard c.args.asked c.in-Ok.reply c.requires.own (subst S c.from.ensures step) (subst T c.from.ensures stamp)

@@ -33,7 +33,7 @@ deliver-requires-clause-source g c =
     let v = known_by c.args.pass.now in
     let met = known_by c.serve_there.new.pass in
     let step = subst (λ q. IsServedAtLast x v met c.args.turn.from q c.in_ok-next.next) c.request-asked.ensures c.in_ok-next.ensures.ok in
-    (read-grounds x v met c.args.turn.from c.args.turn.to c.args.turn.at c.in_ok-next.next c.in-Ok.transfer step c.in-Ok.ensures).0
+    (read-grounds x c.requires.own.opened v met c.args.turn.from c.args.turn.to c.args.turn.at c.in_ok-next.next c.in-Ok.transfer step c.in-Ok.ensures).0
 
 pub deliver-requires-clause-grounds : goal.deliver-requires-clause-grounds
 deliver-requires-clause-grounds g c =
@@ -41,4 +41,4 @@ deliver-requires-clause-grounds g c =
     let v = known_by c.args.pass.now in
     let met = known_by c.serve_there.new.pass in
     let step = subst (λ q. IsServedAtLast x v met c.args.turn.from q c.in_ok-next.next) c.request-asked.ensures c.in_ok-next.ensures.ok in
-    (read-grounds x v met c.args.turn.from c.args.turn.to c.args.turn.at c.in_ok-next.next c.in-Ok.transfer step c.in-Ok.ensures).1
+    (read-grounds x c.requires.own.opened v met c.args.turn.from c.args.turn.to c.args.turn.at c.in_ok-next.next c.in-Ok.transfer step c.in-Ok.ensures).1

@@ -1,14 +1,13 @@
-use Rattle.std.proofs.Common.{◌≡◌, ℕ, None, ap, subst, sym}
+use Rattle.std.proofs.Common.{ℕ, ap, subst, sym}
 use Rattle.service_model_types.specs.declared.request.Request.{Request}
 use Rattle.service_model.specs.Growth.{KeepsHistories}
 use Rattle.service_model.specs.Service.{answer, after}
 use Rattle.gate.specs.Passes.{Stamped, Stepped}
 use Rattle.matching.specs.Named as matching
 use Rattle.shard_gate.specs.GateViews as gates
-use Rattle.service.specs.Contents.{refusal_of}
 use Rattle.service.specs.Services.{known_by, IsServed}
 use Rattle.service.specs.ServiceViews.{Service}
-use Rattle.service.proofs.ServedLemmas.{served, shard-below}
+use Rattle.service.proofs.ServedLemmas.{served}
 use Rattle.service.proofs.service.Service.try_enter_start.Goals as goal
 
 pub returns-in-Ok-clause-ok : goal.returns-in-Ok-clause-ok
@@ -17,13 +16,11 @@ returns-in-Ok-clause-ok g c =
     let r = c.in-Ok.inner.promised in
     let P : ℕ → Type 0 = λ k. Stepped after answer KeepsHistories (known_by c.args.pass) w k c.request-request.result r in
     let Q : Request → Type 0 = λ q. IsServed c.args.self.now (known_by c.args.pass) w q r in
-    let none : refusal_of c.args.self.now.settings c.request-request.result.operation ≡ None = ap (λ q. refusal_of c.args.self.now.settings q.operation) c.request-request.ensures in
-    let below = shard-below c.args.self.now.settings c.request-request.result.operation c.requires.opened.range.some_shard none in
     let same = ap (λ p. p.0.known) c.into_parts-inner.ensures in
     let entered = subst (λ v. Stepped after answer KeepsHistories v w c.slot_of-slot.result c.request-request.result r) same c.in-Ok.ensures.ok in
     let T : ℕ → Type 0 = λ k. Stamped (known_by c.args.pass) w k in
     let stamp = subst (λ v. Stamped v w c.slot_of-slot.result) same c.in-Ok.ensures.ticket in
-    subst Q c.request-request.ensures (served c.args.pass w c.args.self.now _ c.request-request.result r c.requires below (subst P c.slot_of-slot.ensures entered) (subst T c.slot_of-slot.ensures stamp))
+    subst Q c.request-request.ensures (served c.args.pass w c.args.self.now _ c.request-request.result r c.requires (subst P c.slot_of-slot.ensures entered) (subst T c.slot_of-slot.ensures stamp))
 
 pub returns-in-Ok-clause-own : goal.returns-in-Ok-clause-own
 returns-in-Ok-clause-own g c =

@@ -22,7 +22,7 @@ returns-in-None g c =
     let same = c.into_request.ensures.same in
     let v = c.pass.inside.inner.known in
     let w = c.try_step.new.pass in
-    tried _ c.args.self.now _ c.args.pass.now w c.self.view_is c.pass.view_is c.args.refusal c.args.slot c.args.request c.try_step.result c.requires.own c.in-None.is (c.requires.there c.in-None.is)
+    tried _ c.args.self.now _ c.args.pass.now w c.self.view_is c.pass.view_is c.args.refusal c.args.slot c.args.request c.try_step.result c.requires.own c.in-None.is
     c.try_step.ensures.own c.try_step.ensures.named
     (subst (λ q. IfOk c.try_step.result (λ r. Stepped after answer KeepsHistories v w.known c.args.slot q r)) same c.try_step.ensures.ok)
     c.try_step.ensures.ticket
