@@ -3,4 +3,4 @@
 
 mod piece;
 
-pub use piece::{CountedPiece, EndPiece, Head, NotePiece, Piece};
+pub use piece::{CountedPiece, EndPiece, Head, NotePiece, Piece, TransferPiece};

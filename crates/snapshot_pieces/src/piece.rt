@@ -2,7 +2,7 @@
 
 use service_model_types::content::Dispatch;
 use service_model_types::journal::Note;
-use service_model_types::transfer::Sent;
+use service_model_types::transfer::Transfer;
 use wf_event::Event;
 use wf_event_values::{Id, Items, Moment, Span};
 
@@ -38,6 +38,14 @@ pub struct CountedPiece {
     pub acknowledged: Items<u64>,
 }
 
+/// A transfer that waits for its acknowledgement.
+#[derive(Drop)]
+pub struct TransferPiece {
+    pub to: u16,
+    /// As it is delivered: this shard, its number there and what it says.
+    pub transfer: Transfer,
+}
+
 /// The end of a snapshot.
 #[derive(Drop)]
 pub struct EndPiece {
@@ -63,7 +71,7 @@ pub enum Piece {
     /// A dispatch that waits to be counted.
     Dispatch(Dispatch),
     /// A transfer that was issued, and that its shard has not acknowledged.
-    Transfer(Sent),
+    Transfer(TransferPiece),
     /// The last line.
     End(EndPiece),
 }
