@@ -1,0 +1,8 @@
+pub mod NamesBack
+pub mod SheetLemmas
+mod CountLemmas
+mod NumberLemmas
+pub mod ValuesBack
+pub mod PlainLemmas
+pub mod TextsUtf8
+pub mod PieceLemmas
