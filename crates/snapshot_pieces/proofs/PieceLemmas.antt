@@ -7,6 +7,8 @@ use Rattle.std.proofs.lemmas.Str.{IsUtf8-from_is_utf8, is_utf8-from_IsUtf8}
 use Rattle.std.specs.Str.{is_utf8}
 use Rattle.serde_json.specs.Data.{Data}
 use Rattle.serde_json.specs.Read.{read}
+use Rattle.wf_event.specs.declared.event.Event.{Event}
+use Rattle.wire_record_events.specs.Trees.{event_text}
 use Rattle.wire_record_rows.specs.Plain.{has_feed}
 use Rattle.wire_record_rows.proofs.Again.{reads_again}
 use Rattle.wire_record_rows.proofs.NoControl.{no_feed}
@@ -101,3 +103,7 @@ named_by_text text line is u =
 pub none_named : (line : List ℕ) → (IsUtf8 line → ⊥) → piece_named line ≡ None
 unfolding piece_named
 none_named line bad = ap (λ b. cond b (piece_in line (read line)) None) (false_from_ne_true (is_utf8 line) (λ e. bad (IsUtf8-from_is_utf8 line e)))
+
+pub as_in_histories : (e : Event) → piece_text (piece.Event e) ≡ event_text e
+unfolding piece_tree
+as_in_histories e = refl

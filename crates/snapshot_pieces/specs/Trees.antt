@@ -5,6 +5,7 @@ use Rattle.serde_json.specs.View.{items_of}
 use Rattle.serde_json.specs.Written.{compact_text}
 use Rattle.wf_event_values.specs.Names.{task_kind_name}
 use Rattle.service_model_types.specs.declared.content.Dispatch.{Dispatch}
+use Rattle.service_model_types.specs.declared.journal.Note.TheVariants.{Beat}
 use Rattle.service_model_types.specs.Notes.{details_of}
 use Rattle.wire_events.specs.Events.{event_tree}
 use Rattle.wire_record_rows.specs.Rows.{Row, count, text, if_text, whole, object_of}
@@ -27,6 +28,10 @@ unfoldable pub note_rows : NotePiece → List Row
 note_rows n =
     count (codes "activity") n.activity ∷ count (codes "at") n.at ∷ if_text (codes "details") (details_of n.note)
     ∷ text (codes "kind") (note_kind_name (note_kind n.note)) ∷ count (codes "times") n.times ∷ []
+
+-- a heartbeat, made once
+abbrev pub beat : ℕ → ℕ → List ℕ → NotePiece
+beat activity at details = record { activity = activity; at = at; note = Beat details; times = 1 }
 
 unfoldable pub both_rows : ℕ → ℕ → List Row
 both_rows accepted acknowledged =
