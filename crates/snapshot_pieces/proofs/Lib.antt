@@ -1,3 +1,4 @@
+mod LineLemmas
 pub mod NamesBack
 pub mod SheetLemmas
 mod CountLemmas

@@ -13,6 +13,7 @@ ghost use Rattle.snapshot_pieces.specs.declared.piece.Piece.TheVariants as piece
 
 mod kinds;
 mod known;
+mod lines;
 mod piece;
 mod put;
 mod reading;
@@ -20,6 +21,7 @@ mod values;
 mod writing;
 
 pub use known::{is_whole, known_piece};
+pub use lines::{Ahead, PieceFault, next_piece};
 pub use piece::{CountedPiece, EndPiece, Head, NotePiece, Piece, TransferPiece};
 pub use reading::read_piece;
 pub use writing::{
