@@ -7,3 +7,4 @@ pub mod ValuesBack
 pub mod PlainLemmas
 pub mod TextsUtf8
 pub mod PieceLemmas
+pub mod ListLemmas

@@ -15,7 +15,7 @@ behind_line (x ∷ line) behind =
     let e : length (x ∷ line) + 1 ≡ suc (length line + 1) = omega arith in
     ap (λ k. drop k (x ∷ (line ++ 10 ∷ behind))) e ∙ behind_line line behind
 
--- the line of a piece, and what is left behind it
+-- the line of a piece, and what is left after it
 pub taken : (n : ℕ) (xs line behind : List ℕ) (p : Piece) → drop n xs ≡ line ++ 10 ∷ behind → line ≡ piece_text p → drop n xs ≡ line_of p ++ drop (n + (length line + 1)) xs
 taken n xs line behind p parts own =
     let rest : drop (n + (length line + 1)) xs ≡ behind = sym (drop-drop (length line + 1) n xs) ∙ ap (drop (length line + 1)) parts ∙ behind_line line behind in

@@ -1,13 +1,14 @@
 //! The lines of a shard's snapshot: each says one piece of it, and is read as that piece again.
 #![tactic(auto)]
 
-ghost use Rattle.std.specs.Prelude.{◌≡◌, List, ℕ, Some, false};
+ghost use Rattle.std.specs.Prelude.{◌≡◌, List, ℕ, Some, false, flat_map};
+ghost use Rattle.std.specs.List.{AllByRecursion};
 ghost use Rattle.wf_event.specs.declared.event.Event.{Event};
 ghost use Rattle.wire_record_events.specs.Trees.{event_text};
 ghost use Rattle.wire_record_rows.specs.Plain.{has_feed};
 ghost use Rattle.snapshot_pieces.specs.Limits.{IsPiece};
 ghost use Rattle.snapshot_pieces.specs.Reading.{piece_named};
-ghost use Rattle.snapshot_pieces.specs.Trees.{piece_text};
+ghost use Rattle.snapshot_pieces.specs.Trees.{line_of, piece_text};
 ghost use Rattle.snapshot_pieces.specs.declared.piece.Piece.{Piece};
 ghost use Rattle.snapshot_pieces.specs.declared.piece.Piece.TheVariants as piece;
 
@@ -48,4 +49,10 @@ pub fn pieces_are_one_line()
 /// An event's text is the one that histories show.
 pub fn events_are_as_in_histories()
     ensures { (e : Event) → piece_text (piece.Event e) ≡ event_text e }
+{}
+
+/// No text is that of the lines of two lists of pieces.
+pub fn texts_are_of_one_list()
+    ensures { (ps qs : List Piece) → AllByRecursion IsPiece ps → AllByRecursion IsPiece qs
+        → flat_map line_of ps ≡ flat_map line_of qs → ps ≡ qs }
 {}
