@@ -38,21 +38,24 @@ impl From<AllocError> for PieceFault {
 /// What was read of an input, and is not taken yet.
 #[derive(Drop)]
 pub struct Ahead {
-    bytes: Vec<u8>,
-    /// How many of them are taken.
-    taken: usize,
-    /// Where the next bytes are put first.
+    /// A line so far.
+    line: Vec<u8>,
+    /// What comes after it, between two places.
     chunk: Vec<u8>,
+    from: usize,
+    to: usize,
 }
 
 impl Model for Ahead {
-    ghost use Rattle.std.specs.Prelude.{◌≤◌, ◌<◌, List, ℕ, drop, vec_len};
+    ghost use Rattle.std.specs.Prelude.{◌≡◌, ◌≤◌, ◌<◌, ◌++◌, List, ℕ, false, drop, take, vec_len};
+    ghost use Rattle.wire_lines.specs.Pending.{has_feed};
 
     ghost Value = { List ℕ };
 
-    ghost view = { λ a. drop a.taken a.bytes.items };
+    ghost view = { λ a. a.line.items ++ drop a.from (take a.to a.chunk.items) };
 
-    ghost invariant = { λ a. (a.taken ≤ vec_len a.bytes) × (0 < vec_len a.chunk) };
+    ghost invariant = { λ a. (has_feed a.line.items ≡ false) × (a.from ≤ a.to)
+        × (a.to ≤ vec_len a.chunk) × (0 < vec_len a.chunk) };
 }
 
 impl Ahead {
@@ -61,11 +64,12 @@ impl Ahead {
         ensures { IfOk result (λ a. a ≡ []) }
     {
         let chunk = vec![in alloc; 0; 8192]?;
-        let bytes = Vec::new(alloc);
+        let line = Vec::new(alloc);
         Ok(Ahead {
-            bytes,
-            taken: 0,
+            line,
             chunk,
+            from: 0,
+            to: 0,
         })
     }
 
@@ -74,26 +78,25 @@ impl Ahead {
         ensures piece { IfOk result (λ o. IfSome o (λ p.
             IsPiece p × (self.old ≡ line_of p ++ self.new))) }
         ensures none { IfOk result (λ o. IfNone o
-            ((self.new ≡ self.old) × (has_feed self.old ≡ false))) }
+            ((self.new ≡ self.old) × (has_feed self.new ≡ false))) }
         ensures fault { IfErr result (λ e. IsLineFault e self.old) }
     {
-        let Some((line, _)) = cut(&self.bytes[self.taken..]) else {
+        let Some((part, _)) = cut(self.chunk[..self.to].split_at(self.from).1) else {
             return Ok(None);
         };
-        let Some(piece) = read_piece(alloc, line)? else {
+        let length = part.len();
+        self.line.extend_from_slice(part)?;
+        let Some(piece) = read_piece(alloc, self.line.as_slice())? else {
             return Err(PieceFault::NoPiece);
         };
-        let length = line.len();
-        self.taken += length + 1;
+        self.line.clear();
+        self.from += length + 1;
         Ok(Some(piece))
     }
 
     /// Reads what is there. True at the end of the input.
-    fn read_more<R: Read>(
-        &mut self,
-        alloc: Global,
-        reader: &mut Counted<R>,
-    ) -> Result<bool, PieceFault>
+    fn read_more<R: Read>(&mut self, reader: &mut Counted<R>) -> Result<bool, PieceFault>
+        requires { has_feed self.old ≡ false }
         ensures more { IfOk result (λ done. ReadsMore (R.remaining reader.old.inner)
             (R.remaining reader.new.inner) self.old self.new) }
         ensures end { IfOk result (λ done. IsTrue done
@@ -102,14 +105,15 @@ impl Ahead {
             (R.remaining reader.new.inner) self.old reader.old.failures reader.new.failures) }
         ensures grows { reader.old.failures ≤ reader.new.failures }
     {
+        let rest = self.chunk[..self.to].split_at(self.from).1;
+        self.line.extend_from_slice(rest)?;
+        self.from = 0;
+        self.to = 0;
         let count = match read_some(reader, &mut self.chunk) {
             Ok(count) => count,
             Err(error) => return Err(PieceFault::Read(error)),
         };
-        let mut bytes = self.bytes[self.taken..].to_vec(alloc)?;
-        bytes.extend_from_slice(&self.chunk[..count])?;
-        self.bytes = bytes;
-        self.taken = 0;
+        self.to = count;
         Ok(count == 0)
     }
 
@@ -118,7 +122,10 @@ impl Ahead {
         ensures none { IfOk result (λ o. (o ≡ None) × (self.now ≡ [])) }
         ensures cut { IfErr result (λ e. (e ≡ Cut) × (self.now ≡ [] → ⊥)) }
     {
-        if self.bytes.len() > self.taken {
+        if self.line.len() > 0 {
+            return Err(PieceFault::Cut);
+        }
+        if self.to > self.from {
             return Err(PieceFault::Cut);
         }
         Ok(None)
@@ -145,7 +152,7 @@ pub fn next_piece<R: Read>(
         if let Some(piece) = ahead.take_line(alloc)? {
             return Ok(Some(piece));
         }
-        if ahead.read_more(alloc, reader)? {
+        if ahead.read_more(reader)? {
             return ahead.end();
         }
     }

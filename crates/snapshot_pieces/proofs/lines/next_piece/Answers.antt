@@ -15,6 +15,6 @@ returns-then-branch-clause-fault g c =
       chunk = so_far.chunk ++ more.chunk;
       read = Consumes-then _ _ _ _ _ so_far.read more.read;
       at_end = done.0;
-      no_line = ap has_feed (all ∙ done.1 ∙ none.0) ∙ none.1;
+      no_line = ap has_feed (all ∙ done.1) ∙ none.1;
       some = λ is. two.1 (sym all ∙ is);
     })) c.end.ensures.cut
