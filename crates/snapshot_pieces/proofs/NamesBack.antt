@@ -7,8 +7,8 @@ use Rattle.wf_event_values.specs.Names.{task_kind_name}
 use Rattle.wire_record_events.proofs.TreeLemmas.{tree_is}
 use Rattle.wire_record_events.specs.Trees.{event_rows}
 use Rattle.wire_record_rows.specs.Rows.{members_of}
-use Rattle.snapshot_pieces.specs.Names.{note_kind_in, note_kind_name, piece_kind_in, task_kind_in}
-use Rattle.snapshot_pieces.specs.Trees.{gone_rows, piece_tree, request_rows, under, waiting_rows}
+use Rattle.snapshot_pieces.specs.Names.{note_kind_in, piece_kind_in, task_kind_in}
+use Rattle.snapshot_pieces.specs.Trees.{gone_rows, note_kind_name, piece_tree, request_rows, under, waiting_rows}
 use Rattle.snapshot_pieces.specs.declared.kinds.NoteKind.{NoteKind}
 use Rattle.snapshot_pieces.specs.declared.kinds.NoteKind.TheVariants as said
 use Rattle.snapshot_pieces.specs.declared.kinds.PieceKind.{PieceKind}

@@ -15,8 +15,7 @@ use Rattle.wire_record_rows.specs.Plain.{HasUtf8, HaveUtf8, IfUtf8}
 use Rattle.wire_record_rows.proofs.RowTexts.{utf8_members}
 use Rattle.wire_record_transfers.proofs.TextsUtf8.{transfer_utf8}
 use Rattle.snapshot_pieces.specs.Limits.{IsDispatch, IsNote, IsNotePiece, IsPiece, IsTransferPiece}
-use Rattle.snapshot_pieces.specs.Names.{note_kind, note_kind_name}
-use Rattle.snapshot_pieces.specs.Trees.{both_counts, both_rows, counted_rows, dispatch_rows, end_rows, gone_rows, head_rows, note_rows, piece_tree, request_rows, under, waiting_rows}
+use Rattle.snapshot_pieces.specs.Trees.{both_counts, both_rows, counted_rows, dispatch_rows, end_rows, gone_rows, head_rows, note_kind, note_kind_name, note_rows, piece_tree, request_rows, under, waiting_rows}
 use Rattle.snapshot_pieces.specs.declared.kinds.NoteKind.{NoteKind}
 use Rattle.snapshot_pieces.specs.declared.kinds.NoteKind.TheVariants as said
 use Rattle.snapshot_pieces.specs.declared.piece.CountedPiece.{CountedPiece}

@@ -18,9 +18,9 @@ use Rattle.wire_record_rows.proofs.KeysBack.{inner_is, keyed_is, shard_back}
 use Rattle.wire_record_transfers.specs.Reading.{transfer_of}
 use Rattle.wire_record_transfers.proofs.TransfersBack.{transfer_back}
 use Rattle.snapshot_pieces.specs.Limits.{IsCounted, IsDispatch, IsEnd, IsHead, IsNote, IsNotePiece, IsPiece, IsTransferPiece}
-use Rattle.snapshot_pieces.specs.Names.{note_kind, note_kind_in, note_kind_name, task_kind_in}
+use Rattle.snapshot_pieces.specs.Names.{note_kind_in, task_kind_in}
 use Rattle.snapshot_pieces.specs.Reading.{counted_of, dispatch_of, end_of, head_of, note_of, piece_by, piece_of, said_by, waiting_of}
-use Rattle.snapshot_pieces.specs.Trees.{both_counts, both_rows, counted_rows, dispatch_rows, end_rows, gone_rows, head_rows, note_rows, piece_tree, request_rows, under, waiting_rows}
+use Rattle.snapshot_pieces.specs.Trees.{both_counts, both_rows, counted_rows, dispatch_rows, end_rows, gone_rows, head_rows, note_kind, note_kind_name, note_rows, piece_tree, request_rows, under, waiting_rows}
 use Rattle.snapshot_pieces.specs.declared.piece.CountedPiece.{CountedPiece}
 use Rattle.snapshot_pieces.specs.declared.piece.EndPiece.{EndPiece}
 use Rattle.snapshot_pieces.specs.declared.piece.Head.{Head}

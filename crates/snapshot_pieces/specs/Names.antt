@@ -1,4 +1,4 @@
--- MEANING: the names of notes and of kinds of task, and which kind of piece a JSON value is by its keys
+-- PROOF: names of notes and of kinds of task, read, and which kind of piece a JSON value is by its keys
 use Rattle.std.specs.Prelude.{ℕ, List, [], ◌∷◌, codes, Bool, if◌then◌else◌, Option, Some, None, Result}
 use Rattle.std.specs.Option.{is_some, ok_or}
 use Rattle.serde_json.specs.Data.{Data}
@@ -9,26 +9,12 @@ use Rattle.wf_event_values.specs.declared.policies.TaskKind.TheVariants.{Workflo
 use Rattle.wf_event_values.specs.declared.refusal.Refusal.{Refusal}
 use Rattle.wf_event_values.specs.declared.refusal.Refusal.TheVariants.{InvalidArgument}
 use Rattle.wf_event_values.specs.Names.{task_kind_name}
-use Rattle.service_model_types.specs.declared.journal.Note.{Note}
-use Rattle.service_model_types.specs.declared.journal.Note.TheVariants as note
 use Rattle.wire_fields.specs.Kinds.{named}
+use Rattle.snapshot_pieces.specs.Trees.{note_kind_name}
 use Rattle.snapshot_pieces.specs.declared.kinds.NoteKind.{NoteKind}
 use Rattle.snapshot_pieces.specs.declared.kinds.NoteKind.TheVariants as said
 use Rattle.snapshot_pieces.specs.declared.kinds.PieceKind.{PieceKind}
 use Rattle.snapshot_pieces.specs.declared.kinds.PieceKind.TheVariants as kind
-
--- what a note says
-abbrev pub note_kind : Note → NoteKind
-note_kind note.Taken = said.Taken
-note_kind note.Ended = said.Ended
-note_kind note.Ready = said.Ready
-note_kind (note.Beat details) = said.Beat
-
-abbrev pub note_kind_name : NoteKind → List ℕ
-note_kind_name said.Taken = codes "taken"
-note_kind_name said.Ended = codes "ended"
-note_kind_name said.Ready = codes "ready"
-note_kind_name said.Beat = codes "beat"
 
 abbrev pub note_kind_named : List ℕ → Option NoteKind
 note_kind_named = named note_kind_name (said.Taken ∷ said.Ended ∷ said.Ready ∷ said.Beat ∷ [])

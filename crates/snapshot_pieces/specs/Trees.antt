@@ -5,12 +5,14 @@ use Rattle.serde_json.specs.View.{items_of}
 use Rattle.serde_json.specs.Written.{compact_text}
 use Rattle.wf_event_values.specs.Names.{task_kind_name}
 use Rattle.service_model_types.specs.declared.content.Dispatch.{Dispatch}
-use Rattle.service_model_types.specs.declared.journal.Note.TheVariants.{Beat}
+use Rattle.service_model_types.specs.declared.journal.Note.{Note}
+use Rattle.service_model_types.specs.declared.journal.Note.TheVariants as note
 use Rattle.service_model_types.specs.Notes.{details_of}
 use Rattle.wire_events.specs.Events.{event_tree}
 use Rattle.wire_record_rows.specs.Rows.{Row, count, text, if_text, whole, object_of}
 use Rattle.wire_record_transfers.specs.Trees.{transfer_rows}
-use Rattle.snapshot_pieces.specs.Names.{note_kind, note_kind_name}
+use Rattle.snapshot_pieces.specs.declared.kinds.NoteKind.{NoteKind}
+use Rattle.snapshot_pieces.specs.declared.kinds.NoteKind.TheVariants as said
 use Rattle.snapshot_pieces.specs.declared.piece.CountedPiece.{CountedPiece}
 use Rattle.snapshot_pieces.specs.declared.piece.EndPiece.{EndPiece}
 use Rattle.snapshot_pieces.specs.declared.piece.Head.{Head}
@@ -24,6 +26,19 @@ head_rows h =
     count (codes "retention") h.retention ∷ count (codes "service") h.service ∷ count (codes "shard") h.shard
     ∷ count (codes "shards") h.shards ∷ []
 
+-- what a note says
+abbrev pub note_kind : Note → NoteKind
+note_kind note.Taken = said.Taken
+note_kind note.Ended = said.Ended
+note_kind note.Ready = said.Ready
+note_kind (note.Beat details) = said.Beat
+
+abbrev pub note_kind_name : NoteKind → List ℕ
+note_kind_name said.Taken = codes "taken"
+note_kind_name said.Ended = codes "ended"
+note_kind_name said.Ready = codes "ready"
+note_kind_name said.Beat = codes "beat"
+
 unfoldable pub note_rows : NotePiece → List Row
 note_rows n =
     count (codes "activity") n.activity ∷ count (codes "at") n.at ∷ if_text (codes "details") (details_of n.note)
@@ -31,7 +46,7 @@ note_rows n =
 
 -- a heartbeat, made once
 abbrev pub beat : ℕ → ℕ → List ℕ → NotePiece
-beat activity at details = record { activity = activity; at = at; note = Beat details; times = 1 }
+beat activity at details = record { activity = activity; at = at; note = note.Beat details; times = 1 }
 
 unfoldable pub both_rows : ℕ → ℕ → List Row
 both_rows accepted acknowledged =
