@@ -8,3 +8,4 @@ pub mod PlainLemmas
 pub mod TextsUtf8
 pub mod PieceLemmas
 pub mod ListLemmas
+pub mod ReadLemmas

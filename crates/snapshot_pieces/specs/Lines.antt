@@ -1,5 +1,6 @@
 -- MEANING: the next piece of an input of which some bytes were read ahead, and why there is none
-use Rattle.std.specs.Prelude.{◌≡◌, ℕ, List, [], ◌∷◌, ◌++◌, false, Option}
+use Rattle.std.specs.Prelude.{◌≡◌, ℕ, List, [], ◌∷◌, ◌++◌, false, flat_map, Option}
+use Rattle.std.specs.List.{AllByRecursion}
 use Rattle.std.specs.Io.KnownBytes.{Consumes, IsAtEnd}
 use Rattle.wire_counted.specs.Failures.{Rose}
 use Rattle.wire_lines.specs.Pending.{has_feed}
@@ -28,6 +29,13 @@ pub record EndsThere (unread unread' : Option (List ℕ)) (ahead : List ℕ) : T
   pub read : Consumes unread unread' chunk
   pub at_end : IsAtEnd unread'
   pub nothing : ahead ++ chunk ≡ []
+
+-- these pieces were read one after another, and what was read ahead is left
+pub record HasRead (unread unread' : Option (List ℕ)) (ahead : List ℕ) (ps : List Piece) : Type 0 where
+  pub text : List ℕ
+  pub read : Consumes unread unread' text
+  pub are_pieces : AllByRecursion IsPiece ps
+  pub lines : text ≡ flat_map line_of ps ++ ahead
 
 -- the first line is the text of no piece
 pub record HasNoPiece (text : List ℕ) : Type 0 where

@@ -1,12 +1,14 @@
 //! The lines of a shard's snapshot: each says one piece of it, and is read as that piece again.
 #![tactic(auto)]
 
-ghost use Rattle.std.specs.Prelude.{◌≡◌, List, ℕ, Some, false, flat_map};
+ghost use Rattle.std.specs.Prelude.{◌≡◌, List, [], ◌∷◌, ◌++◌, ℕ, Option, Some, false, flat_map};
+ghost use Rattle.std.specs.Io.KnownBytes.{Consumes};
 ghost use Rattle.std.specs.List.{AllByRecursion};
 ghost use Rattle.wf_event.specs.declared.event.Event.{Event};
 ghost use Rattle.wire_record_events.specs.Trees.{event_text};
 ghost use Rattle.wire_record_rows.specs.Plain.{has_feed};
 ghost use Rattle.snapshot_pieces.specs.Limits.{IsPiece};
+ghost use Rattle.snapshot_pieces.specs.Lines.{EndsThere, HasRead, TakesPiece};
 ghost use Rattle.snapshot_pieces.specs.Reading.{piece_named};
 ghost use Rattle.snapshot_pieces.specs.Trees.{line_of, piece_text};
 ghost use Rattle.snapshot_pieces.specs.declared.piece.Piece.{Piece};
@@ -55,4 +57,14 @@ pub fn events_are_as_in_histories()
 pub fn texts_are_of_one_list()
     ensures { (ps qs : List Piece) → AllByRecursion IsPiece ps → AllByRecursion IsPiece qs
         → flat_map line_of ps ≡ flat_map line_of qs → ps ≡ qs }
+{}
+
+/// What is read piece by piece, up to the end, is the text of these pieces' lines.
+pub fn pieces_are_read_one_after_another()
+    ensures begun { (u : Option (List ℕ)) → HasRead u u [] [] }
+    ensures more { (u u' u'' : Option (List ℕ)) (ahead ahead' : List ℕ) (ps : List Piece)
+        (p : Piece) → HasRead u u' ahead ps → TakesPiece u' u'' ahead ahead' p
+        → HasRead u u'' ahead' (ps ++ p ∷ []) }
+    ensures all { (u u' u'' : Option (List ℕ)) (ahead : List ℕ) (ps : List Piece)
+        → HasRead u u' ahead ps → EndsThere u' u'' ahead → Consumes u u'' (flat_map line_of ps) }
 {}

@@ -213,7 +213,8 @@ pub(crate) fn put_dispatch(page: &mut Page, dispatch: &Dispatch) -> Result<(), A
 
 pub(crate) fn put_waiting(page: &mut Page, to: u16, transfer: &Transfer) -> Result<(), AllocError>
     ensures { OnOk result (sheet_of page.new ≡ add_value
-        (piece_tree (piece.Transfer (record { to = to; transfer = transfer.now }))) (sheet_of page.old)) }
+        (piece_tree (piece.Transfer (record { to = to; transfer = transfer.now })))
+        (sheet_of page.old)) }
 {
     page.begin_object()?;
     page.number("to", u64::from(to))?;

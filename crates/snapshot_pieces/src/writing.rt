@@ -1,4 +1,4 @@
-//! The texts of pieces and their lines, added to a text. Where memory is refused, that text is lost.
+//! Lines of pieces, added to a text. Where memory is refused, that text is lost.
 
 ghost use Rattle.std.specs.Prelude.{◌≡◌, ◌++◌, ◌∷◌, [], OnOk, string_bytes};
 ghost use Rattle.wire_pages.specs.Pages.{sheet_of, blank};
