@@ -1,0 +1,11 @@
+use Rattle.std.proofs.Common.{◌∙◌, ap, string_bytes}
+use Rattle.wire_pages.specs.Pages.{add_value, text_of}
+use Rattle.wire_pages.proofs.Printed.{printed}
+use Rattle.snapshot_pieces.specs.Trees.{piece_tree}
+use Rattle.snapshot_pieces.specs.declared.piece.Piece.TheVariants as piece
+use Rattle.snapshot_pieces.proofs.writing.add_counted.Goals as goal
+
+pub returns : goal.returns
+returns c =
+    let tree = piece_tree (piece.Counted c.args.counted.now) in
+    c.into_text.ensures ∙ ap text_of (c.in_ok-put_counted.ensures ∙ ap (add_value tree) c.page_after-page.ensures) ∙ printed tree (string_bytes c.args.text.now)

@@ -1,0 +1,5 @@
+pub mod Limits
+pub mod Lines
+pub mod Names
+pub mod Reading
+pub mod Trees
