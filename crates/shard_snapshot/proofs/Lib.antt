@@ -1,0 +1,3 @@
+mod FollowLemmas
+mod LaidLemmas
+mod PieceLemmas

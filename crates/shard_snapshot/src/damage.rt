@@ -1,0 +1,39 @@
+//! Why a snapshot's piece lays nothing.
+
+ghost use Rattle.std.specs.Prelude.{◌≡◌};
+ghost use Rattle.shard_snapshot.specs.declared.damage.Damage.TheVariants.{NoMemory};
+
+use std::alloc::{AllocError, AllocFailed};
+
+/// Why a piece lays nothing.
+#[derive(Clone, Copy)]
+pub enum Damage {
+    /// A piece stands where none of its kind may come.
+    Order,
+    /// There isn't a count for each shard.
+    Count,
+    /// A fact doesn't fit its run.
+    Fact,
+    /// A run doesn't fit the earlier ones of its workflow ID, or the last moment.
+    Run,
+    /// A dispatch or a transfer is another shard's, or has another number than the next one.
+    Issue,
+    /// A growth of memory was refused.
+    NoMemory,
+}
+
+impl From<AllocError> for Damage {
+    ghost from_gives = { λ _ damage. damage ≡ NoMemory };
+
+    fn from(_error: AllocError) -> Damage {
+        Damage::NoMemory
+    }
+}
+
+impl<T: Drop> From<AllocFailed<T>> for Damage {
+    ghost from_gives = { λ _ damage. damage ≡ NoMemory };
+
+    fn from(_error: AllocFailed<T>) -> Damage {
+        Damage::NoMemory
+    }
+}
