@@ -121,7 +121,7 @@ impl<T: KeepsRun> Store<T> {
         self.changed.made = Some(index);
     }
 
-    /// One more dispatch that waits, behind the others.
+    /// One more dispatch that waits, after the others.
     ///
     /// # Errors
     /// Where memory was refused.
@@ -134,7 +134,7 @@ impl<T: KeepsRun> Store<T> {
         self.dispatches.put_back(dispatch)
     }
 
-    /// One more transfer that isn't acknowledged, behind the others to its shard.
+    /// One more transfer that isn't acknowledged, after the others to its shard.
     ///
     /// # Errors
     /// Where memory was refused.
