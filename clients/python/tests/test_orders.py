@@ -36,8 +36,8 @@ WORKERS, CLIENTS = 3, 8
 LATEST = 400
 # A charge that began so many seconds before the server was away is told after it.
 CHARGE_SECONDS = 1
-# Within so many seconds not all that waits may be told on a busy machine.
-MOMENT = 5
+# A server that was back for so many seconds was told what waited.
+MOMENT = 0.5
 ENDS = ("shipped", "shipped", "shipped", "cancelled", "timeout", "declined")
 
 
