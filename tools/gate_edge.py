@@ -25,6 +25,9 @@ DRAWN = {
     "WFEDGE_SILENCE": "4000",
 }
 BUILD = ["cargo", "build", "--release", "--offline"]
+# Debian's compiler, for which the edge is written. Another one that comes first on the path takes more.
+DEBIAN = "/usr/bin/cargo"
+DEBIANS_CHECK = [DEBIAN, "check", "-q", "--offline", "--all-targets"]
 LOOKED_OVER = ["cargo", "clippy", "-q", "--offline", "--all-targets", "--", "-D", "warnings"]
 # A part's title, its command, and what has to be there for it.
 CARGO = (
@@ -32,6 +35,7 @@ CARGO = (
     ("the layout", ["cargo", "fmt", "--check"], "cargo-fmt"),
     ("what clippy finds", LOOKED_OVER, "cargo-clippy"),
     ("its own tests", ["cargo", "test", "-q", "--offline"], ""),
+    ("what Debian's compiler says", DEBIANS_CHECK, DEBIAN),
 )
 # The edge with a client of PostgreSQL, in the place of the one without, and one with a fault that its tests find.
 POSTGRES = (
@@ -40,6 +44,7 @@ POSTGRES = (
     ("the layout of the client", ["cargo", "fmt", "--check"], "cargo-fmt"),
     ("what clippy finds in the client", LOOKED_OVER, "cargo-clippy"),
     ("the client's own tests", ["cargo", "test", "-q", "--offline"], ""),
+    ("what Debian's compiler says of the client", DEBIANS_CHECK, DEBIAN),
 )
 
 
@@ -62,13 +67,21 @@ def run(title: str, command: list[str], folder: Path, environment: dict[str, str
     return ran.returncode == 0
 
 
+def compiler(cargo: str) -> dict[str, str]:
+    """The variables for a cargo: where it builds, and Debian's own compiler for Debian's."""
+    target = EDGE / "target"
+    if cargo == DEBIAN:
+        return {"CARGO_TARGET_DIR": str(target / "debian"), "RUSTC": str(Path(DEBIAN).with_name("rustc"))}
+    return {"CARGO_TARGET_DIR": str(target)}
+
+
 def failed_in(parts: tuple[tuple[str, list[str], str], ...], folder: Path) -> list[str]:
     """Runs these parts in a folder. The titles of those that failed."""
     failed = []
     for title, command, tool in parts:
         if tool and not shutil.which(tool):
             print(f"gate: skipped: {title}: there is no {tool}")
-        elif not run(title, command, folder, {"CARGO_TARGET_DIR": str(EDGE / "target")}):
+        elif not run(title, command, folder, compiler(command[0])):
             failed.append(title)
     return failed
 

@@ -19,6 +19,7 @@ from __future__ import annotations
 import argparse
 import re
 import sys
+import textwrap
 from pathlib import Path
 from typing import Any, Callable, Iterator, NamedTuple
 
@@ -32,6 +33,8 @@ TABLE = "tools/fields.toml"
 TYPES = "tools/fields"
 # Where the client says what events mean, and the status of a run that no event has closed.
 HISTORIES, RUNNING = "clients/python/src/wfserve/events.py", "Running"
+# Where the servers say which keys a start has, and a signal with start too.
+PYTHON_STARTS, EDGE_STARTS = "clients/python/src/wfserve/operations.py", "edge/src/operations.rs"
 # Rust's formatter breaks a line that is longer, and a pattern's fields that are.
 WIDTH = 100
 PATTERN_WIDTH = 18
@@ -62,7 +65,7 @@ class Part(NamedTuple):
     @property
     def path(self) -> str:
         """The file's path from the top of the repository."""
-        return self.file if self.file.startswith("clients/") else f"crates/{self.file}"
+        return self.file if self.file.startswith(("clients/", "edge/")) else f"crates/{self.file}"
 
 
 class Field(NamedTuple):
@@ -659,6 +662,17 @@ def settled_by(opening: Table) -> list[str]:
     return opening["ends"] if said is True else said
 
 
+def start_keys(table: Table) -> Iterator[Part]:
+    """The keys that a start and a signal with start have, for both servers."""
+    named = {kind["name"]: [field.key for field in fields_of(kind)] for kind in table["type"]}
+    keys = [key for key in named["Start"] if key in named["SignalWithStart"]]
+    lines = textwrap.wrap(" ".join(keys), ROW_WIDTH - 8)
+    texts = [f'    "{line}{" " if line != lines[-1] else ""}"' for line in lines]
+    yield Part(PYTHON_STARTS, "_START = (", "\n".join(["_START = (", *texts, ")"]))
+    head = "const START: &[&str] = &["
+    yield Part(EDGE_STARTS, head, "\n".join([head, *(f'    "{key}",' for key in keys), "];"]))
+
+
 MAKERS: dict[str, Callable[[Table, Table], Part]] = {
     "limits": limits, "rows": rows, "put": writer, "known": known, "members": event_members, "event": event_writer,
     "fields_of": line_fields, "reader": line_reader, "back": read_back,
@@ -698,6 +712,7 @@ def parts_of(table: Table) -> Iterator[Part]:
     for listed in table["names"]:
         yield from names(listed)
     yield from endings(table)
+    yield from start_keys(table)
 
 
 def place_of(text: str, part: Part) -> tuple[int, int] | None:
@@ -734,6 +749,12 @@ def read_table(top: Path = TOP) -> Table:
         for key, listed in tomllib.loads(file.read_text(encoding="utf-8")).items():
             table.setdefault(key, []).extend(listed)
     return table
+
+
+def types_in(name: str, top: Path = TOP) -> list[Table]:
+    """The types of a file of tools/fields."""
+    found: list[Table] = tomllib.loads((top / TYPES / f"{name}.toml").read_text(encoding="utf-8"))["type"]
+    return found
 
 
 def main(words: list[str]) -> int:

@@ -4,8 +4,8 @@
     tools/http_api.py            says whether docs/openapi.json is what this writes; 1 if it isn't
     tools/http_api.py --write    writes it
 
-PROFILE's table has each operation with its fields and replies. What kind of value a name has stands here, and so do
-the paths that are no calls. A test of the client holds the file against a server that runs.
+PROFILE's table has each operation with its fields and replies. What kind of value a field has stands in tools/fields,
+but for what no record has; this and the kinds' own schemas stand here, and so do the paths that are no calls. A test of the client holds the file against a server that runs.
 """
 from __future__ import annotations
 
@@ -16,6 +16,7 @@ from pathlib import Path
 from typing import Any
 
 import client_package  # noqa: F401 (it says where the next ones lie)
+import generate
 from wfserve import __version__
 from wfserve.server.statuses import REFUSALS
 
@@ -41,14 +42,16 @@ def one_of(*names: str) -> Json:
     return {"type": "string", "enum": list(names)}
 
 
-FIELDS: dict[str, Json] = {
-    **dict.fromkeys(("workflow_id", "task_queue", "request_id"), ID), "run": RUN,
-    **dict.fromkeys(("workflow_type", "input", "name", "signal_input", "reason", "message", "result", "error_type",
-                     "details"), TEXT),
-    **dict.fromkeys(("run_timeout", "task_timeout", "execution_timeout"), SPAN),
+KINDS: dict[str, Json] = {
+    **dict.fromkeys(("id", "if_id"), ID), **dict.fromkeys(("text", "if_text"), TEXT), "if_run": RUN, "flag": FLAG,
+    **dict.fromkeys(("span", "span_unless_0"), SPAN),
     "reuse": one_of("AllowDuplicate", "AllowDuplicateFailedOnly", "RejectDuplicate"),
     "conflict": one_of("Fail", "UseExisting", "TerminateExisting"),
-    "token": {"type": "string", "description": "the token of a task"}, "non_retryable": FLAG,
+}
+FIELDS: dict[str, Json] = {
+    **{field.key: KINDS[field.kind] for asked in generate.types_in("requests") for field in generate.fields_of(asked)
+       if field.kind in KINDS},
+    **dict.fromkeys(("result", "details"), TEXT), "token": {"type": "string", "description": "the token of a task"},
     "commands": {"type": "array", "maxItems": 10_000, "items": {"$ref": "#/components/schemas/Command"}},
     **dict.fromkeys(("shard", "from", "to"), SHARD), "stop": {"type": "integer", "minimum": 0, "maximum": 2},
 }

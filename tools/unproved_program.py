@@ -3,10 +3,11 @@
 
     tools/unproved_program.py [FILE]    leaves it as FILE, out/unproved/wfserve where none is named
 
-It is the code that ./serve proves and builds, some ten times slower, and stops at a fault that a proof rules out. One
-to two minutes of processor time. A program that is newer than all sources of its crates is not built again. `rt try`
-itself keeps no file: it links the program in a folder of its own, runs it over some lines, and removes it. So the
-file is given a second name in the meantime. Status 0, or 2 where nothing was built.
+It is the code that ./serve proves and builds, some two hundred times slower: each access of memory is checked, and it
+stops at a fault that a proof rules out. One to two minutes of processor time. A program that is newer than all sources
+of its crates is not built again. `rt try` itself keeps no file: it links the program in a folder of its own, runs it
+over some lines, and removes it. So the file is given a second name in the meantime. Status 0, or 2 where nothing was
+built.
 """
 from __future__ import annotations
 

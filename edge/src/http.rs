@@ -127,9 +127,12 @@ impl Front {
         if body.is_end_stream() {
             return true;
         }
-        let is_short = body.size_hint().upper().map_or(false, |most| most <= SHORT_BODY);
+        if body.size_hint().upper().map_or(true, |most| most > SHORT_BODY) {
+            return false;
+        }
         let rest = async { while let Some(Ok(_)) = body.data().await {} };
-        is_short && tokio::time::timeout(self.read_timeout, rest).await.is_ok() && body.is_end_stream()
+        let is_in_time = tokio::time::timeout(self.read_timeout, rest).await.is_ok();
+        is_in_time && body.is_end_stream()
     }
 
     /// The answer to a request that is not let in.

@@ -25,7 +25,7 @@ pub enum Op {
     Unknown,
 }
 
-const START: [&str; 9] = [
+const START: &[&str] = &[
     "workflow_id",
     "workflow_type",
     "task_queue",

@@ -392,7 +392,7 @@ class OverATable(unittest.TestCase):
         """Has whoever leads compact the log. Where a machine is slow, another one may lead meanwhile: then it is asked."""
         late = time.monotonic() + PATIENCE
         while (said := self.leader(nodes).compact()) is None or said[0] != 200:
-            self.assertLess(time.monotonic(), late, said)
+            self.assertLess(time.monotonic(), late, f"not compacted: {said}; {self.states(nodes)}")
             time.sleep(0.05)
 
     def disturb(self, nodes, callers, stop, kinds, draw):

@@ -1,6 +1,7 @@
 """The log of an edge that is killed under load, given to a program by hand, gives the replies that clients had.
 
-WFSERVE_SEED draws other points, and WFEDGE_KILLS more of them.
+WFSERVE_SEED draws other points, and WFEDGE_KILLS more of them: in rounds, each over a log of its own. An edge that is
+started again serves its whole log, and would be killed before it had come to the end of a long one.
 """
 
 import http.client
@@ -27,10 +28,12 @@ from test_server import WithAServer
 
 SEED = int(os.environ.get("WFSERVE_SEED", random.randrange(1 << 32)))
 KILLS = int(os.environ.get("WFEDGE_KILLS", 15))
+# So many kills a round has.
+ROUND = 50
 CLIENTS, SHARDS = 8, 4
 HOUR = 3_600_000
-# Between two tries of a call, in seconds.
-LONGEST_PAUSE = 0.1
+# Between two tries of a call, in seconds; and for how long one is tried.
+LONGEST_PAUSE, PATIENCE = 0.1, 120
 
 
 class ByLines:
@@ -85,13 +88,13 @@ class ByHttp:
 class Client:
     """Runs workflows, and keeps each reply's text."""
 
-    def __init__(self, way, number, stop):
+    def __init__(self, way, number, stop, seed):
         self._way, self._number, self._stop = way, number, stop
-        self._draw = random.Random(f"{SEED} {number}")
+        self._draw = random.Random(f"{seed} {number}")
         self.had, self.again = [], 0
 
     def call(self, key, **request):
-        late, pause = time.monotonic() + 60, 0.01
+        late, pause = time.monotonic() + PATIENCE, 0.01
         while True:
             try:
                 text = self._way.ask(request, f"{self._number}-{key}")
@@ -101,7 +104,7 @@ class Client:
             except (OSError, http.client.HTTPException):
                 self._way.close()
             if time.monotonic() > late:
-                raise AssertionError(f"{request}: no answer in a minute")
+                raise AssertionError(f"{request}: no answer in {PATIENCE} s")
             self.again += 1
             time.sleep(pause * (0.5 + self._draw.random()))
             pause = min(2 * pause, LONGEST_PAUSE)
@@ -134,10 +137,10 @@ class Client:
 @needs_edge
 @needs_program
 class ByHand(WithAServer):
-    def disturb(self, server, draw, stop, clients):
+    def disturb(self, server, draw, stop, clients, kills):
         """Kills the edge or its program at drawn moments, and lets clients go on until they had many replies."""
         counts = {"edge": 0, "program": 0}
-        for _ in range(KILLS):
+        for _ in range(kills):
             time.sleep(0.1 + draw.random() / 3)
             self.keep(server)
             kind = draw.choice(["edge", "edge", "program"])
@@ -150,7 +153,7 @@ class ByHand(WithAServer):
             if program is not None:
                 os.kill(program, signal.SIGKILL)
         late = time.monotonic() + 60
-        while sum(len(client.had) for client in clients) <= 10 * KILLS and time.monotonic() < late:
+        while sum(len(client.had) for client in clients) <= 10 * kills and time.monotonic() < late:
             self.keep(server)
             time.sleep(0.05)
         time.sleep(0.5)
@@ -171,21 +174,30 @@ class ByHand(WithAServer):
 
     def test_what_clients_had_is_what_the_log_gives(self):
         print(f"\nlogs by hand: seed {SEED}", file=sys.stderr)
-        path = str(self.folder / "lines")
+        for number in range(max(KILLS // ROUND, 1)):
+            self.log = self.folder / f"log-{number}"
+            self.round(min(KILLS, ROUND), f"{SEED} {number}")
+
+    def round(self, kills, seed):
+        """So many kills, and what the clients had then, beside what the log gives."""
+        path, stop = f"{self.log}.lines", threading.Event()
         server = self.serve("--shards", str(SHARDS), "--socket", path, "--capacity", "65536")
-        stop = threading.Event()
         ways = [ByLines(path) if number % 2 else ByHttp(server) for number in range(CLIENTS)]
         with ThreadPoolExecutor(CLIENTS + 1) as pool:
-            clients = [Client(way, number, stop) for number, way in enumerate(ways)]
+            clients = [Client(way, number, stop, seed) for number, way in enumerate(ways)]
             working = [pool.submit(client.run) for client in clients]
-            counts = self.disturb(server, random.Random(SEED), stop, clients)
+            counts = self.disturb(server, random.Random(seed), stop, clients, kills)
             for it in working:
                 it.result()
         time.sleep(1)
         self.assertEqual(server.stop(), 0)
         had, again = [text for client in clients for text in client.had], sum(client.again for client in clients)
         print(f"logs by hand: {counts}, {len(had)} replies, {again} calls made again", file=sys.stderr)
-        self.assertGreater(len(had), 10 * KILLS)
+        self.assertGreater(len(had), 10 * kills)
+        self.look(had)
+
+    def look(self, had):
+        """What clients had, beside what the log gives a program by hand."""
         settings, lines = lines_of(self.log)
         turns = sweep_of(settings, lines)
         replies = replies_of(BUILT, settings, [*lines, *turns])

@@ -177,6 +177,7 @@ class Dev(unittest.TestCase):
         with mock.patch("os.execve") as becomes, mock.patch("wfserve.cli.dev.build", return_value=True) as builds:
             with mock.patch("wfserve.cli.dev.tree_of", return_value=self.top), mock.patch.dict(os.environ):
                 os.environ.pop("WFSERVE", None)
+                os.environ.pop("WFEDGE", None)
                 os.utime(self.source, (300, 300))
                 with mock.patch("wfserve.cli.dev.python_for_server", return_value="python"):
                     _, _, err = ran("dev", "--port", "0", "--queues", "a,b")
@@ -187,6 +188,20 @@ class Dev(unittest.TestCase):
         self.assertIn(str(CLIENT / "src"), becomes.call_args[0][2]["PYTHONPATH"])
         self.assertIn("this program is not proved", err)
         self.assertIn("nothing is kept", err)
+
+    def test_a_compiled_edge_is_taken_where_it_is_built(self):
+        python, edge = ["python", "-m", "wfserve.server"], self.top / dev.EDGE
+        self.assertEqual(dev.front_words("python", None, self.top), python)
+        edge.parent.mkdir(parents=True)
+        edge.write_text("")
+        self.assertEqual(dev.front_words("python", None, self.top), python)
+        edge.chmod(0o755)
+        page = ["--page", "python", "--page", str(self.top / dev.PAGE)]
+        self.assertEqual(dev.front_words("python", None, self.top), [str(edge), *page])
+        self.assertEqual(dev.front_words("python", "/bin/true", self.top), ["/bin/true", *page])
+        for named, top in (("none", self.top), (None, None), (str(edge), None)):
+            self.assertEqual(dev.front_words("python", named, top), python)
+        self.assertTrue((ROOT / dev.PAGE).is_file())
 
     def test_the_program_is_proved_beside_by_one_at_a_time(self):
         (self.top / "tools").mkdir()

@@ -1,6 +1,6 @@
 """Orders under kills: two hundred at once over three workers and two shards, while workers, the server and its
 program are killed. Every order ends right: no signal is lost, no charge is made twice but by a worker that was
-killed within it, and what was not shipped is refunded.
+killed within it or could not tell it in time, and what was not shipped is refunded.
 
 WFSERVE_SEED draws others. WFSERVE_KILLS is how many kills there are, 50 without it; more of them are made in
 rounds of 50, each over WFSERVE_ORDERS orders, 200 without it.
@@ -34,6 +34,10 @@ ROUNDS = max(KILLS // 50, 1)
 WORKERS, CLIENTS = 3, 8
 # Seconds for which the orders may go on after the last kill.
 LATEST = 400
+# A charge that began so many seconds before the server was away is told after it.
+CHARGE_SECONDS = 1
+# A server that was back for so many seconds was told what waited.
+MOMENT = 0.5
 ENDS = ("shipped", "shipped", "shipped", "cancelled", "timeout", "declined")
 
 
@@ -106,6 +110,9 @@ class Killer:
         self.server = server
         self.kills = collections.Counter()
         self.killed = set()
+        # For how many seconds the server was away at most: it serves its whole log again. When it was back last, and
+        # since when it had been away then.
+        self.longest_away, self._back, self._since = 0.0, 0.0, 0.0
         self._draw = random.Random(f"{seed} kills")
         self._ledger = folder / "ledger"
         self._said = open(folder / "workers.said", "wb")
@@ -129,15 +136,24 @@ class Killer:
             time.sleep(pause)
             self.workers[number] = self._worker()
             return
+        begun = time.monotonic()
         if kind == "program":
             for program in children_of(self.server.process.pid):
                 with contextlib.suppress(ProcessLookupError):
                     os.kill(program, signal.SIGKILL)
             self._go_on()
-            return
-        self.server.kill()
-        time.sleep(pause)
-        self.server.start()
+        else:
+            self.server.kill()
+            time.sleep(pause)
+            self.server.start()
+        self._was_away(begun)
+
+    def _was_away(self, begun):
+        """The server was away since then; where it had been back for a moment only, since before that."""
+        if begun - self._back > MOMENT:
+            self._since = begun
+        self._back = time.monotonic()
+        self.longest_away = max(self.longest_away, self._back - self._since)
 
     def _go_on(self):
         """The server starts its program again; it ends where that was killed twice at one line, and says so."""
@@ -160,7 +176,7 @@ class Killer:
         for worker in self.workers:
             worker.terminate()
         for worker in self.workers:
-            worker.wait(30)
+            worker.wait(LATEST)
         self._said.close()
 
 
@@ -227,7 +243,7 @@ class UnderKills(unittest.TestCase):
         for name, plan in clients.plans.items():
             with self.subTest(name, plan=plan):
                 self.told[self.look_at(clients.client, name, plan)] += 1
-        self.told["charges made again after a kill"] += self.look_at_charges(killer.killed)
+        self.told.update(self.look_at_charges(killer))
         self.look_at_attempts()
         self.told["effects"] += len(self.entries)
         self.told.update({f"kills of {kind}": count for kind, count in killer.kills.items()})
@@ -292,19 +308,24 @@ class UnderKills(unittest.TestCase):
             if run is None:
                 return
 
-    def look_at_charges(self, killed):
-        """How many charges were made again. Who made one of these before was killed within it: it did nothing more."""
-        last, by_order = {}, collections.defaultdict(list)
+    def look_at_charges(self, killer):
+        """How many charges were made again, and why. Who made one of these before was killed within it, and did nothing
+        more; or the server was away for so long that a charge's time was over before it could be told."""
+        last, by_order, told = {}, collections.defaultdict(list), collections.Counter()
         for entry in self.entries:
             last[tuple(entry["worker"])] = entry
             if entry["what"] == "charge":
                 by_order[entry["order"]].append(entry)
-        earlier = [charge for charges in by_order.values() for charge in charges[:-1]]
-        for charge in earlier:
+        for charge in [charge for charges in by_order.values() for charge in charges[:-1]]:
             pid, thread = charge["worker"]
-            self.assertIn(pid, killed, f"made twice by a worker that lived: {charge}")
+            if pid not in killer.killed:
+                said = f"made twice by a worker that lived: {charge}; the server was away for {killer.longest_away:.1f} s at most"
+                self.assertGreater(killer.longest_away, orders.CHARGE_TIMEOUT / 1_000 - CHARGE_SECONDS, said)
+                told["charges made again, which could not be told in time"] += 1
+                continue
             self.assertEqual(last[pid, thread], charge, "made twice, and its worker had gone on")
-        return len(earlier)
+            told["charges made again after a kill"] += 1
+        return told
 
     def look_at_attempts(self):
         """No attempt was handed to two workers, or twice to one."""

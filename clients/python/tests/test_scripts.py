@@ -263,25 +263,38 @@ class Build(unittest.TestCase):
 
 
 class Try(InAFolder):
-    def tried(self, words, status=0):
-        self.script(self.top / "bin/rt", f'pwd; echo "rt $*"; cat; echo compiled >&2; exit {status}')
+    """The program is kept where the build without proofs leaves it, which stands in here."""
+
+    def setUp(self):
+        super().setUp()
         (self.top / "lines").write_text("a line\n")
-        path = f"{self.top / 'bin'}:{os.environ['PATH']}"
-        return run([self.top / "try", *words], cwd=self.top, env={**os.environ, "PATH": path})
+        unproved = self.top / "out/unproved/wfserve"
+        self.built = self.top / "built.sh"
+        (self.top / "tools/unproved_program.py").write_text(
+            "import pathlib, shutil, sys\nassert sys.argv[1:] == [] and sys.stdin.read() == ''\n"
+            f"if not pathlib.Path({str(self.built)!r}).exists():\n    raise SystemExit(2)\n"
+            f"pathlib.Path({str(unproved.parent)!r}).mkdir(exist_ok=True)\n"
+            f"print('compiling', file=sys.stderr)\nshutil.copy({str(self.built)!r}, {str(unproved)!r})\n"
+        )
+
+    def tried(self, words, status=0):
+        self.script(self.built, f'pwd; echo "ran $*"; cat; echo said >&2; exit {status}')
+        return run([self.top / "try", *words], cwd=self.top)
 
     def test_it_runs_the_file_and_says_that_this_is_not_proved(self):
-        for status in (0, 1):
+        for status in (0, 1, 2):
             ran = self.tried(["lines", "--queues", "orders"], status)
-            crate = self.top.resolve() / "crates/wfserve"
-            self.assertEqual(ran.stdout, f"{crate}\nrt try -- --queues orders\na line\n")
+            folder, *printed = ran.stdout.splitlines()
+            self.assertEqual(printed, ["ran --queues orders", "a line"])
             self.assertEqual(ran.returncode, status)
-            self.assertIn("not proved", ran.stderr)
-            self.assertNotIn("compiled", ran.stderr)
+            self.assertRegex(ran.stderr, "^compiling\nsaid\ntry: this run is not proved; ")
+            # It ran in a folder of its own, which is gone.
+            self.assertNotEqual(pathlib.Path(folder), self.top.resolve())
+            self.assertFalse(pathlib.Path(folder).exists())
 
-    def test_what_went_wrong_is_shown(self):
-        ran = self.tried(["lines"], 2)
-        self.assertEqual(ran.returncode, 2)
-        self.assertIn("compiled\n", ran.stderr)
+    def test_what_does_not_compile_is_not_run(self):
+        ran = run([self.top / "try", "lines"], cwd=self.top)
+        self.assertEqual((ran.returncode, ran.stdout, ran.stderr), (2, "", ""))
 
     def test_a_file_has_to_be_named_first(self):
         for words in ([], ["--queues", "orders", "lines"]):

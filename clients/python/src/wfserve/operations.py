@@ -7,6 +7,7 @@ from typing import Dict, FrozenSet
 _START = (
     "workflow_id workflow_type task_queue input request_id reuse run_timeout task_timeout execution_timeout"
 )
+
 _KEYS = {
     "start": f"{_START} conflict",
     "signal": "workflow_id run name input request_id",

@@ -22,7 +22,8 @@ from wfserve.workflows import ActivityFailed, Cancellation, Cancelled, Retry, Wo
 LEDGER = ""
 WAIT, WORKERS = 1_000, 2
 TASK_TIMEOUT = seconds(3)
-# No server is away for so long: a charge whose worker lives is told before its time is over.
+# A charge whose worker lives is told before its time is over, where the server isn't away for so long. It is where its
+# program takes as long for the log: one without proofs serves some thousand lines a second, and less on a busy machine.
 CHARGE_TIMEOUT = seconds(30)
 PATIENT = {"start_to_close": seconds(4), "retry": Retry(initial=50, maximum=500)}
 

@@ -141,4 +141,5 @@ def said_of(args: argparse.Namespace, fault: Exception) -> str:
         return f"there is no {what} {args.id}{run} ({text})"
     if isinstance(fault, CallLost):
         return f"no server answers there: wf dev starts one, and --url or WFSERVE_URL names another ({text})"
-    return text
+    # A sentence of this package, or of Python's, that says it all.
+    return str(fault) if type(fault) is ValueError else text

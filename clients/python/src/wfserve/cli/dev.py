@@ -21,6 +21,7 @@ PROVE = "tools/build_program.py"
 # What the proofs beside a server say.
 PROVING = "out/proving.log"
 NEEDS = "aiohttp"
+EDGE, PAGE = "edge/target/release/wfedge", "edge/page.py"
 
 
 def add_dev(parser: argparse.ArgumentParser) -> None:
@@ -105,9 +106,18 @@ def environment() -> Dict[str, str]:
     return {**os.environ, "PYTHONPATH": os.pathsep.join([package, *others])}
 
 
+def front_words(python: str, named: Optional[str], top: Optional[pathlib.Path]) -> List[str]:
+    """The first words of the server: the compiled edge with its page where it is built, and else the one in Python.
+    ./serve-http chooses likewise, by WFEDGE."""
+    edge = named or str(top / EDGE if top is not None else EDGE)
+    if top is None or not os.access(edge, os.X_OK):
+        return [python, "-m", "wfserve.server"]
+    return [edge, "--page", python, "--page", str(top / PAGE)]
+
+
 def server_words(args: argparse.Namespace, program: str) -> List[str]:
-    """What the server is called with."""
-    words = ["-m", "wfserve.server", "--program", program, "--port", args.port]
+    """What both servers are called with."""
+    words = ["--program", program, "--port", args.port]
     for name in ("log", "queues", "shards"):
         if getattr(args, name):
             words += [f"--{name}", getattr(args, name)]
@@ -115,7 +125,7 @@ def server_words(args: argparse.Namespace, program: str) -> List[str]:
 
 
 def dev(args: argparse.Namespace) -> Status:
-    """Serves until it is told to stop. This process becomes the server."""
+    """Serves until it is told to stop. This process becomes the server, the compiled one where it is built."""
     python = python_for_server()
     if python is None:
         raise ValueError(f"no Python here has {NEEDS}, which the server needs: clients/python/setup.sh installs it")
@@ -133,8 +143,11 @@ def dev(args: argparse.Namespace) -> Status:
             say(f"process {proving.pid} proves and builds it beside: {PROVING} says how far it is; the next start takes it")
     if not args.log:
         say("nothing is kept: --log FILE names a file that keeps the service")
+    words = [*front_words(python, os.environ.get("WFEDGE"), top), *server_words(args, program)]
+    if words[0] != python:
+        say(f"by the compiled edge, {words[0]}")
     sys.stdout.flush()
-    os.execve(python, [python, *server_words(args, program)], environment())
+    os.execve(words[0], words, environment())
 
 
 def say(text: str) -> None:

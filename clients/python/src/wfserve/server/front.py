@@ -22,6 +22,7 @@ from wfserve.types import Json
 from .calls import call_of, key_of
 from .core import Core
 from .ends import submit
+from .heads import Head, Heads
 from .http import RETRY_SECONDS, Guard, fault_of
 from .lines import Receiver
 from .lingering import linger
@@ -94,6 +95,7 @@ class Front:
         self.guard = guard
         self.hand_on = hand_on
         self.date = b""
+        self.heads = Heads()
         self.connections: Set[Connection] = set()
         self.read_seconds = read_seconds
         self._tell_date()
@@ -129,6 +131,8 @@ class Connection(asyncio.Protocol):
         self._parser = httptools.HttpRequestParser(self)
         self._reading: Optional[Request] = None
         self._raw = b""
+        # What came in one piece, from a request's first byte on.
+        self._piece = b""
         self._is_whole = False
         self._asked: Deque[Request] = deque()
         self._serving: Optional[Request] = None
@@ -187,6 +191,12 @@ class Connection(asyncio.Protocol):
     def data_received(self, data: bytes) -> None:
         if self._reading is None:
             self._raw, self._since = b"", time.monotonic()
+            if self._serving is None and not self._asked:
+                head = self._front.heads.find(data)
+                if head is not None:
+                    self._serve_known(head, data)
+                    return
+                self._piece = data
         if not self._is_whole:
             self._raw += data
         try:
@@ -197,6 +207,13 @@ class Connection(asyncio.Protocol):
             self._hand_on()
         if self._asked and self._transport is not None:
             self._transport.pause_reading()
+
+    def _serve_known(self, head: Head, data: bytes) -> None:
+        """Serves a request whose head was let in before. The parser is between two requests, and learns nothing of it."""
+        request = Request(self)
+        request.headers, request.op, request.body = head.headers, head.op, data[len(data) - head.length:]
+        self._was_asked = True
+        self._serve(request)
 
     def on_message_begin(self) -> None:
         if self._reading is not None or self._asked or self._serving is not None:
@@ -249,6 +266,10 @@ class Connection(asyncio.Protocol):
         self._reading, self._is_whole, self._raw = None, False, b""
         reading.keeps = self._parser.should_keep_alive()
         self._was_asked = True
+        piece, self._piece = self._piece, b""
+        if piece.endswith(reading.body) and reading.keeps:
+            length = len(reading.body)
+            self._front.heads.keep(piece[:len(piece) - length], reading.headers, reading.op, length)
         if self._serving is None and not self._asked:
             self._serve(reading)
         else:

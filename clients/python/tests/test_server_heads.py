@@ -1,0 +1,102 @@
+"""Heads of calls that are known again: only what the parser let in, byte for byte, and only whole requests."""
+
+import json
+import socket
+import unittest
+
+from support.programs import needs_server
+from wfserve.server.heads import END, MOST_BYTES, MOST_HEADS, Heads
+
+from test_server import TOKEN, WithAServer
+
+HEAD = b"POST /calls HTTP/1.1\r\nHost: h\r\nContent-Length: 2\r\n\r\n"
+KEYED = HEAD.replace(b"Host", b"Idempotency-Key: k1\r\nHost")
+READ = {b":path": b"/calls", b"host": b"h", b"content-length": b"2"}
+
+
+class Known(unittest.TestCase):
+    def kept(self, head=HEAD, headers=READ, length=2):
+        heads = Heads()
+        heads.keep(head, headers, "", length)
+        return heads
+
+    def test_a_whole_request_with_that_head_is_known(self):
+        heads = self.kept()
+        self.assertEqual(heads.find(HEAD + b"{}"), (READ, "", 2))
+        for data in (HEAD, HEAD + b"{", HEAD + b"{}{", HEAD[:-1], HEAD.replace(b"h", b"H", 1) + b"{}", b"", END):
+            self.assertIsNone(heads.find(data), data)
+
+    def test_keys_are_taken_out(self):
+        for heads in (self.kept(), self.kept(KEYED, {**READ, b"idempotency-key": b"k1"})):
+            self.assertEqual(heads.find(HEAD + b"{}"), (READ, "", 2))
+            other = KEYED.replace(b"k1", b"another") + b"{}"
+            self.assertEqual(heads.find(other).headers, {**READ, b"idempotency-key": b"another"})
+            for key in (b"", b'"', b"a b", b"x" * 201, b" k1", b"k1 ", b"k1\r\n folded", b"k1\r\nIdempotency-Key: k2", b"\xe9"):
+                self.assertIsNone(heads.find(KEYED.replace(b"k1", key) + b"{}"), key)
+            self.assertIsNone(heads.find(KEYED.replace(b"Idempotency", b"idempotency") + b"{}"))
+
+    def test_what_is_not_sure_to_be_read_alike_is_not_kept(self):
+        folded = HEAD.replace(b"Host", b"X: a\r\n b\r\nHost")
+        spelled = KEYED.replace(b"Idempotency", b"idempotency")
+        long = HEAD.replace(b"Host", b"X: " + b"x" * MOST_BYTES + b"\r\nHost")
+        for head in (folded, spelled, long, HEAD + HEAD, HEAD[:-2], b"POS", b""):
+            self.assertEqual(len(self.kept(head, {**READ, b"idempotency-key": b"k1"} if head == spelled else READ)), 0, head)
+
+    def test_so_many_are_kept_at_most(self):
+        heads = Heads()
+        for number in range(3 * MOST_HEADS):
+            heads.keep(HEAD.replace(b"h\r", b"h%d\r" % number), READ, "", 2)
+            self.assertLessEqual(len(heads), MOST_HEADS)
+        self.assertIsNotNone(heads.find(HEAD.replace(b"h\r", b"h%d\r" % number) + b"{}"))
+
+
+@needs_server
+class OverSockets(WithAServer):
+    def asked(self, connection, name, head):
+        """The status of a call, and what the program was told of it."""
+        body = json.dumps({"op": "signal", "name": name}).encode()
+        connection.sendall(head.replace(b"LENGTH", b"%d" % len(body)) + body)
+        with connection.makefile("rb") as answer:
+            status, length = int(answer.readline().split()[1]), 0
+            while (line := answer.readline().strip()):
+                if line.lower().startswith(b"content-length:"):
+                    length = int(line.split(b":")[1])
+            return status, json.loads(answer.read(length))
+
+    def head(self, *more):
+        lines = ["POST /calls HTTP/1.1", "Host: 127.0.0.1", "Content-Type: application/json", "Content-Length: LENGTH", *more]
+        return "".join(f"{line}\r\n" for line in [*lines, ""]).encode()
+
+    def test_each_call_has_its_own_body_and_key(self):
+        server = self.serve(program=self.double())
+        with socket.create_connection((server.host, server.port), timeout=60) as connection:
+            for number in range(10, 30):
+                status, reply = self.asked(connection, f"n{number}", self.head())
+                self.assertEqual((status, json.loads(reply["said"])["name"]), (200, f"n{number}"))
+            for number in range(10, 30):
+                # Each key twice: the second time the reply of the first is had.
+                first = self.asked(connection, f"k{number}", self.head(f"Idempotency-Key: key-{number}"))
+                self.assertEqual(self.asked(connection, f"k{number}", self.head(f"Idempotency-Key: key-{number}")), first)
+                self.assertEqual(self.asked(connection, "other", self.head(f"Idempotency-Key: key-{number}"))[0], 422)
+        self.assertEqual(server.stop(), 0)
+        text = self.log.read_bytes()
+        self.assertEqual([text.count(b'"n%d"' % number) for number in range(10, 30)], [1] * 20)
+        self.assertEqual([text.count(b'"k%d"' % number) for number in range(10, 30)], [1] * 20)
+
+    def test_who_has_no_token_is_not_let_in_after_who_has(self):
+        server = self.serve("--token-file", self.token_file(), program=self.double())
+        good, bad = self.head(f"Authorization: Bearer {TOKEN}"), self.head(f"Authorization: Bearer {TOKEN[:-1]}!")
+        for head, wanted in ((good, 200), (good, 200), (bad, 401), (self.head(), 401), (good, 200)):
+            with socket.create_connection((server.host, server.port), timeout=60) as connection:
+                self.assertEqual(self.asked(connection, "s", head)[0], wanted)
+
+    def test_a_connection_that_is_to_be_closed_is_closed_each_time(self):
+        server = self.serve(program=self.double())
+        for _ in range(3):
+            with socket.create_connection((server.host, server.port), timeout=60) as connection:
+                self.assertEqual(self.asked(connection, "s", self.head("Connection: close"))[0], 200)
+                self.assertEqual(connection.recv(1), b"")
+
+
+if __name__ == "__main__":
+    unittest.main()
