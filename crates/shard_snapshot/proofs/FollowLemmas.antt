@@ -1,21 +1,21 @@
--- a run that comes behind the others: of two runs of one workflow ID the older has closed, and closed no later
-use Rattle.std.proofs.Common.{◌≡◌, ℕ, zero, suc, ◌+◌, ◌-◌, ◌<◌, ◌≤◌, ◌⊎◌, inl, inr, ⊎_elim, Bool, true, false, not, cond, List, [], ◌∷◌, ◌++◌, length, refl, sym, ap, ◌∙◌, subst, arith, Option, Some, None}
-use Rattle.std.specs.Prelude.{◌&&◌, ◌||◌, find, map, nat_le, option_map, slice_get, slice_index_or, IfSome}
+-- a run that comes after the others: of two runs of one workflow ID the older has closed, and closed no later
+use Rattle.std.proofs.Common.{◌≡◌, ℕ, zero, suc, ◌-◌, ◌<◌, ◌≤◌, ◌⊎◌, inl, inr, ⊎_elim, Bool, true, false, not, List, [], ◌∷◌, ◌++◌, length, refl, sym, ap, ◌∙◌, subst, arith, Option, Some, None}
+use Rattle.std.specs.Prelude.{◌&&◌, ◌||◌, find, map, option_map, slice_get, IfSome}
 use Rattle.std.proofs.lemmas.Bool.Decides.{nat_tests}
 use Rattle.wf_event.specs.declared.event.Event.{Event}
 use Rattle.service_model_types.specs.declared.content.Content.{Content}
-use Rattle.service_model.specs.Aging.{AreAged, AreOfOne, HasClosedBy, IsAged}
+use Rattle.service_model.specs.Aging.{AreAged, AreOfOne, HasClosedBy}
 use Rattle.service_model.specs.Deadlines.{is_closing_event}
 use Rattle.service_model.specs.Growth.{HasOneOpen}
 use Rattle.service_model.specs.Outcome.{latest_run}
 use Rattle.service_model.specs.RunState.{RunState, id_of, is_open, is_there, no_run, state_of}
 use Rattle.service_model.proofs.ListLemmas.{map-get}
-use Rattle.shard_store.specs.Fitting.{IsFree, state_at}
+use Rattle.shard_store.specs.Fitting.{state_at}
 use Rattle.shard_store.specs.Open.{HasClosed, IsOneOpen}
 use Rattle.shard_store.proofs.IndexLemmas.{latest_from}
 use Rattle.shard_store.proofs.OpenLemmas.{free-closed, is-latest, same-some, state-there, IsLatest}
 use Rattle.shard_store.proofs.PlaceLemmas.{none-there}
-use Rattle.shard_snapshot.specs.Laid.{closed_at, follows, in_order, is_by, may_end, may_follow}
+use Rattle.shard_snapshot.specs.Laid.{closed_at, follows, in_order, is_by, may_end}
 
 -- ---- tests
 
@@ -44,7 +44,7 @@ within [] n x is = absurd (cc)
 within (y ∷ xs) zero x is = omega arith
 within (y ∷ xs) (suc n) x is = let l = within xs n x is in omega (arith, l)
 
--- ---- the latest run of a workflow ID, where one may come behind it
+-- ---- the latest run of a workflow ID, where one may come after it
 
 free-of : (runs : List RunState) (o : Option ℕ) (s : RunState) → follows runs o s ≡ true → IfSome o (λ n. is_open (state_at runs (n - 1)) ≡ false)
 free-of runs None s h = tt
@@ -137,7 +137,7 @@ aged-push last runs s closes older aged = record {
     order_by m n r t p over (inr x) (inl y) a b at_a at_b = absurd (let l = within runs n t y in let e = x.0 in let less = p.older in omega (arith, l, less, e))
     order_by m n r t p over (inr x) (inr y) a b at_a at_b = absurd (let e = x.0 in let q = y.0 in let less = p.older in omega (arith, e, q, less))
 
--- a run that may come behind the others
+-- a run that may come after the others
 pub aged-more : (last : ℕ) (runs : List RunState) (s : RunState) → may_end last runs s ≡ true → AreAged last runs → AreAged last (runs ++ s ∷ [])
 aged-more last runs s h aged =
     let tests = both (is_open s || is_by last (closed_at s)) (follows runs (latest_run runs (id_of s)) s) h in

@@ -1,25 +1,20 @@
 -- what a shard that is being restored stands for, with one more piece
-use Rattle.std.proofs.Common.{◌≡◌, ℕ, zero, suc, ◌+◌, ◌-◌, ◌<◌, ◌≤◌, Bool, true, false, cond, not, List, [], ◌∷◌, ◌++◌, length, map, replicate, refl, sym, ap, ◌∙◌, subst, arith, append-nil, append_assoc, length-append, length-drop, Option, Some, None, Result, Ok, Err}
-use Rattle.std.specs.Prelude.{◌&&◌, ◌||◌, ◌==◌, drop, is_some, max, nat_le, nat_lt, option_map, slice_get, slice_index_or, IfSome}
+use Rattle.std.proofs.Common.{◌≡◌, ℕ, ◌+◌, ◌<◌, ◌≤◌, Bool, true, false, cond, List, [], ◌∷◌, ◌++◌, length, map, refl, sym, ap, ◌∙◌, subst, arith, length-drop, Option, Some, None, Result, Ok, Err}
+use Rattle.std.specs.Prelude.{drop, is_some, max, IfSome}
 use Rattle.std.specs.List.{AllByRecursion}
-use Rattle.std.proofs.lemmas.List.{drop-append-le, map-append}
+use Rattle.std.proofs.lemmas.List.{map-append}
 use Rattle.std.proofs.lemmas.Bool.Decides.{nat_tests}
 use Rattle.service_model_types.specs.declared.content.Content.{Content}
-use Rattle.service_model_types.specs.declared.content.Dispatch.{Dispatch}
-use Rattle.service_model_types.specs.declared.content.Outgoing.{Outgoing}
-use Rattle.service_model_types.specs.declared.content.Setup.{Setup}
 use Rattle.service_model_types.specs.declared.journal.Fact.{Fact}
-use Rattle.service_model_types.specs.declared.transfer.Sent.{Sent}
-use Rattle.service_model_types.specs.declared.transfer.TransferContent.{TransferContent}
 use Rattle.service_model.specs.Aging.{AreAged, IsAged}
 use Rattle.service_model.specs.Growth.{HasOneOpen}
 use Rattle.service_model.specs.Journal.{Journal}
-use Rattle.service_model.specs.RunState.{RunState, no_run, state_of}
-use Rattle.service_model.specs.Service.{entries, with_all_sent}
+use Rattle.service_model.specs.RunState.{state_of}
+use Rattle.service_model.specs.Service.{entries}
 use Rattle.mutable_state.specs.Formed.{IsFormed, Stands}
 use Rattle.mutable_state.specs.RunView.{RunView}
-use Rattle.mutable_state.proofs.JournalLemmas.{formed-later, formed-none}
-use Rattle.transfer.specs.Logs.{Waiting, counted_off}
+use Rattle.mutable_state.proofs.JournalLemmas.{formed-later}
+use Rattle.transfer.specs.Logs.{counted_off}
 use Rattle.transfer.specs.Outboxes.{AreIssued, rest_of}
 use Rattle.shard_issued.specs.Issuing.{waiting_in}
 use Rattle.shard_store.specs.Open.{IsOneOpen}
@@ -31,7 +26,7 @@ use Rattle.shard_snapshot.specs.declared.damage.Damage.{Damage}
 use Rattle.shard_snapshot.specs.declared.damage.Damage.TheVariants as damage
 use Rattle.shard_snapshot.specs.Laid.{Laid, added_to, ended, may_end, none_waits, stepped, where_so, with_run}
 use Rattle.shard_snapshot.specs.Restored.{IsLaid, RestoringView, RunStands, ended_state, run_state, with_run_state}
-use Rattle.shard_snapshot.proofs.FollowLemmas.{aged-gone, aged-later, aged-more, all-closed, both, one-more, to-journals}
+use Rattle.shard_snapshot.proofs.FollowLemmas.{aged-later, aged-more, all-closed, both, one-more, to-journals}
 
 -- what is so of a content for which a shard may stand
 pub record IsSound (S : Content) : Type 0 where

@@ -1,3 +1,5 @@
 mod FollowLemmas
 mod LaidLemmas
 mod PieceLemmas
+mod StageLemmas
+mod TextLemmas

@@ -1,6 +1,6 @@
 -- what is laid by the pieces that are no facts
-use Rattle.std.proofs.Common.{◌≡◌, ℕ, zero, suc, ◌+◌, ◌-◌, ◌<◌, ◌≤◌, Bool, true, false, cond, not, List, [], ◌∷◌, ◌++◌, length, map, replicate, refl, sym, ap, ◌∙◌, subst, arith, append-nil, append_assoc, length-append, length-drop, Option, Some, None, Result, Ok, Err}
-use Rattle.std.specs.Prelude.{◌&&◌, ◌||◌, ◌==◌, drop, is_some, max, nat_le, nat_lt, option_map, slice_get, IfSome}
+use Rattle.std.proofs.Common.{◌≡◌, ℕ, zero, suc, ◌+◌, ◌-◌, ◌<◌, ◌≤◌, Bool, true, false, cond, List, [], ◌∷◌, ◌++◌, length, map, replicate, refl, sym, ap, ◌∙◌, subst, arith, append-nil, append_assoc, length-append, length-drop, Option, Some, None, Result, Ok, Err}
+use Rattle.std.specs.Prelude.{◌&&◌, ◌||◌, ◌==◌, drop, is_some, max, nat_le, nat_lt}
 use Rattle.std.specs.List.{AllByRecursion}
 use Rattle.std.proofs.lemmas.List.{drop-append-le, length-replicate, map-append}
 use Rattle.std.proofs.lemmas.Bool.Decides.{nat_tests}
@@ -8,8 +8,6 @@ use Rattle.service_model_types.specs.declared.content.Content.{Content}
 use Rattle.service_model_types.specs.declared.content.Dispatch.{Dispatch}
 use Rattle.service_model_types.specs.declared.content.Outgoing.{Outgoing}
 use Rattle.service_model_types.specs.declared.content.Setup.{Setup}
-use Rattle.service_model_types.specs.declared.transfer.Sent.{Sent}
-use Rattle.service_model_types.specs.declared.transfer.TransferContent.{TransferContent}
 use Rattle.service_model.specs.Aging.{AreAged}
 use Rattle.service_model.specs.Journal.{Journal}
 use Rattle.wf_event.specs.declared.event.Event.{Event}
@@ -23,7 +21,7 @@ use Rattle.mutable_state.specs.Formed.{IsFormed}
 use Rattle.mutable_state.specs.RunView.{RunView}
 use Rattle.mutable_state.specs.Steps.{begun}
 use Rattle.mutable_state.proofs.JournalLemmas.{formed-none, stands-first}
-use Rattle.transfer.specs.Logs.{Waiting, count_issued, counted_off, with_issued}
+use Rattle.transfer.specs.Logs.{count_issued, counted_off, with_issued}
 use Rattle.transfer.specs.Outboxes.{AreIssued, rest_of, waiting_to, with_all_sent}
 use Rattle.transfer.proofs.ContentLemmas.{issued-sent, rest-sent}
 use Rattle.shard_store.specs.Open.{IsOneOpen}
@@ -45,7 +43,7 @@ none-left : {A : Type 0} (xs : List A) → length xs ≡ 0 → xs ≡ []
 none-left [] h = refl
 none-left (x ∷ xs) h = absurd (omega arith)
 
--- of so many nothing is left behind as many
+-- of so many nothing is left after as many
 none-behind : {A : Type 0} (n : ℕ) (x : A) → drop n (replicate n x) ≡ []
 none-behind n x = none-left (drop n (replicate n x)) (let a = length-drop n (replicate n x) in let b = length-replicate n x in omega (arith, a, b))
 

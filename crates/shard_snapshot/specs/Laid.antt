@@ -9,7 +9,6 @@ use Rattle.service_model_types.specs.declared.content.Dispatch.{Dispatch}
 use Rattle.service_model_types.specs.declared.content.Outgoing.{Outgoing}
 use Rattle.service_model_types.specs.declared.content.Setup.{Setup}
 use Rattle.service_model_types.specs.declared.journal.Fact.{Fact}
-use Rattle.service_model_types.specs.declared.journal.Fact.TheVariants.{Note as a_note}
 use Rattle.service_model_types.specs.declared.transfer.Sent.{Sent}
 use Rattle.service_model_types.specs.declared.transfer.TransferContent.{TransferContent}
 use Rattle.service_model_types.specs.declared.transfer.TransferContent.TheVariants.{ChildStartFailed}
@@ -97,7 +96,7 @@ abbrev pub in_order : Option ℕ → Option ℕ → Bool
 in_order (Some a) (Some b) = nat_le a b
 in_order _ _ = true
 
--- whether a run may come behind an earlier one of its workflow ID: that has closed, and no later
+-- whether a run may come after an earlier one of its workflow ID: that has closed, and no later
 abbrev pub may_follow : RunState → RunState → Bool
 may_follow earlier s = not (is_open earlier) && in_order (closed_at earlier) (closed_at s)
 
@@ -106,7 +105,7 @@ abbrev pub follows : List RunState → Option ℕ → RunState → Bool
 follows runs None s = true
 follows runs (Some n) s = may_follow (slice_index_or runs (n - 1) no_run) s
 
--- whether a run may come behind these, by this moment
+-- whether a run may come after these, by this moment
 abbrev pub may_end : ℕ → List RunState → RunState → Bool
 may_end last runs s = (is_open s || is_by last (closed_at s)) && follows runs (latest_run runs (id_of s)) s
 

@@ -1,2 +1,5 @@
 pub mod Laid
 pub mod Restored
+pub mod SoFar
+pub mod Stages
+pub mod Texts

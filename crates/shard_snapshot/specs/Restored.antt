@@ -1,6 +1,5 @@
 -- PROOF: a shard that is being restored, and what it is for it to be what was laid
-use Rattle.std.specs.Prelude.{◌≡◌, ◌≢◌, ℕ, ◌+◌, Bool, List, [], ◌∷◌, ◌++◌, true, false, if◌then◌else◌, is_some, not, nat_le, nat_lt, ◌&&◌, ◌||◌, ◌==◌, map, length, max, option_map, MatchResult, Option, None, Some, IfSome, Result, Ok, Err}
-use Rattle.wf_event.specs.declared.event.Event.{Event}
+use Rattle.std.specs.Prelude.{◌≡◌, ◌≢◌, ℕ, ◌+◌, Bool, List, [], ◌∷◌, ◌++◌, true, if◌then◌else◌, is_some, ◌&&◌, ◌==◌, length, option_map, MatchResult, Option, None, Some, IfSome, Result, Ok, Err}
 use Rattle.service_model.specs.Journal.{Journal}
 use Rattle.service_model.specs.RunState.{RunState}
 use Rattle.mutable_state.specs.Formed.{Stands}
@@ -9,7 +8,7 @@ use Rattle.service_model_types.specs.declared.journal.Fact.{Fact}
 use Rattle.service_model_types.specs.declared.transfer.Transfer.{Transfer}
 use Rattle.transfer.specs.Logs.{count_issued, counted_off}
 use Rattle.transfer.specs.Outboxes.{waiting_to}
-use Rattle.shard_store.specs.ShardView.{ShardState, ShardView, state}
+use Rattle.shard_store.specs.ShardView.{ShardState, ShardView}
 use Rattle.shard_store.specs.Standing.{StandsFor}
 use Rattle.shard_snapshot.specs.declared.damage.Damage.{Damage}
 use Rattle.shard_snapshot.specs.declared.damage.Damage.TheVariants as damage

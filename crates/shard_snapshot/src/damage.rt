@@ -18,6 +18,14 @@ pub enum Damage {
     Run,
     /// A dispatch or a transfer is another shard's, or has another number than the next one.
     Issue,
+    /// The head names other settings.
+    Settings,
+    /// The end counts another number of lines.
+    Lines,
+    /// A line is the text of no piece.
+    NoPiece,
+    /// The text ends before its end, or within a line.
+    Cut,
     /// A growth of memory was refused.
     NoMemory,
 }

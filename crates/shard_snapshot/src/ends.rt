@@ -1,4 +1,4 @@
-//! Whether a run may come behind the others.
+//! Whether a run may come after the others.
 
 ghost use Rattle.std.specs.Prelude.{◌≡◌, find, option_map, IfOk};
 ghost use Rattle.wf_event.specs.declared.event.Event.{Event as AnEvent};
@@ -12,7 +12,7 @@ use shard_store::Store;
 use std::alloc::{AllocError, Global};
 use wf_event_values::Moment;
 
-/// Whether a run may come behind those that a shard keeps: it closed by the last moment, if it closed, and
+/// Whether a run may come after those that a shard keeps: it closed by the last moment, if it closed, and
 /// the latest of its workflow ID closed, no later.
 pub(crate) fn may_end<T: KeepsRun>(
     alloc: Global,

@@ -1,11 +1,11 @@
-use Rattle.std.proofs.Common.{◌≡◌, ◌∙◌, ap, refl, sym, max}
+use Rattle.std.proofs.Common.{◌∙◌, ap, sym, max}
 use Rattle.std.proofs.lemmas.Result.{err_from_is_err_and}
-use Rattle.shard_store.specs.ShardView.{ShardState, state}
+use Rattle.shard_store.specs.ShardView.{state}
 use Rattle.mutable_state.specs.Steps.{begun}
 use Rattle.shard_snapshot.specs.Laid.{beginning_with}
 use Rattle.shard_snapshot.specs.Restored.{RestoringView, run_state, with_run_state}
 use Rattle.shard_snapshot.proofs.LaidLemmas.{laid-none-waits, laid-same, place-err, place-ok, sound}
-use Rattle.shard_snapshot.proofs.PieceLemmas.{begin-err, begin-ok, begin-waits, laid-by}
+use Rattle.shard_snapshot.proofs.PieceLemmas.{begin-err, begin-ok, laid-by}
 use Rattle.shard_snapshot.proofs.restoring.Restoring.begin_run.Goals as goal
 
 pub returns-in_err-place_run : goal.returns-in_err-place_run

@@ -1,7 +1,7 @@
-use Rattle.std.proofs.Common.{◌≡◌, ◌∙◌, ◌∷◌, [], ap, refl, sym, true, false}
+use Rattle.std.proofs.Common.{◌∙◌, ◌∷◌, [], ap, sym}
 use Rattle.std.proofs.lemmas.Result.{err_from_is_err_and}
 use Rattle.service_model_types.specs.declared.content.Setup.{Setup}
-use Rattle.shard_store.specs.ShardView.{ShardView, state}
+use Rattle.shard_store.specs.ShardView.{state}
 use Rattle.transfer.specs.Logs.{with_issued}
 use Rattle.shard_snapshot.specs.Restored.{RestoringView}
 use Rattle.shard_snapshot.proofs.LaidLemmas.{end-err, end-ok}

@@ -1,6 +1,6 @@
-use Rattle.std.proofs.Common.{◌≡◌, ◌∙◌, ap, arith, refl, sym, true, false, Err}
+use Rattle.std.proofs.Common.{◌∙◌, ap, sym, Err}
 use Rattle.std.proofs.lemmas.Result.{err_from_is_err_and}
-use Rattle.shard_store.specs.ShardView.{ShardState, state}
+use Rattle.shard_store.specs.ShardView.{state}
 use Rattle.shard_snapshot.proofs.LaidLemmas.{end-err, end-ok, laid-none-waits, laid-same, laid-some-waits}
 use Rattle.shard_snapshot.proofs.PieceLemmas.{gone-err, gone-ok, gone-waits}
 use Rattle.shard_snapshot.proofs.restoring.Restoring.put_gone.Goals as goal
