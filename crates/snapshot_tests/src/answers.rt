@@ -19,7 +19,7 @@ const CLOSED_TOLD: &str = "a by -: Completed, 5 shown, 0 held
 task none, attempt 1, events 2 3
 ";
 
-/// The later one: its activity is at the third attempt, behind a heartbeat.
+/// The later one: its activity is at the third attempt, after a heartbeat.
 const BEGUN_TOLD: &str = "a by start-2: Running, 10 shown, 1 held
 task started, attempt 1, events 9 10
 timer t1 of event 5
