@@ -93,6 +93,9 @@ fn facts_fit_their_run(rt: HostRuntime) {
     let completed =
         r#"{"at":4700,"attrs":{"scheduled":2,"started":3},"id":3,"type":"WorkflowTaskCompleted"}
 "#;
+    let begun_again =
+        r#"{"at":4700,"attrs":{"input":"","run_timeout":0,"task_queue":"main","task_timeout":10000,"workflow_id":"f","workflow_type":"w"},"id":3,"type":"WorkflowExecutionStarted"}
+"#;
     let sixth =
         r#"{"at":2000,"attrs":{"input":"","name":"late"},"id":6,"type":"WorkflowExecutionSignaled"}
 "#;
@@ -100,6 +103,7 @@ fn facts_fit_their_run(rt: HostRuntime) {
     assert!(rt; laid(&rt, &[BEGUN, NOTES]) == "restored");
     assert!(rt; laid(&rt, &[BEGUN, noted]) == "fact");
     assert!(rt; laid(&rt, &[WAITING, completed]) == "fact");
+    assert!(rt; laid(&rt, &[WAITING, begun_again]) == "fact");
     assert!(rt; laid(&rt, &[CLOSED, sixth]) == "fact");
     let signaled = [BEGUN, SIGNAL_REQUEST, SIGNALED, SIGNAL_REQUEST, ELEVENTH];
     assert!(rt; laid(&rt, &signaled) == "fact");
