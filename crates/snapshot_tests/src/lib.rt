@@ -14,3 +14,5 @@ mod reading;
 mod same;
 #[cfg(test)]
 mod told;
+#[cfg(test)]
+mod whole;

@@ -8,7 +8,7 @@ use service_model_types::content::Setup;
 use service_model_types::settings::main_queue;
 use shard_snapshot::{Damage, Restoring};
 use shard_store::Store;
-use snapshot_pieces::{Ahead, EndPiece, Head, Piece, next_piece};
+use snapshot_pieces::{Ahead, EndPiece, Head, Piece, next_piece, read_piece};
 use std::alloc::Global;
 use std::io::Read;
 use wire_counted::Counted;
@@ -21,6 +21,10 @@ pub(crate) fn name_of(damage: Damage) -> &'static str {
         Damage::Fact => "fact",
         Damage::Run => "run",
         Damage::Issue => "issue",
+        Damage::Settings => "settings",
+        Damage::Lines => "lines",
+        Damage::NoPiece => "no piece",
+        Damage::Cut => "cut",
         Damage::NoMemory => "no memory",
     }
 }
@@ -55,6 +59,19 @@ fn setup_of(alloc: Global, head: &Head) -> Result<Setup, &'static str>
         queues,
         retention: head.retention,
     })
+}
+
+/// What the line of a head says, with the queue `main`.
+pub(crate) fn setup_by(alloc: Global, line: &str) -> Result<Setup, &'static str>
+    ensures { IfOk result (λ setup. IsSetup setup) }
+{
+    let Ok(found) = read_piece(alloc, line.trim_end().as_bytes()) else {
+        return Err("no memory");
+    };
+    match &found {
+        Some(Piece::Head(head)) => setup_of(alloc, head),
+        _ => Err("no head"),
+    }
 }
 
 /// A shard of which the first two lines are laid.
