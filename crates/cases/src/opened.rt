@@ -1,5 +1,6 @@
 //! A service whose two passes make calls in turn.
 
+ghost use Rattle.std.proofs.Props.{props};
 ghost use Rattle.std.specs.Prelude.{◌≡◌, ◌+◌, ◌<◌, ℕ, Some, length, slice_get};
 ghost use Rattle.service.specs.Services.{IsPassOf};
 
@@ -26,8 +27,8 @@ pub(crate) struct Opened<S: KeepsShard> {
     service: Service<S>,
     first: Pass<S>,
     second: Pass<S>,
-    ghost first_own: { IsPassOf first service },
-    ghost second_own: { IsPassOf second service },
+    ghost first_own: { IsPassOf first service } by { Prim.hlevel props },
+    ghost second_own: { IsPassOf second service } by { Prim.hlevel props },
 }
 
 impl<S: KeepsShard> Drop for Opened<S> {
