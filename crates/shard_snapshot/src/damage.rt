@@ -1,11 +1,12 @@
-//! Why a snapshot's piece lays nothing.
+//! How a line of a snapshot is damaged, and why a piece lays nothing.
 
 ghost use Rattle.std.specs.Prelude.{◌≡◌};
 ghost use Rattle.shard_snapshot.specs.declared.damage.Damage.TheVariants.{NoMemory};
 
 use std::alloc::{AllocError, AllocFailed};
 
-/// Why a piece lays nothing.
+/// How a line of a snapshot is damaged, or why a piece lays nothing. `Settings`, `Lines`, `NoPiece` and `Cut`
+/// are found in whole texts alone.
 #[derive(Clone, Copy)]
 pub enum Damage {
     /// A piece stands where none of its kind may come.
@@ -26,7 +27,7 @@ pub enum Damage {
     NoPiece,
     /// The text ends before its end, or within a line.
     Cut,
-    /// A growth of memory was refused.
+    /// Memory was refused. That is no damage of the piece.
     NoMemory,
 }
 

@@ -10,9 +10,11 @@ use std::io;
 /// Why a snapshot is not restored.
 #[derive(Drop)]
 pub enum RestoreFault {
+    /// Memory was refused.
     Memory,
+    /// The reader failed, with this.
     Read(io::Error),
-    /// The line of this number, from 1 on, is damaged.
+    /// The line of this number, from 1 on, is damaged so. It is never `NoMemory`.
     Damaged(u64, Damage),
 }
 
