@@ -53,4 +53,24 @@ impl<T: KeepsRun> Shard<T> {
             store: Box::new(alloc, store)?,
         })
     }
+
+    /// A shard that goes on from what was kept.
+    ///
+    /// # Errors
+    /// Where memory was refused.
+    pub fn from_store(alloc: Global, store: Store<T>) -> Result<Shard<T>, AllocError>
+        ensures { IfOk result (λ shard. shard ≡ store) }
+    {
+        Ok(Shard {
+            store: Box::new(alloc, store)?,
+        })
+    }
+
+    /// What it keeps.
+    pub fn into_store(self) -> Box<Store<T>>
+        ensures { result.value ≡ self }
+    {
+        let Shard { store } = self;
+        store
+    }
 }

@@ -2,7 +2,7 @@
 //!
 //! Rules: X7.
 
-ghost use Rattle.std.specs.Prelude.{◌≡◌, ◌+◌, ◌<◌, ◌^◌, None, Some, IfOk, IfSome, OnErr, OnOk, length, map, option_map, option_to_list, replicate, slice_get, slice_index_or, slice_set};
+ghost use Rattle.std.specs.Prelude.{◌≡◌, ◌+◌, ◌<◌, ◌^◌, None, Some, IfOk, IfSome, OnErr, OnOk, length, map, option_copied, option_map, option_to_list, replicate, slice_get, slice_index_or, slice_set};
 ghost use Rattle.service_model.specs.Counts.{acknowledgement_of};
 ghost use Rattle.service_model.specs.Deliveries.{accepted_from, delivery_of};
 ghost use Rattle.service_model_types.specs.declared.transfer.Delivery.TheVariants.{Accepted as IsNext};
@@ -167,6 +167,29 @@ impl Transfers {
             f.0 ≡ (waiting_to self.now.sent to).counted + 1) }
     {
         self.outbox.first_to(to)
+    }
+
+    /// The transfer at this place among those to a shard that are not acknowledged.
+    pub fn waiting(&self, to: u16, index: usize) -> Option<&TransferContent>
+        requires { to < length self.now.sent }
+        ensures { option_copied result ≡ slice_get (waiting_to self.now.sent to).items index }
+    {
+        self.outbox.waiting(to, index)
+    }
+
+    /// How many transfers a shard acknowledged.
+    pub fn acknowledged(&self, to: u16) -> u64
+        requires { to < length self.now.sent }
+        ensures { result ≡ (waiting_to self.now.sent to).counted }
+    {
+        self.outbox.acknowledged(to)
+    }
+
+    /// How many transfers were accepted from each shard, by its number.
+    pub fn accepted(&self) -> &[u64]
+        ensures { result.now ≡ self.now.accepted }
+    {
+        self.inbox.accepted()
     }
 
     /// How many transfers were issued to a shard.

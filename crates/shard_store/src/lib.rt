@@ -12,6 +12,7 @@ mod in_run;
 mod made;
 mod place;
 mod plan;
+mod readers;
 mod restored;
 mod runs;
 mod store;

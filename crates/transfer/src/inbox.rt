@@ -47,6 +47,13 @@ impl Inbox {
         Inbox { accepted }
     }
 
+    /// How many were accepted from each source, by its number.
+    pub fn accepted(&self) -> &[u64]
+        ensures { result.now ≡ self.now }
+    {
+        self.accepted.as_slice()
+    }
+
     /// What the shard would say about a transfer.
     pub fn judge(&self, transfer: &Transfer) -> Delivery
         requires { transfer.now.from < length self.now }

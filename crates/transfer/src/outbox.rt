@@ -1,6 +1,6 @@
 //! The transfers that a shard issued.
 
-ghost use Rattle.std.specs.Prelude.{◌≡◌, ℕ, ◌+◌, ◌<◌, ◌≤◌, ◌==◌, length, map, slice_get, option_map, replicate, IfOk, OnErr, OnOk, IfSome, if◌then◌else◌};
+ghost use Rattle.std.specs.Prelude.{◌≡◌, ℕ, ◌+◌, ◌<◌, ◌≤◌, ◌==◌, length, map, slice_get, option_copied, option_map, replicate, IfOk, OnErr, OnOk, IfSome, if◌then◌else◌};
 ghost use Rattle.service_model.specs.Counts.{acknowledgement_of};
 ghost use Rattle.transfer.specs.Logs.{count_issued, counted_off, none_waits};
 ghost use Rattle.transfer.specs.Outboxes.{outgoing, room_to, issued_to, acknowledged_to, counted_to, sent_to, waiting_to, with_all_sent, HasRoomFor};
@@ -161,6 +161,25 @@ impl Outbox {
     {
         let log = &self.logs[usize::from(to)];
         log.first()
+    }
+
+    /// The transfer at this place among those to a destination that are not acknowledged.
+    pub fn waiting(&self, to: u16, index: usize) -> Option<&TransferContent>
+        requires { to < length self.now }
+        ensures { option_copied result
+            ≡ slice_get (waiting_to (outgoing self.now) to).items index }
+    {
+        let log = &self.logs[usize::from(to)];
+        log.waiting(index)
+    }
+
+    /// How many transfers a destination acknowledged.
+    pub fn acknowledged(&self, to: u16) -> u64
+        requires { to < length self.now }
+        ensures { result ≡ (waiting_to (outgoing self.now) to).counted }
+    {
+        let log = &self.logs[usize::from(to)];
+        log.acknowledged()
     }
 
     /// How many transfers were issued to a destination.

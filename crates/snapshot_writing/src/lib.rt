@@ -1,0 +1,17 @@
+//! The text of a shard's snapshot.
+//!
+//! A text is made from what the shard keeps, restored, and compared with the shard. So what is said of it
+//! rests on the reader alone, and not on the order or the choice of the lines that were written.
+#![tactic(auto)]
+
+mod fault;
+mod lines;
+mod notes;
+mod runs;
+mod same;
+mod same_runs;
+mod shards;
+mod snapshot;
+
+pub use fault::SnapshotFault;
+pub use snapshot::snapshot;
