@@ -42,10 +42,10 @@ sound v S h = record { formed = h.formed; counted = h.counted; issued = h.issued
 pub stands : (v : ShardView) (S : Content) → state v ≡ known S → IsSound S → StandsFor v S
 stands v S is h = record { says = is; formed = h.formed; counted = h.counted; issued = h.issued; one = h.one; aged = h.aged }
 
-same-ok : {A : Type 0} (x y : A) → ◌≡◌ {A = Result A Damage} (Ok x) (Ok y) → x ≡ y
+pub same-ok : {A : Type 0} (x y : A) → ◌≡◌ {A = Result A Damage} (Ok x) (Ok y) → x ≡ y
 same-ok x y e = cc
 
-all-end : {A : Type 0} (P : A → Type 0) (xs : List A) (x : A) → AllByRecursion P xs → P x → AllByRecursion P (xs ++ x ∷ [])
+pub all-end : {A : Type 0} (P : A → Type 0) (xs : List A) (x : A) → AllByRecursion P xs → P x → AllByRecursion P (xs ++ x ∷ [])
 all-end P [] x h p = (p, tt)
 all-end P (y ∷ xs) x h p = (h.0, all-end P xs x h.1 p)
 

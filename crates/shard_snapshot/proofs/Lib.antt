@@ -1,5 +1,6 @@
 mod FollowLemmas
 mod LaidLemmas
 mod PieceLemmas
+mod SetupLemmas
 mod StageLemmas
 mod TextLemmas

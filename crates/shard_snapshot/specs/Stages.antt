@@ -1,7 +1,8 @@
 -- MEANING: what a whole snapshot restores, piece after piece, and which content a text spells
-use Rattle.std.specs.Prelude.{◌≡◌, ℕ, ◌+◌, ◌==◌, ◌&&◌, Bool, if◌then◌else◌, List, [], ◌∷◌, flat_map, Result, Ok, Err}
+use Rattle.std.specs.Prelude.{◌≡◌, ℕ, ◌+◌, ◌==◌, ◌&&◌, Bool, if◌then◌else◌, List, [], ◌∷◌, flat_map, length, Result, Ok, Err}
 use Rattle.std.specs.List.{AllByRecursion}
 use Rattle.service_model_types.specs.declared.content.Content.{Content}
+use Rattle.service_model_types.specs.declared.content.Dispatch.{Dispatch}
 use Rattle.service_model_types.specs.declared.content.Setup.{Setup}
 use Rattle.snapshot_pieces.specs.Limits.{IsPiece}
 use Rattle.snapshot_pieces.specs.Trees.{line_of}
@@ -46,3 +47,10 @@ pub record Spells (setup : Setup) (text : List ℕ) (S : Content) : Type 0 where
   pub are_pieces : AllByRecursion IsPiece pieces
   pub lines : text ≡ flat_map line_of pieces
   pub restores : led_by setup pieces ≡ Ok (IsRestored S)
+
+-- what is so of each content that is restored for a shard with this setup: it has the setup, a count for each shard, and
+-- dispatches of its own
+pub record IsOfShard (setup : Setup) (S : Content) : Type 0 where
+  pub setup : S.setup ≡ setup
+  pub accepted : length S.accepted ≡ setup.shards
+  pub dispatches : AllByRecursion (λ (d : Dispatch). d.hint.shard ≡ setup.shard) S.dispatches

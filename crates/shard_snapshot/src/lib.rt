@@ -1,6 +1,11 @@
 //! A shard restored from its snapshot, piece by piece.
 #![tactic(auto)]
 
+ghost use Rattle.std.specs.Prelude.{ℕ, List};
+ghost use Rattle.service_model_types.specs.declared.content.Content.{Content};
+ghost use Rattle.service_model_types.specs.declared.content.Setup.{Setup};
+ghost use Rattle.shard_snapshot.specs.Stages.{IsOfShard, Spells};
+
 mod damage;
 mod ends;
 mod fault;
@@ -11,3 +16,10 @@ pub use damage::Damage;
 pub use fault::RestoreFault;
 pub use restoring::Restoring;
 pub use text::restore;
+
+/// A content that a text spells is one of a shard with the text's setup: it counts what it accepted of
+/// each shard, and its dispatches name it.
+pub fn spelled_contents_are_of_their_shard()
+    ensures { (setup : Setup) (text : List ℕ) (S : Content)
+        → Spells setup text S → IsOfShard setup S }
+{}
