@@ -21,7 +21,7 @@ pub fn is_same_event(one: &Event, other: &Event) -> bool
 }
 
 /// Whether two events are of one kind and carry the same.
-fn is_same_attributes(one: &Attributes, other: &Attributes) -> bool
+pub fn is_same_attributes(one: &Attributes, other: &Attributes) -> bool
     ensures { IsTrue result → one.now ≡ other.now }
 {
     is_same_of_run(one, other)

@@ -14,5 +14,5 @@ mod transfers;
 mod values;
 
 pub use dispatches::is_same_dispatch;
-pub use events::is_same_event;
+pub use events::{is_same_attributes, is_same_event};
 pub use transfers::is_same_content;

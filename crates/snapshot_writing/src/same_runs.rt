@@ -3,7 +3,7 @@
 ghost use Rattle.std.specs.Prelude.{◌≡◌, IfOk, IsTrue};
 
 use buffered::History;
-use event_sameness::{are_same_attributes, is_same_event};
+use event_sameness::{is_same_attributes, is_same_event};
 use mutable_state_keeper::{Run, TellsRun};
 use service_model_types::journal::NewEvent;
 use std::alloc::{AllocError, Global};
@@ -27,7 +27,7 @@ fn are_shown_same(one: &History, other: &History) -> bool
 fn is_same_new(one: &NewEvent, other: &NewEvent) -> bool
     ensures { IsTrue result → one.now ≡ other.now }
 {
-    one.at.millis() == other.at.millis() && are_same_attributes(&one.attributes, &other.attributes)
+    one.at.millis() == other.at.millis() && is_same_attributes(&one.attributes, &other.attributes)
 }
 
 /// Whether two histories have the same events buffered.
