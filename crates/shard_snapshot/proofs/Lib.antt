@@ -1,4 +1,5 @@
 mod FollowLemmas
+mod FoundLemmas
 mod LaidLemmas
 mod PieceLemmas
 mod SetupLemmas

@@ -1,3 +1,4 @@
+pub mod Found
 pub mod Laid
 pub mod Restored
 pub mod SoFar

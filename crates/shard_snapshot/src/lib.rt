@@ -1,9 +1,10 @@
 //! A shard restored from its snapshot, piece by piece.
 #![tactic(auto)]
 
-ghost use Rattle.std.specs.Prelude.{ℕ, List};
+ghost use Rattle.std.specs.Prelude.{◌≡◌, ℕ, List, Some};
 ghost use Rattle.service_model_types.specs.declared.content.Content.{Content};
 ghost use Rattle.service_model_types.specs.declared.content.Setup.{Setup};
+ghost use Rattle.shard_snapshot.specs.Found.{content_in};
 ghost use Rattle.shard_snapshot.specs.Stages.{IsOfShard, Spells};
 
 mod damage;
@@ -22,4 +23,12 @@ pub use text::restore;
 pub fn spelled_contents_are_of_their_shard()
     ensures { (setup : Setup) (text : List ℕ) (S : Content)
         → Spells setup text S → IsOfShard setup S }
+{}
+
+/// A text spells one content, which is found by its lines.
+pub fn texts_spell_one_content()
+    ensures one { (setup : Setup) (text : List ℕ) (S T : Content)
+        → Spells setup text S → Spells setup text T → S ≡ T }
+    ensures found { (setup : Setup) (text : List ℕ) (S : Content)
+        → Spells setup text S → content_in setup text ≡ Some S }
 {}
