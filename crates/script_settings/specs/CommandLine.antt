@@ -19,7 +19,7 @@ abbrev pub with_version : App → App
 with_version command = record command { top = record (command.top) { has_version = true } }
 
 -- wfserve [--shards N] [--passes P] [--service K] [--queues NAMES] [--capacity C] [--retention MS] [--load DIR]
--- [--save DIR] [--journal DIR] [--trace] [--version] [FILE]
+-- [--save DIR] [--snapshot DIR] [--journal DIR] [--trace] [--version] [FILE]
 unfoldable pub wfserve : App
 wfserve =
     let command = with_version (new_app (codes "wfserve")) in
@@ -31,6 +31,7 @@ wfserve =
     let command = with_rule command (option_rule (codes "retention")) in
     let command = with_rule command (option_rule (codes "load")) in
     let command = with_rule command (option_rule (codes "save")) in
+    let command = with_rule command (option_rule (codes "snapshot")) in
     let command = with_rule command (option_rule (codes "journal")) in
     let command = with_rule command (flag_rule (codes "trace")) in
     with_rule command (new_rule (codes "FILE"))

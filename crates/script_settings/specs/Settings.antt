@@ -24,10 +24,10 @@ asks_version _ = false
 abbrev pub text_of : Option (Bor Text) → Option Text
 text_of o = option_map (λ text. text.now) o
 
--- where a journal was given, no folder to load from or to save in was, and no history is asked for
-abbrev pub IsAlone : Option (Bor Text) → Option (Bor Text) → Option (Bor Text) → Bool → Type 0
-IsAlone None load save trace = Unit {0}
-IsAlone (Some journal) load save trace = (load ≡ None) × (save ≡ None) × (trace ≡ false)
+-- where a journal was given, no folder to load from or to write records or snapshots in was, and no history is asked for
+abbrev pub IsAlone : (journal load save snapshot : Option (Bor Text)) → Bool → Type 0
+IsAlone None load save snapshot trace = Unit {0}
+IsAlone (Some journal) load save snapshot trace = (load ≡ None) × (save ≡ None) × (snapshot ≡ None) × (trace ≡ false)
 
 -- clap takes the words; each setting is the value of its option among the matches, or its default; the file and the
 -- folders are the texts that were given
@@ -42,9 +42,10 @@ pub record Sets (words : List Text) (c : CommandLine) : Type 0 where
   pub file : text_of c.file ≡ first_of (codes "FILE") (matches_in words)
   pub load : text_of c.load ≡ first_of (codes "load") (matches_in words)
   pub save : text_of c.save ≡ first_of (codes "save") (matches_in words)
+  pub snapshot : text_of c.snapshot ≡ first_of (codes "snapshot") (matches_in words)
   pub journal : text_of c.journal ≡ first_of (codes "journal") (matches_in words)
   pub trace : c.trace ≡ is_set (codes "trace") (matches_in words)
-  pub alone : IsAlone c.journal c.load c.save c.trace
+  pub alone : IsAlone c.journal c.load c.save c.snapshot c.trace
 
 -- the option's text writes no number
 abbrev pub IsFaultOf : Text → List Row → Fault → Type 0
@@ -70,14 +71,16 @@ HasTraceBesideLoad rows = (is_set (codes "trace") rows ≡ true) × (first_of (c
 abbrev pub HasBesideJournal : Text → List Row → Type 0
 HasBesideJournal option rows = (first_of (codes "journal") rows ≢ None) × (first_of option rows ≢ None)
 
--- as what was given: a journal, and beside it the folder to load from, the one to save in, or the wish for the history
-abbrev pub IsBeside : Option (Bor Text) → Option (Bor Text) → Option (Bor Text) → Bool → Fault → Type 0
-IsBeside journal load save trace (Journal option) =
-    (journal ≢ None) × (((option.now ≡ codes "load") × (load ≢ None)) ⊎ ((option.now ≡ codes "save") × (save ≢ None)) ⊎ ((option.now ≡ codes "trace") × (trace ≡ true)))
-IsBeside journal load save trace (Words e) = ⊥
-IsBeside journal load save trace (Number option) = ⊥
-IsBeside journal load save trace Queues = ⊥
-IsBeside journal load save trace Trace = ⊥
+-- as what was given: a journal, and beside it the folder to load from, one to write records or snapshots in, or the wish for
+-- the history
+abbrev pub IsBeside : (journal load save snapshot : Option (Bor Text)) → Bool → Fault → Type 0
+IsBeside journal load save snapshot trace (Journal option) =
+    (journal ≢ None) × (((option.now ≡ codes "load") × (load ≢ None)) ⊎ ((option.now ≡ codes "save") × (save ≢ None))
+    ⊎ ((option.now ≡ codes "snapshot") × (snapshot ≢ None)) ⊎ ((option.now ≡ codes "trace") × (trace ≡ true)))
+IsBeside journal load save snapshot trace (Words e) = ⊥
+IsBeside journal load save snapshot trace (Number option) = ⊥
+IsBeside journal load save snapshot trace Queues = ⊥
+IsBeside journal load save snapshot trace Trace = ⊥
 
 -- clap finds this fault in the words, memory aside, or it takes them and an option's text writes no number, or has a
 -- part that is no name, or two options don't go together

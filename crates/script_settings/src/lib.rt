@@ -1,6 +1,6 @@
 //! What the words of the command line set:
 //! `wfserve [--shards N] [--passes P] [--service K] [--queues NAMES] [--capacity C] [--retention MS]
-//! [--load DIR] [--save DIR] [--trace] [FILE]`.
+//! [--load DIR] [--save DIR] [--snapshot DIR] [--journal DIR] [--trace] [FILE]`.
 #![tactic(auto)]
 
 mod command_line;

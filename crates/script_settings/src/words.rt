@@ -33,9 +33,13 @@ const CAPACITY: &str = "How many hints wait in a task queue at most: 1 to 65536,
 const RETENTION: &str =
     "For how many milliseconds a closed workflow is kept: 0 to 10^12, 0 (for ever) by default";
 
-const LOAD: &str = "The folder whose records are opened from: shard-00.rec, shard-01.rec and so on";
+const LOAD: &str =
+    "The folder that is opened from: records, shard-00.rec and so on, or snapshots, shard-00.snap";
 
 const SAVE: &str = "The folder that the records are saved in at the end; it may be the one loaded";
+
+const SNAPSHOT: &str =
+    "The folder that a snapshot of each shard is written to at the end: shard-00.snap and so on";
 
 const JOURNAL: &str =
     "The folder of the journal: opened from, and synced before each batch of replies";
@@ -89,6 +93,7 @@ fn matched<'a>(alloc: Global, words: &'a [&'a str]) -> Result<ArgMatches<'a>, Er
     let command = with_option(alloc, command, "retention", RETENTION)?;
     let command = with_option(alloc, command, "load", LOAD)?;
     let command = with_option(alloc, command, "save", SAVE)?;
+    let command = with_option(alloc, command, "snapshot", SNAPSHOT)?;
     let command = with_option(alloc, command, "journal", JOURNAL)?;
     let command = with_flag(alloc, command, "trace", TRACE)?;
     let command = command.arg(Arg::new(alloc, "FILE").help(FILE))?;
@@ -119,15 +124,18 @@ fn flag(matches: &ArgMatches<'_>, name: &'static str) -> bool
     }
 }
 
-/// Beside a journal no records are loaded or saved, and no history is printed.
+/// Beside a journal nothing is loaded or written elsewhere, and no history is printed.
 fn check_beside(
     journal: Option<&str>,
     load: Option<&str>,
     save: Option<&str>,
+    snapshot: Option<&str>,
     trace: bool,
 ) -> Result<(), Fault>
-    ensures alone { OnOk result (IsAlone journal.entry load.entry save.entry trace) }
-    ensures fault { IfErr result (IsBeside journal.entry load.entry save.entry trace) }
+    ensures alone { OnOk result
+        (IsAlone journal.entry load.entry save.entry snapshot.entry trace) }
+    ensures fault { IfErr result
+        (IsBeside journal.entry load.entry save.entry snapshot.entry trace) }
 {
     if journal.is_none() {
         return Ok(());
@@ -137,6 +145,9 @@ fn check_beside(
     }
     if save.is_some() {
         return Err(Fault::Journal("save"));
+    }
+    if snapshot.is_some() {
+        return Err(Fault::Journal("snapshot"));
     }
     if trace {
         return Err(Fault::Journal("trace"));
@@ -176,12 +187,14 @@ pub fn settings_of<'a>(alloc: Global, words: &'a [&'a str]) -> Result<CommandLin
     }
     let save = matches.get_str("save");
     let journal = matches.get_str("journal");
-    check_beside(journal, load, save, trace)?;
+    let snapshot = matches.get_str("snapshot");
+    check_beside(journal, load, save, snapshot, trace)?;
     Ok(CommandLine {
         settings,
         file: matches.get_str("FILE"),
         load,
         save,
+        snapshot,
         journal,
         trace,
     })

@@ -1,5 +1,5 @@
 -- MEANING: a shard that is restored from a text, and why a text restores none
-use Rattle.std.specs.Prelude.{◌≡◌, ◌⊎◌, ℕ, ◌+◌, List, length, Option, Ok, Err}
+use Rattle.std.specs.Prelude.{◌≡◌, ◌⊎◌, ℕ, ◌+◌, List, length, Option, Some, Ok, Err}
 use Rattle.std.specs.Io.KnownBytes.{Consumes, IsAtEnd}
 use Rattle.service_model_types.specs.declared.content.Content.{Content}
 use Rattle.service_model_types.specs.declared.content.Setup.{Setup}
@@ -19,6 +19,12 @@ pub record Restores (setup : Setup) (unread unread' : Option (List ℕ)) (shard 
   pub text : List ℕ
   pub read : Consumes unread unread' text
   pub at_end : IsAtEnd unread'
+  pub content : Content
+  pub spells : Spells setup text content
+  pub stands : StandsFor shard content
+
+-- the text spells a content, and the shard stands for that
+pub record IsSnapshot (setup : Setup) (text : List ℕ) (shard : ShardView) : Type 0 where
   pub content : Content
   pub spells : Spells setup text content
   pub stands : StandsFor shard content
@@ -56,3 +62,9 @@ abbrev pub IsRestoreFault : Setup → RestoreFault → (unread unread' : Option 
 IsRestoreFault setup Memory unread unread' old new = Unit {0}
 IsRestoreFault setup (Read e) unread unread' old new = Rose old new
 IsRestoreFault setup (Damaged line d) unread unread' old new = IsDamaged setup unread unread' line d
+
+-- the same of a whole text, that a reader gives which begins with no failures
+pub record IsTextFault (setup : Setup) (e : RestoreFault) (text : List ℕ) : Type 0 where
+  pub unread : Option (List ℕ)
+  pub failures : ℕ
+  pub fault : IsRestoreFault setup e (Some text) unread 0 failures

@@ -16,7 +16,7 @@ mod text;
 pub use damage::Damage;
 pub use fault::RestoreFault;
 pub use restoring::Restoring;
-pub use text::restore;
+pub use text::{restore, restore_text};
 
 /// A content that a text spells is one of a shard with the text's setup: it counts what it accepted of
 /// each shard, and its dispatches name it.

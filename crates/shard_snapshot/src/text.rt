@@ -3,7 +3,7 @@
 ghost use Rattle.std.specs.Prelude.{◌≡◌, ◌≤◌, ◌<◌, ◌+◌, ◌^◌, [], option_copied, IfErr, IfOk, OnOk};
 ghost use Rattle.shard_snapshot.specs.SoFar.{Finishes, IsPieceFault, IsSoFar, IsTailFault, Puts, end_in, fault_of};
 ghost use Rattle.shard_snapshot.specs.Stages.{is_head};
-ghost use Rattle.shard_snapshot.specs.Texts.{IsRestoreFault, Restores};
+ghost use Rattle.shard_snapshot.specs.Texts.{IsRestoreFault, IsSnapshot, IsTextFault, Restores};
 ghost use Rattle.shard_store.specs.ShardView.{IsSetup};
 ghost use Rattle.snapshot_pieces.specs.Lines.{EndsThere, TakesPiece};
 
@@ -47,6 +47,23 @@ pub fn restore<T: KeepsRun, R: Read>(
         put(&mut shard, piece, count)?;
     }
     Err(RestoreFault::Memory)
+}
+
+/// Restores a shard from the whole text of its snapshot, as [`restore`] does.
+///
+/// # Errors
+/// As [`restore`]. A text in memory is always read.
+pub fn restore_text<T: KeepsRun>(
+    alloc: Global,
+    setup: Setup,
+    text: &[u8],
+) -> Result<Store<T>, RestoreFault>
+    requires { IsSetup setup }
+    ensures restored { IfOk result (λ store. IsSnapshot setup text.now store) }
+    ensures fault { IfErr result (λ e. IsTextFault setup e text.now) }
+{
+    let mut reader = Counted::new(text);
+    restore(alloc, setup, &mut reader)
 }
 
 /// The first two pieces: the head, and what was counted.

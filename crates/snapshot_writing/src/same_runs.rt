@@ -12,15 +12,14 @@ use std::alloc::{AllocError, Global};
 fn are_shown_same(one: &History, other: &History) -> bool
     ensures { IsTrue result → one.now.lists.events ≡ other.now.lists.events }
 {
-    let mut ours = one.events();
     let mut theirs = other.events();
-    loop {
-        match (ours.next(), theirs.next()) {
-            (Some(our), Some(their)) if is_same_event(our, their) => {}
-            (None, None) => return true,
+    for our in one.events() {
+        match theirs.next() {
+            Some(their) if is_same_event(our, their) => {}
             _ => return false,
         }
     }
+    theirs.next().is_none()
 }
 
 /// Whether two buffered events are the same.

@@ -1,20 +1,19 @@
 //! The snapshot of a shard.
 
-ghost use Rattle.std.specs.Prelude.{◌≡◌, IfOk, string_bytes};
+ghost use Rattle.std.specs.Prelude.{◌≡◌, IfOk, IsTrue, string_bytes};
 ghost use Rattle.shard_issued.specs.Outstanding.{IsCaughtUp};
-ghost use Rattle.shard_store.specs.ShardView.{IsSetup, state};
-ghost use Rattle.snapshot_writing.specs.Written.{IsSnapshot};
+ghost use Rattle.shard_store.specs.ShardView.{state};
+ghost use Rattle.shard_snapshot.specs.Texts.{IsSnapshot};
 
 use crate::fault::SnapshotFault;
 use crate::lines::Lines;
 use crate::same::is_same;
 use crate::shards::add_shard;
-use mutable_state_keeper::{KeepsRun, TellsRun};
+use mutable_state_keeper::TellsRun;
 use service_model_types::content::Setup;
-use shard_snapshot::{RestoreFault, restore};
+use shard_snapshot::{RestoreFault, restore_text};
 use shard_store::Store;
 use std::alloc::{AllocError, Global};
-use wire_counted::Counted;
 
 /// The lines that a shard is written as.
 fn lines_of<T: TellsRun>(alloc: Global, store: &Store<T>) -> Result<String, AllocError>
@@ -38,18 +37,27 @@ fn copy_of(setup: &Setup) -> Result<Setup, AllocError>
     })
 }
 
-/// The shard that a text restores.
-fn restored<T: KeepsRun>(alloc: Global, setup: Setup, text: &str) -> Result<Store<T>, SnapshotFault>
-    requires { IsSetup setup }
-    ensures { IfOk result (λ store. IsSnapshot setup text.now store) }
-{
-    let mut reader = Counted::new(text.as_bytes());
-    match restore(alloc, setup, &mut reader) {
-        Ok(store) => Ok(store),
-        Err(RestoreFault::Damaged(line, damage)) => Err(SnapshotFault::NotRestored(line, damage)),
-        Err(RestoreFault::Memory) => Err(SnapshotFault::Memory),
-        Err(RestoreFault::Read(_)) => Err(SnapshotFault::Memory),
+/// The fault of a text that restores no shard. A text in memory is always read.
+fn fault_of(fault: RestoreFault) -> SnapshotFault {
+    match fault {
+        RestoreFault::Damaged(line, damage) => SnapshotFault::NotRestored(line, damage),
+        RestoreFault::Memory => SnapshotFault::Memory,
+        RestoreFault::Read(_) => SnapshotFault::Memory,
     }
+}
+
+/// Whether a text restores a shard.
+fn restores<T: TellsRun>(alloc: Global, store: &Store<T>, text: &str) -> Result<bool, SnapshotFault>
+    requires { IsCaughtUp store.now.changed }
+    ensures { IfOk result (λ is. IsTrue is → IsSnapshot store.now.setup text.now store.now) }
+{
+    let setup = copy_of(store.setup())?;
+    let mut again: Store<T> = match restore_text(alloc, setup, text.as_bytes()) {
+        Ok(again) => again,
+        Err(fault) => return Err(fault_of(fault)),
+    };
+    again.catch_up()?;
+    Ok(is_same(alloc, store, &again)?)
 }
 
 /// The text of a shard's snapshot: it spells a content for which the shard stands. The shard is as it
@@ -64,10 +72,7 @@ pub fn snapshot<T: TellsRun>(alloc: Global, store: &mut Store<T>) -> Result<Stri
 {
     store.catch_up()?;
     let text = lines_of(alloc, store)?;
-    let setup = copy_of(store.setup())?;
-    let mut again = restored(alloc, setup, text.as_str())?;
-    again.catch_up()?;
-    if !is_same(alloc, store, &again)? {
+    if !restores(alloc, store, text.as_str())? {
         return Err(SnapshotFault::OtherShard);
     }
     Ok(text)

@@ -23,6 +23,7 @@ returns-clause-sets c = record {
   file = c.get_str.ensures ∙ first_value-rows (found_of c.in-Ok.matches) (codes "FILE") ∙ ap (first_of (codes "FILE")) c.in-Ok.ensures.rows;
   load = c.get_str-load.ensures ∙ first_value-rows (found_of c.in-Ok.matches) (codes "load") ∙ ap (first_of (codes "load")) c.in-Ok.ensures.rows;
   save = c.get_str-save.ensures ∙ first_value-rows (found_of c.in-Ok.matches) (codes "save") ∙ ap (first_of (codes "save")) c.in-Ok.ensures.rows;
+  snapshot = c.get_str-snapshot.ensures ∙ first_value-rows (found_of c.in-Ok.matches) (codes "snapshot") ∙ ap (first_of (codes "snapshot")) c.in-Ok.ensures.rows;
   journal = c.get_str-journal.ensures ∙ first_value-rows (found_of c.in-Ok.matches) (codes "journal") ∙ ap (first_of (codes "journal")) c.in-Ok.ensures.rows;
   trace = c.flag-trace.ensures ∙ ap (is_set (codes "trace")) c.in-Ok.ensures.rows;
   alone = c.in_ok-check_beside.ensures.alone;
@@ -52,22 +53,23 @@ set-there None is = absurd (cc is)
 set-there (Some text) is = λ none. cc none
 
 -- an option beside the journal
-beside : (words : List Text) (journal load save : Option (Bor Text)) (trace : Bool) (fault : Fault) → faults_in words ≡ [] → text_of journal ≡ first_of (codes "journal") (matches_in words)
-    → text_of load ≡ first_of (codes "load") (matches_in words) → text_of save ≡ first_of (codes "save") (matches_in words) → trace ≡ is_set (codes "trace") (matches_in words)
-    → IsBeside journal load save trace fault → IsFaultIn words fault
-beside words journal load save trace (Journal option) taken j l s t (some, which) = (taken, (there journal _ some j, by which))
+beside : (words : List Text) (journal load save snapshot : Option (Bor Text)) (trace : Bool) (fault : Fault) → faults_in words ≡ [] → text_of journal ≡ first_of (codes "journal") (matches_in words)
+    → text_of load ≡ first_of (codes "load") (matches_in words) → text_of save ≡ first_of (codes "save") (matches_in words) → text_of snapshot ≡ first_of (codes "snapshot") (matches_in words) → trace ≡ is_set (codes "trace") (matches_in words)
+    → IsBeside journal load save snapshot trace fault → IsFaultIn words fault
+beside words journal load save snapshot trace (Journal option) taken j l s n t (some, which) = (taken, (there journal _ some j, by which))
   where
     rows : List Row
     rows = matches_in words
 
-    by : ((option.now ≡ codes "load") × (load ≢ None)) ⊎ ((option.now ≡ codes "save") × (save ≢ None)) ⊎ ((option.now ≡ codes "trace") × (trace ≡ true)) → first_of option.now rows ≢ None
+    by : ((option.now ≡ codes "load") × (load ≢ None)) ⊎ ((option.now ≡ codes "save") × (save ≢ None)) ⊎ ((option.now ≡ codes "snapshot") × (snapshot ≢ None)) ⊎ ((option.now ≡ codes "trace") × (trace ≡ true)) → first_of option.now rows ≢ None
     by (inl (is, given)) = subst (λ (n : Text). first_of n rows ≢ None) (sym is) (there load _ given l)
     by (inr (inl (is, given))) = subst (λ (n : Text). first_of n rows ≢ None) (sym is) (there save _ given s)
-    by (inr (inr (is, on))) = subst (λ (n : Text). first_of n rows ≢ None) (sym is) (set-there (first_of (codes "trace") rows) (sym t ∙ on))
-beside words journal load save trace (Words e) taken j l s t h = absurd h
-beside words journal load save trace (Number option) taken j l s t h = absurd h
-beside words journal load save trace Queues taken j l s t h = absurd h
-beside words journal load save trace Trace taken j l s t h = absurd h
+    by (inr (inr (inl (is, given)))) = subst (λ (n : Text). first_of n rows ≢ None) (sym is) (there snapshot _ given n)
+    by (inr (inr (inr (is, on)))) = subst (λ (n : Text). first_of n rows ≢ None) (sym is) (set-there (first_of (codes "trace") rows) (sym t ∙ on))
+beside words journal load save snapshot trace (Words e) taken j l s n t h = absurd h
+beside words journal load save snapshot trace (Number option) taken j l s n t h = absurd h
+beside words journal load save snapshot trace Queues taken j l s n t h = absurd h
+beside words journal load save snapshot trace Trace taken j l s n t h = absurd h
 
 pub returns-in_err-check_beside-clause-fault : goal.returns-in_err-check_beside-clause-fault
 returns-in_err-check_beside-clause-fault c =
@@ -75,6 +77,6 @@ returns-in_err-check_beside-clause-fault c =
     let rows = c.in-Ok.ensures.rows in
     let found = λ (name : Text). first_value-rows (found_of c.in-Ok.matches) name ∙ ap (first_of name) rows in
     rw (p.1, p.2)
-    (beside (map (λ w. w.now) c.args.words.now) c.get_str-journal.result c.get_str-load.result c.get_str-save.result c.flag-trace.result _ c.in-Ok.ensures.fails
-    (c.get_str-journal.ensures ∙ found (codes "journal")) (c.get_str-load.ensures ∙ found (codes "load")) (c.get_str-save.ensures ∙ found (codes "save"))
+    (beside (map (λ w. w.now) c.args.words.now) c.get_str-journal.result c.get_str-load.result c.get_str-save.result c.get_str-snapshot.result c.flag-trace.result _ c.in-Ok.ensures.fails
+    (c.get_str-journal.ensures ∙ found (codes "journal")) (c.get_str-load.ensures ∙ found (codes "load")) (c.get_str-save.ensures ∙ found (codes "save")) (c.get_str-snapshot.ensures ∙ found (codes "snapshot"))
     (c.flag-trace.ensures ∙ ap (is_set (codes "trace")) rows) c.in_err-check_beside.ensures.fault)

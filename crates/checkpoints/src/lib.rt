@@ -1,0 +1,18 @@
+//! Services that go on from the snapshots of their shards.
+//!
+//! A shard is restored from the text of its snapshot, and stands for the content that this spells. The
+//! shard keeps less than that: what is promised of a script holds of every content for which its shards
+//! stand, and so also of those that all records from the first step on leave.
+#![tactic(auto)]
+
+mod checkpointed;
+mod fault;
+mod queues;
+mod restored;
+mod scripts;
+
+pub use checkpointed::Checkpointed;
+pub use fault::LoadFault;
+pub use restored::{Restored, restored};
+pub use scripts::{run_lanes_restored, run_restored};
+pub use snapshot_writing::SnapshotFault;
