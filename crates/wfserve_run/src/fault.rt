@@ -19,9 +19,28 @@ pub enum Fault {
     /// This whole line of a record's file is the first that is no entry.
     #[error("{path}: line {line} is no step of a record")]
     BadRecord { path: String, line: u64 },
-    /// There is a record of a shard that the settings leave out.
-    #[error("{path}: --shards leaves this record out")]
+    /// There is a record or a snapshot of a shard that the settings leave out.
+    #[error("{path}: --shards leaves this shard out")]
     LeftOut { path: String },
+    /// This line of a snapshot is the first that is damaged, and so.
+    #[error("{path}: line {line}: {damage}")]
+    BadSnapshot {
+        path: String,
+        line: u64,
+        damage: &'static str,
+    },
+    /// A snapshot names a task queue that the settings don't have.
+    #[error("{path}: it names a task queue that --queues leaves out")]
+    LeftOutQueue { path: String },
+    /// The folder has snapshots, and this record beside them.
+    #[error("{path}: a record beside snapshots: which of them is to be loaded?")]
+    BesideSnapshots { path: String },
+    /// Records were to be saved of a service that was opened from snapshots.
+    #[error("--save writes records from the first step on, which snapshots don't have: use --snapshot")]
+    SaveBehindSnapshots,
+    /// The text that was made of a shard would not restore it. Nothing that an operator does causes it.
+    #[error("{path}: no snapshot can be made of this shard; please report it")]
+    NoSnapshot { path: String },
     #[error("standard output: {0}")]
     Output(io::Error),
     #[error(transparent)]
