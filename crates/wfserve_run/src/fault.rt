@@ -15,13 +15,21 @@ pub enum Fault {
     #[error(transparent)]
     Words(script_settings::Fault),
     #[error("{path}: {error}")]
-    File { path: String, error: io::Error },
+    File {
+        path: String,
+        error: io::Error,
+    },
     /// This whole line of a record's file is the first that is no entry.
     #[error("{path}: line {line} is no step of a record")]
-    BadRecord { path: String, line: u64 },
+    BadRecord {
+        path: String,
+        line: u64,
+    },
     /// There is a record or a snapshot of a shard that the settings leave out.
     #[error("{path}: --shards leaves this shard out")]
-    LeftOut { path: String },
+    LeftOut {
+        path: String,
+    },
     /// This line of a snapshot is the first that is damaged, and so.
     #[error("{path}: line {line}: {damage}")]
     BadSnapshot {
@@ -31,38 +39,59 @@ pub enum Fault {
     },
     /// A snapshot names a task queue that the settings don't have.
     #[error("{path}: it names a task queue that --queues leaves out")]
-    LeftOutQueue { path: String },
+    LeftOutQueue {
+        path: String,
+    },
     /// The folder has snapshots, and this record beside them.
     #[error("{path}: a record beside snapshots: which of them is to be loaded?")]
-    BesideSnapshots { path: String },
+    BesideSnapshots {
+        path: String,
+    },
     /// Records were to be saved of a service that was opened from snapshots.
     #[error("--save writes records from the first step on, which snapshots don't have: use --snapshot")]
     SaveBehindSnapshots,
     /// The text that was made of a shard would not restore it. Nothing that an operator does causes it.
     #[error("{path}: no snapshot can be made of this shard; please report it")]
-    NoSnapshot { path: String },
+    NoSnapshot {
+        path: String,
+    },
     #[error("standard output: {0}")]
     Output(io::Error),
     #[error(transparent)]
     Script(ScriptFault),
     /// Another process has this journal open.
     #[error("{path}: another process has this journal open")]
-    InUse { path: String },
+    InUse {
+        path: String,
+    },
     /// No crash leaves such a journal: what stands at this byte is nothing that was written.
     #[error("{path}: damaged at byte {at}")]
-    Damaged { path: String, at: usize },
+    Damaged {
+        path: String,
+        at: usize,
+    },
     /// The journal was begun with another value of this setting.
     #[error("{path}: the journal is of another --{setting}")]
-    OtherSettings { path: String, setting: &'static str },
+    OtherSettings {
+        path: String,
+        setting: &'static str,
+    },
     /// The journal begins with no settings, or in a form of another version.
     #[error("{path}: no journal of this version")]
-    OtherForm { path: String },
+    OtherForm {
+        path: String,
+    },
     /// This batch of the journal's steps has a line that is no step.
     #[error("{path}: batch {batch} has a line that is no step")]
-    BadBatch { path: String, batch: usize },
+    BadBatch {
+        path: String,
+        batch: usize,
+    },
     /// The journal's file is as long as a file can be.
     #[error("{path}: the journal is full")]
-    Full { path: String },
+    Full {
+        path: String,
+    },
     /// Steps of the records were handed out to another caller than the journal, or made by one.
     #[error("steps were handed out elsewhere")]
     HandedOut,

@@ -21,6 +21,7 @@ mod program;
 mod records;
 mod restored;
 mod served;
+mod snapshots;
 
 pub use fault::Fault;
 pub use journal::LockFiles;
