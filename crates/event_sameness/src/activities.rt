@@ -1,9 +1,10 @@
-//! Whether the same is said of an activity.
+//! Whether two events say the same about an activity.
 
 ghost use Rattle.std.specs.Prelude.{◌≡◌, IsTrue};
+ghost use Rattle.event_sameness.specs.Groups.{group, OfActivity};
 
 use crate::names::{is_same_retry_state, is_same_timeout};
-use crate::values::{are_same_texts, is_same_moment, is_same_span, is_same_text_if_any};
+use crate::values::{are_same_texts, is_same_moment, is_same_optional_text, is_same_span};
 use wf_event::payloads::{
     ActivityTaskCanceled, ActivityTaskCompleted, ActivityTaskFailed, ActivityTaskScheduled,
     ActivityTaskStarted, ActivityTaskTimedOut, PolicyFields,
@@ -11,8 +12,10 @@ use wf_event::payloads::{
 use wf_event::{Attributes, RetryPolicy};
 
 /// Whether both are of one kind that speaks of an activity, and carry the same.
+#[tactic(auto, unfolding(crate::specs::Groups::group))]
 pub(crate) fn is_same_of_activity(one: &Attributes, other: &Attributes) -> bool
-    ensures { IsTrue result → one.now ≡ other.now }
+    ensures same { IsTrue result → one.now ≡ other.now }
+    ensures found { group one.now ≡ OfActivity → one.now ≡ other.now → IsTrue result }
 {
     match (one, other) {
         (Attributes::ActivityTaskScheduled(one), Attributes::ActivityTaskScheduled(other)) => {
@@ -42,7 +45,8 @@ pub(crate) fn is_same_of_activity(one: &Attributes, other: &Attributes) -> bool
 }
 
 fn is_same_policy_fields(one: &PolicyFields, other: &PolicyFields) -> bool
-    ensures { IsTrue result → one.now ≡ other.now }
+    ensures same { IsTrue result → one.now ≡ other.now }
+    ensures found { one.now ≡ other.now → IsTrue result }
 {
     one.attempts == other.attempts
         && one.coefficient == other.coefficient
@@ -52,7 +56,8 @@ fn is_same_policy_fields(one: &PolicyFields, other: &PolicyFields) -> bool
 }
 
 fn is_same_activity(one: &ActivityTaskScheduled, other: &ActivityTaskScheduled) -> bool
-    ensures { IsTrue result → one.now ≡ other.now }
+    ensures same { IsTrue result → one.now ≡ other.now }
+    ensures found { one.now ≡ other.now → IsTrue result }
 {
     one.activity_id == other.activity_id
         && one.activity_type == other.activity_type
@@ -66,7 +71,8 @@ fn is_same_activity(one: &ActivityTaskScheduled, other: &ActivityTaskScheduled) 
 }
 
 fn is_same_attempt(one: ActivityTaskStarted, other: ActivityTaskStarted) -> bool
-    ensures { IsTrue result → one ≡ other }
+    ensures same { IsTrue result → one ≡ other }
+    ensures found { one ≡ other → IsTrue result }
 {
     one.scheduled == other.scheduled
         && one.attempt == other.attempt
@@ -74,22 +80,25 @@ fn is_same_attempt(one: ActivityTaskStarted, other: ActivityTaskStarted) -> bool
 }
 
 fn is_same_completion(one: &ActivityTaskCompleted, other: &ActivityTaskCompleted) -> bool
-    ensures { IsTrue result → one.now ≡ other.now }
+    ensures same { IsTrue result → one.now ≡ other.now }
+    ensures found { one.now ≡ other.now → IsTrue result }
 {
     one.scheduled == other.scheduled && one.result_text == other.result_text
 }
 
 fn is_same_failure(one: &ActivityTaskFailed, other: &ActivityTaskFailed) -> bool
-    ensures { IsTrue result → one.now ≡ other.now }
+    ensures same { IsTrue result → one.now ≡ other.now }
+    ensures found { one.now ≡ other.now → IsTrue result }
 {
     one.scheduled == other.scheduled
         && one.message == other.message
-        && is_same_text_if_any(one.error_type.as_ref(), other.error_type.as_ref())
+        && is_same_optional_text(one.error_type.as_ref(), other.error_type.as_ref())
         && is_same_retry_state(one.retry, other.retry)
 }
 
 fn is_same_activity_timeout(one: ActivityTaskTimedOut, other: ActivityTaskTimedOut) -> bool
-    ensures { IsTrue result → one ≡ other }
+    ensures same { IsTrue result → one ≡ other }
+    ensures found { one ≡ other → IsTrue result }
 {
     one.scheduled == other.scheduled
         && is_same_timeout(one.timeout, other.timeout)
@@ -97,14 +106,16 @@ fn is_same_activity_timeout(one: ActivityTaskTimedOut, other: ActivityTaskTimedO
 }
 
 fn is_same_cancellation(one: &ActivityTaskCanceled, other: &ActivityTaskCanceled) -> bool
-    ensures { IsTrue result → one.now ≡ other.now }
+    ensures same { IsTrue result → one.now ≡ other.now }
+    ensures found { one.now ≡ other.now → IsTrue result }
 {
     one.scheduled == other.scheduled && one.details == other.details
 }
 
 /// Whether two retry policies are the same.
 fn is_same_policy(one: &RetryPolicy, other: &RetryPolicy) -> bool
-    ensures { IsTrue result → one.now ≡ other.now }
+    ensures same { IsTrue result → one.now ≡ other.now }
+    ensures found { one.now ≡ other.now → IsTrue result }
 {
     is_same_policy_fields(one.fields(), other.fields())
 }

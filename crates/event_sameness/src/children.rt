@@ -1,6 +1,7 @@
-//! Whether the same is said of a child.
+//! Whether two events say the same about a child.
 
 ghost use Rattle.std.specs.Prelude.{◌≡◌, IsTrue};
+ghost use Rattle.event_sameness.specs.Groups.{group, OfChild};
 
 use crate::names::{is_same_cause, is_same_parent_close, is_same_reuse};
 use crate::values::{is_same_run, is_same_span};
@@ -11,8 +12,10 @@ use wf_event::payloads::{
 };
 
 /// Whether both are of one kind that speaks of a child, and carry the same.
+#[tactic(auto, unfolding(crate::specs::Groups::group))]
 pub(crate) fn is_same_of_child(one: &Attributes, other: &Attributes) -> bool
-    ensures { IsTrue result → one.now ≡ other.now }
+    ensures same { IsTrue result → one.now ≡ other.now }
+    ensures found { group one.now ≡ OfChild → one.now ≡ other.now → IsTrue result }
 {
     match (one, other) {
         (
@@ -55,7 +58,8 @@ fn is_same_child(
     one: &StartChildWorkflowExecutionInitiated,
     other: &StartChildWorkflowExecutionInitiated,
 ) -> bool
-    ensures { IsTrue result → one.now ≡ other.now }
+    ensures same { IsTrue result → one.now ≡ other.now }
+    ensures found { one.now ≡ other.now → IsTrue result }
 {
     one.workflow_id == other.workflow_id
         && one.workflow_type == other.workflow_type
@@ -71,7 +75,8 @@ fn is_same_child_failure(
     one: &StartChildWorkflowExecutionFailed,
     other: &StartChildWorkflowExecutionFailed,
 ) -> bool
-    ensures { IsTrue result → one.now ≡ other.now }
+    ensures same { IsTrue result → one.now ≡ other.now }
+    ensures found { one.now ≡ other.now → IsTrue result }
 {
     one.initiated == other.initiated
         && one.workflow_id == other.workflow_id
@@ -82,7 +87,8 @@ fn is_same_child_start(
     one: &ChildWorkflowExecutionStarted,
     other: &ChildWorkflowExecutionStarted,
 ) -> bool
-    ensures { IsTrue result → one.now ≡ other.now }
+    ensures same { IsTrue result → one.now ≡ other.now }
+    ensures found { one.now ≡ other.now → IsTrue result }
 {
     one.initiated == other.initiated
         && one.workflow_id == other.workflow_id
@@ -90,13 +96,15 @@ fn is_same_child_start(
 }
 
 fn is_same_child_end_text(one: &ChildEndText, other: &ChildEndText) -> bool
-    ensures { IsTrue result → one.now ≡ other.now }
+    ensures same { IsTrue result → one.now ≡ other.now }
+    ensures found { one.now ≡ other.now → IsTrue result }
 {
     one.initiated == other.initiated && is_same_run(one.run, other.run) && one.text == other.text
 }
 
 fn is_same_child_end(one: ChildEnd, other: ChildEnd) -> bool
-    ensures { IsTrue result → one ≡ other }
+    ensures same { IsTrue result → one ≡ other }
+    ensures found { one ≡ other → IsTrue result }
 {
     one.initiated == other.initiated && is_same_run(one.run, other.run)
 }

@@ -8,13 +8,15 @@ use service_model_types::request::Hint;
 
 /// Whether two dispatches are the same: the queues, and what is pushed to them.
 pub fn is_same_dispatch(one: &Dispatch, other: &Dispatch) -> bool
-    ensures { IsTrue result → one.now ≡ other.now }
+    ensures same { IsTrue result → one.now ≡ other.now }
+    ensures found { one.now ≡ other.now → IsTrue result }
 {
     one.queue == other.queue && is_same_hint(one.hint, other.hint)
 }
 
 fn is_same_hint(one: Hint, other: Hint) -> bool
-    ensures { IsTrue result → one ≡ other }
+    ensures same { IsTrue result → one ≡ other }
+    ensures found { one ≡ other → IsTrue result }
 {
     is_same_task_kind(one.kind, other.kind)
         && one.shard == other.shard

@@ -13,7 +13,8 @@ use wf_event::{Attributes, Event};
 
 /// Whether two events are the same.
 pub fn is_same_event(one: &Event, other: &Event) -> bool
-    ensures { IsTrue result → one.now ≡ other.now }
+    ensures same { IsTrue result → one.now ≡ other.now }
+    ensures found { one.now ≡ other.now → IsTrue result }
 {
     one.id == other.id
         && is_same_moment(one.at, other.at)
@@ -22,7 +23,8 @@ pub fn is_same_event(one: &Event, other: &Event) -> bool
 
 /// Whether two events are of one kind and carry the same.
 pub fn is_same_attributes(one: &Attributes, other: &Attributes) -> bool
-    ensures { IsTrue result → one.now ≡ other.now }
+    ensures same { IsTrue result → one.now ≡ other.now }
+    ensures found { one.now ≡ other.now → IsTrue result }
 {
     is_same_of_run(one, other)
         || is_same_of_task(one, other)

@@ -1,9 +1,10 @@
-//! Whether the same is said of a request to another workflow.
+//! Whether two events say the same about a request to another workflow.
 
 ghost use Rattle.std.specs.Prelude.{◌≡◌, IsTrue};
+ghost use Rattle.event_sameness.specs.Groups.{group, OfExternal};
 
 use crate::names::is_same_cause;
-use crate::values::is_same_run_if_any;
+use crate::values::is_same_optional_run;
 use wf_event::Attributes;
 use wf_event::payloads::{
     ExternalDone, ExternalFailed, RequestCancelExternalWorkflowExecutionInitiated,
@@ -11,8 +12,10 @@ use wf_event::payloads::{
 };
 
 /// Whether both are of one kind that speaks of a request to another workflow, and carry the same.
+#[tactic(auto, unfolding(crate::specs::Groups::group))]
 pub(crate) fn is_same_of_external(one: &Attributes, other: &Attributes) -> bool
-    ensures { IsTrue result → one.now ≡ other.now }
+    ensures same { IsTrue result → one.now ≡ other.now }
+    ensures found { group one.now ≡ OfExternal → one.now ≡ other.now → IsTrue result }
 {
     match (one, other) {
         (
@@ -47,10 +50,11 @@ fn is_same_external_signal(
     one: &SignalExternalWorkflowExecutionInitiated,
     other: &SignalExternalWorkflowExecutionInitiated,
 ) -> bool
-    ensures { IsTrue result → one.now ≡ other.now }
+    ensures same { IsTrue result → one.now ≡ other.now }
+    ensures found { one.now ≡ other.now → IsTrue result }
 {
     one.workflow_id == other.workflow_id
-        && is_same_run_if_any(one.run, other.run)
+        && is_same_optional_run(one.run, other.run)
         && one.name == other.name
         && one.input == other.input
 }
@@ -59,19 +63,22 @@ fn is_same_external_cancel(
     one: &RequestCancelExternalWorkflowExecutionInitiated,
     other: &RequestCancelExternalWorkflowExecutionInitiated,
 ) -> bool
-    ensures { IsTrue result → one.now ≡ other.now }
+    ensures same { IsTrue result → one.now ≡ other.now }
+    ensures found { one.now ≡ other.now → IsTrue result }
 {
-    one.workflow_id == other.workflow_id && is_same_run_if_any(one.run, other.run)
+    one.workflow_id == other.workflow_id && is_same_optional_run(one.run, other.run)
 }
 
 fn is_same_external_failure(one: ExternalFailed, other: ExternalFailed) -> bool
-    ensures { IsTrue result → one ≡ other }
+    ensures same { IsTrue result → one ≡ other }
+    ensures found { one ≡ other → IsTrue result }
 {
     one.initiated == other.initiated && is_same_cause(one.cause, other.cause)
 }
 
 fn is_same_external_done(one: &ExternalDone, other: &ExternalDone) -> bool
-    ensures { IsTrue result → one.now ≡ other.now }
+    ensures same { IsTrue result → one.now ≡ other.now }
+    ensures found { one.now ≡ other.now → IsTrue result }
 {
     one.initiated == other.initiated && one.workflow_id == other.workflow_id
 }

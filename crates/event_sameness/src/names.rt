@@ -7,9 +7,10 @@ use wf_event_values::{
     CancelSource, Cause, ParentClosePolicy, RetryState, ReusePolicy, TaskKind, TimeoutKind,
 };
 
-/// Whether two ask for a cancellation as the same.
+/// Whether the same asked for two cancellations.
 pub(crate) fn is_same_source(one: CancelSource, other: CancelSource) -> bool
-    ensures { IsTrue result → one ≡ other }
+    ensures same { IsTrue result → one ≡ other }
+    ensures found { one ≡ other → IsTrue result }
 {
     match (one, other) {
         (CancelSource::Client, CancelSource::Client)
@@ -21,7 +22,8 @@ pub(crate) fn is_same_source(one: CancelSource, other: CancelSource) -> bool
 
 /// Whether two causes are the same.
 pub(crate) fn is_same_cause(one: Cause, other: Cause) -> bool
-    ensures { IsTrue result → one ≡ other }
+    ensures same { IsTrue result → one ≡ other }
+    ensures found { one ≡ other → IsTrue result }
 {
     match (one, other) {
         (Cause::UnhandledCommand, Cause::UnhandledCommand)
@@ -48,7 +50,8 @@ pub(crate) fn is_same_cause(one: Cause, other: Cause) -> bool
 
 /// Whether two reasons not to try again are the same.
 pub(crate) fn is_same_retry_state(one: RetryState, other: RetryState) -> bool
-    ensures { IsTrue result → one ≡ other }
+    ensures same { IsTrue result → one ≡ other }
+    ensures found { one ≡ other → IsTrue result }
 {
     match (one, other) {
         (RetryState::CancelRequested, RetryState::CancelRequested)
@@ -61,7 +64,8 @@ pub(crate) fn is_same_retry_state(one: RetryState, other: RetryState) -> bool
 
 /// Whether two limits of time are the same.
 pub(crate) fn is_same_timeout(one: TimeoutKind, other: TimeoutKind) -> bool
-    ensures { IsTrue result → one ≡ other }
+    ensures same { IsTrue result → one ≡ other }
+    ensures found { one ≡ other → IsTrue result }
 {
     match (one, other) {
         (TimeoutKind::ScheduleToStart, TimeoutKind::ScheduleToStart)
@@ -74,7 +78,8 @@ pub(crate) fn is_same_timeout(one: TimeoutKind, other: TimeoutKind) -> bool
 
 /// Whether two reuse policies are the same.
 pub(crate) fn is_same_reuse(one: ReusePolicy, other: ReusePolicy) -> bool
-    ensures { IsTrue result → one ≡ other }
+    ensures same { IsTrue result → one ≡ other }
+    ensures found { one ≡ other → IsTrue result }
 {
     match (one, other) {
         (ReusePolicy::AllowDuplicate, ReusePolicy::AllowDuplicate)
@@ -86,7 +91,8 @@ pub(crate) fn is_same_reuse(one: ReusePolicy, other: ReusePolicy) -> bool
 
 /// Whether two parent close policies are the same.
 pub(crate) fn is_same_parent_close(one: ParentClosePolicy, other: ParentClosePolicy) -> bool
-    ensures { IsTrue result → one ≡ other }
+    ensures same { IsTrue result → one ≡ other }
+    ensures found { one ≡ other → IsTrue result }
 {
     match (one, other) {
         (ParentClosePolicy::Terminate, ParentClosePolicy::Terminate)
@@ -98,7 +104,8 @@ pub(crate) fn is_same_parent_close(one: ParentClosePolicy, other: ParentClosePol
 
 /// Whether two kinds of task are the same.
 pub(crate) fn is_same_task_kind(one: TaskKind, other: TaskKind) -> bool
-    ensures { IsTrue result → one ≡ other }
+    ensures same { IsTrue result → one ≡ other }
+    ensures found { one ≡ other → IsTrue result }
 {
     match (one, other) {
         (TaskKind::Workflow, TaskKind::Workflow) | (TaskKind::Activity, TaskKind::Activity) => true,
@@ -108,7 +115,8 @@ pub(crate) fn is_same_task_kind(one: TaskKind, other: TaskKind) -> bool
 
 /// Whether two children closed in the same way.
 pub(crate) fn is_same_child_status(one: ChildStatus, other: ChildStatus) -> bool
-    ensures { IsTrue result → one ≡ other }
+    ensures same { IsTrue result → one ≡ other }
+    ensures found { one ≡ other → IsTrue result }
 {
     match (one, other) {
         (ChildStatus::Completed, ChildStatus::Completed)
@@ -122,7 +130,8 @@ pub(crate) fn is_same_child_status(one: ChildStatus, other: ChildStatus) -> bool
 
 /// Whether two kinds of external request are the same.
 pub(crate) fn is_same_external_kind(one: ExternalKind, other: ExternalKind) -> bool
-    ensures { IsTrue result → one ≡ other }
+    ensures same { IsTrue result → one ≡ other }
+    ensures found { one ≡ other → IsTrue result }
 {
     match (one, other) {
         (ExternalKind::Signal, ExternalKind::Signal)

@@ -1,10 +1,13 @@
-//! Whether the same is said of a run: how it started, closed, was signaled or was asked to cancel.
+//! Whether two events say the same about their run: how it started, closed, was signaled or was asked to
+//! cancel.
 
 ghost use Rattle.std.specs.Prelude.{◌≡◌, IsTrue};
+ghost use Rattle.event_sameness.specs.Groups.{group, OfRun};
 
 use crate::names::is_same_source;
 use crate::values::{
-    is_same_number_if_any, is_same_parent_if_any, is_same_run, is_same_run_if_any, is_same_span,
+    is_same_optional_number, is_same_optional_parent, is_same_optional_run, is_same_run,
+    is_same_span,
 };
 use wf_event::Attributes;
 use wf_event::payloads::{
@@ -12,8 +15,10 @@ use wf_event::payloads::{
 };
 
 /// Whether both are of one kind that speaks of the run, and carry the same.
+#[tactic(auto, unfolding(crate::specs::Groups::group))]
 pub(crate) fn is_same_of_run(one: &Attributes, other: &Attributes) -> bool
-    ensures { IsTrue result → one.now ≡ other.now }
+    ensures same { IsTrue result → one.now ≡ other.now }
+    ensures found { group one.now ≡ OfRun → one.now ≡ other.now → IsTrue result }
 {
     match (one, other) {
         (Attributes::WorkflowExecutionStarted(one), Attributes::WorkflowExecutionStarted(other)) =>
@@ -51,7 +56,8 @@ pub(crate) fn is_same_of_run(one: &Attributes, other: &Attributes) -> bool
 }
 
 fn is_same_start(one: &WorkflowExecutionStarted, other: &WorkflowExecutionStarted) -> bool
-    ensures { IsTrue result → one.now ≡ other.now }
+    ensures same { IsTrue result → one.now ≡ other.now }
+    ensures found { one.now ≡ other.now → IsTrue result }
 {
     one.workflow_id == other.workflow_id
         && one.workflow_type == other.workflow_type
@@ -59,16 +65,17 @@ fn is_same_start(one: &WorkflowExecutionStarted, other: &WorkflowExecutionStarte
         && one.input == other.input
         && is_same_span(one.run_timeout, other.run_timeout)
         && is_same_span(one.task_timeout, other.task_timeout)
-        && is_same_run_if_any(one.continued_from, other.continued_from)
-        && is_same_parent_if_any(one.parent, other.parent)
-        && is_same_number_if_any(one.execution_deadline, other.execution_deadline)
+        && is_same_optional_run(one.continued_from, other.continued_from)
+        && is_same_optional_parent(one.parent, other.parent)
+        && is_same_optional_number(one.execution_deadline, other.execution_deadline)
 }
 
 fn is_same_continuation(
     one: &WorkflowExecutionContinuedAsNew,
     other: &WorkflowExecutionContinuedAsNew,
 ) -> bool
-    ensures { IsTrue result → one.now ≡ other.now }
+    ensures same { IsTrue result → one.now ≡ other.now }
+    ensures found { one.now ≡ other.now → IsTrue result }
 {
     is_same_run(one.new_run, other.new_run)
         && one.workflow_type == other.workflow_type
@@ -77,7 +84,8 @@ fn is_same_continuation(
 }
 
 fn is_same_signal(one: &WorkflowExecutionSignaled, other: &WorkflowExecutionSignaled) -> bool
-    ensures { IsTrue result → one.now ≡ other.now }
+    ensures same { IsTrue result → one.now ≡ other.now }
+    ensures found { one.now ≡ other.now → IsTrue result }
 {
     one.name == other.name && one.input == other.input
 }

@@ -5,7 +5,7 @@ ghost use Rattle.std.specs.Prelude.{◌≡◌, IsTrue};
 use crate::names::{
     is_same_child_status, is_same_external_kind, is_same_parent_close, is_same_reuse,
 };
-use crate::values::{is_same_run, is_same_run_if_any, is_same_span};
+use crate::values::{is_same_optional_run, is_same_run, is_same_span};
 use service_model_types::transfer::{
     CancelExternalTransfer, ChildClosed, ChildStartFailed, ChildStarted, CloseChild,
     ExternalDoneTransfer, SignalExternalTransfer, StartChildTransfer, TransferContent,
@@ -13,7 +13,8 @@ use service_model_types::transfer::{
 
 /// Whether two transfers carry the same.
 pub fn is_same_content(one: &TransferContent, other: &TransferContent) -> bool
-    ensures { IsTrue result → one.now ≡ other.now }
+    ensures same { IsTrue result → one.now ≡ other.now }
+    ensures found { one.now ≡ other.now → IsTrue result }
 {
     match (one, other) {
         (TransferContent::StartChild(one), TransferContent::StartChild(other)) => {
@@ -45,7 +46,8 @@ pub fn is_same_content(one: &TransferContent, other: &TransferContent) -> bool
 }
 
 fn is_same_child(one: &StartChildTransfer, other: &StartChildTransfer) -> bool
-    ensures { IsTrue result → one.now ≡ other.now }
+    ensures same { IsTrue result → one.now ≡ other.now }
+    ensures found { one.now ≡ other.now → IsTrue result }
 {
     is_same_run(one.parent_run, other.parent_run)
         && one.initiated == other.initiated
@@ -59,7 +61,8 @@ fn is_same_child(one: &StartChildTransfer, other: &StartChildTransfer) -> bool
 }
 
 fn is_same_child_start(one: &ChildStarted, other: &ChildStarted) -> bool
-    ensures { IsTrue result → one.now ≡ other.now }
+    ensures same { IsTrue result → one.now ≡ other.now }
+    ensures found { one.now ≡ other.now → IsTrue result }
 {
     is_same_run(one.parent_run, other.parent_run)
         && one.initiated == other.initiated
@@ -67,13 +70,15 @@ fn is_same_child_start(one: &ChildStarted, other: &ChildStarted) -> bool
 }
 
 fn is_same_child_failure(one: &ChildStartFailed, other: &ChildStartFailed) -> bool
-    ensures { IsTrue result → one.now ≡ other.now }
+    ensures same { IsTrue result → one.now ≡ other.now }
+    ensures found { one.now ≡ other.now → IsTrue result }
 {
     is_same_run(one.parent_run, other.parent_run) && one.initiated == other.initiated
 }
 
 fn is_same_child_close(one: &ChildClosed, other: &ChildClosed) -> bool
-    ensures { IsTrue result → one.now ≡ other.now }
+    ensures same { IsTrue result → one.now ≡ other.now }
+    ensures found { one.now ≡ other.now → IsTrue result }
 {
     is_same_run(one.parent_run, other.parent_run)
         && one.initiated == other.initiated
@@ -83,7 +88,8 @@ fn is_same_child_close(one: &ChildClosed, other: &ChildClosed) -> bool
 }
 
 fn is_same_close_policy(one: &CloseChild, other: &CloseChild) -> bool
-    ensures { IsTrue result → one.now ≡ other.now }
+    ensures same { IsTrue result → one.now ≡ other.now }
+    ensures found { one.now ≡ other.now → IsTrue result }
 {
     is_same_run(one.parent_run, other.parent_run)
         && one.initiated == other.initiated
@@ -92,27 +98,30 @@ fn is_same_close_policy(one: &CloseChild, other: &CloseChild) -> bool
 }
 
 fn is_same_signal(one: &SignalExternalTransfer, other: &SignalExternalTransfer) -> bool
-    ensures { IsTrue result → one.now ≡ other.now }
+    ensures same { IsTrue result → one.now ≡ other.now }
+    ensures found { one.now ≡ other.now → IsTrue result }
 {
     is_same_run(one.from_run, other.from_run)
         && one.initiated == other.initiated
         && one.workflow_id == other.workflow_id
-        && is_same_run_if_any(one.run, other.run)
+        && is_same_optional_run(one.run, other.run)
         && one.name == other.name
         && one.input == other.input
 }
 
 fn is_same_cancel(one: &CancelExternalTransfer, other: &CancelExternalTransfer) -> bool
-    ensures { IsTrue result → one.now ≡ other.now }
+    ensures same { IsTrue result → one.now ≡ other.now }
+    ensures found { one.now ≡ other.now → IsTrue result }
 {
     is_same_run(one.from_run, other.from_run)
         && one.initiated == other.initiated
         && one.workflow_id == other.workflow_id
-        && is_same_run_if_any(one.run, other.run)
+        && is_same_optional_run(one.run, other.run)
 }
 
 fn is_same_external_answer(one: &ExternalDoneTransfer, other: &ExternalDoneTransfer) -> bool
-    ensures { IsTrue result → one.now ≡ other.now }
+    ensures same { IsTrue result → one.now ≡ other.now }
+    ensures found { one.now ≡ other.now → IsTrue result }
 {
     is_same_run(one.to_run, other.to_run)
         && one.initiated == other.initiated

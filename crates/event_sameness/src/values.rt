@@ -1,4 +1,4 @@
-//! Whether two plain values, or two values that may lack, are the same.
+//! Whether two plain values, or two optional ones, are the same.
 
 ghost use Rattle.std.specs.Prelude.{◌≡◌, option_copied, IsTrue};
 
@@ -7,35 +7,40 @@ use wf_event_values::{Moment, RunId, Span, Text};
 
 /// Whether two moments are the same.
 pub(crate) fn is_same_moment(one: Moment, other: Moment) -> bool
-    ensures { IsTrue result → one ≡ other }
+    ensures same { IsTrue result → one ≡ other }
+    ensures found { one ≡ other → IsTrue result }
 {
     one.millis() == other.millis()
 }
 
 /// Whether two durations are the same.
 pub(crate) fn is_same_span(one: Span, other: Span) -> bool
-    ensures { IsTrue result → one ≡ other }
+    ensures same { IsTrue result → one ≡ other }
+    ensures found { one ≡ other → IsTrue result }
 {
     one.millis() == other.millis()
 }
 
 /// Whether two names of runs are the same.
 pub(crate) fn is_same_run(one: RunId, other: RunId) -> bool
-    ensures { IsTrue result → one ≡ other }
+    ensures same { IsTrue result → one ≡ other }
+    ensures found { one ≡ other → IsTrue result }
 {
     one == other
 }
 
 /// Whether two parents are the same.
 pub(crate) fn is_same_parent(one: Parent, other: Parent) -> bool
-    ensures { IsTrue result → one ≡ other }
+    ensures same { IsTrue result → one ≡ other }
+    ensures found { one ≡ other → IsTrue result }
 {
     is_same_run(one.run, other.run) && one.event == other.event
 }
 
-/// Whether two texts that may lack are the same.
-pub(crate) fn is_same_text_if_any(one: Option<&Text>, other: Option<&Text>) -> bool
-    ensures { IsTrue result → option_copied one.entry ≡ option_copied other.entry }
+/// Whether two optional texts are the same.
+pub(crate) fn is_same_optional_text(one: Option<&Text>, other: Option<&Text>) -> bool
+    ensures same { IsTrue result → option_copied one.entry ≡ option_copied other.entry }
+    ensures found { option_copied one.entry ≡ option_copied other.entry → IsTrue result }
 {
     match (one, other) {
         (Some(one), Some(other)) => one == other,
@@ -44,9 +49,10 @@ pub(crate) fn is_same_text_if_any(one: Option<&Text>, other: Option<&Text>) -> b
     }
 }
 
-/// Whether two names of runs that may lack are the same.
-pub(crate) fn is_same_run_if_any(one: Option<RunId>, other: Option<RunId>) -> bool
-    ensures { IsTrue result → one ≡ other }
+/// Whether two optional names of runs are the same.
+pub(crate) fn is_same_optional_run(one: Option<RunId>, other: Option<RunId>) -> bool
+    ensures same { IsTrue result → one ≡ other }
+    ensures found { one ≡ other → IsTrue result }
 {
     match (one, other) {
         (Some(one), Some(other)) => is_same_run(one, other),
@@ -55,9 +61,10 @@ pub(crate) fn is_same_run_if_any(one: Option<RunId>, other: Option<RunId>) -> bo
     }
 }
 
-/// Whether two parents that may lack are the same.
-pub(crate) fn is_same_parent_if_any(one: Option<Parent>, other: Option<Parent>) -> bool
-    ensures { IsTrue result → one ≡ other }
+/// Whether two optional parents are the same.
+pub(crate) fn is_same_optional_parent(one: Option<Parent>, other: Option<Parent>) -> bool
+    ensures same { IsTrue result → one ≡ other }
+    ensures found { one ≡ other → IsTrue result }
 {
     match (one, other) {
         (Some(one), Some(other)) => is_same_parent(one, other),
@@ -66,9 +73,10 @@ pub(crate) fn is_same_parent_if_any(one: Option<Parent>, other: Option<Parent>) 
     }
 }
 
-/// Whether two numbers that may lack are the same.
-pub(crate) fn is_same_number_if_any(one: Option<u64>, other: Option<u64>) -> bool
-    ensures { IsTrue result → one ≡ other }
+/// Whether two optional numbers are the same.
+pub(crate) fn is_same_optional_number(one: Option<u64>, other: Option<u64>) -> bool
+    ensures same { IsTrue result → one ≡ other }
+    ensures found { one ≡ other → IsTrue result }
 {
     match (one, other) {
         (Some(one), Some(other)) => one == other,
@@ -79,7 +87,8 @@ pub(crate) fn is_same_number_if_any(one: Option<u64>, other: Option<u64>) -> boo
 
 /// Whether two lists of texts are the same.
 pub(crate) fn are_same_texts(ours: &[Text], theirs: &[Text]) -> bool
-    ensures { IsTrue result → ours.now ≡ theirs.now }
+    ensures same { IsTrue result → ours.now ≡ theirs.now }
+    ensures found { ours.now ≡ theirs.now → IsTrue result }
 {
     ours == theirs
 }

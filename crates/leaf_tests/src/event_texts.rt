@@ -7,7 +7,7 @@ use wire_events::event_text;
 use wire_record_events::read_event;
 
 /// Events of each kind, as histories show them.
-const EVENTS: &str =
+pub(crate) const EVENTS: &str =
     r#"{"at":60,"attrs":{"continued_from":"00000000-0001-8000-8000-000000000001","execution_deadline":100,"input":"","run_timeout":0,"task_queue":"main","task_timeout":10000,"workflow_id":"a","workflow_type":"w"},"id":1,"type":"WorkflowExecutionStarted"}
 {"at":0,"attrs":{"continued_from":"00000000-0001-8000-8000-000000000002","input":"next","parent_event":5,"parent_run":"00000000-0001-8000-8000-000000000001","run_timeout":0,"task_queue":"main","task_timeout":10000,"workflow_id":"b","workflow_type":"v"},"id":1,"type":"WorkflowExecutionStarted"}
 {"at":0,"attrs":{"input":"","run_timeout":0,"task_queue":"main","task_timeout":50,"workflow_id":"a","workflow_type":"w"},"id":1,"type":"WorkflowExecutionStarted"}

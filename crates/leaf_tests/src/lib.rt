@@ -25,6 +25,8 @@ mod retries;
 #[cfg(test)]
 mod rows;
 #[cfg(test)]
+mod sameness;
+#[cfg(test)]
 mod texts;
 #[cfg(test)]
 mod transfers;
