@@ -50,7 +50,7 @@ pub record Spells (setup : Setup) (text : List ℕ) (S : Content) : Type 0 where
 
 -- what is so of each content that is restored for a shard with this setup: it has the setup, a count for each shard, and
 -- dispatches of its own
-pub record IsOfShard (setup : Setup) (S : Content) : Type 0 where
-  pub setup : S.setup ≡ setup
-  pub accepted : length S.accepted ≡ setup.shards
-  pub dispatches : AllByRecursion (λ (d : Dispatch). d.hint.shard ≡ setup.shard) S.dispatches
+pub record IsOfShard (own : Setup) (S : Content) : Type 0 where
+  pub setup : S.setup ≡ own
+  pub accepted : length S.accepted ≡ own.shards
+  pub dispatches : AllByRecursion (λ (d : Dispatch). d.hint.shard ≡ own.shard) S.dispatches
