@@ -11,7 +11,7 @@ mod runs;
 mod same;
 mod same_runs;
 mod shards;
-mod snapshot;
+mod written;
 
 pub use fault::SnapshotFault;
-pub use snapshot::snapshot;
+pub use written::snapshot;
