@@ -1,6 +1,6 @@
 //! Whether two shards keep the same.
 
-ghost use Rattle.std.specs.Prelude.{◌≡◌, ◌<◌, IfOk, IsTrue};
+ghost use Rattle.std.specs.Prelude.{◌≡◌, ◌<◌, IfOk, IsTrue, length};
 ghost use Rattle.shard_issued.specs.Outstanding.{IsCaughtUp};
 ghost use Rattle.shard_store.specs.ShardView.{run_in, state, states};
 ghost use Rattle.transfer.specs.Outboxes.{waiting_to};
@@ -17,15 +17,7 @@ use wf_event_values::Id;
 fn are_same_ids(one: &[Id], other: &[Id]) -> bool
     ensures { IsTrue result → one.now ≡ other.now }
 {
-    if one.len() != other.len() {
-        return false;
-    }
-    for index in 0..one.len() {
-        if one[index] != other[index] {
-            return false;
-        }
-    }
-    true
+    one == other
 }
 
 /// Whether two shards were opened with the same.
@@ -125,7 +117,8 @@ fn are_same_transfers<T: KeepsRun>(one: &Store<T>, other: &Store<T>) -> bool
     requires shards { one.now.setup.shards ≡ other.now.setup.shards }
     ensures { IsTrue result → one.now.outgoing ≡ other.now.outgoing }
 {
-    let _accepted = (one.accepted(), other.accepted());
+    let _ours = one.accepted();
+    let _theirs = other.accepted();
     for to in 0..one.setup().shards {
         if !are_same_transfers_to(one, other, to) {
             return false;

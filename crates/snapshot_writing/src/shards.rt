@@ -1,5 +1,6 @@
 //! The lines of a shard: its head, what was counted, its runs, what waits, and the end.
 
+ghost use Rattle.std.specs.Prelude.{◌<◌};
 ghost use Rattle.shard_issued.specs.Outstanding.{IsCaughtUp};
 
 use crate::lines::Lines;
