@@ -9,6 +9,7 @@ pub mod QueueLemmas
 mod TransferLemmas
 pub mod CallLemmas
 pub mod OpenLemmas
+pub mod ResumeLemmas
 mod CloseLemmas
 mod OpeningLaws
 pub mod JournaledLemmas

@@ -2,10 +2,7 @@
 use Rattle.std.specs.Prelude.{ℕ, ◌+◌, ◌||◌, List, [], ◌∷◌, ◌++◌, Bool, false}
 use Rattle.script.specs.Lines.{Line}
 use Rattle.script.specs.Serving.{is_refusal, reply_to, text_of, world_after}
-use Rattle.script.specs.World.{World, opening_from}
-use Rattle.shard_gate.specs.declared.source.Source.{Source}
-use Rattle.shard_gate.specs.declared.source.Source.TheVariants.{Records as FromRecords}
-use Rattle.service_model.specs.Service.{Entry}
+use Rattle.script.specs.World.{World}
 use Rattle.service_model_types.specs.declared.settings.Settings.{Settings}
 
 -- the world, the next line's number, and whether a reply was a refusal
@@ -15,12 +12,9 @@ pub record Cursor : Type 0 where
   pub number : ℕ
   pub refused : Bool
 
-abbrev pub at_opening_from : Source → Settings → List (List Entry) → Cursor
-at_opening_from source K R = record { settings = K; world = opening_from source K R; number = 1; refused = false }
-
--- where it is opened from records
-abbrev pub at_opening : Settings → List (List Entry) → Cursor
-at_opening = at_opening_from FromRecords
+-- before the first line
+abbrev pub beginning : Settings → World → Cursor
+beginning K W = record { settings = K; world = W; number = 1; refused = false }
 
 -- after one line more
 unfoldable pub after_line : Cursor → Line → Cursor

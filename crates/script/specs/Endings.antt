@@ -19,6 +19,8 @@ use Rattle.service_model.specs.Service.{Entry}
 use Rattle.service_model_types.specs.declared.settings.Settings.{Settings}
 use Rattle.service.specs.Ranges.{range_fault}
 use Rattle.service.specs.Reopening.{opens_from}
+use Rattle.service.specs.Resuming.{resumes_from}
+use Rattle.shard_gate.specs.Starts.{Start}
 use Rattle.shard_gate.specs.declared.source.Source.{Source}
 use Rattle.shard_gate.specs.declared.source.Source.TheVariants.{Records as FromRecords}
 
@@ -90,6 +92,25 @@ IsScriptFault K R (Write e) read read' write write' = Rose write write'
 IsScriptFault K R (Setting name) read read' write write' = IsOpeningFault FromRecords K R (Setting name)
 IsScriptFault K R Records read read' write write' = IsOpeningFault FromRecords K R Records
 IsScriptFault K R QueueFull read read' write write' = IsOpeningFault FromRecords K R QueueFull
+
+-- a fault before anything is read, where shards are resumed: this setting is the first one out of its range, the hints of the
+-- tasks that wait don't fit, or memory ran out
+abbrev pub IsResumingFault : Source → Settings → List Start → ScriptFault → Type 0
+IsResumingFault source K starts Memory = Unit {0}
+IsResumingFault source K starts (Read e) = ⊥
+IsResumingFault source K starts (Write e) = ⊥
+IsResumingFault source K starts (Setting name) = (f : Field) × (range_fault K ≡ Err (refusal.InvalidArgument f)) × (name.now ≡ field_name f)
+IsResumingFault source K starts Records = ⊥
+IsResumingFault source K starts QueueFull = resumes_from source K starts ≡ Err refusal.QueueFull
+
+-- a fault of resuming, of the reader, of the writer or of memory
+abbrev pub IsResumedFault : Settings → List Start → ScriptFault → ℕ → ℕ → ℕ → ℕ → Type 0
+IsResumedFault K starts Memory read read' write write' = Unit {0}
+IsResumedFault K starts (Read e) read read' write write' = Rose read read'
+IsResumedFault K starts (Write e) read read' write write' = Rose write write'
+IsResumedFault K starts (Setting name) read read' write write' = IsResumingFault FromRecords K starts (Setting name)
+IsResumedFault K starts Records read read' write write' = ⊥
+IsResumedFault K starts QueueFull read read' write write' = IsResumingFault FromRecords K starts QueueFull
 
 -- P, where the fault is a refused opening's
 abbrev pub IfRefused : ScriptFault → Type 0 → Type 0

@@ -5,8 +5,8 @@ pub mod World
 pub mod Serving
 pub mod Sorted
 pub mod OnePass
-pub mod Traced
 pub mod Output
+pub mod Traced
 pub mod OpeningLaws
 pub mod RecordLaws
 pub mod Cursor

@@ -28,6 +28,8 @@ use Rattle.matching.specs.Named.{place_in, slot_of}
 use Rattle.service.specs.CallRequests.{to_acknowledge, to_deliver, to_dispatched, to_next_dispatch, to_next_transfer, to_start_task}
 use Rattle.service.specs.Contents.{ends_refusal, refusal_of_step, setup_of, shard_refusal, slot_of_step}
 use Rattle.service.specs.Reopening.{contents_from, opens_from, record_at}
+use Rattle.service.specs.Resuming.{resumes_from}
+use Rattle.shard_gate.specs.Starts.{Start, content_behind, records_in}
 use Rattle.shard_gate.specs.declared.source.Source.{Source}
 use Rattle.shard_gate.specs.declared.source.Source.TheVariants.{Records as FromRecords}
 use Rattle.service.specs.TransferTurns.{goes_on}
@@ -65,6 +67,16 @@ opening_from source K R = record {
 -- the same from records
 abbrev pub opening_world : Settings → List (List Entry) → World
 opening_world = opening_from FromRecords
+
+-- the service as it is resumed from shards, of each a content and the record of what was done since: as these records left
+-- it, with the hints of the tasks that are hinted again in the queues
+unfoldable pub resumed_from : Source → Settings → List Start → World
+resumed_from source K starts = record {
+  contents = map content_behind starts;
+  waiting = held_at_opening (resumes_from source K starts);
+  records = records_in starts;
+  steps = [];
+}
 
 -- a shard's content
 abbrev pub content_at : Settings → List Content → ℕ → Content

@@ -4,7 +4,7 @@
 //! the barriers. What it prints is the definition `output`: the replies of the sequential service to
 //! the lines of the text, one after another, under the lines' numbers, and where it is asked for,
 //! after the last one all steps that were made. `run_from` does the same from where records end, and
-//! both give the record of each shard.
+//! `run_resumed` from shards that are given. All give the record of each shard.
 #![tactic(auto)]
 
 mod fault;
@@ -18,10 +18,12 @@ mod serving;
 mod trace;
 
 pub use fault::{JournaledFault, ScriptFault};
-pub use journaled::{Journaled, commit, of_commit, of_serving, run_journaled};
+pub use journaled::{
+    Journaled, commit, of_commit, of_serving, run_journaled, run_resumed_journaled,
+};
 pub use line::{LINE_LIMIT, Line};
 pub use reading::asked;
-pub use run::{CHUNK, Outcome, run_from, run_one};
+pub use run::{CHUNK, Outcome, run_from, run_one, run_resumed};
 pub use serving::opening_fault;
 pub use trace::print_trace;
 pub use wire_lines::cut;

@@ -1,82 +1,33 @@
-use Rattle.std.proofs.Common.{arith}
-use Rattle.std.proofs.lemmas.Result.{err_from_is_err_and}
-use Rattle.script.proofs.Steps.{Progress-none, Progress-then, Progress-stopped, on_any_err}
-use Rattle.script.proofs.EndLemmas.{ran, broke, broke_at_end, broke_in_trace, nothing_done, steps_alone, fault_in_turn, fault_at_end, not_refused_in_turn, not_refused_at_end}
+use Rattle.std.proofs.Common.{IfOk, OnErr, sym, subst}
+use Rattle.std.proofs.lemmas.Result.{IfErr-weaker}
+use Rattle.script.specs.Cursor.{Cursor}
+use Rattle.script.specs.Endings.{Halted, Ran}
+use Rattle.script.specs.Traced.{StepsStayAlone}
+use Rattle.script.proofs.EndLemmas.{begins_so, fault_of_script, not_refused_in_turn, nothing_done, stays_alone}
+use Rattle.script.proofs.Steps.{on_any_err}
 use Rattle.script.proofs.run.run_from.Goals as goal
-
-pub loop-init : goal.loop-init
-loop-init g c = record {
-  room = omega (arith, c.in_ok-buffer.ensures.len);
-  progress = rw (c.in_ok-script.ensures.cursor, c.in_ok-script.ensures.line) (Progress-none _ _ _ _);
-  reads = omega arith;
-  writes = omega arith;
-}
-
-pub loop-preserved : goal.loop-preserved
-loop-preserved g c = record {
-  room = omega (arith, c.loop.invariant.room);
-  progress = Progress-then _ _ _ _ _ _ _ _ _ _ _ _ c.loop.invariant.progress c.in_ok-turn.ensures.progress;
-  reads = omega (arith, c.loop.invariant.reads, c.turn.ensures.read_grows);
-  writes = omega (arith, c.loop.invariant.writes, c.turn.ensures.write_grows);
-}
 
 pub returns-in_err-script-clause-halted : goal.returns-in_err-script-clause-halted
 returns-in_err-script-clause-halted g c = on_any_err c.from_residual.result _ (nothing_done _ _ _ _ _)
 
-pub returns-in_err-buffer-clause-halted : goal.returns-in_err-buffer-clause-halted
-returns-in_err-buffer-clause-halted g c = on_any_err c.from_residual-in_err-buffer.result _ (nothing_done _ _ _ _ _)
+pub run_script-requires-clause-begins : goal.run_script-requires-clause-begins
+run_script-requires-clause-begins g c = begins_so _ _ _ c.in_ok-script.ensures.cursor
 
-pub returns-in_err-turn-clause-halted : goal.returns-in_err-turn-clause-halted
-returns-in_err-turn-clause-halted g c = on_any_err c.from_residual-in_err-turn.result _ (broke _ _ _ _ _ _ _ (Progress-stopped _ _ _ _ _ _ _ _ _ _ c.loop.invariant.progress c.in_err-turn.ensures.stopped))
+pub run_script-requires-clause-traced : goal.run_script-requires-clause-traced
+run_script-requires-clause-traced g c = λ traced. subst (λ (d : Cursor). StepsStayAlone d.settings d.world) (sym c.in_ok-script.ensures.cursor) (stays_alone c.args.settings.now c.args.records.items (c.requires.fresh traced))
 
-pub returns-in_err-turn-clause-fault : goal.returns-in_err-turn-clause-fault
-returns-in_err-turn-clause-fault g c =
-    let p = err_from_is_err_and c.from_residual-in_err-turn.result c.from_residual-in_err-turn.ensures.1 in
-    rw (p.1, p.2) (fault_in_turn c.args.settings.now c.args.records.items _ _ c.loop.reader.failures _ _ c.loop.writer.failures _ c.loop.invariant.reads c.loop.invariant.writes c.in_err-turn.ensures.fault)
+pub returns-clause-ran : goal.returns-clause-ran
+returns-clause-ran g c =
+    subst (λ (d : Cursor). IfOk c.run_script.result (λ o. Ran d.settings c.args.trace d.world (g.R.Read.remaining c.args.reader.now.inner) (g.W.Write.contents c.args.writer.now.inner) (g.R.Read.remaining c.run_script.new.reader.inner) (g.W.Write.contents c.run_script.new.writer.inner) o.refused o.records.items))
+    c.in_ok-script.ensures.cursor c.run_script.ensures.ran
 
-pub returns-in_err-turn-clause-untouched : goal.returns-in_err-turn-clause-untouched
-returns-in_err-turn-clause-untouched g c =
-    let p = err_from_is_err_and c.from_residual-in_err-turn.result c.from_residual-in_err-turn.ensures.1 in
-    rw (p.1, p.2) (not_refused_in_turn _ _ _ _ _ _ c.in_err-turn.ensures.fault)
+pub returns-clause-halted : goal.returns-clause-halted
+returns-clause-halted g c =
+    subst (λ (d : Cursor). OnErr c.run_script.result (Halted d.settings c.args.trace d.world (g.R.Read.remaining c.args.reader.now.inner) (g.W.Write.contents c.args.writer.now.inner) (g.R.Read.remaining c.run_script.new.reader.inner) (g.W.Write.contents c.run_script.new.writer.inner)))
+    c.in_ok-script.ensures.cursor c.run_script.ensures.halted
 
-pub returns-in_err-finish-clause-untouched : goal.returns-in_err-finish-clause-untouched
-returns-in_err-finish-clause-untouched g c =
-    let p = err_from_is_err_and c.from_residual-in_err-finish.result c.from_residual-in_err-finish.ensures.1 in
-    rw (p.1, p.2) (not_refused_at_end _ _ _ _ c.in_err-finish.ensures.fault)
+pub returns-clause-untouched : goal.returns-clause-untouched
+returns-clause-untouched g c = IfErr-weaker c.run_script.result _ _ (λ e h. not_refused_in_turn e _ _ _ _ _ h) c.run_script.ensures.fault
 
-pub returns-in_err-finish-clause-halted : goal.returns-in_err-finish-clause-halted
-returns-in_err-finish-clause-halted g c =
-    let so_far = Progress-then _ _ _ _ _ _ _ _ _ _ _ _ c.loop.invariant.progress c.in_ok-turn.ensures.progress in
-    on_any_err c.from_residual-in_err-finish.result _ (broke_at_end _ _ _ _ _ _ _ _ _ _ so_far (c.in_ok-turn.ensures.end c.if-branch.true) c.in_err-finish.ensures.begun)
-
-pub returns-in_err-finish-clause-fault : goal.returns-in_err-finish-clause-fault
-returns-in_err-finish-clause-fault g c =
-    let p = err_from_is_err_and c.from_residual-in_err-finish.result c.from_residual-in_err-finish.ensures.1 in
-    rw (p.1, p.2) (fault_at_end c.args.settings.now c.args.records.items _ _ _ _ c.turn.new.writer.failures _ (omega (arith, c.loop.invariant.writes, c.turn.ensures.write_grows)) c.in_err-finish.ensures.fault)
-
-pub close-requires : goal.close-requires
-close-requires g c =
-    let so_far = Progress-then _ _ _ _ _ _ _ _ _ _ _ _ c.loop.invariant.progress c.in_ok-turn.ensures.progress in
-    λ traced. steps_alone _ _ _ _ _ _ _ _ _ _ so_far c.in_ok-finish.ensures.cursor c.in_ok-finish.ensures.written (c.requires.fresh traced)
-
-pub returns-in_err-outcome-clause-untouched : goal.returns-in_err-outcome-clause-untouched
-returns-in_err-outcome-clause-untouched g c =
-    let p = err_from_is_err_and c.from_residual-in_err-outcome.result c.from_residual-in_err-outcome.ensures.1 in
-    rw (p.1, p.2) (not_refused_at_end _ _ _ _ c.in_err-outcome.ensures.fault)
-
-pub returns-in_err-outcome-clause-halted : goal.returns-in_err-outcome-clause-halted
-returns-in_err-outcome-clause-halted g c =
-    let so_far = Progress-then _ _ _ _ _ _ _ _ _ _ _ _ c.loop.invariant.progress c.in_ok-turn.ensures.progress in
-    on_any_err c.from_residual-in_err-outcome.result _
-    (broke_in_trace _ _ _ _ _ _ _ _ _ _ so_far c.in_ok-finish.ensures.cursor c.in_ok-finish.ensures.written _ _ (c.in_ok-turn.ensures.end c.if-branch.true) c.in_err-outcome.ensures.begun)
-
-pub returns-in_err-outcome-clause-fault : goal.returns-in_err-outcome-clause-fault
-returns-in_err-outcome-clause-fault g c =
-    let p = err_from_is_err_and c.from_residual-in_err-outcome.result c.from_residual-in_err-outcome.ensures.1 in
-    rw (p.1, p.2) (fault_at_end c.args.settings.now c.args.records.items _ _ _ _ c.finish.new.writer.failures _ (omega (arith, c.loop.invariant.writes, c.turn.ensures.write_grows, c.finish.ensures.grows)) c.in_err-outcome.ensures.fault)
-
-pub returns-then-branch-clause-ran : goal.returns-then-branch-clause-ran
-returns-then-branch-clause-ran g c =
-    let so_far = Progress-then _ _ _ _ _ _ _ _ _ _ _ _ c.loop.invariant.progress c.in_ok-turn.ensures.progress in
-    rw (c.in_ok-outcome.ensures.refused, c.in_ok-outcome.ensures.records)
-    (ran _ _ _ _ _ _ _ _ _ _ so_far c.in_ok-finish.ensures.cursor c.in_ok-finish.ensures.written _ _ (c.in_ok-turn.ensures.end c.if-branch.true) c.in_ok-outcome.ensures.written)
+pub returns-clause-fault : goal.returns-clause-fault
+returns-clause-fault g c = IfErr-weaker c.run_script.result _ _ (λ e h. fault_of_script c.args.settings.now c.args.records.items e _ _ _ _ h) c.run_script.ensures.fault
