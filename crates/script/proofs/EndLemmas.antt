@@ -4,6 +4,7 @@ use Rattle.std.specs.Io.KnownBytes.{Appends, IsAtEnd}
 use Rattle.wire_counted.specs.Written.{AppendsBeginning}
 use Rattle.wire_counted.proofs.Known.{Appends-then, Consumes-none, beginning_behind, beginning_of_more, beginning_of_nothing}
 use Rattle.shard_gate.specs.Starts.{Start}
+use Rattle.shard_gate.specs.declared.source.Source.{Source}
 use Rattle.shard_gate.specs.declared.source.Source.TheVariants.{Records as FromRecords}
 use Rattle.script.specs.Lines.{Line, all_lines, whole_lines}
 use Rattle.script.specs.Pending.{ended, left, last}
@@ -136,21 +137,21 @@ fault_of_script K R (Setting name) r r' w w' h = absurd h
 fault_of_script K R Records r r' w w' h = absurd h
 fault_of_script K R QueueFull r r' w w' h = absurd h
 
-pub fault_of_resumed : (K : Settings) (starts : List Start) (e : ScriptFault) (r r' w w' : ℕ) → IsDeviceFault e r r' w w' → IsResumedFault K starts e r r' w w'
-fault_of_resumed K starts Memory r r' w w' h = tt
-fault_of_resumed K starts (Read e) r r' w w' h = h
-fault_of_resumed K starts (Write e) r r' w w' h = h
-fault_of_resumed K starts (Setting name) r r' w w' h = absurd h
-fault_of_resumed K starts Records r r' w w' h = absurd h
-fault_of_resumed K starts QueueFull r r' w w' h = absurd h
+pub fault_of_resumed : (source : Source) (K : Settings) (starts : List Start) (e : ScriptFault) (r r' w w' : ℕ) → IsDeviceFault e r r' w w' → IsResumedFault source K starts e r r' w w'
+fault_of_resumed source K starts Memory r r' w w' h = tt
+fault_of_resumed source K starts (Read e) r r' w w' h = h
+fault_of_resumed source K starts (Write e) r r' w w' h = h
+fault_of_resumed source K starts (Setting name) r r' w w' h = absurd h
+fault_of_resumed source K starts Records r r' w w' h = absurd h
+fault_of_resumed source K starts QueueFull r r' w w' h = absurd h
 
-pub resuming_fault_of : (K : Settings) (starts : List Start) (e : ScriptFault) (r r' w w' : ℕ) → IsResumingFault FromRecords K starts e → IsResumedFault K starts e r r' w w'
-resuming_fault_of K starts Memory r r' w w' h = tt
-resuming_fault_of K starts (Read e) r r' w w' h = absurd h
-resuming_fault_of K starts (Write e) r r' w w' h = absurd h
-resuming_fault_of K starts (Setting name) r r' w w' h = h
-resuming_fault_of K starts Records r r' w w' h = absurd h
-resuming_fault_of K starts QueueFull r r' w w' h = h
+pub resuming_fault_of : (source : Source) (K : Settings) (starts : List Start) (e : ScriptFault) (r r' w w' : ℕ) → IsResumingFault source K starts e → IsResumedFault source K starts e r r' w w'
+resuming_fault_of source K starts Memory r r' w w' h = tt
+resuming_fault_of source K starts (Read e) r r' w w' h = absurd h
+resuming_fault_of source K starts (Write e) r r' w w' h = absurd h
+resuming_fault_of source K starts (Setting name) r r' w w' h = h
+resuming_fault_of source K starts Records r r' w w' h = absurd h
+resuming_fault_of source K starts QueueFull r r' w w' h = h
 
 -- a fault of a device or of memory is no refused opening's
 pub not_refused_in_turn : (e : ScriptFault) (r r' w w' : ℕ) (P : Type 0) → IsDeviceFault e r r' w w' → IfRefused e P

@@ -104,13 +104,13 @@ IsResumingFault source K starts Records = ⊥
 IsResumingFault source K starts QueueFull = resumes_from source K starts ≡ Err refusal.QueueFull
 
 -- a fault of resuming, of the reader, of the writer or of memory
-abbrev pub IsResumedFault : Settings → List Start → ScriptFault → ℕ → ℕ → ℕ → ℕ → Type 0
-IsResumedFault K starts Memory read read' write write' = Unit {0}
-IsResumedFault K starts (Read e) read read' write write' = Rose read read'
-IsResumedFault K starts (Write e) read read' write write' = Rose write write'
-IsResumedFault K starts (Setting name) read read' write write' = IsResumingFault FromRecords K starts (Setting name)
-IsResumedFault K starts Records read read' write write' = ⊥
-IsResumedFault K starts QueueFull read read' write write' = IsResumingFault FromRecords K starts QueueFull
+abbrev pub IsResumedFault : Source → Settings → List Start → ScriptFault → ℕ → ℕ → ℕ → ℕ → Type 0
+IsResumedFault source K starts Memory read read' write write' = Unit {0}
+IsResumedFault source K starts (Read e) read read' write write' = Rose read read'
+IsResumedFault source K starts (Write e) read read' write write' = Rose write write'
+IsResumedFault source K starts (Setting name) read read' write write' = IsResumingFault source K starts (Setting name)
+IsResumedFault source K starts Records read read' write write' = ⊥
+IsResumedFault source K starts QueueFull read read' write write' = IsResumingFault source K starts QueueFull
 
 -- P, where the fault is a refused opening's
 abbrev pub IfRefused : ScriptFault → Type 0 → Type 0

@@ -199,7 +199,7 @@ first-of setup c m e =
 
 -- ---- one piece after another
 
-PointOf : Setup → Point → Type 0
+abbrev PointOf : Setup → Point → Type 0
 PointOf setup AtHead = Unit {0}
 PointOf setup AtCounts = Unit {0}
 PointOf setup (Lays l) = Of setup l
@@ -223,7 +223,7 @@ next-of setup n AtHead y (piece.Dispatch d) h e = absurd (cc)
 next-of setup n AtHead y (piece.Transfer t) h e = absurd (cc)
 next-of setup n AtHead y (piece.End x) h e = absurd (cc)
 next-of setup n AtCounts y (piece.Counted c) h e = to-lays setup (laid_first setup c) y (λ m is. first-of setup c m is) e
-next-of setup n AtCounts y (piece.Head h) h e = absurd (cc)
+next-of setup n AtCounts y (piece.Head k) h e = absurd (cc)
 next-of setup n AtCounts y (piece.Gone k) h e = absurd (cc)
 next-of setup n AtCounts y (piece.Event x) h e = absurd (cc)
 next-of setup n AtCounts y (piece.Request id) h e = absurd (cc)
@@ -241,7 +241,7 @@ next-of setup n (Lays l) y (piece.End x) h e =
     to-restored setup (end_laid l x) y (λ S is. end-of setup l S x h is) (so-ok (x.lines == n) (on_ok (end_laid l x) (λ S. Ok (IsRestored S))) damage.Lines y e)
 next-of setup n (Lays l) y (piece.Head k) h e = absurd (cc)
 next-of setup n (Lays l) y (piece.Counted c) h e = absurd (cc)
-next-of setup n (IsRestored S) y (piece.Head h) h e = absurd (cc)
+next-of setup n (IsRestored S) y (piece.Head k) h e = absurd (cc)
 next-of setup n (IsRestored S) y (piece.Gone k) h e = absurd (cc)
 next-of setup n (IsRestored S) y (piece.Event x) h e = absurd (cc)
 next-of setup n (IsRestored S) y (piece.Request id) h e = absurd (cc)

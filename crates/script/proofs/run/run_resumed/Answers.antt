@@ -31,4 +31,4 @@ pub returns-clause-untouched : goal.returns-clause-untouched
 returns-clause-untouched g c = IfErr-weaker c.run_script.result _ _ (λ e h. not_refused_in_turn e _ _ _ _ _ h) c.run_script.ensures.fault
 
 pub returns-clause-fault : goal.returns-clause-fault
-returns-clause-fault g c = IfErr-weaker c.run_script.result _ _ (λ e h. fault_of_resumed c.args.settings.now (map (starting g.S.Object.opening) c.args.shards.items) e _ _ _ _ h) c.run_script.ensures.fault
+returns-clause-fault g c = IfErr-weaker c.run_script.result _ _ (λ e h. fault_of_resumed c.args.source c.args.settings.now (map (starting g.S.Object.opening) c.args.shards.items) e _ _ _ _ h) c.run_script.ensures.fault
