@@ -7,7 +7,6 @@
 
 mod checkpointed;
 mod fault;
-mod in_lanes;
 mod queues;
 mod restored;
 mod scripts;
@@ -15,7 +14,6 @@ mod slots;
 
 pub use checkpointed::Checkpointed;
 pub use fault::LoadFault;
-pub use in_lanes::{run_lanes_restored, run_lanes_standing};
 pub use restored::{Restored, restored};
 pub use scripts::{run_restored, run_standing};
 pub use snapshot_writing::SnapshotFault;

@@ -50,6 +50,9 @@ pub enum Fault {
     /// Records were to be saved of a service that was opened from snapshots.
     #[error("--save writes records from the first step on, which snapshots don't have: use --snapshot")]
     SaveBehindSnapshots,
+    /// Several passes were asked for, of a service that is opened from snapshots.
+    #[error("snapshots are served by one pass: --passes is to be 1")]
+    PassesBehindSnapshots,
     /// The text that was made of a shard would not restore it. Nothing that an operator does causes it.
     #[error("{path}: no snapshot can be made of this shard; please report it")]
     NoSnapshot {
