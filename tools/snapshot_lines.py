@@ -4,15 +4,19 @@ What a line needs, as a task's token or the event that scheduled an activity, is
 """
 from __future__ import annotations
 
+import collections
+import pathlib
 import random
+import re
 import sys
 from collections.abc import Callable, Iterator
-from typing import Any
+from typing import Any, NamedTuple
 
 import client_package
-from wfserve.ids import run_of_token
+from wfserve.ids import run_of_token, token_of
 
-sys.path.insert(0, str(client_package.CLIENT.parent.parent / "bench"))
+TOP = client_package.CLIENT.parent.parent
+sys.path.insert(0, str(TOP / "bench"))
 import soak  # noqa: E402
 
 Line = dict[str, Any]
@@ -20,7 +24,7 @@ Line = dict[str, Any]
 SHARDS, WORKFLOWS, SERVICE = 3, 6, 1
 QUEUES = ("main", "other")
 # One line in so many comes after a leap of the moments, by which deadlines are over.
-LEAP = 15
+LEAP = 40
 FEED = b"\n"
 
 
@@ -30,13 +34,40 @@ def reads(at: int) -> list[Line]:
     return [{"op": op, "workflow_id": name, "at": at} for name in names for op in ("describe", "history")]
 
 
+class Case(NamedTuple):
+    """A case of the program `cases` that may be cut: its title, its words and its lines."""
+
+    title: str
+    words: list[str]
+    lines: list[bytes]
+
+
+def cases_in(name: str, text: str) -> list[Case]:
+    """The cases of a file that may be cut after each line and that one lane serves."""
+    found = []
+    for part in re.split(r"(?m)^## ", text)[1:]:
+        words = [word for line in re.findall(r"(?m)^\$ (.*)$", part) for word in line.split()]
+        lines = [line.encode() + FEED for line in re.findall(r"(?m)^>(?: (.*))?$", part)]
+        if re.search(r"(?m)^@ cuts", part) and "--passes" not in words and len(lines) > 1:
+            found.append(Case(f"{name}: {part.splitlines()[0]}", words, lines))
+    return found
+
+
+def all_cases() -> list[Case]:
+    """Those of all files."""
+    files: list[pathlib.Path] = sorted((TOP / "crates/cases/data").glob("*.cases"))
+    return [case for file in files for case in cases_in(file.stem, file.read_text(encoding="utf-8"))]
+
+
 class Drawn(soak.Drawn):
     """Lines of every kind over few workflows, so that they meet each other in every state."""
 
     def __init__(self, seed: int, lanes: int):
         super().__init__(seed)
         self.lanes, self.number = lanes, 0
-        # Of each run the events that scheduled its activities, and the ids of its timers.
+        # Lines of a round that was begun.
+        self.rest: collections.deque[Line] = collections.deque()
+        # Of each run the events that scheduled its activities, and the ids of timers that it was told to start.
         self.scheduled: dict[str, list[int]] = {}
         self.timers: dict[str, list[str]] = {}
 
@@ -59,40 +90,49 @@ class Drawn(soak.Drawn):
         return self.random.choice([{}, {"request_id": f"r{self.random.randrange(6)}"}])
 
     def start(self) -> Line:
-        timeouts = {"run_timeout": self.random.choice([0, 0, 0, 3_000]), "task_timeout": self.random.choice([0, 300])}
-        if self.random.randrange(4) == 0:
-            timeouts["execution_timeout"] = 6_000
-        return {**super().start(), **timeouts, "input": "i" * self.random.randrange(4)}
+        given = {"run_timeout": self.random.choice([0, 0, 0, 3_000]),
+                 "task_timeout": self.random.choice([0, 0, 0, 400]),
+                 "conflict": self.random.choice(["Fail", *soak.CONFLICT, "UseExisting", "Fail"])}
+        if self.random.randrange(6) == 0:
+            given["execution_timeout"] = 6_000
+        return {**super().start(), **given, "input": "i" * self.random.randrange(4)}
 
     def activity(self) -> Line:
         retry = {"initial": self.random.randrange(1, 400), "coefficient": self.random.choice([100, 150, 300]),
                  "attempts": self.random.choice([0, 2, 3]), "non_retryable": self.random.choice([[], ["bad"]])}
         return {
             "type": "ScheduleActivityTask", "activity_id": self.fresh("a"), "activity_type": "drawn",
-            "task_queue": self.queue(), "input": "x", "start_to_close": self.random.choice([200, 2_000]),
-            "schedule_to_close": self.random.choice([0, 4_000]), "schedule_to_start": self.random.choice([0, 0, 900]),
-            "heartbeat": self.random.choice([0, 300]), **self.random.choice([{}, {"retry": retry}]),
+            "task_queue": self.queue(), "input": "x", "start_to_close": self.random.choice([300, 5_000]),
+            "schedule_to_close": self.random.choice([0, 0, 4_000]),
+            "schedule_to_start": self.random.choice([0, 0, 900]),
+            "heartbeat": self.random.choice([0, 400]), **self.random.choice([{}, {"retry": retry}]),
         }
 
     def child(self) -> Line:
         close = self.random.choice(["Terminate", "RequestCancel", "Abandon"])
-        return {"type": "StartChildWorkflowExecution", "workflow_id": self.name(), "workflow_type": "child",
+        name = self.random.choice([self.name(), self.fresh("c"), self.fresh("c")])
+        return {"type": "StartChildWorkflowExecution", "workflow_id": name, "workflow_type": "child",
                 "task_queue": self.queue(), "parent_close": close, "reuse": self.random.choice(soak.REUSE)}
 
-    def command(self, run: str | None = None) -> Line:
+    def timer(self, run: str) -> Line:
+        timer = self.fresh("t")
+        self.timers.setdefault(run, []).append(timer)
+        return {"type": "StartTimer", "timer_id": timer, "duration": self.random.randrange(1, 900)}
+
+    def command(self, run: str) -> Line:
         """A command for a task of a run."""
-        known, timers = self.scheduled.get(run or "", []), self.timers.get(run or "", [])
+        known, timers = self.scheduled.get(run, []), self.timers.get(run, [])
         kinds: list[Callable[[], Line]] = [
-            self.activity, self.activity, self.activity, self.child,
-            lambda: {"type": "StartTimer", "timer_id": self.fresh("t"), "duration": self.random.randrange(1, 900)},
+            self.activity, self.activity, self.activity, self.child, self.child, lambda: self.timer(run),
             lambda: {"type": "RecordMarker", "name": "drawn", "details": "m" * self.random.randrange(9)},
             lambda: {"type": "SignalExternalWorkflowExecution", "workflow_id": self.name(), "name": "hello"},
             lambda: {"type": "RequestCancelExternalWorkflowExecution", "workflow_id": self.name()},
         ]
+        # The latest are most likely in use still.
         if known:
-            kinds.append(lambda: {"type": "RequestCancelActivityTask", "scheduled": self.random.choice(known)})
+            kinds += [lambda: {"type": "RequestCancelActivityTask", "scheduled": self.random.choice(known[-3:])}]
         if timers:
-            kinds.append(lambda: {"type": "CancelTimer", "timer_id": self.random.choice(timers)})
+            kinds += [lambda: {"type": "CancelTimer", "timer_id": self.random.choice(timers[-3:])}] * 2
         return self.random.choice(kinds)()
 
     def closing(self) -> list[Line]:
@@ -103,14 +143,12 @@ class Drawn(soak.Drawn):
             {"type": "CancelWorkflowExecution", "details": "drawn"},
             {"type": "ContinueAsNewWorkflowExecution", "input": "again"},
         ]
-        return [self.random.choice(kinds)] if self.random.randrange(4) == 0 else []
+        return [self.random.choice(kinds)] if self.random.randrange(6) == 0 else []
 
     def completion(self) -> Line:
         line = self.with_token(self.tasks, "complete_workflow_task")
-        if "token" not in line:
-            return line
         run = run_of_token(line["token"], SERVICE)
-        return {**line, "commands": [self.command(run) for _ in range(self.random.randrange(4))] + self.closing()}
+        return {**line, "commands": [self.command(run) for _ in range(self.random.randrange(1, 5))] + self.closing()}
 
     def turn(self) -> Line:
         kind, stop = self.random.randrange(5), self.random.choice([{}, {}, {}, {}, {"stop": 1}, {"stop": 2}])
@@ -120,53 +158,73 @@ class Drawn(soak.Drawn):
             return {"op": "transfer_turn", "from": self.shard(), "to": self.shard(), **stop}
         return {"op": "dispatch_turn", "shard": self.shard(), **stop}
 
+    def round(self) -> Line:
+        """The first of some turns on all shards, the others of which come next, and of polls after dispatches."""
+        shards, kind = range(SHARDS), self.random.randrange(8)
+        if kind == 0:
+            lines = [{"op": "timer_turn", "shard": shard} for shard in shards]
+        elif kind < 4:
+            lines = [{"op": "transfer_turn", "from": one, "to": other} for one in shards for other in shards]
+        else:
+            lines = [{"op": "dispatch_turn", "shard": shard} for shard in shards for _ in range(2)]
+            polls = ("poll_workflow_task", "poll_activity_task", "poll_activity_task")
+            lines += [{"op": op, "task_queue": queue} for op in polls for queue in QUEUES]
+        self.rest.extend(lines)
+        return self.rest.popleft()
+
     def report(self) -> Line:
-        """What a worker says about an attempt that it took."""
-        if not self.activities:
-            return self.turn()
+        """What a worker says about an attempt that it took, or took before."""
         beat = {"op": "heartbeat", "token": self.random.choice(self.activities), "details": f"d{self.at}"}
-        kind = self.random.randrange(7)
-        if kind < 2:
+        kind = self.random.randrange(9)
+        if kind < 5:
             return beat
-        if kind == 2:
+        if kind == 5:
             return self.with_token(self.activities, "complete_activity", result="done")
-        if kind == 3:
+        if kind == 6:
             return self.with_token(self.activities, "cancel_activity", details="c")
-        kinds: list[Line] = [{}, {}, {"error_type": "bad"}, {"non_retryable": True}]
+        kinds: list[Line] = [{}, {}, {}, {"error_type": "bad"}, {"non_retryable": True}]
         return self.with_token(self.activities, "fail_activity", message="m", **self.random.choice(kinds))
 
     def line(self) -> Line:
-        self.at += self.random.randrange(40) + (1_500 if self.random.randrange(LEAP) == 0 else 0)
+        self.at += self.random.randrange(20)
+        if self.random.randrange(LEAP) == 0:
+            self.at += self.random.choice([400, 2_000])
+            self.rest.extend({"op": "timer_turn", "shard": shard} for shard in range(SHARDS) for _ in range(2))
+        line = self.rest.popleft() if self.rest else self.drawn_line()
+        return {**line, "at": self.at, "lane": self.random.randrange(self.lanes)}
+
+    def drawn_line(self) -> Line:
         draws: list[tuple[int, Callable[[], Line]]] = [
-            (10, self.start),
+            (9, self.start),
             (8, lambda: {"op": "signal", "workflow_id": self.name(), "name": "hello", **self.asked_once()}),
             (4, lambda: {**self.start(), "op": "signal_with_start", "name": "both"}),
             (3, lambda: {"op": "request_cancel", "workflow_id": self.name(), **self.asked_once()}),
             (1, lambda: {"op": "terminate", "workflow_id": self.name(), "reason": "drawn"}),
-            (16, lambda: {"op": "poll_workflow_task", "task_queue": self.queue()}),
-            (14, lambda: {"op": "poll_activity_task", "task_queue": self.queue()}),
-            (20, self.completion),
-            (2, lambda: self.with_token(self.tasks, "fail_workflow_task", message="drawn")),
-            (16, self.report),
-            (2, lambda: {"op": "describe", "workflow_id": self.name()}),
-            (8, lambda: {"op": "history", "workflow_id": self.name()}),
-            (50, self.turn),
+            (4, lambda: {"op": "poll_workflow_task", "task_queue": self.queue()}),
+            (4, lambda: {"op": "poll_activity_task", "task_queue": self.queue()}),
+            (40 if self.tasks else 0, self.completion),
+            (2 if self.tasks else 0, lambda: self.with_token(self.tasks, "fail_workflow_task", message="drawn")),
+            (40 if self.activities else 0, self.report),
+            (1, lambda: {"op": "describe", "workflow_id": self.name()}),
+            (5, lambda: {"op": "history", "workflow_id": self.name()}),
+            (12, self.turn),
+            (6, self.round),
         ]
         (draw,) = self.random.choices([draw for _, draw in draws], [weight for weight, _ in draws])
         line = draw()
         if line["op"] == "signal_with_start":
             line.pop("conflict", None)
-        return {**line, "at": self.at, "lane": self.random.randrange(self.lanes)}
+        return line
 
     def learn(self, reply: Line) -> None:
-        """Keeps a task's token, and what a history says about activities and timers."""
+        """Keeps a task's token, and which activities a run has, by these and by its history."""
         super().learn(reply)
-        if reply.get("ok") != "history":
-            return
-        events = reply["events"]
-        self.scheduled[reply["run"]] = [event["id"] for event in events if event["type"] == "ActivityTaskScheduled"]
-        started = [event["attrs"]["timer_id"] for event in events if event["type"] == "TimerStarted"]
-        self.timers[reply["run"]] = started
+        token = token_of(reply["token"]) if "activity_id" in reply else None
+        if token is not None:
+            self.scheduled.setdefault(reply["run"], []).append(token.event)
+        elif reply.get("ok") == "history":
+            scheduled = [event["id"] for event in reply["events"] if event["type"] == "ActivityTaskScheduled"]
+            self.scheduled[reply["run"]] = scheduled
 
 
 def lines_of(text: bytes) -> list[bytes]:

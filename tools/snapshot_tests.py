@@ -1,13 +1,14 @@
 #!/usr/bin/env python3
 """The built program with snapshots: what it goes on with, chains of them, damaged ones, other settings, a full disk.
 
-    tools/snapshot_tests.py PROGRAM [--cuts N] [--changes N] [--seed S]
+    tools/snapshot_tests.py PROGRAM [--cuts N] [--cases N] [--changes N] [--seed S]
 
 PROGRAM is the built `wfserve`, as `rt ci` leaves it in crates/wfserve/out. Drawn lines are cut at N places (40), some
 places to a script. What comes after a place is answered by a program that goes on from snapshots, and by one that goes
-on from a journal with all lines so far: both have to print the same bytes. Of a snapshot each line is dropped, doubled
-and swapped, and N bytes are changed (150). The seed is printed; with the same one the same lines are drawn. The status
-is 1 where a test fails, and the folder that shows it is kept and named.
+on from a journal with all lines so far: both have to print the same bytes. So it is with the cases in crates/cases/data
+at N drawn places (300). Of a snapshot each line is dropped, doubled and swapped, and N bytes are changed (150). The
+seed is printed; with the same one the same lines are drawn. The status is 1 where a test fails, and the folder of all
+drawn lines and snapshots is kept then and named.
 """
 from __future__ import annotations
 
@@ -31,21 +32,22 @@ from typing import Any
 
 import snapshot_lines
 from journal_program import RESTORED, SECONDS, Line, Tested, start, text
-from snapshot_lines import QUEUES, SHARDS, Drawn, reads
+from snapshot_lines import QUEUES, SHARDS, Case, Drawn, all_cases, reads
 from wfserve.journal import Journal
 
 # Lines between two places at which a script is cut, at most.
-MOST_LINES = 120
+MOST_LINES = 140
 # So many lines are handed in before their replies are read, since later ones are drawn from these.
 AHEAD = 6
 MOST_CUTS = 4
 # What every large number of drawn snapshots has.
 PIECES = {"head", "counted", "gone", "event", "request_id", "note", "dispatch", "transfer", "end"}
 NOTES = {"taken", "ended", "ready", "beat"}
-ENOUGH_CUTS = 30
+ENOUGH_CUTS, ENOUGH_CASES, ENOUGH_KINDS = 30, 200, 40
 OTHER_SETTINGS = "the snapshot is of other settings: --service, --shards or --retention"
 BEHIND_SNAPSHOTS = "--save writes records from the first step on, which snapshots don't have: use --snapshot"
 cuts = 40
+cases = 300
 changes = 150
 seed = random.randrange(1_000_000)
 
@@ -214,6 +216,43 @@ def services() -> list[Service]:
     return found
 
 
+@dataclass(frozen=True)
+class CutCase:
+    """A case that was cut after a line: what was printed before and then, and the snapshots of both moments."""
+
+    case: Case
+    place: int
+    by_journal: list[Ran]
+    by_snapshots: list[Ran]
+    texts: list[bytes]
+    again: list[bytes]
+
+
+def case_cut(case: Case, place: int, folder: pathlib.Path) -> CutCase:
+    """A case that is cut after this line."""
+    journal, snap, then, again = (folder / name for name in ("journal", "snap", "then", "again"))
+    for made in (journal, snap, then, again):
+        made.mkdir()
+    parts = [b"".join(case.lines[:place]), b"".join(case.lines[place:])]
+    by_journal = [ran(part, *case.words, "--journal", journal) for part in parts]
+    by_snapshots = [ran(parts[0], *case.words, "--snapshot", snap),
+                    ran(parts[1], *case.words, "--load", snap, "--snapshot", then)]
+    ran(b"", *case.words, "--load", snap, "--snapshot", again)
+    texts = texts_in(snap)
+    return CutCase(case, place, by_journal, by_snapshots, texts, texts_in(again))
+
+
+@functools.cache
+def cut_cases() -> list[CutCase]:
+    """So many drawn places of cases as are asked for."""
+    places = [(case, place) for case in all_cases() for place in range(1, len(case.lines))]
+    found = []
+    for case, place in random.Random(seed).sample(places, min(cases, len(places))):
+        with tempfile.TemporaryDirectory() as folder:
+            found.append(case_cut(case, place, pathlib.Path(folder)))
+    return found
+
+
 def piece_of(line: bytes) -> tuple[str, str]:
     """Which kind of line of a snapshot one is, and of an event or a note which."""
     said = json.loads(line)
@@ -255,11 +294,23 @@ class GoneOn(unittest.TestCase):
                 self.assertEqual(part.from_records, part.texts)
 
     def test_every_state_is_drawn(self) -> None:
-        found = kinds_in(one for service in services() for part in service.parts for one in part.texts)
+        texts = [one for service in services() for part in service.parts for one in part.texts]
+        found = kinds_in([*texts, *(one for cut in cut_cases() for one in cut.texts)])
         print(f"snapshot_tests: {found.total()} lines of snapshots, of {len(found)} kinds", flush=True)
-        if cuts >= ENOUGH_CUTS:
+        if cuts >= ENOUGH_CUTS and cases >= ENOUGH_CASES:
             self.assertEqual(PIECES - {piece for piece, _ in found}, set(), f"seed {seed}")
             self.assertEqual(NOTES - {kind for piece, kind in found if piece == "note"}, set(), f"seed {seed}")
+            self.assertGreaterEqual(len(found), ENOUGH_KINDS, f"seed {seed}")
+
+
+class CutCases(unittest.TestCase):
+    """The cases go on from snapshots as from a journal, and their first lines print the same beside both."""
+
+    def test_cases_go_on(self) -> None:
+        for cut in cut_cases():
+            with self.subTest(f"{cut.case.title}, cut after line {cut.place}, seed {seed}"):
+                self.assertEqual(cut.by_snapshots, cut.by_journal)
+                self.assertEqual(cut.again, cut.texts)
 
 
 class Folder(unittest.TestCase):
@@ -464,15 +515,17 @@ class Written(Folder):
 
 
 def main(given: list[str]) -> int:
-    global cuts, changes, seed
+    global cuts, cases, changes, seed
     options = argparse.ArgumentParser(description=__doc__, formatter_class=argparse.RawDescriptionHelpFormatter)
     options.add_argument("program", type=pathlib.Path)
     options.add_argument("--cuts", type=int, default=cuts)
+    options.add_argument("--cases", type=int, default=cases)
     options.add_argument("--changes", type=int, default=changes)
     options.add_argument("--seed", type=int, default=seed)
     asked = options.parse_args(given)
-    Tested.program, cuts, changes, seed = asked.program.resolve(), asked.cuts, asked.changes, asked.seed
-    print(f"snapshot_tests: seed {seed}, {cuts} cuts, {changes} changes", flush=True)
+    Tested.program, seed = asked.program.resolve(), asked.seed
+    cuts, cases, changes = asked.cuts, asked.cases, asked.changes
+    print(f"snapshot_tests: seed {seed}, {cuts} cuts, {cases} of cases, {changes} changes", flush=True)
     run = unittest.main(module=__name__, argv=[sys.argv[0]], exit=False)
     if run.result.wasSuccessful():
         shutil.rmtree(kept())

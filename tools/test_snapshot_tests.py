@@ -44,6 +44,31 @@ class Kinds(unittest.TestCase):
         self.assertEqual(kinds_in([TEXT])["gone", ""], 2)
 
 
+class Cases(unittest.TestCase):
+    TEXT = """Words about them.
+## one
+@ cuts but 1
+$ --shards 2
+> {"op":"a"}
+>
+< {"line":1}
+## two
+> {"op":"b"}
+## three
+@ cuts
+$ --passes 2
+> {"op":"c"}
+> {"op":"d"}
+"""
+
+    def test_those_that_may_be_cut(self) -> None:
+        found = snapshot_lines.cases_in("file", self.TEXT)
+        self.assertEqual(found, [("file: one", ["--shards", "2"], [b'{"op":"a"}\n', b"\n"])])
+
+    def test_there_are_some(self) -> None:
+        self.assertGreater(len(snapshot_lines.all_cases()), 50)
+
+
 class Words(unittest.TestCase):
     def test_one_pass_and_room_for_all_that_waits(self) -> None:
         self.assertEqual(alone(["--shards", "3", "--passes", "3", "--capacity", "3"]),
@@ -53,16 +78,16 @@ class Words(unittest.TestCase):
 class Learned(unittest.TestCase):
     def test_commands_name_what_a_history_shows(self) -> None:
         drawn, run = Drawn(1, 1), run_id(1, 0, 7)
-        events = [{"id": 5, "type": "ActivityTaskScheduled", "attrs": {}},
-                  {"id": 6, "type": "TimerStarted", "attrs": {"timer_id": "t"}}]
-        drawn.learn({"ok": "history", "run": run, "events": events})
-        token = token_text(TaskKind.WORKFLOW, 7, 2, 1)
-        drawn.learn({"ok": "task", "token": token})
-        drawn.learn({"ok": "task", "token": "other", "activity_id": "a"})
-        self.assertEqual((list(drawn.tasks), list(drawn.activities)), ([token], ["other"]))
+        drawn.learn({"ok": "history", "run": run, "events": [{"id": 5, "type": "ActivityTaskScheduled", "attrs": {}}]})
+        token, other = token_text(TaskKind.WORKFLOW, 7, 2, 1), token_text(TaskKind.ACTIVITY, 7, 6, 1)
+        drawn.learn({"ok": "task", "token": token, "run": run})
+        drawn.learn({"ok": "task", "token": other, "run": run, "activity_id": "a"})
+        self.assertEqual((list(drawn.tasks), list(drawn.activities)), ([token], [other]))
         found = [drawn.command(run) for _ in range(200)]
-        self.assertIn({"type": "RequestCancelActivityTask", "scheduled": 5}, found)
-        self.assertIn({"type": "CancelTimer", "timer_id": "t"}, found)
+        timer = next(command["timer_id"] for command in found if command["type"] == "StartTimer")
+        self.assertIn({"type": "CancelTimer", "timer_id": timer}, found)
+        for event in (5, 6):
+            self.assertIn({"type": "RequestCancelActivityTask", "scheduled": event}, found)
         self.assertNotIn("RequestCancelActivityTask", [drawn.command("another")["type"] for _ in range(200)])
 
     def test_the_same_seed_draws_the_same_lines(self) -> None:
