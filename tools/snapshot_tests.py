@@ -1,5 +1,5 @@
 #!/usr/bin/env python3
-"""The built program with snapshots: what it goes on with, chains of them, damaged ones, other settings, a full disk.
+"""The built program with snapshots: what it goes on with, chains of them, damage, other settings, a full disk, kills.
 
     tools/snapshot_tests.py PROGRAM [--cuts N] [--cases N] [--changes N] [--seed S]
 
@@ -25,6 +25,7 @@ import subprocess
 import sys
 import tempfile
 import threading
+import time
 import unittest
 from collections.abc import Iterable
 from dataclasses import dataclass, field
@@ -40,6 +41,7 @@ MOST_LINES = 140
 # So many lines are handed in before their replies are read, since later ones are drawn from these.
 AHEAD = 6
 MOST_CUTS = 4
+KILLS = 20
 # What every large number of drawn snapshots has.
 PIECES = {"head", "counted", "gone", "event", "request_id", "note", "dispatch", "transfer", "end"}
 NOTES = {"taken", "ended", "ready", "beat"}
@@ -506,6 +508,26 @@ class Written(Folder):
                 self.assertEqual(file.read_bytes(), older)
         self.assertEqual(self.written(len(newer)).status, 0)
         self.assertEqual(file.read_bytes(), newer)
+
+    def test_a_kill_leaves_the_older_snapshot_or_the_newer_one(self) -> None:
+        ran(text([start("a")]).encode(), "--snapshot", self.folder)
+        file, draws = self.folder / "shard-00.snap", random.Random(seed)
+        older, began = file.read_bytes(), time.monotonic()
+        self.written()
+        spent, newer = time.monotonic() - began, file.read_bytes()
+        for kill in range(KILLS):
+            file.write_bytes(older)
+            words = [str(Tested.program), "--load", str(self.folder), "--snapshot", str(self.folder)]
+            with subprocess.Popen(words, stdin=subprocess.PIPE, stdout=subprocess.DEVNULL) as program:
+                assert program.stdin
+                program.stdin.write(text([start("b")]).encode())
+                program.stdin.close()
+                time.sleep(draws.uniform(0, 1.2 * spent))
+                program.kill()
+            with self.subTest(kill=kill, seed=seed):
+                self.assertIn(file.read_bytes(), (older, newer))
+        file.write_bytes(older)
+        self.assertEqual((self.written().status, file.read_bytes()), (0, newer))
 
     def test_a_script_that_ends_in_a_fault_writes_nothing(self) -> None:
         with open("/dev/full", "wb") as full:
