@@ -40,6 +40,7 @@ mod opening;
 mod operations;
 mod options;
 mod page;
+mod plain;
 mod polls;
 mod program;
 mod replies;

@@ -73,6 +73,11 @@ impl Output {
         self.read[self.begin..].contains(&b'\n')
     }
 
+    /// How many replies were read and not taken, up to so many.
+    pub fn count(&self, most: usize) -> usize {
+        self.read[self.begin..].iter().filter(|byte| **byte == b'\n').take(most).count()
+    }
+
     /// Waits until a reply was read. False where the program has closed its output before.
     pub fn wait(&mut self) -> bool {
         while !self.has_more() {
@@ -171,6 +176,14 @@ impl Program {
         Fault::Ended(format!("line {line}: the program ended with status {status}{more}"))
     }
 
+    /// Whether it was ended by a signal that reaches all processes of a terminal, or of a service that is stopped. It has
+    /// to have ended, or to do now that its output is closed.
+    pub fn was_told_to_end(&mut self) -> bool {
+        self.input = None;
+        let signal = self.child.wait().ok().and_then(|status| status.signal());
+        matches!(signal, Some(libc::SIGINT | libc::SIGTERM | libc::SIGHUP | libc::SIGQUIT))
+    }
+
     /// Ends it at once.
     pub fn kill(&mut self) {
         let _ = self.child.kill();
@@ -246,6 +259,9 @@ mod tests {
         assert!(program.output.reply(4).is_none());
         assert_eq!(program.ended(4).to_string(), "line 4: the program ended with status 3: unsaid: no memory");
         let mut killed = shell("kill -9 $$");
+        assert!(
+            !killed.was_told_to_end() && shell("kill -2 $$").was_told_to_end() && shell("kill $$").was_told_to_end()
+        );
         assert_eq!(killed.check_answers().unwrap_err().to_string(), "line 0: the program ended with status -9");
     }
 }
