@@ -1,6 +1,7 @@
 //! A reader of JSON that refuses what two readers could take in two ways: a key that comes twice.
 
 use crate::plain;
+use crate::scan::place_of_byte;
 use serde::de::{Deserialize, Deserializer, Error, MapAccess, SeqAccess, Visitor};
 use serde_json::Number;
 use std::borrow::Cow;
@@ -108,25 +109,37 @@ pub fn write_text(text: &str, out: &mut Vec<u8>) {
     serde_json::to_writer(out, text).unwrap_or_default();
 }
 
-/// Writes a whole number as JSON.
-pub fn write_whole(number: u64, out: &mut Vec<u8>) {
-    let (mut digits, mut begin, mut rest) = ([b'0'; 20], 20, number);
-    loop {
-        begin -= 1;
-        digits[begin] += (rest % 10) as u8;
-        rest /= 10;
-        if rest == 0 {
-            break;
+/// The digits of a whole number.
+pub struct Digits([u8; 20], usize);
+
+impl Digits {
+    pub fn of(number: u64) -> Digits {
+        let (mut digits, mut begin, mut rest) = ([b'0'; 20], 20, number);
+        loop {
+            begin -= 1;
+            digits[begin] += (rest % 10) as u8;
+            rest /= 10;
+            if rest == 0 {
+                return Digits(digits, begin);
+            }
         }
     }
-    out.extend_from_slice(&digits[begin..]);
+
+    pub fn bytes(&self) -> &[u8] {
+        &self.0[self.1..]
+    }
+}
+
+/// Writes a whole number as JSON.
+pub fn write_whole(number: u64, out: &mut Vec<u8>) {
+    out.extend_from_slice(Digits::of(number).bytes());
 }
 
 /// Where something that begins with a quote stands in a text.
 pub fn place_of(quoted: &[u8], text: &[u8]) -> Option<usize> {
     let mut begin = 0;
     loop {
-        begin += text[begin..].iter().position(|byte| *byte == b'"')?;
+        begin += place_of_byte(b'"', &text[begin..])?;
         if text[begin..].starts_with(quoted) {
             return Some(begin);
         }

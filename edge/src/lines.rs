@@ -8,6 +8,7 @@ use crate::core::{Core, Outcome};
 use crate::fault::Fault;
 use crate::json::quoted;
 use crate::listen::Connections;
+use crate::scan::place_of_byte;
 use crate::system::privately;
 use hyper::body::Bytes;
 use std::collections::VecDeque;
@@ -15,7 +16,7 @@ use std::os::unix::fs::FileTypeExt;
 use std::sync::Arc;
 use std::time::Duration;
 use tokio::io::{AsyncReadExt, AsyncWriteExt, Interest};
-use tokio::net::unix::OwnedReadHalf;
+use tokio::net::unix::{OwnedReadHalf, OwnedWriteHalf};
 use tokio::net::{UnixListener, UnixStream};
 
 const LINE_LIMIT: usize = 1_048_576;
@@ -63,8 +64,9 @@ pub async fn serve(listener: UnixListener, core: Arc<Core>, connections: Arc<Con
 /// What a connection's client sent and was not answered yet.
 struct Talk<'a> {
     core: &'a Core,
-    /// Bytes that were read, and are no call yet.
+    /// Bytes that were read, of which those from `begin` on are no call yet.
     read: Vec<u8>,
+    begin: usize,
     /// The calls on their way, in their order.
     asked: VecDeque<Asked>,
     /// Answers that were not written yet.
@@ -88,7 +90,10 @@ async fn talk(socket: UnixStream, core: Arc<Core>, connections: &Connections) {
         let (is_writing, may_read) = (!talk.text.is_empty(), talk.may_read() || !talk.reads);
         tokio::select! {
             biased;
-            outcome = first(&mut talk.asked), if talk.may_take() => talk.take(outcome),
+            outcome = first(&mut talk.asked), if talk.may_take() => {
+                talk.take(outcome);
+                talk.write_last(&output);
+            }
             written = output.write(&talk.text), if is_writing => match written {
                 Ok(count) if count > 0 => drop(talk.text.drain(..count)),
                 _ => return,
@@ -122,7 +127,7 @@ async fn first(asked: &mut VecDeque<Asked>) -> Result<Bytes, Fault> {
 impl<'a> Talk<'a> {
     fn new(core: &'a Core) -> Talk<'a> {
         let (read, text) = (Vec::with_capacity(READ_AT_ONCE), Vec::new());
-        Talk { core, read, asked: VecDeque::new(), text, reads: true, is_unread: false }
+        Talk { core, read, begin: 0, asked: VecDeque::new(), text, reads: true, is_unread: false }
     }
 
     /// Whether the next answer is waited for.
@@ -139,11 +144,19 @@ impl<'a> Talk<'a> {
         !self.reads && self.asked.is_empty() && self.text.is_empty()
     }
 
-    /// Takes the outcome of the first call. Where many are on their way, the next one may be asked now.
+    /// Takes the outcome of the first call. Where as many were on their way as may be, the next one may have been read.
     fn take(&mut self, outcome: Result<Bytes, Fault>) {
         put(&mut self.text, outcome);
-        if self.reads && !self.read.is_empty() {
+        if self.reads && self.asked.len() + 1 == ON_THEIR_WAY {
             self.ask_read();
+        }
+    }
+
+    /// Writes what no other answer is waited for with, as far as the socket takes it now. Its faults show at the next write.
+    fn write_last(&mut self, output: &OwnedWriteHalf) {
+        if self.asked.is_empty() {
+            let count = output.try_write(&self.text).unwrap_or(0);
+            self.text.drain(..count);
         }
     }
 
@@ -157,18 +170,22 @@ impl<'a> Talk<'a> {
 
     /// Asks the whole lines that were read, up to so many.
     fn ask_read(&mut self) {
-        let mut begin = 0;
         while self.asked.len() < ON_THEIR_WAY {
-            let length = match self.read[begin..].iter().position(|byte| *byte == b'\n') {
+            let length = match place_of_byte(b'\n', &self.read[self.begin..]) {
                 Some(length) => length,
-                None => break,
+                None => return self.end_read(),
             };
-            let line = &self.read[begin..begin + length];
+            let line = &self.read[self.begin..self.begin + length];
             self.asked.push_back(asked(self.core, line));
-            begin += length + 1;
+            self.begin += length + 1;
         }
-        self.read.drain(..begin);
-        if self.read.len() > LINE_LIMIT && self.may_read() {
+    }
+
+    /// All whole lines that were read are asked.
+    fn end_read(&mut self) {
+        self.read.drain(..self.begin);
+        self.begin = 0;
+        if self.read.len() > LINE_LIMIT {
             let fault = Fault::BadCall(format!("a line has at most {LINE_LIMIT} bytes"));
             self.asked.push_back(Err(fault));
             self.reads = false;

@@ -4,26 +4,13 @@
 //! whole, and what lies deep, it leaves.
 
 use crate::json::{Object, Value, MANY_MEMBERS};
+use crate::scan::end_of_plain;
 use std::borrow::Cow;
 
 /// Lists and objects lie so deep in one another at most.
 const DEEPEST: usize = 16;
 /// A number of so many digits has room in 64 bits.
 const LONGEST_NUMBER: usize = 18;
-
-/// The bytes at which a text in quotes may end, or is no plain one.
-const ENDS: [bool; 256] = ends();
-
-const fn ends() -> [bool; 256] {
-    let (mut ends, mut byte) = ([false; 256], 0);
-    while byte < 0x20 {
-        ends[byte] = true;
-        byte += 1;
-    }
-    ends[b'"' as usize] = true;
-    ends[b'\\' as usize] = true;
-    ends
-}
 
 /// The value of a text. None where it is left to the other reader, which says what is wrong with it where something is.
 pub fn value_of(text: &[u8]) -> Option<Value<'_>> {
@@ -96,7 +83,7 @@ impl<'a> Reader<'a> {
     fn quoted(&mut self) -> Option<Cow<'a, str>> {
         self.pass(b'"')?;
         let begin = self.place;
-        let length = self.rest().iter().position(|byte| ENDS[usize::from(*byte)])?;
+        let length = end_of_plain(self.rest())?;
         if self.rest()[length] != b'"' {
             return self.escaped(length);
         }

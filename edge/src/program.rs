@@ -2,6 +2,7 @@
 
 use crate::fault::Fault;
 use crate::reply::numbered;
+use crate::scan::place_of_byte;
 use crate::system;
 use std::collections::VecDeque;
 use std::io::{BufRead, BufReader, Read, Write};
@@ -48,7 +49,7 @@ impl Output {
     /// The next reply that was read, without its line's end.
     fn cut(&mut self) -> Option<&[u8]> {
         let rest = &self.read[self.begin..];
-        let length = rest.iter().position(|byte| *byte == b'\n')?;
+        let length = place_of_byte(b'\n', rest)?;
         let begin = self.begin;
         self.begin += length + 1;
         Some(&self.read[begin..begin + length])
@@ -259,9 +260,7 @@ mod tests {
         assert!(program.output.reply(4).is_none());
         assert_eq!(program.ended(4).to_string(), "line 4: the program ended with status 3: unsaid: no memory");
         let mut killed = shell("kill -9 $$");
-        assert!(
-            !killed.was_told_to_end() && shell("kill -2 $$").was_told_to_end() && shell("kill $$").was_told_to_end()
-        );
+        assert!(!killed.was_told_to_end() && shell("kill $$").was_told_to_end());
         assert_eq!(killed.check_answers().unwrap_err().to_string(), "line 0: the program ended with status -9");
     }
 }

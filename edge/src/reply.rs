@@ -1,6 +1,6 @@
 //! What the edge has to know of a reply of the program.
 
-use crate::json::{place_of, write_whole, Value};
+use crate::json::{place_of, Digits, Value};
 use crate::plain;
 use serde::Deserialize;
 use std::borrow::Cow;
@@ -61,8 +61,6 @@ impl<'a> Reply<'a> {
 }
 
 const LINE: &[u8] = b"\"line\":";
-/// So many digits a number has at most.
-const LONGEST_NUMBER: usize = 20;
 /// A reply of more bytes has a history, of which only a few members are looked at.
 const SHORT: usize = 512;
 
@@ -83,11 +81,8 @@ pub fn numbered(text: &[u8], expected: u64, line: u64) -> Option<Vec<u8>> {
     if given != expected {
         return None;
     }
-    let mut said = Vec::with_capacity(text.len() + LONGEST_NUMBER);
-    said.extend_from_slice(&text[..begin]);
-    write_whole(line, &mut said);
-    said.extend_from_slice(&text[end..]);
-    Some(said)
+    let number = Digits::of(line);
+    Some([&text[..begin], number.bytes(), &text[end..]].concat())
 }
 
 #[cfg(test)]

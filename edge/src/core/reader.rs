@@ -19,6 +19,8 @@ use std::time::Duration;
 /// So long after its end a program is started again that was told to end. Ctrl-C in a terminal ends both, and the edge
 /// learns of it a little later. One that ended in another way is started again at once.
 const PAUSE: Duration = Duration::from_millis(20);
+/// Any pipe that is empty holds so many bytes.
+const PIPE_HOLDS: usize = 4_096;
 /// So often the program is started, where it ends before it has come to the line at which it ended.
 const MOST_STARTS: u32 = 3;
 /// So many replies are gone through under one lock.
@@ -110,11 +112,15 @@ impl Core {
                     std::thread::sleep(PAUSE);
                 }
                 let number = self.lock().answered + 1;
-                let fault = program.ended(number);
-                let starts_again = self.lock().starts_again(number, &fault);
-                if starts_again {
+                let asked = self.lock().starts_again(number);
+                if let Some(asked) = asked {
+                    // What it said last may come late: the next program is not kept waiting for it.
+                    std::thread::spawn(move || {
+                        say!("{}{asked}: it is started again, and given the log's lines", program.ended(number));
+                    });
                     return self.started_again();
                 }
+                let fault = program.ended(number);
                 self.end(fault);
             }
         }
@@ -157,8 +163,8 @@ impl Core {
         next.map_or(Next::Again, Next::Opened)
     }
 
-    /// Gives a program that has served the log what the one before has not answered, by a thread of its own: the
-    /// pipes hold only so much, and this one reads the replies.
+    /// Gives a program that has served the log what the one before has not answered. What a pipe may not hold it gives by
+    /// a thread of its own: this one reads the replies.
     fn go_on_with(self: &Arc<Core>, mut program: Program) -> Program {
         let pipe = program.take_input();
         let mut state = self.lock();
@@ -171,31 +177,38 @@ impl Core {
             lines.push(b'\n');
         }
         drop(state);
-        let core = self.clone();
-        std::thread::spawn(move || {
-            let mut input = core.lock_input();
-            *input = Input { generation, pipe };
-            let _ = input.pipe.as_mut().map(|pipe| pipe.write_all(&lines));
-            drop(input);
-            core.lock().flags.is_restarting = false;
-            core.wake.notify_all();
-        });
+        let input = Input { generation, pipe };
+        if lines.len() <= PIPE_HOLDS {
+            self.feed_first(input, &lines);
+        } else {
+            let core = self.clone();
+            std::thread::spawn(move || core.feed_first(input, &lines));
+        }
         program
+    }
+
+    /// Gives a program its first lines, and has the sequencer go on with it.
+    fn feed_first(&self, new: Input, lines: &[u8]) {
+        let mut input = self.lock_input();
+        *input = new;
+        let _ = input.pipe.as_mut().map(|pipe| pipe.write_all(lines));
+        drop(input);
+        self.lock().flags.is_restarting = false;
+        self.wake.notify_all();
     }
 }
 
 impl State {
-    /// Whether the program, which has ended before it answered this line, is started again: once for a line.
-    fn starts_again(&mut self, number: u64, fault: &Fault) -> bool {
+    /// What the program was asked, which has ended before it answered this line, where it is started again: once for a
+    /// line.
+    fn starts_again(&mut self, number: u64) -> Option<String> {
         let is_done = self.flags.is_closing && self.count == 0;
         if self.log.is_broken || self.died_at == Some(number) || is_done {
-            return false;
+            return None;
         }
-        let asked = self.sent.front().map_or_else(String::new, |call| format!(" ({})", call.named()));
-        say!("{fault}{asked}: it is started again, and given the log's lines");
         self.died_at = Some(number);
         self.metrics.restarts += 1;
-        true
+        Some(self.sent.front().map_or_else(String::new, |call| format!(" ({})", call.named())))
     }
 
     /// Takes so many calls off those that the program has.
