@@ -6,7 +6,7 @@
 
 use crate::facts::Facts;
 use crate::fault::Fault;
-use crate::json::{quoted, Object, Value};
+use crate::json::{place_of, quoted, write_whole, Object, Value};
 use crate::operations::Op;
 use crate::shards::Shard;
 
@@ -132,7 +132,7 @@ pub fn end_line(line: &mut Vec<u8>, at: u64, key: Option<&str>) {
         line.push(b'"');
     }
     line.extend_from_slice(b",\"at\":");
-    line.extend_from_slice(at.to_string().as_bytes());
+    write_whole(at, line);
     line.push(b'}');
 }
 
@@ -163,8 +163,8 @@ pub fn facts_of_line(line: &[u8], shards: Shard) -> (Facts, Option<u64>) {
 /// A log of an earlier time has reads, and a history is long. A description sets the same moment on the same shard,
 /// and changes as little.
 pub fn for_replay(line: &[u8]) -> Option<Vec<u8>> {
-    let marked = line.windows(9).any(|nine| nine == b"\"history\"");
-    let request = match marked.then(|| Value::of(line)) {
+    let is_marked = place_of(b"\"history\"", line).is_some();
+    let request = match is_marked.then(|| Value::of(line)) {
         Some(Ok(Value::Object(request))) if request.text("op") == Some("history") => request,
         _ => return None,
     };

@@ -5,19 +5,17 @@
 //! once for each run, up to so many.
 
 use crate::attempts::Attempts;
-use crate::facts::{commands_in, Facts, Subject};
+use crate::facts::{begins_run, commands_in, Facts, Subject};
 use crate::json::{quoted, Object, Value};
 use crate::numbered::Numbered;
 use crate::operations::Op;
 use crate::reply::Reply;
-use std::collections::{HashMap, HashSet};
+use std::collections::{BTreeMap, HashMap, HashSet};
 
 /// Beyond so many changes all runs count as changed.
 const MOST_CHANGED: usize = 100_000;
 /// Of a token's letters those that say which run it is of.
 const RUN_LETTERS: usize = 16;
-/// Commands that begin runs.
-const BEGINS_RUNS: [&str; 2] = ["StartChildWorkflowExecution", "ContinueAsNewWorkflowExecution"];
 
 /// What a list has to be told.
 #[derive(Default)]
@@ -27,10 +25,57 @@ pub struct Changes {
     numbers: HashMap<Box<str>, u64>,
     attempts: Attempts,
     /// When each queue was polled last. The service has only so many queues, and no other one has a reply.
-    polled: HashMap<(Op, Box<str>), u64>,
-    changed: HashSet<Box<str>>,
+    polled: BTreeMap<Op, HashMap<Box<str>, u64>>,
+    changed: Changed,
     has_transferred: bool,
+}
+
+/// What changed since this was asked last, once each. How it is told is written once it is asked.
+#[derive(Default)]
+struct Changed {
+    runs: HashSet<Box<str>>,
+    workflows: HashSet<Box<str>>,
+    /// The letters of tokens that say which run they are of.
+    tokens: HashSet<Box<str>>,
+    /// Whole pairs.
+    pairs: HashSet<Box<str>>,
+    /// Whether there were more.
     is_all: bool,
+}
+
+impl Changed {
+    fn add(&mut self, of: impl Fn(&mut Changed) -> &mut HashSet<Box<str>>, text: &str) {
+        if of(self).contains(text) {
+            return;
+        }
+        if self.len() < MOST_CHANGED {
+            of(self).insert(text.into());
+        } else {
+            self.is_all = true;
+        }
+    }
+
+    fn len(&self) -> usize {
+        self.runs.len() + self.workflows.len() + self.tokens.len() + self.pairs.len()
+    }
+
+    /// The pairs that tell of it.
+    fn told(&self) -> impl Iterator<Item = String> + '_ {
+        let runs = self.runs.iter().map(|run| format!("[{{}},{{\"ok\":\"\",\"run\":{}}}]", quoted(run)));
+        let workflows = self.workflows.iter().map(|workflow_id| {
+            format!("[{{\"op\":\"signal\",\"workflow_id\":{}}},{{\"ok\":\"\"}}]", quoted(workflow_id))
+        });
+        let tokens = self.tokens.iter().map(|letters| {
+            let token = quoted(&format!("{letters:A<32}"));
+            format!("[{{\"token\":{token}}},{{\"ok\":\"\"}}]")
+        });
+        runs.chain(workflows).chain(tokens).chain(self.pairs.iter().map(|pair| pair.to_string()))
+    }
+}
+
+/// The first letters of a token.
+fn run_letters(token: &str) -> &str {
+    token.char_indices().nth(RUN_LETTERS).map_or(token, |(end, _)| &token[..end])
 }
 
 impl Changes {
@@ -40,42 +85,43 @@ impl Changes {
             return;
         }
         if let (true, Some(queue)) = (facts.op.is_poll(), &facts.queue) {
-            self.polled.insert((facts.op, queue.clone()), at);
+            self.note_polled(facts.op, queue, at);
         }
         let run = reply.run.as_deref();
         match (facts.op, run) {
-            (Op::Start | Op::SignalWithStart, Some(run)) if reply.is("started") => self.begin(line, at, run),
+            (Op::Start | Op::SignalWithStart, Some(run)) if reply.is("started") => self.begin(facts, at, run),
             (Op::TransferTurn, _) if reply.is("accepted") => self.has_transferred = true,
             (Op::TimerTurn, Some(run)) if reply.class.as_deref() == Some("retention") => return self.remove(run),
-            (Op::CompleteWorkflowTask, _) => self.note_commands(line),
+            (Op::CompleteWorkflowTask, _) if facts.begins_runs => self.note_commands(line),
             _ => {}
         }
         if let Some(ended) = self.attempts.observe(facts, line, at, reply, &mut self.kept) {
-            self.change(ended);
+            self.change(&ended);
         }
         if let Some(run) = run {
-            self.change(format!("[{{}},{{\"ok\":\"\",\"run\":{}}}]", quoted(run)));
+            self.changed.add(|changed| &mut changed.runs, run);
         }
         match &facts.subject {
-            Subject::Workflow(workflow_id) => {
-                self.change(format!("[{{\"op\":\"signal\",\"workflow_id\":{}}},{{\"ok\":\"\"}}]", quoted(workflow_id)));
-            }
-            Subject::Token(token) => {
-                let letters: String = token.chars().take(RUN_LETTERS).collect();
-                let token = quoted(&format!("{letters:A<32}"));
-                self.change(format!("[{{\"token\":{token}}},{{\"ok\":\"\"}}]"));
-            }
+            Subject::Workflow(workflow_id) => self.changed.add(|changed| &mut changed.workflows, workflow_id),
+            Subject::Token(token) => self.changed.add(|changed| &mut changed.tokens, run_letters(token)),
             Subject::Nothing => {}
         }
     }
 
-    fn begin(&mut self, line: &[u8], at: u64, run: &str) {
-        let request = match Value::of(line) {
-            Ok(Value::Object(request)) => request,
-            _ => return,
+    fn note_polled(&mut self, op: Op, queue: &str, at: u64) {
+        let queues = self.polled.entry(op).or_default();
+        match queues.get_mut(queue) {
+            Some(last) => *last = at,
+            None => drop(queues.insert(queue.into(), at)),
+        }
+    }
+
+    fn begin(&mut self, facts: &Facts, at: u64, run: &str) {
+        let workflow_id = match &facts.subject {
+            Subject::Workflow(workflow_id) => quoted(workflow_id),
+            _ => quoted(""),
         };
-        let text = |key: &str| quoted(request.text(key).unwrap_or(""));
-        let (workflow_id, kind) = (text("workflow_id"), text("workflow_type"));
+        let kind = quoted(facts.workflow_type.as_deref().unwrap_or(""));
         let asked = format!("{{\"op\":\"start\",\"workflow_id\":{workflow_id},\"workflow_type\":{kind},\"at\":{at}}}");
         let pair = format!("[{asked},{{\"ok\":\"started\",\"run\":{}}}]", quoted(run));
         let number = self.kept.add(pair);
@@ -88,14 +134,11 @@ impl Changes {
             self.kept.remove(number);
         }
         let told = format!("{{\"ok\":\"fired\",\"class\":\"retention\",\"run\":{}}}", quoted(run));
-        self.change(format!("[{{\"op\":\"timer_turn\"}},{told}]"));
+        self.change(&format!("[{{\"op\":\"timer_turn\"}},{told}]"));
     }
 
     /// Notes the workflows of which the commands of a completion begin a run.
     fn note_commands(&mut self, line: &[u8]) {
-        if !BEGINS_RUNS.iter().any(|name| line.windows(name.len()).any(|window| window == name.as_bytes())) {
-            return;
-        }
         let request = match Value::of(line) {
             Ok(Value::Object(request)) => request,
             _ => return,
@@ -105,32 +148,29 @@ impl Changes {
             let token = quoted(request.text("token").unwrap_or(""));
             let commands = named.join(",");
             let asked = format!("{{\"op\":\"complete_workflow_task\",\"token\":{token},\"commands\":[{commands}]}}");
-            self.change(format!("[{asked},{{\"ok\":\"completed\"}}]"));
+            self.change(&format!("[{asked},{{\"ok\":\"completed\"}}]"));
         }
     }
 
-    fn change(&mut self, pair: String) {
-        if self.changed.len() < MOST_CHANGED {
-            self.changed.insert(pair.into());
-        } else {
-            self.is_all = true;
-        }
+    fn change(&mut self, pair: &str) {
+        self.changed.add(|changed| &mut changed.pairs, pair);
     }
 
     /// What was kept after the pair of this number, what changed since this was asked last, and when queues were polled
     /// last, as members of an object in JSON.
     pub fn text(&mut self, from: u64) -> String {
-        let polled: Vec<String> = self.polled.iter().map(|((op, queue), at)| polled(*op, queue, *at)).collect();
+        let polled =
+            self.polled.iter().flat_map(|(op, queues)| queues.iter().map(|(queue, at)| polled(*op, queue, *at)));
+        let changed: Vec<String> = polled.chain(self.changed.told()).collect();
         let mut pairs: Vec<&str> = self.kept.after(from).collect();
-        pairs.extend(polled.iter().map(String::as_str));
-        pairs.extend(self.changed.iter().map(AsRef::as_ref));
+        pairs.extend(changed.iter().map(String::as_str));
         if self.has_transferred {
             pairs.push("[{\"op\":\"transfer_turn\"},{\"ok\":\"accepted\"}]");
         }
-        let text = format!("\"next\":{},\"all\":{},\"pairs\":[{}]", self.kept.last(), self.is_all, pairs.join(","));
-        self.changed.clear();
+        let text =
+            format!("\"next\":{},\"all\":{},\"pairs\":[{}]", self.kept.last(), self.changed.is_all, pairs.join(","));
+        self.changed = Changed::default();
         self.has_transferred = false;
-        self.is_all = false;
         text
     }
 }
@@ -142,7 +182,7 @@ fn polled(op: Op, queue: &str, at: u64) -> String {
 
 /// A command that begins a run, as far as a list needs it.
 fn beginning(command: &Object<'_>) -> Option<String> {
-    let kind = command.text("type").filter(|kind| BEGINS_RUNS.contains(kind))?;
+    let kind = command.text("type").filter(|kind| begins_run(kind))?;
     let named = command.text("workflow_id").map(|workflow_id| format!(",\"workflow_id\":{}", quoted(workflow_id)));
     Some(format!("{{\"type\":\"{kind}\"{}}}", named.unwrap_or_default()))
 }

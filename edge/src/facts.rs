@@ -12,6 +12,8 @@ const SENDS: [&str; 3] =
 /// These close their run.
 const CLOSES: [&str; 4] =
     ["CompleteWorkflowExecution", "FailWorkflowExecution", "CancelWorkflowExecution", "ContinueAsNewWorkflowExecution"];
+/// These begin a run, at once or by a transfer.
+const BEGINS_RUNS: [&str; 2] = ["StartChildWorkflowExecution", "ContinueAsNewWorkflowExecution"];
 /// Fields after whose milliseconds something is due.
 const DURATIONS: [&str; 8] = [
     "duration",
@@ -44,12 +46,16 @@ pub struct Facts {
     pub may_issue: bool,
     /// Whether a run may close by it.
     pub closes: bool,
+    /// Whether a command of it begins a run.
+    pub begins_runs: bool,
     /// The shards to which it sends something.
     pub sends: Vec<Shard>,
     /// After so many milliseconds something is due, as far as it says.
     pub durations: Vec<u64>,
     /// The task queue that a poll asks.
     pub queue: Option<Box<str>>,
+    /// The type of the workflow that a start names.
+    pub workflow_type: Option<Box<str>>,
     /// The shard of a dispatch turn or a timer turn, or the two of a transfer turn, where a client made it.
     pub turn: Option<(Shard, Shard)>,
 }
@@ -68,9 +74,11 @@ impl Facts {
             issues: 0,
             may_issue: false,
             closes: false,
+            begins_runs: false,
             sends: Vec::new(),
             durations: Vec::new(),
             queue: None,
+            workflow_type: None,
             turn: None,
         }
     }
@@ -92,6 +100,9 @@ impl Facts {
             (None, Some(token)) => Subject::Token(token.into()),
             (None, None) => Subject::Nothing,
         };
+        if matches!(op, Op::Start | Op::SignalWithStart) {
+            facts.workflow_type = request.text("workflow_type").map(Into::into);
+        }
         facts.note_durations(request);
         if op.may_issue() {
             facts.note_issued(request, shards);
@@ -120,6 +131,7 @@ impl Facts {
         };
         self.issues += u32::from(ISSUES.contains(&kind));
         self.closes |= CLOSES.contains(&kind);
+        self.begins_runs |= begins_run(kind);
         if SENDS.contains(&kind) {
             self.sends.extend(command.text("workflow_id").map(|workflow_id| shard_of(workflow_id, shards)));
         }
@@ -129,6 +141,11 @@ impl Facts {
         let named = members.0.iter().filter(|member| DURATIONS.contains(&member.0.as_ref()));
         self.durations.extend(named.filter_map(|member| member.1.whole()).filter(|duration| *duration > 0));
     }
+}
+
+/// Whether a command of this type begins a run.
+pub fn begins_run(kind: &str) -> bool {
+    BEGINS_RUNS.contains(&kind)
 }
 
 /// The commands of a completion.

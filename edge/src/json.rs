@@ -1,5 +1,7 @@
 //! A reader of JSON that refuses what two readers could take in two ways: a key that comes twice.
 
+use crate::plain;
+use crate::scan::place_of_byte;
 use serde::de::{Deserialize, Deserializer, Error, MapAccess, SeqAccess, Visitor};
 use serde_json::Number;
 use std::borrow::Cow;
@@ -7,7 +9,7 @@ use std::collections::HashSet;
 use std::fmt;
 
 /// In an object of so many members a set finds a key that comes twice, and in a shorter one a search does.
-const MANY_MEMBERS: usize = 16;
+pub const MANY_MEMBERS: usize = 16;
 
 /// A value of a body. Its texts lie in the body where they have no escapes.
 #[derive(Clone, Debug, PartialEq)]
@@ -39,7 +41,7 @@ impl<'a> Object<'a> {
 impl<'a> Value<'a> {
     /// Reads a body, of which nothing may be left.
     pub fn of(body: &'a [u8]) -> Result<Value<'a>, serde_json::Error> {
-        serde_json::from_slice(body)
+        plain::value_of(body).map_or_else(|| serde_json::from_slice(body), Ok)
     }
 
     /// The text that it is.
@@ -105,6 +107,44 @@ fn write_all<T>(out: &mut Vec<u8>, brackets: &[u8; 2], values: &[T], write: impl
 pub fn write_text(text: &str, out: &mut Vec<u8>) {
     // Writing a text to memory does not fail.
     serde_json::to_writer(out, text).unwrap_or_default();
+}
+
+/// The digits of a whole number.
+pub struct Digits([u8; 20], usize);
+
+impl Digits {
+    pub fn of(number: u64) -> Digits {
+        let (mut digits, mut begin, mut rest) = ([b'0'; 20], 20, number);
+        loop {
+            begin -= 1;
+            digits[begin] += (rest % 10) as u8;
+            rest /= 10;
+            if rest == 0 {
+                return Digits(digits, begin);
+            }
+        }
+    }
+
+    pub fn bytes(&self) -> &[u8] {
+        &self.0[self.1..]
+    }
+}
+
+/// Writes a whole number as JSON.
+pub fn write_whole(number: u64, out: &mut Vec<u8>) {
+    out.extend_from_slice(Digits::of(number).bytes());
+}
+
+/// Where something that begins with a quote stands in a text.
+pub fn place_of(quoted: &[u8], text: &[u8]) -> Option<usize> {
+    let mut begin = 0;
+    loop {
+        begin += place_of_byte(b'"', &text[begin..])?;
+        if text[begin..].starts_with(quoted) {
+            return Some(begin);
+        }
+        begin += 1;
+    }
 }
 
 /// A text as JSON.
@@ -229,6 +269,24 @@ mod tests {
             assert!(Value::of(text.as_bytes()).unwrap_err().to_string().contains("comes twice"), "{text}");
         }
         assert!(Value::of(format!("{{{many}\"a\":1}}").as_bytes()).is_ok());
+    }
+
+    #[test]
+    fn whole_numbers_are_written() {
+        for number in [0, 7, 10, 99, 100, 12_345_678_901, u64::MAX] {
+            let mut out = b"n".to_vec();
+            write_whole(number, &mut out);
+            assert_eq!(out, format!("n{number}").into_bytes());
+        }
+    }
+
+    #[test]
+    fn what_stands_in_quotes_is_found() {
+        for (text, place) in
+            [("\"a\"\"ab\"\"abc\"", Some(3)), ("\"", None), ("", None), ("ab", None), ("x\"ab\"", Some(1))]
+        {
+            assert_eq!(place_of(b"\"ab\"", text.as_bytes()), place, "{text}");
+        }
     }
 
     #[test]

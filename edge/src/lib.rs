@@ -1,10 +1,11 @@
 //! `wfedge`: an edge of a workflow service. Many clients over sockets, one program over its pipes, one synced log.
 //!
-//! A call's way: `http` or `lines` take a body; `body` makes the beginning of a line of it, and `facts` what it may
-//! cause; `core` puts it into the one order, writes it to the `log` and to the `program`, and answers it once both are
-//! done. A log is a file (`line_log`) or a `table` of a database (`table_log`), with `blobs` beside it. Around that stand
-//! the `ledger` of turns, `deadlines` and `moments`, `polls` that wait, `replies` that can be had again, and `changes` for
-//! the `page`. `kept`, `opening` and `compaction` open a log and exchange it.
+//! A call's way: `http` or `lines` take a body; `json` reads it, and `plain` most of them; `body` makes the beginning of
+//! a line of it, and `facts` what it may cause; `core` puts it into the one order, writes it to the `log` and to the
+//! `program`, and answers it once both are done. A log is a file (`line_log`) or a `table` of a database (`table_log`),
+//! with `blobs` beside it. Around that stand the `ledger` of turns, `deadlines` and `moments`, `polls` that wait,
+//! `replies` that can be had again, and `changes` for the `page`. `kept`, `opening` and `compaction` open a log and
+//! exchange it.
 #![deny(unsafe_code)]
 
 mod attempts;
@@ -40,11 +41,13 @@ mod opening;
 mod operations;
 mod options;
 mod page;
+mod plain;
 mod polls;
 mod program;
 mod replies;
 mod reply;
 pub mod say;
+mod scan;
 #[cfg(test)]
 mod scratch;
 mod serving;

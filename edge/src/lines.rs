@@ -8,21 +8,22 @@ use crate::core::{Core, Outcome};
 use crate::fault::Fault;
 use crate::json::quoted;
 use crate::listen::Connections;
+use crate::scan::place_of_byte;
 use crate::system::privately;
 use hyper::body::Bytes;
+use std::collections::VecDeque;
 use std::os::unix::fs::FileTypeExt;
-use std::sync::atomic::{AtomicBool, Ordering::SeqCst};
 use std::sync::Arc;
 use std::time::Duration;
 use tokio::io::{AsyncReadExt, AsyncWriteExt, Interest};
 use tokio::net::unix::{OwnedReadHalf, OwnedWriteHalf};
 use tokio::net::{UnixListener, UnixStream};
-use tokio::sync::mpsc;
 
 const LINE_LIMIT: usize = 1_048_576;
 /// So many calls of a connection are on their way at most: then its socket is not read.
 const ON_THEIR_WAY: usize = 128;
-/// So many bytes of answers are written at once.
+/// So many bytes are read at once, and so many of answers are written.
+const READ_AT_ONCE: usize = 1 << 14;
 const WRITTEN_AT_ONCE: usize = 1 << 16;
 const PAUSE: Duration = Duration::from_millis(50);
 /// Of what a client sends behind a line that is too long so much is dropped, for so long.
@@ -60,27 +61,136 @@ pub async fn serve(listener: UnixListener, core: Arc<Core>, connections: Arc<Con
     }
 }
 
+/// What a connection's client sent and was not answered yet.
+struct Talk<'a> {
+    core: &'a Core,
+    /// Bytes that were read, of which those from `begin` on are no call yet.
+    read: Vec<u8>,
+    begin: usize,
+    /// The calls on their way, in their order.
+    asked: VecDeque<Asked>,
+    /// Answers that were not written yet.
+    text: Vec<u8>,
+    /// Whether more calls are read, and whether they ended with a line that is too long, of which the rest is unread.
+    reads: bool,
+    is_unread: bool,
+}
+
 /// Serves one connection, until all that it asked is answered or its client has hung up.
+///
+/// One loop does all of it: an answer is taken before others are written, and these before more is read, so that what
+/// is there at once is written at once.
 async fn talk(socket: UnixStream, core: Arc<Core>, connections: &Connections) {
     let (mut input, mut output) = socket.into_split();
-    let (ask, asked) = mpsc::channel(ON_THEIR_WAY);
-    let mut stop = connections.told_to_stop();
-    let is_unread = AtomicBool::new(false);
-    let hung_up = async {
+    let mut talk = Talk::new(&core);
+    let mut told = connections.told_to_stop();
+    let stop = told.changed();
+    tokio::pin!(stop);
+    loop {
+        let (is_writing, may_read) = (!talk.text.is_empty(), talk.may_read() || !talk.reads);
         tokio::select! {
-            is_whole = read_lines(&mut input, &core, ask) => is_unread.store(!is_whole, SeqCst),
-            _ = stop.changed() => {}
+            biased;
+            outcome = first(&mut talk.asked), if talk.may_take() => {
+                talk.take(outcome);
+                talk.write_last(&output);
+            }
+            written = output.write(&talk.text), if is_writing => match written {
+                Ok(count) if count > 0 => drop(talk.text.drain(..count)),
+                _ => return,
+            },
+            read = read_more(&mut input, &mut talk.read, talk.reads), if may_read => match read {
+                Some(is_more) => talk.take_read(is_more),
+                None => return,
+            },
+            _ = &mut stop, if talk.reads => talk.reads = false,
         }
-        while !is_closed(&input).await {
-            tokio::time::sleep(PAUSE).await;
+        if talk.is_over() {
+            break;
         }
-    };
-    tokio::select! {
-        () = answer(&mut output, asked) => {}
-        () = hung_up => {}
     }
-    if is_unread.load(SeqCst) && output.shutdown().await.is_ok() {
+    if talk.is_unread && output.shutdown().await.is_ok() {
         let _ = tokio::time::timeout(LINGERS, drop_rest(&mut input)).await;
+    }
+}
+
+/// Takes the outcome of the first of these calls, once it is there.
+async fn first(asked: &mut VecDeque<Asked>) -> Result<Bytes, Fault> {
+    let outcome = match asked.front_mut() {
+        Some(Ok(outcome)) => outcome.await.unwrap_or(Err(Fault::Draining)),
+        Some(Err(fault)) => Err(fault.clone()),
+        None => Err(Fault::Draining),
+    };
+    asked.pop_front();
+    outcome
+}
+
+impl<'a> Talk<'a> {
+    fn new(core: &'a Core) -> Talk<'a> {
+        let (read, text) = (Vec::with_capacity(READ_AT_ONCE), Vec::new());
+        Talk { core, read, begin: 0, asked: VecDeque::new(), text, reads: true, is_unread: false }
+    }
+
+    /// Whether the next answer is waited for.
+    fn may_take(&self) -> bool {
+        !self.asked.is_empty() && self.text.len() < WRITTEN_AT_ONCE
+    }
+
+    fn may_read(&self) -> bool {
+        self.reads && self.asked.len() < ON_THEIR_WAY
+    }
+
+    /// Whether all is answered, and no more is asked.
+    fn is_over(&self) -> bool {
+        !self.reads && self.asked.is_empty() && self.text.is_empty()
+    }
+
+    /// Takes the outcome of the first call. Where as many were on their way as may be, the next one may have been read.
+    fn take(&mut self, outcome: Result<Bytes, Fault>) {
+        put(&mut self.text, outcome);
+        if self.reads && self.asked.len() + 1 == ON_THEIR_WAY {
+            self.ask_read();
+        }
+    }
+
+    /// Writes what no other answer is waited for with, as far as the socket takes it now. Its faults show at the next write.
+    fn write_last(&mut self, output: &OwnedWriteHalf) {
+        if self.asked.is_empty() {
+            let count = output.try_write(&self.text).unwrap_or(0);
+            self.text.drain(..count);
+        }
+    }
+
+    /// Asks what was read, where there was something to read.
+    fn take_read(&mut self, is_more: bool) {
+        self.reads = is_more;
+        if is_more {
+            self.ask_read();
+        }
+    }
+
+    /// Asks the whole lines that were read, up to so many.
+    fn ask_read(&mut self) {
+        while self.asked.len() < ON_THEIR_WAY {
+            let length = match place_of_byte(b'\n', &self.read[self.begin..]) {
+                Some(length) => length,
+                None => return self.end_read(),
+            };
+            let line = &self.read[self.begin..self.begin + length];
+            self.asked.push_back(asked(self.core, line));
+            self.begin += length + 1;
+        }
+    }
+
+    /// All whole lines that were read are asked.
+    fn end_read(&mut self) {
+        self.read.drain(..self.begin);
+        self.begin = 0;
+        if self.read.len() > LINE_LIMIT {
+            let fault = Fault::BadCall(format!("a line has at most {LINE_LIMIT} bytes"));
+            self.asked.push_back(Err(fault));
+            self.reads = false;
+            self.is_unread = true;
+        }
     }
 }
 
@@ -95,76 +205,21 @@ async fn drop_rest(input: &mut OwnedReadHalf) {
     }
 }
 
-/// Whether the client has closed its socket. One that has only ended its calls waits for their answers.
-async fn is_closed(input: &OwnedReadHalf) -> bool {
-    input.ready(Interest::WRITABLE).await.map_or(true, |ready| ready.is_write_closed())
-}
-
-/// Reads lines and asks them. False where one was too long, of which the rest is unread.
-async fn read_lines(input: &mut OwnedReadHalf, core: &Core, ask: mpsc::Sender<Asked>) -> bool {
-    let mut data = Vec::with_capacity(1 << 14);
-    loop {
-        let mut begin = 0;
-        while let Some(length) = data[begin..].iter().position(|byte| *byte == b'\n') {
-            let line = &data[begin..begin + length];
-            begin += length + 1;
-            if ask.send(asked(core, line)).await.is_err() {
-                return true;
-            }
-        }
-        data.drain(..begin);
-        if data.len() > LINE_LIMIT {
-            let fault = Fault::BadCall(format!("a line has at most {LINE_LIMIT} bytes"));
-            let _ = ask.send(Err(fault)).await;
-            return false;
-        }
-        if !matches!(input.read_buf(&mut data).await, Ok(count) if count > 0) {
-            return true;
-        }
+/// Reads more of a client's calls: whether there was any. Where no more is read it returns None, once the client has
+/// closed its socket: one that has only ended its calls waits for their answers.
+async fn read_more(input: &mut OwnedReadHalf, data: &mut Vec<u8>, reads: bool) -> Option<bool> {
+    if reads {
+        return Some(matches!(input.read_buf(data).await, Ok(count) if count > 0));
     }
+    while !input.ready(Interest::WRITABLE).await.map_or(true, |ready| ready.is_write_closed()) {
+        tokio::time::sleep(PAUSE).await;
+    }
+    None
 }
 
 fn asked(core: &Core, line: &[u8]) -> Asked {
     let (asked, key) = asked_by_line(line, core.shards())?;
     core.submit(asked, key)
-}
-
-/// Writes the answers in the order of the lines.
-async fn answer(output: &mut OwnedWriteHalf, mut asked: mpsc::Receiver<Asked>) {
-    let mut text = Vec::new();
-    while let Some(first) = asked.recv().await {
-        put(&mut text, outcome_of(first).await);
-        while text.len() < WRITTEN_AT_ONCE {
-            match asked.try_recv() {
-                Ok(next) => put_next(output, &mut text, next).await,
-                Err(_) => break,
-            }
-        }
-        if output.write_all(&text).await.is_err() {
-            return;
-        }
-        text.clear();
-    }
-}
-
-/// Adds the next answer; what is there already is written first where that one has to be waited for.
-async fn put_next(output: &mut OwnedWriteHalf, text: &mut Vec<u8>, next: Asked) {
-    let mut outcome = match next {
-        Ok(outcome) => outcome,
-        Err(fault) => return put(text, Err(fault)),
-    };
-    if let Ok(found) = outcome.try_recv() {
-        return put(text, found);
-    }
-    // That the client has hung up shows at the next write.
-    let _ = output.write_all(text).await;
-    text.clear();
-    put(text, outcome_of(Ok(outcome)).await);
-}
-
-/// Waits for what becomes of a line that was asked.
-async fn outcome_of(asked: Asked) -> Result<Bytes, Fault> {
-    asked?.await.unwrap_or(Err(Fault::Draining))
 }
 
 /// Adds an answer's line.

@@ -2,6 +2,7 @@
 
 use crate::fault::Fault;
 use crate::reply::numbered;
+use crate::scan::place_of_byte;
 use crate::system;
 use std::collections::VecDeque;
 use std::io::{BufRead, BufReader, Read, Write};
@@ -48,7 +49,7 @@ impl Output {
     /// The next reply that was read, without its line's end.
     fn cut(&mut self) -> Option<&[u8]> {
         let rest = &self.read[self.begin..];
-        let length = rest.iter().position(|byte| *byte == b'\n')?;
+        let length = place_of_byte(b'\n', rest)?;
         let begin = self.begin;
         self.begin += length + 1;
         Some(&self.read[begin..begin + length])
@@ -71,6 +72,11 @@ impl Output {
     /// Whether a reply was read and not taken.
     pub fn has_more(&self) -> bool {
         self.read[self.begin..].contains(&b'\n')
+    }
+
+    /// How many replies were read and not taken, up to so many.
+    pub fn count(&self, most: usize) -> usize {
+        self.read[self.begin..].iter().filter(|byte| **byte == b'\n').take(most).count()
     }
 
     /// Waits until a reply was read. False where the program has closed its output before.
@@ -171,6 +177,14 @@ impl Program {
         Fault::Ended(format!("line {line}: the program ended with status {status}{more}"))
     }
 
+    /// Whether it was ended by a signal that reaches all processes of a terminal, or of a service that is stopped. It has
+    /// to have ended, or to do now that its output is closed.
+    pub fn was_told_to_end(&mut self) -> bool {
+        self.input = None;
+        let signal = self.child.wait().ok().and_then(|status| status.signal());
+        matches!(signal, Some(libc::SIGINT | libc::SIGTERM | libc::SIGHUP | libc::SIGQUIT))
+    }
+
     /// Ends it at once.
     pub fn kill(&mut self) {
         let _ = self.child.kill();
@@ -246,6 +260,7 @@ mod tests {
         assert!(program.output.reply(4).is_none());
         assert_eq!(program.ended(4).to_string(), "line 4: the program ended with status 3: unsaid: no memory");
         let mut killed = shell("kill -9 $$");
+        assert!(!killed.was_told_to_end() && shell("kill $$").was_told_to_end());
         assert_eq!(killed.check_answers().unwrap_err().to_string(), "line 0: the program ended with status -9");
     }
 }

@@ -1,5 +1,7 @@
 //! What the edge has to know of a reply of the program.
 
+use crate::json::{place_of, Digits, Value};
+use crate::plain;
 use serde::Deserialize;
 use std::borrow::Cow;
 
@@ -26,7 +28,30 @@ pub struct Reply<'a> {
 impl<'a> Reply<'a> {
     /// Reads a reply's text; None where it is no object.
     pub fn of(text: &'a [u8]) -> Option<Reply<'a>> {
-        serde_json::from_slice(text).ok()
+        Reply::of_short(text).or_else(|| serde_json::from_slice(text).ok())
+    }
+
+    /// Reads a short reply, as most are. None where it is left to the other reader.
+    fn of_short(text: &'a [u8]) -> Option<Reply<'a>> {
+        let mut reply = Reply::default();
+        if text.len() > SHORT {
+            return None;
+        }
+        plain::each_member(text, |key, value| {
+            let is_first = match (key.as_ref(), value) {
+                ("ok", Value::Text(text)) => reply.ok.replace(text).is_none(),
+                ("error", Value::Text(text)) => reply.error.replace(text).is_none(),
+                ("class", Value::Text(text)) => reply.class.replace(text).is_none(),
+                ("run", Value::Text(text)) => reply.run.replace(text).is_none(),
+                ("token", Value::Text(text)) => reply.token.replace(text).is_none(),
+                ("ready", value) => reply.ready.replace(value.whole()?).is_none(),
+                ("attempt", value) => reply.attempt.replace(value.whole()?).is_none(),
+                ("ok" | "error" | "class" | "run" | "token", _) => false,
+                _ => true,
+            };
+            is_first.then_some(())
+        })?;
+        Some(reply)
     }
 
     /// Whether it says so.
@@ -36,11 +61,13 @@ impl<'a> Reply<'a> {
 }
 
 const LINE: &[u8] = b"\"line\":";
+/// A reply of more bytes has a history, of which only a few members are looked at.
+const SHORT: usize = 512;
 
 /// Where a reply has the number of its line. A text has its quotes escaped, so only a key looks so; and no event has
 /// such a key.
 fn line_in(text: &[u8]) -> Option<(usize, usize)> {
-    let found = text.windows(LINE.len()).position(|window| window == LINE)? + LINE.len();
+    let found = place_of(LINE, text)? + LINE.len();
     let begin = found + usize::from(text.get(found) == Some(&b' '));
     let digits = text[begin..].iter().take_while(|byte| byte.is_ascii_digit()).count();
     (digits > 0).then(|| (begin, begin + digits))
@@ -54,11 +81,8 @@ pub fn numbered(text: &[u8], expected: u64, line: u64) -> Option<Vec<u8>> {
     if given != expected {
         return None;
     }
-    if line == expected {
-        return Some(text.to_vec());
-    }
-    let number = line.to_string();
-    Some([&text[..begin], number.as_bytes(), &text[end..]].concat())
+    let number = Digits::of(line);
+    Some([&text[..begin], number.bytes(), &text[end..]].concat())
 }
 
 #[cfg(test)]
@@ -74,9 +98,22 @@ mod tests {
     }
 
     #[test]
+    fn a_short_reply_is_read_as_a_long_one() {
+        let short = r#"{"attempt":2,"class":"timer","error":"E","ok":"retrying","ready":9,"run":"r","token":"t"}"#;
+        let long = short.replace("}", &format!(r#","events":[{{"input":"{}"}}]}}"#, "x".repeat(SHORT)));
+        for text in [short, &long] {
+            let found = Reply::of(text.as_bytes()).unwrap();
+            let texts = [&found.class, &found.error, &found.ok, &found.run, &found.token];
+            assert_eq!(texts.map(|text| text.as_deref().unwrap()), ["timer", "E", "retrying", "r", "t"]);
+            assert_eq!((found.attempt, found.ready), (Some(2), Some(9)));
+        }
+    }
+
+    #[test]
     fn a_reply_is_read_with_and_without_spaces() {
         let reply = Reply::of(br#"{"class": "run_timeout", "line": 3, "ok": "fired", "events": [{"a": 1}]}"#).unwrap();
         assert!(reply.is("fired") && reply.class.as_deref() == Some("run_timeout") && reply.error.is_none());
-        assert!(Reply::of(b"[1]").is_none() && Reply::of(b"{").is_none());
+        assert!(Reply::of(b"[1]").is_none() && Reply::of(b"{").is_none() && Reply::of(br#"{"ok":1}"#).is_none());
+        assert!(Reply::of(br#"{"ok":"a","ok":"b"}"#).is_none() && Reply::of(br#"{"ok":null,"ready":null}"#).is_some());
     }
 }

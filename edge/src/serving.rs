@@ -154,6 +154,8 @@ fn guard_of(options: &Options) -> Result<Guard, String> {
 async fn serve(options: &Options, guard: Guard, core: Arc<Core>, place: &Place) -> Result<(), String> {
     let text = |fault: std::io::Error| fault.to_string();
     let connections = Connections::new();
+    let teller = core.clone();
+    tokio::spawn(async move { teller.tell_answers().await });
     let mut tasks = Vec::new();
     let page = match options.page.is_empty() {
         true => None,

@@ -110,6 +110,13 @@ class Lines(WithASocket):
             self.served()
         self.assertEqual(pathlib.Path(self.path).read_text(encoding="utf-8"), "mine")
 
+    def test_many_calls_are_taken_before_an_answer_is_read(self):
+        """More than both directions of a socket hold: the edge reads on where it can't write."""
+        self.served()
+        calls = [signal(f"{number} {'x' * 30_000}") for number in range(128)]
+        replies = answers(self.connected(), *calls)
+        self.assertEqual([json.loads(reply["said"])["name"] for reply in replies], [call["name"] for call in calls])
+
     def test_a_client_that_never_reads_holds_nobody_up(self):
         server = self.served()
         silent = [self.connected() for _ in range(3)]

@@ -33,7 +33,7 @@ use crate::system;
 use hyper::body::Bytes;
 use state::{Answers, State};
 use std::process::ChildStdin;
-use std::sync::atomic::{AtomicUsize, Ordering::SeqCst};
+use std::sync::atomic::{AtomicBool, AtomicUsize, Ordering::SeqCst};
 use std::sync::{Arc, Condvar, Mutex, MutexGuard, PoisonError};
 use std::thread::{Builder, JoinHandle};
 use std::time::{Duration, Instant};
@@ -59,10 +59,39 @@ pub struct Core {
     moments: Mutex<Moments>,
     /// Told once nothing is served any more.
     over: Notify,
+    untold: Untold,
     shards: Shard,
     limit: usize,
     /// How many descriptions wait until a run has closed.
     pub ends: AtomicUsize,
+}
+
+/// Answers that were not told yet, where a task tells them.
+#[derive(Default)]
+struct Untold {
+    answers: Mutex<Answers>,
+    /// Told where there are some.
+    wake: Notify,
+    has_teller: AtomicBool,
+}
+
+impl Untold {
+    fn lock(&self) -> MutexGuard<'_, Answers> {
+        self.answers.lock().unwrap_or_else(PoisonError::into_inner)
+    }
+
+    /// Has who waits told of answers.
+    fn tell(&self, mut answers: Answers) {
+        if answers.is_empty() {
+            return;
+        }
+        if self.has_teller.load(SeqCst) {
+            self.lock().append(&mut answers);
+            self.wake.notify_one();
+        } else {
+            tell(answers);
+        }
+    }
 }
 
 /// The threads of a core, for who ends it.
@@ -117,6 +146,7 @@ impl Core {
             input: Mutex::new(Input { generation: 0, pipe }),
             moments: Mutex::new(moments),
             over: Notify::new(),
+            untold: Untold::default(),
             shards,
             limit,
             ends: AtomicUsize::new(0),
@@ -160,7 +190,22 @@ impl Core {
         if look {
             self.clock.notify_one();
         }
-        tell(answers);
+        self.untold.tell(answers);
+    }
+
+    /// Tells who waits from the thread on which this runs: on the one that serves the sockets, a batch of answers wakes that
+    /// thread once, and who waits is woken there without a word to another thread.
+    pub async fn tell_answers(&self) {
+        self.untold.has_teller.store(true, SeqCst);
+        loop {
+            let answers = std::mem::take(&mut *self.untold.lock());
+            if answers.is_empty() {
+                self.untold.wake.notified().await;
+            } else {
+                tell(answers);
+                tokio::task::yield_now().await;
+            }
+        }
     }
 
     pub fn shards(&self) -> Shard {

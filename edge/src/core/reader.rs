@@ -16,9 +16,11 @@ use std::io::Write;
 use std::sync::{Arc, PoisonError};
 use std::time::Duration;
 
-/// So long after its end the program is started again. Ctrl-C in a terminal ends both, and the edge learns of it a
-/// little later.
+/// So long after its end a program is started again that was told to end. Ctrl-C in a terminal ends both, and the edge
+/// learns of it a little later. One that ended in another way is started again at once.
 const PAUSE: Duration = Duration::from_millis(20);
+/// Any pipe that is empty holds so many bytes.
+const PIPE_HOLDS: usize = 4_096;
 /// So often the program is started, where it ends before it has come to the line at which it ended.
 const MOST_STARTS: u32 = 3;
 /// So many replies are gone through under one lock.
@@ -32,6 +34,27 @@ enum Next {
     Again,
     /// Nothing is served any more.
     Nothing,
+}
+
+/// What a poll came to.
+#[derive(Clone, Copy, PartialEq)]
+enum Polled {
+    Task,
+    /// A hint of what is over by now.
+    Stale,
+    Empty,
+    Refused,
+}
+
+impl Polled {
+    fn of(said: &Reply<'_>) -> Polled {
+        match said.ok.as_deref() {
+            Some("task") => Polled::Task,
+            Some("stale") => Polled::Stale,
+            Some("empty") => Polled::Empty,
+            _ => Polled::Refused,
+        }
+    }
 }
 
 impl Core {
@@ -55,7 +78,8 @@ impl Core {
 
     /// Goes through the replies that were read.
     fn take_replies(&self, program: &mut Program) -> Result<(), Fault> {
-        let mut calls = self.lock().taken(MOST_AT_ONCE);
+        let count = program.output.count(MOST_AT_ONCE);
+        let mut calls = self.lock().taken(count);
         let (mut replies, mut result) = (Vec::with_capacity(calls.len()), Ok(()));
         while let (Some(number), true) = (calls.front().map(|call| call.number), result.is_ok()) {
             match program.output.take(number) {
@@ -84,13 +108,19 @@ impl Core {
                 return Some(next);
             }
             Next::Again => {
-                std::thread::sleep(PAUSE);
+                if program.was_told_to_end() {
+                    std::thread::sleep(PAUSE);
+                }
                 let number = self.lock().answered + 1;
-                let fault = program.ended(number);
-                let starts_again = self.lock().starts_again(number, &fault);
-                if starts_again {
+                let asked = self.lock().starts_again(number);
+                if let Some(asked) = asked {
+                    // What it said last may come late: the next program is not kept waiting for it.
+                    std::thread::spawn(move || {
+                        say!("{}{asked}: it is started again, and given the log's lines", program.ended(number));
+                    });
                     return self.started_again();
                 }
+                let fault = program.ended(number);
                 self.end(fault);
             }
         }
@@ -133,8 +163,8 @@ impl Core {
         next.map_or(Next::Again, Next::Opened)
     }
 
-    /// Gives a program that has served the log what the one before has not answered, by a thread of its own: the
-    /// pipes hold only so much, and this one reads the replies.
+    /// Gives a program that has served the log what the one before has not answered. What a pipe may not hold it gives by
+    /// a thread of its own: this one reads the replies.
     fn go_on_with(self: &Arc<Core>, mut program: Program) -> Program {
         let pipe = program.take_input();
         let mut state = self.lock();
@@ -147,31 +177,38 @@ impl Core {
             lines.push(b'\n');
         }
         drop(state);
-        let core = self.clone();
-        std::thread::spawn(move || {
-            let mut input = core.lock_input();
-            *input = Input { generation, pipe };
-            let _ = input.pipe.as_mut().map(|pipe| pipe.write_all(&lines));
-            drop(input);
-            core.lock().flags.is_restarting = false;
-            core.wake.notify_all();
-        });
+        let input = Input { generation, pipe };
+        if lines.len() <= PIPE_HOLDS {
+            self.feed_first(input, &lines);
+        } else {
+            let core = self.clone();
+            std::thread::spawn(move || core.feed_first(input, &lines));
+        }
         program
+    }
+
+    /// Gives a program its first lines, and has the sequencer go on with it.
+    fn feed_first(&self, new: Input, lines: &[u8]) {
+        let mut input = self.lock_input();
+        *input = new;
+        let _ = input.pipe.as_mut().map(|pipe| pipe.write_all(lines));
+        drop(input);
+        self.lock().flags.is_restarting = false;
+        self.wake.notify_all();
     }
 }
 
 impl State {
-    /// Whether the program, which has ended before it answered this line, is started again: once for a line.
-    fn starts_again(&mut self, number: u64, fault: &Fault) -> bool {
+    /// What the program was asked, which has ended before it answered this line, where it is started again: once for a
+    /// line.
+    fn starts_again(&mut self, number: u64) -> Option<String> {
         let is_done = self.flags.is_closing && self.count == 0;
         if self.log.is_broken || self.died_at == Some(number) || is_done {
-            return false;
+            return None;
         }
-        let asked = self.sent.front().map_or_else(String::new, |call| format!(" ({})", call.named()));
-        say!("{fault}{asked}: it is started again, and given the log's lines");
         self.died_at = Some(number);
         self.metrics.restarts += 1;
-        true
+        Some(self.sent.front().map_or_else(String::new, |call| format!(" ({})", call.named())))
     }
 
     /// Takes so many calls off those that the program has.
@@ -214,7 +251,6 @@ impl State {
             self.answer_when_synced(Answered { call, reply: text, said });
             return Ok(0);
         }
-        let reply = text.clone();
         let told = match Reply::of(&text) {
             Some(told) => told,
             None => return Err(Box::new(call)),
@@ -224,12 +260,12 @@ impl State {
         if call.turn().is_some() {
             return Ok(handed);
         }
-        let has_task = call.op().is_poll() && told.is("task");
-        let answered = Answered { call, reply, said: Said { error: told.error.as_deref().map(Into::into), has_task } };
-        if answered.call.op().is_poll() {
-            self.take_poll(answered, &told, limit);
-        } else {
-            self.answer_when_synced(answered);
+        let polled = call.op().is_poll().then(|| Polled::of(&told));
+        let said = Said { error: told.error.as_deref().map(Into::into), has_task: polled == Some(Polled::Task) };
+        let answered = Answered { call, reply: text, said };
+        match polled {
+            Some(polled) => self.take_poll(answered, polled, limit),
+            None => self.answer_when_synced(answered),
         }
         Ok(handed)
     }
@@ -262,16 +298,16 @@ impl State {
     }
 
     /// Takes a poll's reply: after a hint of what is over by now it is asked again, and it waits where it found nothing.
-    fn take_poll(&mut self, mut answered: Answered, said: &Reply<'_>, limit: usize) {
-        if said.is("task") || said.is("stale") {
+    fn take_poll(&mut self, mut answered: Answered, polled: Polled, limit: usize) {
+        if matches!(polled, Polled::Task | Polled::Stale) {
             let turns = self.ledger.made_room();
             self.own.extend(turns);
         }
-        if said.is("stale") && !self.flags.is_closing && !self.is_gone(&answered.call) {
+        if polled == Polled::Stale && !self.flags.is_closing && !self.is_gone(&answered.call) {
             self.asked.push_front(answered.call);
             return;
         }
-        if said.is("empty") {
+        if polled == Polled::Empty {
             let queue = Queue::of(&answered.call);
             if let Some(task) = self.polls.left_for(&queue) {
                 answered.reply = task;

@@ -1,7 +1,7 @@
 //! Makes batches: a batch is written to the log, then to the program, and is synced while the program works.
 
 use super::state::{LogState, State};
-use super::{tell, Compacted, Core};
+use super::{Compacted, Core};
 use crate::call::Call;
 use crate::compaction;
 use crate::fault::Fault;
@@ -19,6 +19,8 @@ use tokio::sync::oneshot;
 
 const MOST_LINES: usize = 4_096;
 const MOST_BYTES: usize = 1 << 20;
+/// In the list of a batch there is room for so many turns that its calls make necessary, before it is made longer.
+const ROOM_FOR_TURNS: usize = 16;
 
 /// What the sequencer does next.
 enum Work {
@@ -157,7 +159,7 @@ impl Core {
         state.was_synced(log.len().saturating_sub(1));
         let answers = std::mem::take(&mut state.answers);
         drop(state);
-        tell(answers);
+        self.untold.tell(answers);
     }
 
     // Compaction.
@@ -259,7 +261,8 @@ impl Core {
 impl State {
     /// The calls of the next batch, and after them the turns that they make necessary.
     fn next_calls(&mut self) -> Vec<Call> {
-        let mut calls: Vec<Call> = self.own.drain(..).map(Call::own).collect();
+        let mut calls = Vec::with_capacity(self.own.len() + self.asked.len().min(MOST_LINES) + ROOM_FOR_TURNS);
+        calls.extend(self.own.drain(..).map(Call::own));
         let (mut needed, mut size) = (Needed::default(), 0);
         while calls.len() < MOST_LINES && size < MOST_BYTES {
             let call = match self.asked.pop_front() {

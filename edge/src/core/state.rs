@@ -287,9 +287,10 @@ impl State {
             self.remember(&call, &reply);
         }
         self.note(&call, &said);
-        let (queue, is_left) = (Queue::of(&call), said.has_task && call.key().is_none() && !has_receiver);
-        self.answer(call, Ok(reply.clone()));
-        if is_left {
+        let is_left = said.has_task && call.key().is_none() && !has_receiver;
+        let left = is_left.then(|| (Queue::of(&call), reply.clone()));
+        self.answer(call, Ok(reply));
+        if let Some((queue, reply)) = left {
             self.leave(queue, reply);
         }
     }
