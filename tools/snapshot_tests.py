@@ -41,6 +41,8 @@ MOST_LINES = 140
 # So many lines are handed in before their replies are read, since later ones are drawn from these.
 AHEAD = 6
 MOST_CUTS = 4
+# One pass serves what snapshots restore.
+LANES = (1,)
 KILLS = 20
 # What every large number of drawn snapshots has.
 PIECES = {"head", "counted", "gone", "event", "request_id", "note", "dispatch", "transfer", "end"}
@@ -181,7 +183,7 @@ def go_on(part: Part, words: list[str], folder: pathlib.Path, before: pathlib.Pa
 def service_drawn(own: int, count: int, folder: pathlib.Path) -> Service:
     """A service that is drawn by this seed, with so many cuts."""
     draws = random.Random(own)
-    lanes = draws.choice([1, 1, 1, 3])
+    lanes = draws.choice(LANES)
     words = ["--shards", str(SHARDS), "--queues", ",".join(QUEUES), "--retention", draws.choice(["0", "1200"]),
              "--passes", str(lanes), "--capacity", draws.choice(["3", "1024"])]
     drawn, parts = Drawn(own, lanes), []

@@ -1,11 +1,12 @@
 -- shards that were restored from texts start at the contents that these spell
-use Rattle.std.proofs.Common.{◌≡◌, ℕ, zero, suc, ◌+◌, ◌<◌, List, [], ◌∷◌, length, map, refl, sym, ap, ◌∙◌, subst, arith, Option, Some, None}
+use Rattle.std.proofs.Common.{◌≡◌, ◌⊎◌, inl, inr, ⊎_elim, ◌++◌, ℕ, zero, suc, ◌+◌, ◌<◌, List, [], ◌∷◌, length, map, refl, sym, ap, ◌∙◌, subst, arith, Option, Some, None}
 use Rattle.std.specs.Prelude.{slice_get, unwrap_or}
 use Rattle.std.specs.List.{range_with_len}
 use Rattle.gate.specs.Records.{Each}
 use Rattle.service_model.specs.Service.{Entry}
 use Rattle.service_model.proofs.ListLemmas.{get-map}
 use Rattle.service_model_types.specs.declared.content.Content.{Content}
+use Rattle.service_model_types.specs.declared.content.Setup.{Setup}
 use Rattle.service_model_types.specs.declared.settings.Settings.{Settings}
 use Rattle.service.specs.Contents.{setup_of}
 use Rattle.service.specs.Starting.{AreStarts, IsStart}
@@ -13,8 +14,6 @@ use Rattle.shard_gate.specs.Starts.{Start, opened_with, some_content, start_at, 
 use Rattle.shard_gate.specs.declared.resumed.Resumed.{Resumed}
 use Rattle.shard_snapshot.specs.Found.{content_in}
 use Rattle.shard_snapshot.specs.Stages.{IsOfShard, Spells}
-use Rattle.shard_snapshot.proofs.FoundLemmas.{spelled-found}
-use Rattle.shard_snapshot.proofs.SetupLemmas.{spelled-of}
 use Rattle.checkpoints.specs.Checkpoints.{Spell, at_contents, starts_by}
 use Rattle.checkpoints.specs.Restored.{AreRestored, IsRestored, text_of}
 use Rattle.checkpoints.specs.Resumed.{AreInSlots}
@@ -68,6 +67,34 @@ slots-from {S = S} {H = H} start own n (r ∷ shards) (x ∷ given) count h =
     let place : n + suc k ≡ (n + 1) + k = omega arith in
     (shard, slot ∙ ap (λ j. Some j) place, log)))
 
+push-from : {A : Type 0} (xs : List A) (x y : A) (n : ℕ) → slice_get (xs ++ x ∷ []) n ≡ Some y → (slice_get xs n ≡ Some y) ⊎ ((n ≡ length xs) × (y ≡ x))
+push-from [] x y zero is = inr (refl, some-same y x (sym is))
+push-from [] x y (suc n) is = absurd (cc)
+push-from (z ∷ xs) x y zero is = inl is
+push-from (z ∷ xs) x y (suc n) is = ⊎_elim (λ e. inl e) (λ e. inr (ap suc e.0, e.1)) (push-from xs x y n is)
+
+longer : {A : Type 0} (xs : List A) (x : A) → length (xs ++ x ∷ []) ≡ length xs + 1
+longer [] x = refl
+longer (y ∷ xs) x = let h = longer xs x in omega (arith, h)
+
+-- one more shard in its slot
+pub slots-more : {S H : Type 0} (ys shards : List (Restored S)) (gs given : List (Resumed S H × List Entry)) (r : Restored S) (x : Resumed S H × List Entry) → AreInSlots ys gs →
+    x.0.shard ≡ r.shard → x.0.slot ≡ Some (length gs) → x.1 ≡ [] → shards ≡ ys ++ r ∷ [] → given ≡ gs ++ x ∷ [] → AreInSlots shards given
+slots-more {S = S} {H = H} ys shards gs given r x h shard slot log is is' =
+    record {
+      count = ap length is' ∙ longer gs x ∙ ap (λ n. n + 1) h.count ∙ sym (longer ys r) ∙ sym (ap length is);
+      each = λ k s y at at'. by k s y (push-from ys r s k (sym (ap (λ l. slice_get l k) is) ∙ at)) (push-from gs x y k (sym (ap (λ l. slice_get l k) is') ∙ at'));
+    }
+  where
+    by : (k : ℕ) (s : Restored S) (y : Resumed S H × List Entry) → (slice_get ys k ≡ Some s) ⊎ ((k ≡ length ys) × (s ≡ r)) → (slice_get gs k ≡ Some y) ⊎ ((k ≡ length gs) × (y ≡ x)) →
+        (y.0.shard ≡ s.shard) × (y.0.slot ≡ Some k) × (y.1 ≡ [])
+    by k s y (inl a) (inl b) = h.each k s y a b
+    by k s y (inl a) (inr b) = absurd (let l = within ys k s a in let e = b.0 in let n = h.count in omega (arith, l, e, n))
+    by k s y (inr a) (inl b) = absurd (let l = within gs k y b in let e = a.0 in let n = h.count in omega (arith, l, e, n))
+    by k s y (inr a) (inr b) =
+        subst (λ z. (z.0.shard ≡ s.shard) × (z.0.slot ≡ Some k) × (z.1 ≡ [])) (sym b.1)
+        (shard ∙ sym (ap (λ (q : Restored S). q.shard) a.1), slot ∙ ap (λ n. Some n) (sym b.0), log)
+
 -- those of shards that were restored are by their numbers
 pub slots-start : {S H : Type 0} (start : ℕ → Content) (own : S → Content) (K : Settings) (shards : List (Restored S)) (given : List (Resumed S H × List Entry)) → AreInSlots shards given → length shards ≡ K.shards →
     map (starting (λ (x : Resumed S H). start_at start (own x.shard) x.slot)) given ≡ starts_by start K
@@ -90,40 +117,47 @@ slots-stand stands start own shards given h each k x at =
 
 -- ---- the contents that texts spell
 
-text-at : {S : Type 0} → Option (Restored S) → List ℕ
+-- laws of the texts: a text's content is found by its lines, and is one of the shard
+abbrev pub AreFound : Type 0
+AreFound = (setup : Setup) (text : List ℕ) (C : Content) → Spells setup text C → content_in setup text ≡ Some C
+
+abbrev pub AreOfShard : Type 0
+AreOfShard = (setup : Setup) (text : List ℕ) (C : Content) → Spells setup text C → IsOfShard setup C
+
+abbrev text-at : {S : Type 0} → Option (Restored S) → List ℕ
 text-at None = []
 text-at (Some r) = text_of r
 
 -- the content at which the shard of this number starts
-pub picked : {S : Type 0} → Settings → List (Restored S) → ℕ → Content
+abbrev pub picked : {S : Type 0} → Settings → List (Restored S) → ℕ → Content
 picked K shards k = unwrap_or (content_in (setup_of K k) (text-at (slice_get shards k))) some_content
 
 -- its text spells it, and the shard stands for it
-picked-is : {S : Type 0} (stands : S → Content → Type 0) (K : Settings) (shards : List (Restored S)) (k : ℕ) (r : Restored S) → AreRestored stands K shards → slice_get shards k ≡ Some r →
+picked-is : {S : Type 0} → AreFound → (stands : S → Content → Type 0) (K : Settings) (shards : List (Restored S)) (k : ℕ) (r : Restored S) → AreRestored stands K shards → slice_get shards k ≡ Some r →
     Spells (setup_of K k) (text_of r) (picked K shards k) × stands r.shard (picked K shards k)
-picked-is stands K shards k r h at =
+picked-is found stands K shards k r h at =
     let keeps = h.each k r at in
     let same : keeps.content ≡ picked K shards k =
-    sym (ap (λ o. unwrap_or o some_content) (ap (λ o. content_in (setup_of K k) (text-at o)) at ∙ spelled-found (setup_of K k) (text_of r) keeps.content keeps.spells)) in
+    sym (ap (λ o. unwrap_or o some_content) (ap (λ o. content_in (setup_of K k) (text-at o)) at ∙ found (setup_of K k) (text_of r) keeps.content keeps.spells)) in
     (subst (Spells (setup_of K k) (text_of r)) same keeps.spells, subst (stands r.shard) same keeps.stands_for)
 
-pub picked-stand : {S : Type 0} (stands : S → Content → Type 0) (K : Settings) (shards : List (Restored S)) → AreRestored stands K shards → Each shards (λ k r. stands r.shard (picked K shards k))
-picked-stand stands K shards h k r at = (picked-is stands K shards k r h at).1
+pub picked-stand : {S : Type 0} → AreFound → (stands : S → Content → Type 0) (K : Settings) (shards : List (Restored S)) → AreRestored stands K shards → Each shards (λ k r. stands r.shard (picked K shards k))
+picked-stand found stands K shards h k r at = (picked-is found stands K shards k r h at).1
 
 -- the contents, one after another
-pub all-picked : {S : Type 0} → Settings → List (Restored S) → List Content
+abbrev pub all-picked : {S : Type 0} → Settings → List (Restored S) → List Content
 all-picked K shards = map (picked K shards) (range_with_len 0 K.shards)
 
-pub picked-spell : {S : Type 0} (stands : S → Content → Type 0) (K : Settings) (shards : List (Restored S)) → AreRestored stands K shards → Spell K (map text_of shards) (all-picked K shards)
-picked-spell stands K shards h = record {
-  texts = map-count text_of shards ∙ h.count;
-  contents = range-count (picked K shards) 0 K.shards;
+pub picked-spell : {S : Type 0} → AreFound → (stands : S → Content → Type 0) (K : Settings) (shards : List (Restored S)) → AreRestored stands K shards → Spell K (map text_of shards) (all-picked K shards)
+picked-spell found stands K shards h = record {
+  all_texts = map-count text_of shards ∙ h.count;
+  all_contents = range-count (picked K shards) 0 K.shards;
   each = λ k text C at_text at_content.
       let (r, at_r, text_is) = get-map text_of shards k text at_text in
       let (j, at_j, content_is) = get-map (picked K shards) (range_with_len 0 K.shards) k C at_content in
       let place = (range-get 0 K.shards k j at_j).0 in
       let number : j ≡ k = omega (arith, place) in
-      subst (λ t. Spells (setup_of K k) t C) (sym text_is) (subst (Spells (setup_of K k) (text_of r)) (sym (content_is ∙ ap (picked K shards) number)) (picked-is stands K shards k r h at_r).0);
+      subst (λ t. Spells (setup_of K k) t C) (sym text_is) (subst (Spells (setup_of K k) (text_of r)) (sym (content_is ∙ ap (picked K shards) number)) (picked-is found stands K shards k r h at_r).0);
 }
   where
     map-count : {A B : Type 0} (f : A → B) (xs : List A) → length (map f xs) ≡ length xs
@@ -134,8 +168,8 @@ pub at-picked : {S : Type 0} (K : Settings) (shards : List (Restored S)) → at_
 at-picked K shards = map-map (λ (C : Content). (C, [])) (picked K shards) (range_with_len 0 K.shards)
 
 -- they are starts of the service
-pub picked-starts : {S : Type 0} (stands : S → Content → Type 0) (K : Settings) (shards : List (Restored S)) → AreRestored stands K shards → AreStarts K (opened_with (starts_by (picked K shards) K))
-picked-starts stands K shards h =
+pub picked-starts : {S : Type 0} → AreFound → AreOfShard → (stands : S → Content → Type 0) (K : Settings) (shards : List (Restored S)) → AreRestored stands K shards → AreStarts K (opened_with (starts_by (picked K shards) K))
+picked-starts found of stands K shards h =
     let all : opened_with (starts_by (picked K shards) K) ≡ all-picked K shards = map-map (λ (g : Start). g.0) (λ k. (picked K shards k, [])) (range_with_len 0 K.shards) in
     subst (AreStarts K) (sym all) (record {
       count = range-count (picked K shards) 0 K.shards;
@@ -145,6 +179,6 @@ picked-starts stands K shards h =
           let number : j ≡ k = omega (arith, place) in
           let count = h.count in
           let (r, at_r) = there shards k (omega (arith, less, count)) in
-          let of_shard = spelled-of (setup_of K k) (text_of r) (picked K shards k) (picked-is stands K shards k r h at_r).0 in
+          let of_shard = of (setup_of K k) (text_of r) (picked K shards k) (picked-is found stands K shards k r h at_r).0 in
           subst (IsStart K k) (sym (content_is ∙ ap (picked K shards) number)) (record { setup = of_shard.setup; accepted = of_shard.accepted; dispatches = of_shard.dispatches });
     })

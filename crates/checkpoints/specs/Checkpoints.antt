@@ -17,8 +17,8 @@ pub record Keeps {S : Type 0} (stands : S → Content → Type 0) (setup : Setup
 
 -- the texts spell these contents, one of each shard of a service with these settings
 pub record Spell (K : Settings) (texts : List (List ℕ)) (contents : List Content) : Type 0 where
-  pub texts : length texts ≡ K.shards
-  pub contents : length contents ≡ K.shards
+  pub all_texts : length texts ≡ K.shards
+  pub all_contents : length contents ≡ K.shards
   pub each : (k : ℕ) (text : List ℕ) (S : Content) → slice_get texts k ≡ Some text → slice_get contents k ≡ Some S → Spells (setup_of K k) text S
 
 -- the shards of a service, each at one of these contents, and nothing was done since

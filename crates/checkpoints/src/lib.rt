@@ -14,6 +14,6 @@ mod slots;
 
 pub use checkpointed::Checkpointed;
 pub use fault::LoadFault;
-pub use restored::{Restored, restored};
+pub use restored::{Restored, restore_shard};
 pub use scripts::{run_restored, run_standing};
 pub use snapshot_writing::SnapshotFault;

@@ -3,6 +3,7 @@
 ghost use Rattle.std.specs.Prelude.{◌≡◌, IfOk, IfSome};
 ghost use Rattle.checkpoints.specs.Checkpoints.{Keeps};
 ghost use Rattle.service.specs.Contents.{setup_of};
+ghost use Rattle.shard_store.specs.ShardView.{IsSetup};
 
 use crate::checkpointed::Checkpointed;
 use crate::fault::LoadFault;
@@ -45,7 +46,7 @@ fn setup_in(alloc: Global, settings: &Settings, shard: u64) -> Result<Option<Set
 ///
 /// # Errors
 /// `Settings` where the service has no such shard; else as [`Checkpointed::restore`].
-pub fn restored<S: Checkpointed>(
+pub fn restore_shard<S: Checkpointed>(
     alloc: Global,
     settings: &Settings,
     shard: u64,
