@@ -24,7 +24,7 @@ NAMES = {
     "option": ("script_settings/src/words.rt", r'^ *let .* with_(?:option|flag)\(alloc, command, "(\w+)"'),
 }
 IN_A_ROW = ("operation", "command", "event")
-WAITING_CRATES = ("gate", "matching", "service", "script", "lanes")
+WAITING_CRATES = ("gate", "matching", "service", "script", "lanes", "checkpoints")
 
 
 def parts_of(text: str) -> list[str]:

@@ -455,7 +455,7 @@ class Refused(Folder):
             done = ran(b"", *words, "--load", self.loaded)
             self.assertRegex(done.said, r"shard-0\d\.snap: it names a task queue that --queues leaves out\n$")
             self.refused(done.said.removeprefix("wfserve: ").rstrip("\n"), *words, "--load", self.loaded)
-        self.refused(f"{self.loaded}/shard-01.snap: --shards leaves this shard out", "--load", self.loaded)
+        self.refused(f"{self.loaded}/shard-01.snap: --shards leaves this snapshot out", "--load", self.loaded)
 
     def test_what_else_lies_in_the_folder(self) -> None:
         record = self.loaded / "shard-00.rec"

@@ -1,7 +1,7 @@
 //! The text of a shard's snapshot.
 //!
-//! A text is made from what the shard keeps, restored, and compared with the shard. So what is said of it
-//! rests on the reader alone, and not on the order or the choice of the lines that were written.
+//! A text is made from what the shard keeps, restored, and compared with the shard. So its promise rests on
+//! the reader alone, and not on the order or the choice of the lines that were written.
 #![tactic(auto)]
 
 mod fault;

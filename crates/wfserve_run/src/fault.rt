@@ -25,9 +25,14 @@ pub enum Fault {
         path: String,
         line: u64,
     },
-    /// There is a record or a snapshot of a shard that the settings leave out.
-    #[error("{path}: --shards leaves this shard out")]
+    /// There is a record of a shard that the settings leave out.
+    #[error("{path}: --shards leaves this record out")]
     LeftOut {
+        path: String,
+    },
+    /// There is a snapshot of a shard that the settings leave out.
+    #[error("{path}: --shards leaves this snapshot out")]
+    LeftOutSnapshot {
         path: String,
     },
     /// This line of a snapshot is the first that is damaged, and so.
