@@ -3,12 +3,12 @@ pub mod AnswerLemmas
 pub mod BegunLemmas
 pub mod CallLemmas
 pub mod CourseLemmas
-pub mod FaultLemmas
 pub mod FoundLemmas
 pub mod JournaledLemmas
 pub mod LaneLemmas
 pub mod MeetLemmas
 pub mod NumberLemmas
+pub mod OpenedLemmas
 pub mod PartLemmas
 pub mod PhaseLemmas
 pub mod PlaceLemmas

@@ -10,13 +10,12 @@ use Rattle.service_model.specs.Service.{Entry}
 use Rattle.service_model_types.specs.declared.request.Hint.{Hint}
 use Rattle.service_model_types.specs.declared.settings.Settings.{Settings}
 use Rattle.service_model.proofs.ListLemmas.{map-get}
-use Rattle.matching.specs.AtClose as of_queue
 use Rattle.matching.specs.Named as matching
 use Rattle.matching.specs.Queues as of_hints
 use Rattle.gate.specs.AtClose.{HasDone, IsEnd}
 use Rattle.gate.specs.Passes.{IsFresh, base, number}
 use Rattle.shard_gate.specs.GateViews as gates
-use Rattle.service.specs.AtClose.{base_of, held_at, parts_at}
+use Rattle.service.specs.AtClose.{base_of, held_at}
 use Rattle.service.specs.Contents.{opening_contents}
 use Rattle.service.specs.HeldHints.{HoldsAtOpening}
 use Rattle.service.specs.Reopening.{opens, record_at}
@@ -29,7 +28,7 @@ use Rattle.script.specs.Endings.{IsDeviceFault, IsFaultOf, IsRefusedOpening}
 use Rattle.script.proofs.OpenLemmas.{refused-setting}
 use Rattle.lanes.specs.Endings as over
 use Rattle.lanes.specs.Meetings.{PassServed, PassesMet}
-use Rattle.lanes.specs.Reopened.{AreQueuesAfter, AreRecordsAfter, IsFaultFrom, IsOpenedFrom}
+use Rattle.lanes.specs.Reopened.{AreRecordsAfter, IsFaultFrom, IsOpenedFrom}
 use Rattle.lanes.proofs.NumberLemmas.{course-kept, each-number, met-kept, same-count}
 
 -- ---- numbers
@@ -128,17 +127,7 @@ held-known K held x p number is own fresh slot below =
     get_or_from_slice_get (matching.held_of x.queues) slot (of_hints.held_of q) [] (map-get of_hints.held_of x.queues.queues.items slot q there)
     ∙ sym opened ∙ ap (λ v. v.opened) (fresh slot r at)
 
-held-first : (K : Settings) (R : List (List Entry)) (x : Service) (passes : List Pass) (h : HoldsAtOpening K R passes) → settings_of x ≡ K → 0 < length passes → ((k : ℕ) (p : Pass) → slice_get passes k ≡ Some p → IsPassOf p x)
-    → (slot : ℕ) → slot < 2 * length K.queues → held_at x slot ≡ matching.held_at h.held slot
-held-first K R x [] h is some own = absurd (omega (arith, some))
-held-first K R x (p ∷ ps) h is some own = held-known K h.held x p 0 is (own 0 p refl) (h.fresh 0 p refl)
-
-pub queues-after : (K : Settings) (R : List (List Entry)) (x : Service) (passes ends : List Pass) (opened : IsOpenedFrom K R x passes) → 0 < length passes
-    → ((slot : ℕ) → slot < 2 * length (settings_of x).queues → of_queue.IsEnd (held_at x slot) (settings_of x).passes (parts_at ends slot))
-    → AreQueuesAfter K opened.held.held ends
-queues-after K R x passes ends opened some each = λ slot below.
-    let is = opened.settings in
-    let within = ap (λ (k : Settings). length k.queues) is in
-    let by_count = ap (λ (k : Settings). k.passes) is in
-    subst (λ held. of_queue.IsEnd held K.passes (parts_at ends slot)) (held-first K R x passes opened.held is some opened.own slot below)
-    (subst (λ n. of_queue.IsEnd (held_at x slot) n (parts_at ends slot)) by_count (each slot (omega (arith, below, within))))
+pub held-first : (K : Settings) (held : List (List Hint)) (x : Service) (passes : List Pass) → settings_of x ≡ K → 0 < length passes → ((k : ℕ) (p : Pass) → slice_get passes k ≡ Some p → IsPassOf p x)
+    → ((k : ℕ) (p : Pass) → slice_get passes k ≡ Some p → matching.IsFresh K.passes K.shards K.capacity held k p.hints) → (slot : ℕ) → slot < 2 * length K.queues → held_at x slot ≡ matching.held_at held slot
+held-first K held x [] is some own fresh = absurd (omega (arith, some))
+held-first K held x (p ∷ ps) is some own fresh = held-known K held x p 0 is (own 0 p refl) (fresh 0 p refl)

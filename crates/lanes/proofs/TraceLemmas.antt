@@ -1,11 +1,10 @@
 -- the one history of a service over lanes, and the text of its steps
-use Rattle.std.proofs.Common.{◌≡◌, ℕ, List, [], Some, Vec, Global, length, map, slice_get, ap, sym, subst, ◌∙◌}
+use Rattle.std.proofs.Common.{◌≡◌, ℕ, List, [], Some, Vec, Global, length, map, slice_get, sym, subst}
 use Rattle.gate.specs.Passes as gate
 use Rattle.gate.specs.Records.{Begins}
 use Rattle.history.specs.Merged.{AreTicketed, IsMerged, numbered}
 use Rattle.history.proofs.RunLemmas.{history-ticketed, run-merged}
 use Rattle.service.specs.AtClose.{IsHistoryOf, base_of}
-use Rattle.service.specs.Reopening.{record_at}
 use Rattle.service.specs.Services.{known_by, settings_of}
 use Rattle.service.specs.ServiceViews.{Service}
 use Rattle.service.specs.ServiceViews.{Pass}
@@ -13,16 +12,12 @@ use Rattle.service_model.specs.Service.{Entry}
 use Rattle.service_model.proofs.ListLemmas.{get-map}
 use Rattle.lanes.specs.Reopened.{AreOneHistory}
 
--- without records each shard began empty
-began : (R : List (List Entry)) (x : Service) → ((s : ℕ) → base_of x s ≡ record_at R s) → R ≡ [] → (s : ℕ) → base_of x s ≡ []
-began R x bases none s = bases s ∙ ap (λ logs. record_at logs s) none
+module _ (x : Service) (logs : List (List Entry)) (stamps : List (List ℕ)) (count : length logs ≡ (settings_of x).shards) (history : IsHistoryOf x logs stamps) (empty : (s : ℕ) → base_of x s ≡ []) where
+  pub closed-ticketed : AreTicketed logs stamps
+  closed-ticketed = history-ticketed _ (base_of x) empty _ logs stamps count history
 
-module _ (R : List (List Entry)) (x : Service) (logs : List (List Entry)) (stamps : List (List ℕ)) (bases : (s : ℕ) → base_of x s ≡ record_at R s) (count : length logs ≡ (settings_of x).shards) (history : IsHistoryOf x logs stamps) where
-  pub closed-ticketed : R ≡ [] → AreTicketed logs stamps
-  closed-ticketed none = history-ticketed _ (base_of x) (began R x bases none) _ logs stamps count history
-
-  pub closed-merged : R ≡ [] → IsMerged (numbered 1 history.run) logs stamps
-  closed-merged none = run-merged _ (base_of x) (began R x bases none) _ logs stamps count history
+  pub closed-merged : IsMerged (numbered 1 history.run) logs stamps
+  closed-merged = run-merged _ (base_of x) empty _ logs stamps count history
 
 -- what the close gives
 abbrev pub one-history : (x : Service) (ends : List Pass) (logs : List (List Entry)) (tickets : List (Vec ℕ Global)) → IsHistoryOf x logs (map (λ t. t.items) tickets)

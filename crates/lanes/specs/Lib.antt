@@ -1,5 +1,6 @@
 pub mod Answers
 pub mod Batched
+pub mod Begun
 pub mod Calls
 pub mod Course
 pub mod Endings

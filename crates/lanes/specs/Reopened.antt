@@ -1,5 +1,5 @@
 -- MEANING: what lines over several lanes make of a service that was opened from records
-use Rattle.std.specs.Prelude.{◌≡◌, ◌⊎◌, ℕ, ◌*◌, ◌<◌, List, Bool, Option, Some, Err, length, slice_get}
+use Rattle.std.specs.Prelude.{◌≡◌, ◌⊎◌, ℕ, ◌*◌, ◌<◌, List, Bool, false, Option, Some, Err, length, slice_get}
 use Rattle.std.specs.Io.KnownBytes.{Appends}
 use Rattle.wire_counted.specs.Failures.{Rose}
 use Rattle.wire_counted.specs.Written.{AppendsBeginning}
@@ -18,11 +18,14 @@ use Rattle.gate.specs.Records.{Begins}
 use Rattle.matching.specs.AtClose as of_queue
 use Rattle.matching.specs.Named as matching
 use Rattle.shard_gate.specs.GateViews as gates
+use Rattle.shard_gate.specs.Starts.{Start, records_in}
+use Rattle.shard_gate.specs.declared.source.Source.{Source}
 use Rattle.service.specs.AtClose.{IsHistoryOf, parts_at}
 use Rattle.service.specs.Contents.{opening_contents}
 use Rattle.service.specs.HeldHints.{HoldsAtOpening}
 use Rattle.service.specs.Ranges.{range_fault}
 use Rattle.service.specs.Reopening.{opens, record_at}
+use Rattle.service.specs.Resuming.{Resumes}
 use Rattle.service.specs.Services.{IsPassOf, known_by, settings_of}
 use Rattle.service.specs.ServiceViews.{Service}
 use Rattle.service.specs.ServiceViews.{Pass}
@@ -75,34 +78,41 @@ abbrev pub AreQueuesAfter : Settings → List (List Hint) → List Pass → Type
 AreQueuesAfter K held ends = (slot : ℕ) → slot < 2 * length K.queues
     → of_queue.IsEnd (matching.held_at held slot) K.passes (parts_at ends slot)
 
--- all lines of the input were served by a service that was opened from the records, these are its records at the end,
--- and after the replies
+-- How a service came to be, with the passes that it gave, and the hints that its queues held then
+abbrev pub Opening : Type 1
+Opening = Service → List Pass → Type 0
+
+abbrev pub HintsHeld : Opening → Type 0
+HintsHeld opened = (x : Service) (passes : List Pass) → opened x passes → List (List Hint)
+
+-- all lines of the input were served by a service that came to be so with these records, these are its records at the
+-- end, and after the replies
 -- the steps of its one history were written, where they were asked for
-pub record RanFrom (K : Settings) (trace : Bool) (R : List (List Entry)) (unread held unread' held' : Option (List ℕ))
-    (refused : Bool) (logs : List (List Entry)) : Type 0 where
+pub record RanOver (Opened : Opening) (held_by : HintsHeld Opened) (K : Settings) (trace : Bool) (R : List (List Entry))
+    (unread held unread' held' : Option (List ℕ)) (refused : Bool) (logs : List (List Entry)) : Type 0 where
   pub service : Service
   pub passes : List Pass
-  pub opened : IsOpenedFrom K R service passes
+  pub opened : Opened service passes
   pub ends : List Pass
   pub replied : Option (List ℕ)
   pub ran : over.Ran (ServedAlong service logs) (PassesMet service) K passes unread held unread' replied refused ends
   pub records : AreRecordsAfter K R ends logs
-  pub queues : AreQueuesAfter K opened.held.held ends
+  pub queues : AreQueuesAfter K (held_by service passes opened) ends
   pub one : AreOneHistory service ends logs
   pub traced : Appends replied held' (trace_if trace one.history.run)
 
--- the service was opened, and the script ended early
-pub record HaltedBehind (K : Settings) (R : List (List Entry)) (unread held unread' held' : Option (List ℕ)) : Type 0 where
+-- the service came to be so, and the script ended early
+pub record BrokeOver (Opened : Opening) (K : Settings) (unread held unread' held' : Option (List ℕ)) : Type 0 where
   pub service : Service
   pub passes : List Pass
-  pub opened : IsOpenedFrom K R service passes
+  pub opened : Opened service passes
   pub halted : over.Halted (PassServed service) (PassesMet service) K passes unread held unread' held'
 
 -- all lines were served, and after the replies a beginning of the steps was written, where these were asked for
-pub record HaltedInTrace (K : Settings) (trace : Bool) (R : List (List Entry)) (unread held unread' held' : Option (List ℕ)) : Type 0 where
+pub record BrokeInTraceOver (Opened : Opening) (K : Settings) (trace : Bool) (unread held unread' held' : Option (List ℕ)) : Type 0 where
   pub service : Service
   pub passes : List Pass
-  pub opened : IsOpenedFrom K R service passes
+  pub opened : Opened service passes
   pub refused : Bool
   pub ends : List Pass
   pub replied : Option (List ℕ)
@@ -111,10 +121,30 @@ pub record HaltedInTrace (K : Settings) (trace : Bool) (R : List (List Entry)) (
   pub one : AreOneHistory service ends logs
   pub begun : AppendsBeginning replied held' (trace_if trace one.history.run)
 
--- nothing was read and nothing written, or the service was opened
+-- nothing was read and nothing written, or the service came to be so
+abbrev pub HaltedOver : Opening → Settings → Bool → (unread held unread' held' : Option (List ℕ)) → Type 0
+HaltedOver Opened K trace unread held unread' held' = ((unread' ≡ unread) × (held' ≡ held))
+    ⊎ (BrokeOver Opened K unread held unread' held' ⊎ BrokeInTraceOver Opened K trace unread held unread' held')
+
+-- so it was by a service that was opened from the records
+abbrev pub RanFrom : Settings → Bool → List (List Entry) → (unread held unread' held' : Option (List ℕ)) → Bool → List (List Entry) → Type 0
+RanFrom K trace R = RanOver (IsOpenedFrom K R) (λ x passes opened. opened.held.held) K trace R
+
+abbrev pub HaltedBehind : Settings → List (List Entry) → (unread held unread' held' : Option (List ℕ)) → Type 0
+HaltedBehind K R = BrokeOver (IsOpenedFrom K R) K
+
+abbrev pub HaltedInTrace : Settings → Bool → List (List Entry) → (unread held unread' held' : Option (List ℕ)) → Type 0
+HaltedInTrace K trace R = BrokeInTraceOver (IsOpenedFrom K R) K trace
+
 abbrev pub HaltedFrom : Settings → Bool → List (List Entry) → (unread held unread' held' : Option (List ℕ)) → Type 0
-HaltedFrom K trace R unread held unread' held' = ((unread' ≡ unread) × (held' ≡ held))
-    ⊎ (HaltedBehind K R unread held unread' held' ⊎ HaltedInTrace K trace R unread held unread' held')
+HaltedFrom K trace R = HaltedOver (IsOpenedFrom K R) K trace
+
+-- and by one that was resumed from shards, of each a content and the record of what was done since; no steps are written
+abbrev pub RanResumed : Source → Settings → List Start → (unread held unread' held' : Option (List ℕ)) → Bool → List (List Entry) → Type 0
+RanResumed source K starts = RanOver (Resumes source K starts) (λ x passes resumed. resumed.held.held) K false (records_in starts)
+
+abbrev pub HaltedResumed : Source → Settings → List Start → (unread held unread' held' : Option (List ℕ)) → Type 0
+HaltedResumed source K starts = HaltedOver (Resumes source K starts) K false
 
 -- a fault of the opening, by what refuses it, or of the reader, of the writer or of memory
 abbrev pub IsFaultFrom : Settings → List (List Entry) → ScriptFault → ℕ → ℕ → ℕ → ℕ → Type 0

@@ -1,12 +1,17 @@
-//! A script over several lanes of a service that goes on from its records.
+//! A script over several lanes of a service that goes on from its records, or from its shards.
 
-ghost use Rattle.std.specs.Prelude.{◌≡◌, [], true, IfOk, IfErr, OnErr};
-ghost use Rattle.script.specs.Endings.{IfRefused};
-ghost use Rattle.lanes.specs.Reopened.{HaltedFrom, IsFaultFrom, RanFrom};
+ghost use Rattle.std.specs.Prelude.{◌≡◌, ℕ, [], true, map, IfOk, IfErr, OnErr};
+ghost use Rattle.gate.specs.Records.{Each};
+ghost use Rattle.shard_gate.specs.Starts.{opened_with, starting};
+ghost use Rattle.service.specs.AtClose.{base_of};
+ghost use Rattle.service.specs.Starting.{AreStarts};
+ghost use Rattle.script.specs.Endings.{IfRefused, IsDeviceFault, IsResumedFault};
+ghost use Rattle.lanes.specs.Begun.{BeganWith, Exactly, hints_of};
+ghost use Rattle.lanes.specs.Reopened.{HaltedFrom, HaltedOver, HaltedResumed, IsFaultFrom, RanFrom, RanOver, RanResumed};
 
 use crate::run::run_lanes;
 use script::{Outcome, ScriptFault, opening_fault, print_trace};
-use service::{Closed, KeepsShard, Service};
+use service::{Closed, KeepsShard, Pass, Service, Source};
 use service_model_types::request::Request;
 use service_model_types::settings::Settings;
 use std::alloc::Global;
@@ -54,6 +59,77 @@ pub fn run_lanes_from<S: KeepsShard + Send + Sync, H: Threads + Wait + Sync, R: 
         Ok(opened) => opened,
         Err(refusal) => return Err(opening_fault(refusal)),
     };
+    run_over(rt, alloc, settings, trace, service, passes, reader, writer)
+}
+
+/// [`run_lanes_from`] from shards that are given, each with the record of what was done since the content
+/// at which it starts and for which it stands. Each goes on where its record ends, and comes back with
+/// what the lines did after it. No steps are written.
+///
+/// Where resuming is refused, nothing was read or written: for the first setting out of its range, or for
+/// hints that don't fit. A task that waits in a queue which the settings don't have is a fault of
+/// `Memory`.
+pub fn run_lanes_resumed<S: KeepsShard + Send + Sync, H: Threads + Wait + Sync, R: Read, W: Write>(
+    rt: &H,
+    alloc: Global,
+    source: Source,
+    settings: &Settings,
+    shards: Vec<(S, Record<Request>)>,
+    reader: &mut Counted<R>,
+    writer: &mut Counted<W>,
+) -> Result<Outcome<S>, ScriptFault>
+    requires starts { AreStarts settings.now
+        (opened_with (map (starting S.opening) shards.items)) }
+    requires standing { Each shards.items (λ k x. S.stands x.0 (S.opening x.0)) }
+    ensures ran { IfOk result (λ o. RanResumed
+        source settings.now (map (starting S.opening) shards.items)
+        (R.remaining reader.old.inner) (W.contents writer.old.inner)
+        (R.remaining reader.new.inner) (W.contents writer.new.inner)
+        o.refused o.records.items) }
+    ensures halted { OnErr result (HaltedResumed
+        source settings.now (map (starting S.opening) shards.items)
+        (R.remaining reader.old.inner) (W.contents writer.old.inner)
+        (R.remaining reader.new.inner) (W.contents writer.new.inner)) }
+    ensures untouched { IfErr result (λ e.
+        IfRefused e ((reader.new ≡ reader.old) × (writer.new ≡ writer.old))) }
+    ensures fault { IfErr result (λ e. IsResumedFault
+        source settings.now (map (starting S.opening) shards.items) e
+        reader.old.failures reader.new.failures writer.old.failures writer.new.failures) }
+{
+    let (service, passes) = match Service::resume(alloc, source, settings, shards) {
+        Ok(resumed) => resumed,
+        Err(refusal) => return Err(opening_fault(refusal)),
+    };
+    run_over(rt, alloc, settings, false, service, passes, reader, writer)
+}
+
+/// Serves every line of the input in its lane, and closes the service. With `trace` all steps are
+/// written after the last reply.
+fn run_over<S: KeepsShard + Send + Sync, H: Threads + Wait + Sync, R: Read, W: Write>(
+    rt: &H,
+    alloc: Global,
+    settings: &Settings,
+    trace: bool,
+    service: Service<S>,
+    passes: Vec<Pass<S>>,
+    reader: &mut Counted<R>,
+    writer: &mut Counted<W>,
+) -> Result<Outcome<S>, ScriptFault>
+    requires began { BeganWith settings.now service.gate.origin.bases service passes.items }
+    requires traced { trace ≡ true → (s : ℕ) → base_of service s ≡ [] }
+    ensures ran { IfOk result (λ o. RanOver
+        (Exactly service passes.items) (hints_of (Exactly service passes.items))
+        settings.now trace service.gate.origin.bases
+        (R.remaining reader.old.inner) (W.contents writer.old.inner)
+        (R.remaining reader.new.inner) (W.contents writer.new.inner)
+        o.refused o.records.items) }
+    ensures halted { OnErr result (HaltedOver
+        (Exactly service passes.items) settings.now trace
+        (R.remaining reader.old.inner) (W.contents writer.old.inner)
+        (R.remaining reader.new.inner) (W.contents writer.new.inner)) }
+    ensures fault { IfErr result (λ e. IsDeviceFault e
+        reader.old.failures reader.new.failures writer.old.failures writer.new.failures) }
+{
     let ended = run_lanes(rt, alloc, settings, &service, passes, reader, writer)?;
     let closed = service.close(ended.passes);
     print_trace(alloc, trace, &closed, writer)?;

@@ -2,7 +2,7 @@ use Rattle.std.proofs.Common.{[], ap, arith, inl, inr, sym, ◌∙◌}
 use Rattle.std.specs.Prelude.{slice_get}
 use Rattle.std.proofs.lemmas.Result.{err_from_is_err_and}
 use Rattle.wire_counted.proofs.Known.{Consumes-none}
-use Rattle.lanes.proofs.FaultLemmas.{device-fault, device-later}
+use Rattle.script.proofs.EndLemmas.{fault_at_end, fault_in_turn}
 use Rattle.lanes.proofs.LaneLemmas.{all-there, own-of, passes-own}
 use Rattle.script.proofs.Steps.{on_any_err}
 use Rattle.lanes.proofs.BegunLemmas.{ended-begun, ended-same, nothing-read}
@@ -21,12 +21,12 @@ loop-init g c = record {
 pub returns-in_err-turn-clause-fault : goal.returns-in_err-turn-clause-fault
 returns-in_err-turn-clause-fault g c =
     let p = err_from_is_err_and c.from_residual-in_err-turn.result c.from_residual-in_err-turn.ensures.1 in
-    rw (p.1, p.2) (device-later _ c.loop.reader.failures _ _ c.loop.writer.failures _ _ c.loop.invariant.reads c.loop.invariant.writes c.in_err-turn.ensures.fault)
+    rw (p.1, p.2) (fault_in_turn _ _ c.loop.reader.failures _ _ c.loop.writer.failures _ c.loop.invariant.reads c.loop.invariant.writes c.in_err-turn.ensures.fault)
 
 pub returns-in_err-finish-clause-fault : goal.returns-in_err-finish-clause-fault
 returns-in_err-finish-clause-fault g c =
     let p = err_from_is_err_and c.from_residual-in_err-finish.result c.from_residual-in_err-finish.ensures.1 in
-    rw (p.1, p.2) (device-fault _ _ _ _ c.turn.new.writer.failures _ (omega (arith, c.loop.invariant.writes, c.turn.ensures.write_grows)) c.in_err-finish.ensures.fault)
+    rw (p.1, p.2) (fault_at_end _ _ _ _ c.turn.new.writer.failures _ (omega (arith, c.loop.invariant.writes, c.turn.ensures.write_grows)) c.in_err-finish.ensures.fault)
 
 pub returns-then-branch-clause-ran : goal.returns-then-branch-clause-ran
 returns-then-branch-clause-ran g c =
