@@ -5,8 +5,8 @@
 
 wfedge starts it, hands the requests for pages on to SOCKET, and answers on the sockets EDGE, by HTTP, and LINES, by
 JSON lines, what the page asks. What changed since the list was shown last the page learns from the edge's feed; which
-runs there were before, it learns from the records of a log that was compacted. Where the service has a retention, it
-says which blobs no history names any more. It ends with its input.
+runs there were before, it learns from the snapshots or the records of a log that was compacted. Where the service has a
+retention, it says which blobs no history names any more. It ends with its input.
 """
 
 from __future__ import annotations
@@ -33,9 +33,13 @@ from wfserve.server.pages import Pages
 from wfserve.server.records import Recorded
 from wfserve.server.sweeping import Sweeper
 
+import snapshot_runs
+
 HERE = "http://localhost"
 # So many blobs are named in one request.
 NAMES_AT_ONCE = 10_000
+# So often what the log goes on from is read, where it is deleted meanwhile.
+MOST_READINGS = 5
 
 
 class Moment:
@@ -69,11 +73,21 @@ class Polls:
 
 
 class Records:
-    """The records that the edge's log goes on from, and the edge, which is asked by lines."""
+    """The snapshots or records that the edge's log goes on from, and the edge, which is asked by lines."""
 
     def __init__(self, said: dict, lines: str):
         self.settings = Settings(said["service"], said["retention"], said["queues"])
         self._files, self._lines = said["files"], lines
+
+    def add_all(self, workflows: Workflows) -> None:
+        """Adds the runs that they have to a list."""
+        if not all(path.endswith(".snap") for path in self._files):
+            Recorded(self, workflows).add_all()
+            return
+        for path in self._files:
+            with open(path, "rb") as snapshot:
+                for found in snapshot_runs.runs_in(snapshot):
+                    workflows.add(found.workflow_id, found.run, found.workflow_type, found.started)
 
     def record_lines(self) -> Iterator[Iterable[bytes]]:
         """The lines of each shard's record."""
@@ -145,10 +159,17 @@ class Edge:
                 entry.changed = True
 
     async def _read_records(self) -> None:
-        """Learns which runs the records have."""
-        async with self._session.get(f"{HERE}/records") as answer:
-            self.kept = Records(await answer.json(), self._lines)
-        await asyncio.get_running_loop().run_in_executor(None, Recorded(self.kept, self.workflows).add_all)
+        """Learns which runs the snapshots or the records have. After two compactions meanwhile they are gone, and there are
+        later ones."""
+        for left in reversed(range(MOST_READINGS)):
+            async with self._session.get(f"{HERE}/records") as answer:
+                self.kept = Records(await answer.json(), self._lines)
+            try:
+                await asyncio.get_running_loop().run_in_executor(None, self.kept.add_all, self.workflows)
+                break
+            except FileNotFoundError:
+                if not left:
+                    raise
         self._next = 0
 
 

@@ -82,10 +82,13 @@ def histories() -> list[Line]:
 
 
 class Fed:
-    """A program that is fed lines by tens, so that there are many batches, and whose replies are read."""
+    """A program that is fed lines by tens, so that there are many batches, and whose replies are read.
 
-    def __init__(self, lines: list[Line], folder: str, more: list[str]):
-        self._lines, self._read = lines, b""
+    `pause` is how many seconds pass from ten lines to the next ten, at least.
+    """
+
+    def __init__(self, lines: list[Line], folder: str, more: list[str], pause: float = 0):
+        self._lines, self._read, self._pause = lines, b"", pause
         self._came = threading.Condition()
         self._ended = False
         self.began = time.monotonic()
@@ -115,6 +118,7 @@ class Fed:
                 # On a machine that is busy too, a program that is killed has not served all lines at once.
                 self.wait_for(first - AHEAD)
                 stream.write(text(self._lines[first:first + 10]).encode())
+                time.sleep(self._pause)
             stream.close()
         except (BrokenPipeError, ValueError):
             return
@@ -125,9 +129,13 @@ class Fed:
             while self._read.count(b"\n") < replies and not self._ended:
                 self._came.wait()
 
+    def kill(self) -> None:
+        """Ends it at once."""
+        self._program.kill()
+
     def killed(self) -> list[Line]:
         """Ends it at once. The replies that were read."""
-        self._program.kill()
+        self.kill()
         return self._all()
 
     def served(self) -> list[Line]:

@@ -15,6 +15,7 @@ from __future__ import annotations
 import argparse
 import collections
 import functools
+import itertools
 import json
 import pathlib
 import random
@@ -34,6 +35,8 @@ from typing import Any
 import snapshot_lines
 from journal_program import RESTORED, SECONDS, Line, Tested, start, text
 from snapshot_lines import QUEUES, SHARDS, Case, Drawn, all_cases, reads
+from wfserve.checkpoint import measured, read_checkpoint
+from wfserve.compacting import compact
 from wfserve.journal import Journal
 
 # Lines between two places at which a script is cut, at most.
@@ -41,14 +44,16 @@ MOST_LINES = 140
 # So many lines are handed in before their replies are read, since later ones are drawn from these.
 AHEAD = 6
 MOST_CUTS = 4
-# One pass serves what snapshots restore.
-LANES = (1,)
+# A service is served by one lane, or by so many, between which barriers are drawn.
+LANES = (1, 3)
 KILLS = 20
 # What every large number of drawn snapshots has.
 PIECES = {"head", "counted", "gone", "event", "request_id", "note", "dispatch", "transfer", "end"}
 NOTES = {"taken", "ended", "ready", "beat"}
 ENOUGH_CUTS, ENOUGH_CASES, ENOUGH_KINDS = 30, 200, 40
 OTHER_SETTINGS = "the snapshot is of other settings: --service, --shards or --retention"
+NOT_OF_ONE_MOMENT = (
+    "the snapshots are not of one moment: transfers were accepted that were not issued, or acknowledged that were not accepted")
 BEHIND_SNAPSHOTS = "--save writes records from the first step on, which snapshots don't have: use --snapshot"
 cuts = 40
 cases = 300
@@ -374,7 +379,8 @@ class Damaged(Folder):
                 return done.status
             self.assertEqual(done.printed, b"")
             lines = changed.count(b"\n") + 1
-            self.assertRegex(done.said, rf"^wfserve: {self.path}: (line \d+: |it names a task queue that --queues)")
+            if done.said != f"wfserve: {self.loaded}: {NOT_OF_ONE_MOMENT}\n":
+                self.assertRegex(done.said, rf"^wfserve: {self.path}: (line \d+: |it names a task queue that --queues)")
             if "line " in done.said:
                 self.assertIn(int(done.said.split(": line ")[1].split(":")[0]), range(1, lines + 1))
             self.assertEqual(list(out.iterdir()), [])
@@ -483,6 +489,60 @@ class Refused(Folder):
         words = [*self.WORDS[:3], "third,other,main", *self.WORDS[4:], "--capacity", "1"]
         done = ran(b"", *words, "--load", self.loaded, "--snapshot", self.out)
         self.assertEqual((done.status, done.said, texts_in(self.out)), (0, "", texts_in(self.loaded)))
+
+
+class OfSeveralMoments(Folder):
+    """Snapshots of several moments are refused where a transfer moved between these that shows it, else they are opened."""
+
+    WORDS = ("--shards", "2")
+    CHILD = {"type": "StartChildWorkflowExecution", "workflow_id": "b", "task_queue": "main", "workflow_type": "w"}
+    TURN = {"op": "transfer_turn", "from": 0, "to": 1}
+    # What comes before each moment: then the start of a child on the other shard isn't issued, is issued, is accepted
+    # there, and is acknowledged.
+    PARTS: tuple[list[Line], ...] = (
+        [start("a"), {"op": "dispatch_turn", "shard": 0}, {"op": "poll_workflow_task", "task_queue": "main"}],
+        [{"op": "complete_workflow_task", "token": "AQEAAAAAAAAAAAABAAAAAAAAAAIAAAAB", "commands": [CHILD]}],
+        [{**TURN, "stop": 2}],
+        [TURN],
+    )
+
+    def setUp(self) -> None:
+        super().setUp()
+        self.texts: list[list[bytes]] = []
+        loaded: list[str | pathlib.Path] = []
+        for moment, lines in enumerate(self.PARTS):
+            out = self.made(f"moment-{moment}")
+            done = ran(text(lines).encode(), *self.WORDS, *loaded, "--snapshot", out)
+            self.assertEqual((done.status, done.said), (0, ""), done.printed)
+            self.texts.append(texts_in(out))
+            loaded = ["--load", out]
+
+    def test_what_the_counts_of_transfers_show_is_refused(self) -> None:
+        for first, second in itertools.product(range(len(self.PARTS)), repeat=2):
+            issued, accepted, acknowledged = first > 0, second > 1, first > 2
+            mixed = put_in(self.folder / f"mixed-{first}-{second}", [self.texts[first][0], self.texts[second][1]])
+            words = [*self.WORDS, "--load", mixed]
+            with self.subTest(first=first, second=second):
+                if not acknowledged <= accepted <= issued:
+                    self.refused(f"{mixed}: {NOT_OF_ONE_MOMENT}", *words)
+                    continue
+                waits = issued and not acknowledged
+                done = ran(text([self.TURN]).encode(), *words)
+                answer = json.loads(done.printed)["ok"]
+                self.assertEqual((done.status, answer), (0, ("already" if accepted else "accepted") if waits else "none"))
+
+    def test_so_are_those_of_a_checkpoint(self) -> None:
+        journal = self.made("journal")
+        words = [*self.WORDS, "--journal", journal]
+        self.assertEqual([ran(text(lines).encode(), *words).status for lines in self.PARTS], [0] * len(self.PARTS))
+        compact(str(journal), [str(Tested.program)])
+        checkpoint = read_checkpoint(str(journal))
+        assert checkpoint
+        self.assertEqual(ran(b"", *words).status, 0)
+        snapshots = checkpoint.paths(str(journal))
+        pathlib.Path(snapshots[0]).write_bytes(self.texts[0][0])
+        (journal / "checkpoint").write_bytes(checkpoint.with_snapshots(map(measured, snapshots)).data())
+        self.refused(f"{journal}/checkpoint: {NOT_OF_ONE_MOMENT}", *words)
 
 
 class Written(Folder):

@@ -1,7 +1,7 @@
 //! What the page is told of activities' attempts: the history has none of it before an activity ends.
 //!
 //! Of each activity that is pending the last pairs are kept that say how its last attempt began and failed, and what a
-//! heartbeat told. A page that is started anew is told all of them again.
+//! heartbeat told. A page that is started anew is told all of them again. A compaction keeps them beside the snapshots.
 
 use crate::facts::{Facts, Subject};
 use crate::json::{quoted, Object, Value};
@@ -9,6 +9,7 @@ use crate::numbered::Numbered;
 use crate::operations::Op;
 use crate::reply::Reply;
 use crate::shards::{activity_of_token, Activity};
+use serde::Deserialize;
 use std::collections::{BTreeMap, HashMap};
 
 /// So many activities are remembered, and so many bytes of what was told of them. The one of which nothing was heard for
@@ -22,6 +23,27 @@ enum Told {
     Taken,
     Failed,
     Beat,
+}
+
+/// What a pair's request and its reply say of an activity.
+#[derive(Deserialize)]
+struct Named {
+    #[serde(default)]
+    op: String,
+    #[serde(default)]
+    token: String,
+}
+
+/// Which activity a pair is of, and what it tells of it. None where it is no such pair.
+fn told_in(pair: &[u8]) -> Option<(Activity, Told)> {
+    let (asked, said): (Named, Named) = serde_json::from_slice(pair).ok()?;
+    let (token, told) = match asked.op.as_str() {
+        "poll_activity_task" => (said.token, Told::Taken),
+        "fail_activity" => (asked.token, Told::Failed),
+        "heartbeat" => (asked.token, Told::Beat),
+        _ => return None,
+    };
+    Some((activity_of_token(&token)?, told))
 }
 
 /// The numbers of what was told of an activity, by `Told`. 0 is none.
@@ -76,6 +98,27 @@ impl Attempts {
             _ => {}
         }
         None
+    }
+
+    /// All pairs as text, a line for each, in the order in which they were told.
+    pub fn text(&self, kept: &Numbered) -> Vec<u8> {
+        let mut numbers: Vec<u64> = self.found.values().flatten().copied().filter(|number| *number > 0).collect();
+        numbers.sort_unstable();
+        let mut text = Vec::with_capacity(self.bytes + numbers.len());
+        for pair in numbers.into_iter().filter_map(|number| kept.get(number)) {
+            text.extend_from_slice(pair.as_bytes());
+            text.push(b'\n');
+        }
+        text
+    }
+
+    /// Takes pairs from a text. What is none is left out: it decides nothing.
+    pub fn take_text(&mut self, text: &[u8], kept: &mut Numbered) {
+        for line in text.split(|byte| *byte == b'\n') {
+            if let (Some((activity, told)), Ok(pair)) = (told_in(line), std::str::from_utf8(line)) {
+                self.note(activity, told, pair.to_string(), kept);
+            }
+        }
     }
 
     fn note(&mut self, activity: Activity, told: Told, pair: String, kept: &mut Numbered) {
@@ -150,6 +193,16 @@ mod tests {
             self.tell(r#"{"op":"poll_activity_task","task_queue":"q","at":5}"#, &reply);
         }
 
+        /// Another one that takes its text knows the same, and none of what is no pair.
+        fn is_again_from_its_text(&self) {
+            let (mut again, text) = (Seen::default(), self.attempts.text(&self.kept));
+            again.attempts.take_text(b"[{},{}]\n{}\nno pair\n\n\xff", &mut again.kept);
+            again.attempts.take_text(&text, &mut again.kept);
+            assert_eq!((again.kept(), again.attempts.bytes), (self.kept(), self.attempts.bytes));
+            assert_eq!(again.attempts.text(&again.kept), text);
+            assert_eq!(again.attempts.found.len(), self.attempts.found.len());
+        }
+
         fn kept(&self) -> String {
             self.kept.after(0).collect::<Vec<_>>().join("\n")
         }
@@ -173,6 +226,7 @@ mod tests {
             format!(r#"[{{"op":"poll_activity_task","at":5}},{{"ok":"task","token":"{AGAIN}","attempt":2}}]"#),
         ];
         assert_eq!(seen.kept(), wanted.join("\n"));
+        seen.is_again_from_its_text();
         let done = seen.tell(&format!(r#"{{"op":"complete_activity","token":"{AGAIN}"}}"#), r#"{"ok":"completed"}"#);
         assert!(done.unwrap().contains(AGAIN));
         assert_eq!((seen.kept(), seen.attempts.found.len()), (wanted[1].clone(), 1));

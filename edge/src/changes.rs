@@ -156,6 +156,16 @@ impl Changes {
         self.changed.add(|changed| &mut changed.pairs, pair);
     }
 
+    /// What was told of attempts, as text.
+    pub fn attempts_text(&self) -> Vec<u8> {
+        self.attempts.text(&self.kept)
+    }
+
+    /// Takes a text that was told of attempts before.
+    pub fn take_attempts(&mut self, text: &[u8]) {
+        self.attempts.take_text(text, &mut self.kept);
+    }
+
     /// What was kept after the pair of this number, what changed since this was asked last, and when queues were polled
     /// last, as members of an object in JSON.
     pub fn text(&mut self, from: u64) -> String {

@@ -5,8 +5,10 @@
 //! again. Who hands in calls from then on writes each line to the log before the program reads it.
 
 use crate::body::for_replay;
-use crate::compaction;
+use crate::compaction::{self, Beside};
 use crate::fault::Fault;
+use crate::generation::{self, Files, REPLIES};
+use crate::ledger::Pair;
 use crate::line_log::{LineLog, Lines};
 use crate::local::Local;
 use crate::log::Log;
@@ -97,7 +99,7 @@ impl Origin {
     pub fn words(&self) -> Vec<String> {
         let mut words = vec![self.program.clone()];
         words.extend(self.settings.options());
-        words.extend(compaction::load_options(&self.base, self.generation));
+        words.extend(generation::load_options(&self.base, self.generation));
         words
     }
 
@@ -107,7 +109,7 @@ impl Origin {
         if self.generation == 0 {
             return self.start_new();
         }
-        compaction::keep_private(&self.base, self.generation)?;
+        generation::keep_private(&self.base, self.generation)?;
         Ok(compaction::open_program(self)?)
     }
 }
@@ -116,9 +118,17 @@ impl Origin {
 pub trait Observe {
     fn line(&mut self, line: &[u8], reply: &[u8]);
 
-    /// Told the replies by keys from before a compaction, as text, where they were kept. False where it is no such text.
-    fn replies(&mut self, _: &[u8]) -> bool {
+    /// Told what was kept beside the snapshots of a compaction. False where the replies by keys are damaged.
+    fn beside(&mut self, _: &Beside) -> bool {
         true
+    }
+
+    /// Told between which shards there were transfers before a compaction, where that is known.
+    fn pairs(&mut self, _: &[Pair]) {}
+
+    /// What is to be kept beside the snapshots of a compaction.
+    fn kept_beside(&self) -> Beside {
+        Beside::default()
     }
 }
 
@@ -140,18 +150,29 @@ pub fn open<O: Observe>(
 ) -> Result<(Kept, O), NotServed> {
     let mut log = LineLog::open(path)?;
     let (settings, generation) = settled(program, &mut log, named)?;
-    compaction::remove_leftovers(path, generation)?;
+    generation::remove_leftovers(path, generation)?;
     let mut origin = Origin::of_file(program, path, settings, generation);
     let room = origin.settings.capacity;
     let mut started = origin.start()?;
     if origin.settings.capacity != room {
         take_room(&mut log, &origin, room, &mut started)?;
     }
-    let last_moment = compaction::last_moment_in(path, generation)?;
     let mut observer = observer(&origin.settings);
+    let last_moment = look_before(path, generation, &mut observer)?;
     replay(&mut started, &mut log.lines()?, log.len().saturating_sub(1), &mut observer)?;
-    grow(&mut origin, &mut log, &mut started, named)?;
+    grow(&mut origin, &mut log, &mut started, named, || observer.kept_beside())?;
     Ok((Kept { origin, log: Log::File(log), program: started, last_moment }, observer))
+}
+
+/// Tells what is known of the time before a log's compaction. The last moment of it.
+fn look_before(path: &str, generation: u64, observer: &mut impl Observe) -> Result<u64, LogFault> {
+    let files = Files::of(path, generation)?;
+    if generation > 0 && !observer.beside(&compaction::beside(path, generation)?) {
+        let file = generation::file_of(path, generation, REPLIES);
+        return Err(LogFault::Damaged(format!("{file}: the replies by keys are damaged")));
+    }
+    observer.pairs(&files.pairs()?);
+    files.last_moment()
 }
 
 /// Has the log say that its queues have more room from now on.
@@ -280,15 +301,21 @@ impl Observe for Nobody {
 }
 
 /// Gives the queues the room that is wanted, where that is more than they have.
-fn grow(origin: &mut Origin, log: &mut LineLog, program: &mut Program, named: &Named) -> Result<(), NotServed> {
+fn grow(
+    origin: &mut Origin,
+    log: &mut LineLog,
+    program: &mut Program,
+    named: &Named,
+    beside: impl FnOnce() -> Beside,
+) -> Result<(), NotServed> {
     let has = origin.settings.capacity;
     let wanted = named.capacity.unwrap_or(has);
     if wanted < has {
         say!("{}: the queues keep their room for {has} tasks: it never falls, so {wanted} is not taken", log.path);
     } else if wanted > has {
-        let opened = compaction::compact(origin, log, wanted)?;
+        let opened = compaction::compact(origin, log, wanted, &beside())?;
         std::mem::replace(program, opened).end();
-        compaction::remove_leftovers(&log.path, origin.generation)?;
+        generation::remove_leftovers(&log.path, origin.generation)?;
     }
     Ok(())
 }

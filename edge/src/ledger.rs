@@ -241,7 +241,7 @@ impl Ledger {
     }
 
     /// Notes that a transfer was accepted between these shards.
-    fn met(&mut self, (from, to): Pair) {
+    pub fn met(&mut self, (from, to): Pair) {
         self.partners.entry(from).or_default().insert(to);
         self.partners.entry(to).or_default().insert(from);
     }

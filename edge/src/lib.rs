@@ -5,7 +5,7 @@
 //! `program`, and answers it once both are done. A log is a file (`line_log`) or a `table` of a database (`table_log`),
 //! with `blobs` beside it. Around that stand the `ledger` of turns, `deadlines` and `moments`, `polls` that wait,
 //! `replies` that can be had again, and `changes` for the `page`. `kept`, `opening` and `compaction` open a log and
-//! exchange it.
+//! exchange it, `generation` has what it goes on from, and `following` a program that is given its lines behind.
 #![deny(unsafe_code)]
 
 mod attempts;
@@ -20,6 +20,8 @@ mod deadlines;
 mod ends;
 mod facts;
 mod fault;
+mod following;
+mod generation;
 mod guard;
 mod http;
 mod json;

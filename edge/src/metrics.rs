@@ -55,6 +55,8 @@ pub struct Metrics {
     pub again: u64,
     /// How often the program was started again.
     pub restarts: u64,
+    /// How often the log was compacted.
+    pub compactions: u64,
     pub latency: Histogram,
     pub syncs: Histogram,
     pub batches: Histogram,
@@ -69,6 +71,7 @@ impl Default for Metrics {
             refused: BTreeMap::new(),
             again: 0,
             restarts: 0,
+            compactions: 0,
             latency: Histogram::of(&LATENCIES),
             syncs: Histogram::of(&SYNCS),
             batches: Histogram::of(&BATCHES),
@@ -112,6 +115,7 @@ impl Metrics {
         let one = |count: u64| std::iter::once((String::new(), count));
         counter(&mut out, "replies_again", "Replies that were given again, by their keys.", one(self.again));
         counter(&mut out, "program_restarts", "How often the program was started again.", one(self.restarts));
+        counter(&mut out, "compactions", "How often the log was compacted.", one(self.compactions));
         for (name, said, histogram) in [
             ("call_seconds", "From the arrival of a call that is no poll to its answer.", &self.latency),
             ("sync_seconds", "What a sync of the log took.", &self.syncs),

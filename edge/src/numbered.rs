@@ -22,6 +22,11 @@ impl Numbered {
         self.texts.remove(&number).map_or(0, |text| text.len())
     }
 
+    /// The text of a number.
+    pub fn get(&self, number: u64) -> Option<&str> {
+        self.texts.get(&number).map(AsRef::as_ref)
+    }
+
     /// The number of the text that was added last.
     pub fn last(&self) -> u64 {
         self.last

@@ -2,9 +2,10 @@
 
 use crate::body::facts_of_line;
 use crate::changes::Changes;
+use crate::compaction::Beside;
 use crate::deadlines::Deadlines;
 use crate::kept::{self, Kept, NotServed, Observe};
-use crate::ledger::Ledger;
+use crate::ledger::{Ledger, Pair};
 use crate::replies::Replies;
 use crate::reply::Reply;
 use crate::settings::{Named, Settings};
@@ -56,8 +57,20 @@ impl Observe for Observed {
         }
     }
 
-    fn replies(&mut self, text: &[u8]) -> bool {
-        self.replies.take_text(text).is_some()
+    fn beside(&mut self, beside: &Beside) -> bool {
+        if let Some(changes) = &mut self.changes {
+            changes.take_attempts(&beside.attempts);
+        }
+        self.replies.take_text(&beside.replies).is_some()
+    }
+
+    fn pairs(&mut self, pairs: &[Pair]) {
+        pairs.iter().for_each(|pair| self.ledger.met(*pair));
+    }
+
+    fn kept_beside(&self) -> Beside {
+        let attempts = self.changes.as_ref().map_or_else(Vec::new, Changes::attempts_text);
+        Beside { replies: self.replies.text(), attempts }
     }
 }
 

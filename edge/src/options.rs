@@ -1,10 +1,13 @@
 //! The command line.
 
+use crate::core::Limits;
 use crate::settings::Named;
 use std::time::Duration;
 
 /// The address on which no token is wanted.
 pub const LOCAL: &str = "127.0.0.1";
+/// On a machine with so many processors a second program is no burden: the edge, its program and clients have others.
+const PROCESSORS: usize = 4;
 
 pub const HELP: &str = "\
 usage: wfedge --program PROGRAM [OPTIONS]
@@ -26,6 +29,11 @@ Serves a workflow service to many clients: HTTP, and JSON lines on a Unix socket
   --queues NAMES         the names of a new log's task queues, with commas between them, main by default
   --capacity N           how many tasks wait in a queue at most, 1,024 by default; a log's may grow
   --retention MS         for how long a new log's service keeps what has closed, for ever by default
+  --compact-bytes N      at how many bytes a log in a file is compacted while it is served, 16,777,216 by default, or at
+                         twice as many as its snapshots have where that is more; 0 for never
+  --compact-seconds N    after how many seconds it is where a sixteenth of that was written, 3,600 by default; 0 for never
+  --standby yes|no       whether a second program follows the log in a file, and takes the place of one that ends; by
+                         default where the machine has four processors
   --page WORD            a word of the command that starts the page, once for each; without it there is none
 ";
 
@@ -43,6 +51,8 @@ pub struct Options {
     pub named: Named,
     /// For how many milliseconds the leader of a table may be silent.
     pub silence: u64,
+    /// When a log in a file is compacted without being asked.
+    pub limits: Limits,
     pub page: Vec<String>,
 }
 
@@ -59,6 +69,7 @@ impl Default for Options {
             read_timeout: Duration::from_secs(30),
             named: Named::default(),
             silence: 2_000,
+            limits: Limits { bytes: 16 << 20, time: Duration::from_secs(3_600), has_standby: has_processors() },
             page: Vec::new(),
         }
     }
@@ -97,6 +108,9 @@ impl Options {
             "--capacity" => self.named.capacity = Some(number(name, &value)?),
             "--retention" => self.named.retention = Some(number(name, &value)?),
             "--silence" => self.silence = number(name, &value)?,
+            "--compact-bytes" => self.limits.bytes = number(name, &value)?,
+            "--compact-seconds" => self.limits.time = Duration::from_secs(u64::from(number::<u32>(name, &value)?)),
+            "--standby" => self.limits.has_standby = is_yes(name, &value)?,
             "--page" => self.page.push(value),
             _ => return Err(format!("there is no option {name}: --help lists them")),
         }
@@ -106,6 +120,19 @@ impl Options {
 
 fn number<T: std::str::FromStr>(name: &str, value: &str) -> Result<T, String> {
     value.parse().map_err(|_| format!("{name} takes a whole number, and not {value}"))
+}
+
+fn is_yes(name: &str, value: &str) -> Result<bool, String> {
+    match value {
+        "yes" => Ok(true),
+        "no" => Ok(false),
+        _ => Err(format!("{name} takes yes or no, and not {value}")),
+    }
+}
+
+/// Whether this machine has processors enough for a second program.
+fn has_processors() -> bool {
+    std::thread::available_parallelism().map_or(false, |count| count.get() >= PROCESSORS)
 }
 
 fn seconds(name: &str, value: &str) -> Result<Duration, String> {
@@ -141,6 +168,8 @@ mod tests {
             ("--program", "--program takes a value"),
             ("--program p --port 65536", "--port takes a whole number"),
             ("--program p --read-timeout 0", "--read-timeout takes from"),
+            ("--program p --standby maybe", "--standby takes yes or no"),
+            ("--program p --compact-bytes -1", "--compact-bytes takes a whole number"),
             ("--program p --nothing 3", "there is no option --nothing"),
         ] {
             assert!(options(text).unwrap_err().contains(said), "{text}");

@@ -13,7 +13,7 @@ use std::thread::{Builder, JoinHandle};
 
 /// A line that is answered by every program that has opened, and leaves all as it was: the first part of a dispatch
 /// turn only reads.
-const CHANGES_NOTHING: &[u8] = b"{\"op\":\"dispatch_turn\",\"shard\":0,\"stop\":1}\n";
+pub const CHANGES_NOTHING: &[u8] = b"{\"op\":\"dispatch_turn\",\"shard\":0,\"stop\":1}\n";
 const LINES_KEPT: usize = 5;
 const PIPE_BYTES: usize = 1 << 20;
 

@@ -31,6 +31,13 @@ struct Kept {
     number: u64,
 }
 
+/// A reply that is kept, with its key.
+pub struct Told {
+    mark: Mark,
+    key: Arc<str>,
+    reply: Bytes,
+}
+
 /// The last replies by their keys, at most so many and of so many bytes together.
 pub struct Replies {
     most: usize,
@@ -84,17 +91,26 @@ impl Replies {
         }
     }
 
-    /// All of them as text, the oldest first: a line of the mark, the key and the reply for each.
-    pub fn text(&self) -> Vec<u8> {
-        let mut text = Vec::with_capacity(self.bytes + 64 * self.found.len());
-        for (number, key) in &self.order {
+    /// How many were ever kept.
+    pub fn added(&self) -> u64 {
+        self.added
+    }
+
+    /// Those that were kept behind the first so many, the oldest first.
+    pub fn after(&self, added: u64) -> Vec<Told> {
+        let begin = self.order.partition_point(|(number, _)| *number <= added);
+        let mut found = Vec::with_capacity(self.found.len().min(self.order.len() - begin));
+        for (number, key) in self.order.range(begin..) {
             if let Some(kept) = self.found.get(key).filter(|kept| kept.number == *number) {
-                text.extend_from_slice(format!("{:016x} {key} ", kept.mark.0).as_bytes());
-                text.extend_from_slice(&kept.reply);
-                text.push(b'\n');
+                found.push(Told { mark: kept.mark, key: key.clone(), reply: kept.reply.clone() });
             }
         }
-        text
+        found
+    }
+
+    /// All of them as text.
+    pub fn text(&self) -> Vec<u8> {
+        text_of(&self.after(0))
     }
 
     /// Takes a text that has replies. None where it is no such text.
@@ -114,10 +130,27 @@ impl Replies {
         if op.is_poll() && !said.is("task") {
             return;
         }
-        if let Some((begin, key)) = keyed_begin(line) {
-            self.add(key, mark_of(begin), Bytes::copy_from_slice(reply));
+        let (begin, key) = match keyed_begin(line) {
+            Some(keyed) => keyed,
+            None => return,
+        };
+        let mark = mark_of(begin);
+        // One that a compaction kept has the number that its caller was told.
+        if self.found.get(key).map_or(true, |kept| kept.mark != mark) {
+            self.add(key, mark, Bytes::copy_from_slice(reply));
         }
     }
+}
+
+/// Replies as text: a line of the mark, the key and the reply for each.
+pub fn text_of(replies: &[Told]) -> Vec<u8> {
+    let mut text = Vec::new();
+    for Told { mark, key, reply } in replies {
+        text.extend_from_slice(format!("{:016x} {key} ", mark.0).as_bytes());
+        text.extend_from_slice(reply);
+        text.push(b'\n');
+    }
+    text
 }
 
 #[cfg(test)]
@@ -180,5 +213,21 @@ mod tests {
         replies.replayed(Op::PollActivityTask, br#"{"op":"p","call":"l","at":7}"#, &empty, b"nothing");
         assert_eq!(replies.get("k", mark_of(br#"{"op":"p""#)), Ok(Some(reply("the task"))));
         assert_eq!(replies.get("l", mark_of(br#"{"op":"p""#)), Ok(None));
+    }
+
+    #[test]
+    fn a_line_that_is_served_again_keeps_the_reply_that_its_caller_had() {
+        let mut replies = Replies::default();
+        let done = Reply::of(br#"{"ok":"signaled"}"#).unwrap();
+        replies.add("k", mark_of(br#"{"op":"s""#), reply("line 700"));
+        for (line, text) in
+            [(br#"{"op":"s","call":"k","at":7}"#, "line 3"), (br#"{"op":"t","call":"l","at":7}"#, "line 4")]
+        {
+            replies.replayed(Op::Signal, line, &done, text.as_bytes());
+        }
+        assert_eq!(replies.get("k", mark_of(br#"{"op":"s""#)), Ok(Some(reply("line 700"))));
+        assert_eq!(replies.get("l", mark_of(br#"{"op":"t""#)), Ok(Some(reply("line 4"))));
+        let later = replies.after(1);
+        assert_eq!((replies.added(), text_of(&later)), (2, b"a351de7679526439 l line 4\n".to_vec()));
     }
 }

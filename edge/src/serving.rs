@@ -96,7 +96,8 @@ pub fn run(options: Options, client: Option<Client>) -> Result<(), String> {
     // Sockets are one thread's: a second one gives nothing beside the program, the log and the clients.
     let runtime =
         Builder::new_multi_thread().worker_threads(1).enable_all().build().map_err(|fault| fault.to_string())?;
-    let (core, threads) = Core::start(opened, moments, options.queue_limit).map_err(|fault| fault.to_string())?;
+    let started = Core::start(opened, moments, options.queue_limit, options.limits);
+    let (core, threads) = started.map_err(|fault| fault.to_string())?;
     let result = runtime.block_on(serve(&options, guard, core.clone(), &place));
     finish(&core, threads);
     result

@@ -1,5 +1,5 @@
 //! What the standard library of Rust 1.63 doesn't have: a lock on a file, its moment, the size of a pipe, a private
-//! socket.
+//! socket, a program that ends with who started it, one that nobody waited for.
 #![allow(unsafe_code)]
 
 use std::ffi::CString;
@@ -7,7 +7,9 @@ use std::fs::File;
 use std::io;
 use std::os::unix::ffi::OsStrExt;
 use std::os::unix::io::AsRawFd;
+use std::os::unix::process::CommandExt;
 use std::path::Path;
+use std::process::Command;
 use std::time::Duration;
 
 /// A number that nobody else draws, for the name of a folder.
@@ -74,6 +76,34 @@ pub fn raise_open_files() {
 pub fn kill(child: u32) {
     // SAFETY: a signal is all that is sent.
     unsafe { libc::kill(child as libc::pid_t, libc::SIGKILL) };
+}
+
+/// Whether a child of this process has ended, and nobody has waited for it.
+pub fn has_ended(child: u32) -> bool {
+    // SAFETY: all of it may be zero.
+    let mut found: libc::siginfo_t = unsafe { std::mem::zeroed() };
+    let how = libc::WEXITED | libc::WNOHANG | libc::WNOWAIT;
+    // SAFETY: what is found lies here during the call, which leaves the child as it is.
+    let result = unsafe { libc::waitid(libc::P_PID, child as libc::id_t, &mut found, how) };
+    result == 0 && found.si_signo == libc::SIGCHLD
+}
+
+/// Has a program that is started end at once where the thread that starts it ends first, as by the end of this process.
+pub fn end_with_this_thread(command: &mut Command) {
+    let own = std::process::id();
+    let ask = move || {
+        // SAFETY: the call has the signal alone, and asks nothing of memory.
+        if unsafe { libc::prctl(libc::PR_SET_PDEATHSIG, libc::SIGKILL) } != 0 {
+            return Err(io::Error::last_os_error());
+        }
+        // SAFETY: it cannot fail. This process may have ended before the signal was asked for.
+        match unsafe { libc::getppid() } as u32 == own {
+            true => Ok(()),
+            false => Err(io::Error::from_raw_os_error(libc::ESRCH)),
+        }
+    };
+    // SAFETY: what runs between fork and exec makes two calls of the system, and touches no memory that others hold.
+    unsafe { command.pre_exec(ask) };
 }
 
 /// Runs `make` while files and sockets that are made can be read and written by their owner alone.

@@ -1,7 +1,7 @@
 //! A log in a table: how a program follows it, takes it over, and is started again from it.
 
-use crate::body::for_replay;
-use crate::compaction;
+use crate::following::serve;
+use crate::generation::{remove_leftovers, Files};
 use crate::kept::{check, Kept, NotServed, Observe, Origin};
 use crate::log::Log;
 use crate::log_fault::LogFault;
@@ -10,7 +10,6 @@ use crate::say::say;
 use crate::settings::{Named, Settings};
 use crate::table::{Batch, Connect, Pieces, Start, Table};
 use crate::table_records::fetch;
-use std::io::Write;
 use std::time::{Duration, Instant};
 
 /// So many bytes one reading brings, as far as the last one tells, and so many batches at least and at most. A batch has
@@ -146,10 +145,12 @@ pub fn open<O: Observe>(
     let start = Start { generation, number: header.number };
     let mut origin = Origin::of_table(program, connect, settings, start)?;
     let mut observer = observer(&origin.settings);
-    if generation > 0 && !observer.replies(&fetch(table.as_mut(), &origin)?) {
+    if generation > 0 && !observer.beside(&fetch(table.as_mut(), &origin)?) {
         return Err(LogFault::Damaged(format!("{}: the replies by keys are damaged", connect.shown)).into());
     }
-    let last_moment = compaction::last_moment_in(&origin.base, generation)?;
+    let files = Files::of(&origin.base, generation)?;
+    let last_moment = files.last_moment()?;
+    observer.pairs(&files.pairs()?);
     let program = origin.start()?;
     let mut follower = Follower { program, origin, place: Place::behind(&header) };
     if let Err(fault) = follower.follow(table.as_mut(), &mut observer) {
@@ -263,7 +264,7 @@ impl Follower {
         let next = self.origin.start()?;
         std::mem::replace(&mut self.program, next).kill();
         self.place = Place::behind(header);
-        Ok(compaction::remove_leftovers(&self.origin.base, generation)?)
+        Ok(remove_leftovers(&self.origin.base, generation)?)
     }
 
     /// Serves batches, so that so many lines were served at most.
@@ -279,47 +280,11 @@ impl Follower {
             lines.extend(batch.lines.split(|byte| *byte == b'\n').take(left));
             self.place.pass(batch, (lines.len() - before) as u64);
         }
-        serve(&mut self.program, &lines, first, observer)
+        serve(&mut self.program, &lines, first, |line, reply| {
+            observer.line(line, reply);
+            Ok(())
+        })
     }
-}
-
-/// Gives a program lines, of which the first has this number, and takes its replies.
-fn serve(program: &mut Program, lines: &[&[u8]], first: u64, observer: &mut impl Observe) -> Result<(), NotServed> {
-    let mut input = program.take_input();
-    let result = std::thread::scope(|scope| {
-        let given = &mut input;
-        scope.spawn(move || {
-            let mut text = Vec::new();
-            for &line in lines {
-                text.extend_from_slice(for_replay(line).as_deref().unwrap_or(line));
-                text.push(b'\n');
-            }
-            // That the program has ended shows where its replies are read.
-            given.as_mut().map(|input| input.write_all(&text))
-        });
-        let result = take_replies(program, lines, first, observer);
-        if result.is_err() {
-            program.kill();
-        }
-        result
-    });
-    program.give_input(input);
-    result
-}
-
-fn take_replies(
-    program: &mut Program,
-    lines: &[&[u8]],
-    first: u64,
-    observer: &mut impl Observe,
-) -> Result<(), NotServed> {
-    for (number, line) in (first..).zip(lines) {
-        match program.output.reply(number) {
-            Some(reply) => observer.line(line, &reply?),
-            None => return Err(program.ended(number).into()),
-        }
-    }
-    Ok(())
 }
 
 /// A program of this origin that has served so many lines of its table, without their header.

@@ -1,9 +1,11 @@
-//! What a table's log goes on from after a compaction: the records of the shards and the replies by keys, in pieces.
+//! What a table's log goes on from after a compaction: snapshots of the shards, the replies by keys and what was told of
+//! attempts, in pieces. Earlier versions put records of the shards there, which are opened too.
 //!
-//! The leader has a program serve the lines and save its records, as for a file (`compaction`), and puts these into the
+//! The leader has a program serve the lines and write snapshots, as for a file (`compaction`), and puts these into the
 //! table before the header that has the log go on from them. Every other edge fetches them when it comes to that header.
 
-use crate::compaction::{compact_by, folder_of, give_line};
+use crate::compaction::{compact_by, give_line, Beside};
+use crate::generation::{folder_of, is_of_a_shard, ATTEMPTS, REPLIES};
 use crate::kept::{FromTable, Origin};
 use crate::log_fault::{said_of, LogFault};
 use crate::program::Program;
@@ -18,14 +20,12 @@ use std::path::{Path, PathBuf};
 const PIECE: usize = 1 << 20;
 /// So many batches are read at once.
 const BATCHES: u32 = 64;
-/// The name of the pieces with replies, and of the one behind the last one.
-const REPLIES: &str = "replies";
+/// The name of the piece behind the last one.
 const END: &str = "end";
 
-/// Puts the records of the shards in the place of a table's lines, with the replies by keys that this text has, and opens a
-/// program from them, with this much room in its queues at least. Nothing may be asked meanwhile. NotCompacted and
-/// NotOpened where all is as it was.
-pub fn compact(origin: &mut Origin, log: &mut TableLog, capacity: u32, replies: Vec<u8>) -> Result<Program, LogFault> {
+/// Puts snapshots of the shards in the place of a table's lines, with this beside them, and opens a program from them, with
+/// this much room in its queues at least. Nothing may be asked meanwhile. NotCompacted and NotOpened where all is as it was.
+pub fn compact(origin: &mut Origin, log: &mut TableLog, capacity: u32, beside: &Beside) -> Result<Program, LogFault> {
     let FromTable { connect, first, .. } = match &origin.table {
         Some(table) => table.clone(),
         None => return Err(LogFault::NotCompacted(format!("{}: this is no table", origin.log))),
@@ -34,7 +34,7 @@ pub fn compact(origin: &mut Origin, log: &mut TableLog, capacity: u32, replies: 
     let give = |input: &mut dyn Write| give_batches(connect.table()?.as_mut(), first, last, input);
     let program = compact_by(origin, capacity, give, |_, next| {
         let folder = folder_of(&next.base, next.generation);
-        let mut pieces = pieces_of(&folder, &replies)?;
+        let mut pieces = pieces_of(&folder, beside)?;
         let number = log.compact(next.settings.header(next.generation), next.generation, &mut pieces)?;
         if let Some(table) = &mut next.table {
             table.first = number;
@@ -68,15 +68,18 @@ fn give_batches(table: &mut dyn Table, first: u64, last: u64, input: &mut dyn Wr
     Ok(())
 }
 
-/// The pieces of the files of a folder and of the replies.
+/// The pieces of the files of a folder and of what is kept beside them.
 fn pieces_of<'a>(
     folder: &str,
-    replies: &'a [u8],
+    beside: &'a Beside,
 ) -> Result<impl Iterator<Item = Result<Piece, LogFault>> + 'a, LogFault> {
     let found = fs::read_dir(folder).map_err(|fault| not_compacted(folder, &fault))?;
     let mut paths: Vec<PathBuf> = found.flatten().map(|file| file.path()).collect();
     paths.sort();
-    let told = replies.chunks(PIECE).map(|data| Ok(Piece { name: REPLIES.to_string(), data: data.to_vec() }));
+    let texts = [(REPLIES, &beside.replies), (ATTEMPTS, &beside.attempts)];
+    let told = texts.into_iter().flat_map(|(name, text)| {
+        text.chunks(PIECE).map(move |data| Ok(Piece { name: name.to_string(), data: data.to_vec() }))
+    });
     let end = std::iter::once(Ok(Piece { name: END.to_string(), data: Vec::new() }));
     Ok(paths.into_iter().flat_map(FilePieces::of).chain(told).chain(end))
 }
@@ -115,13 +118,13 @@ impl Iterator for FilePieces {
     }
 }
 
-/// Fetches what the log goes on from: the records into their folder, where a program opens them. The text of the replies.
-pub fn fetch(table: &mut dyn Table, origin: &Origin) -> Result<Vec<u8>, LogFault> {
+/// Fetches what the log goes on from: the snapshots into their folder, where a program opens them. What lies beside them.
+pub fn fetch(table: &mut dyn Table, origin: &Origin) -> Result<Beside, LogFault> {
     let folder = folder_of(&origin.base, origin.generation);
     let io = |fault: std::io::Error| LogFault::io(&folder, &fault);
     let _ = fs::remove_dir_all(&folder);
     DirBuilder::new().mode(0o700).create(&folder).map_err(io)?;
-    let (mut replies, mut number) = (Vec::new(), 0);
+    let (mut beside, mut number) = (Beside::default(), 0);
     loop {
         number += 1;
         let piece = match table.piece(origin.generation, number)? {
@@ -129,9 +132,10 @@ pub fn fetch(table: &mut dyn Table, origin: &Origin) -> Result<Vec<u8>, LogFault
             None => return Err(LogFault::Damaged(format!("piece {number} of the table's records is gone"))),
         };
         match piece.name.as_str() {
-            END => return Ok(replies),
-            REPLIES => replies.extend_from_slice(&piece.data),
-            name if is_record(name) => {
+            END => return Ok(beside),
+            REPLIES => beside.replies.extend_from_slice(&piece.data),
+            ATTEMPTS => beside.attempts.extend_from_slice(&piece.data),
+            name if is_of_a_shard(name) => {
                 let path = Path::new(&folder).join(name);
                 let file = OpenOptions::new().append(true).create(true).mode(0o600).open(path);
                 file.and_then(|mut file| file.write_all(&piece.data)).map_err(io)?;
@@ -139,12 +143,6 @@ pub fn fetch(table: &mut dyn Table, origin: &Origin) -> Result<Vec<u8>, LogFault
             name => return Err(LogFault::Damaged(format!("the table's records have a file {name:?}"))),
         }
     }
-}
-
-/// Whether a name is one of a shard's record, and so of a file in the folder.
-fn is_record(name: &str) -> bool {
-    let shard = name.strip_prefix("shard-").and_then(|rest| rest.strip_suffix(".rec"));
-    shard.map_or(false, |shard| !shard.is_empty() && shard.bytes().all(|byte| byte.is_ascii_digit()))
 }
 
 #[cfg(test)]
@@ -162,22 +160,23 @@ mod tests {
         let (folder, shared) = (scratch.path("records"), Arc::new(Mutex::new(Shared::default())));
         fs::create_dir(&folder).unwrap();
         let long: Vec<u8> = (0..2 * PIECE + 17).map(|place| place as u8).collect();
-        for (name, data) in [("shard-00.rec", long.as_slice()), ("shard-01.rec", b""), ("shard-02.rec", &long[..PIECE])]
+        for (name, data) in
+            [("shard-00.snap", long.as_slice()), ("shard-01.snap", b""), ("shard-02.snap", &long[..PIECE])]
         {
             fs::write(format!("{folder}/{name}"), data).unwrap();
         }
         let connect = table_in(&shared);
         let mut table = connect.table().unwrap();
         assert!(table.try_lead().unwrap());
-        let replies = vec![b'r'; PIECE + 1];
+        let beside = Beside { replies: vec![b'r'; PIECE + 1], attempts: b"told".to_vec() };
         let header = Batch { number: 1, lines: b"header".to_vec(), generation: 4 };
-        table.compact(&header, &mut pieces_of(&folder, &replies).unwrap()).unwrap();
+        table.compact(&header, &mut pieces_of(&folder, &beside).unwrap()).unwrap();
         assert_eq!(table.start().unwrap(), Start { generation: 4, number: 1 });
         let start = table.start().unwrap();
         let origin = Origin::of_table("program", &connect, Settings::default(), start).unwrap();
         for _ in 0..2 {
-            assert_eq!(fetch(table.as_mut(), &origin).unwrap(), replies);
-            for name in ["shard-00.rec", "shard-01.rec", "shard-02.rec"] {
+            assert_eq!(fetch(table.as_mut(), &origin).unwrap(), beside);
+            for name in ["shard-00.snap", "shard-01.snap", "shard-02.snap"] {
                 let found = fs::read(format!("{}/{name}", folder_of(&origin.base, 4))).unwrap();
                 assert_eq!(found, fs::read(format!("{folder}/{name}")).unwrap(), "{name}");
             }

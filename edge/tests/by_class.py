@@ -4,7 +4,8 @@
     by_class.py [--each SECONDS] [--all SECONDS] [WORD..]    the classes whose names have one of these words, or all
 
 Each test's name is printed as it begins. A class whose time is over is ended with all that it started, and says first
-where each of its threads was. The status is 1 where a class failed, or was not run as the time for all was over.
+where each of its threads was, and what its servers said. The status is 1 where a class failed, or was not run as the time
+for all was over.
 """
 
 from __future__ import annotations
@@ -22,9 +23,22 @@ from typing import Iterator, List
 HERE = pathlib.Path(__file__).resolve().parent
 # A class whose time is over has so long to say where its threads are.
 GRACE = 20
-# Where a class is run: its time, and its name.
-ONE = "import faulthandler, sys, unittest; faulthandler.dump_traceback_later(float(sys.argv[1]), exit=True); " \
-      "unittest.main(module=None, argv=['unittest', '-v', sys.argv[2]])"
+# Where a class is run: its time, and its name. Where its time is over, its servers tell what they said.
+ONE = """
+import faulthandler, os, sys, threading, unittest
+
+def over():
+    faulthandler.dump_traceback()
+    if "support.served" in sys.modules:
+        sys.modules["support.served"].tell_all()
+    os._exit(1)
+
+late = threading.Timer(float(sys.argv[1]), over)
+late.daemon = True
+late.start()
+faulthandler.dump_traceback_later(float(sys.argv[1]) + 10, exit=True)
+unittest.main(module=None, argv=["unittest", "-v", sys.argv[2]])
+"""
 
 
 def cases_in(suite: unittest.TestSuite) -> Iterator[unittest.TestCase]:

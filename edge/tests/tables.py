@@ -5,6 +5,7 @@ WFSERVE_SEED draws other moments, WFEDGE_TAKEOVERS more of them, and WFEDGE_CLIE
 for how many milliseconds a leader may be silent.
 """
 
+import contextlib
 import http.client
 import json
 import os
@@ -23,7 +24,7 @@ import unittest
 from collections import Counter, defaultdict
 from concurrent.futures import ThreadPoolExecutor
 
-from the_edge import WFEDGE, program_of, reply_by_key
+from the_edge import WFEDGE, programs_of, reply_by_key
 
 from by_hand import left_undone, replies_of, sweep_of
 from support.programs import BUILT, memory_folder
@@ -196,6 +197,13 @@ class Database:
             with open(place / name, "ab") as record:
                 record.write(bytes.fromhex(data))
         return ["--load", str(place)]
+
+
+def tell_all(pids, number):
+    """Sends a signal to processes, which may have ended meanwhile."""
+    for pid in pids:
+        with contextlib.suppress(ProcessLookupError):
+            os.kill(pid, number)
 
 
 class Session:
@@ -446,13 +454,11 @@ class OverATable(unittest.TestCase):
 
     def hang(self, leader):
         """Has an edge and its program stand still for longer than a leader may."""
-        program = program_of(leader.process.pid)
+        programs = programs_of(leader.process.pid)
         leader.tell(signal.SIGSTOP)
-        if program is not None:
-            os.kill(program, signal.SIGSTOP)
+        tell_all(programs, signal.SIGSTOP)
         time.sleep(SILENCE / 1_000 + 1)
-        if program is not None:
-            os.kill(program, signal.SIGCONT)
+        tell_all(programs, signal.SIGCONT)
         leader.tell(signal.SIGCONT)
 
     def next_answer(self, nodes, callers, began, mended):

@@ -157,7 +157,9 @@ def children_of(pid):
 
 def is_page(pid):
     try:
-        return b"page.py" in pathlib.Path(f"/proc/{pid}/cmdline").read_bytes()
+        words = pathlib.Path(f"/proc/{pid}/cmdline").read_bytes()
+        # A process that is just being started has the edge's own words.
+        return b"page.py" in words and b"--program" not in words
     except OSError:
         return False
 
@@ -202,7 +204,8 @@ class PageProcess(WithAServer):
         self.assertIn("the page ended", server.said.read_text())
 
     def test_attempts_are_shown_also_by_an_edge_or_a_page_that_was_started_anew(self):
-        server = self.serve()
+        """And after compactions: snapshots have no messages of failures."""
+        server = self.serve("--compact-bytes", "0")
         client = server.client(wait=20_000)
         run = client.start("w", "T", task_timeout=HOUR)
         task = client.poll_workflow_task()
@@ -217,10 +220,12 @@ class PageProcess(WithAServer):
         client.call("heartbeat", token=tokens["charge"], details="half of it")
         client.call("fail_activity", token=tokens["charge"], message="no answer", error_type="OSError")
         told = {"attempt": 2, "last_failure": "no answer", "last_failure_type": "OSError", "heartbeat": "half of it"}
-        for again in ("", "page", "edge"):
+        for again in ("", "page", "edge", "compacted", "compacted twice"):
             if again == "page":
                 end_page(server.process.pid)
-            elif again == "edge":
+            elif again.startswith("compacted"):
+                self.assertEqual(server.asked("POST", "/compact", b"{}")[0], 200)
+            if again not in ("", "page"):
                 server.kill()
                 server.start()
             found = {it["id"]: it for it in self.pending(server, run)}

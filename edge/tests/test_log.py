@@ -88,12 +88,14 @@ class ByHttp:
 class Client:
     """Runs workflows, and keeps each reply's text."""
 
-    def __init__(self, way, number, stop, seed):
-        self._way, self._number, self._stop = way, number, stop
+    def __init__(self, way, number, stop, seed, pace=0.0):
+        # It rests for so many seconds before each call: so a log stays short where a program is quick.
+        self._way, self._number, self._stop, self._pace = way, number, stop, pace
         self._draw = random.Random(f"{seed} {number}")
         self.had, self.again = [], 0
 
     def call(self, key, **request):
+        time.sleep(self._pace)
         late, pause = time.monotonic() + PATIENCE, 0.01
         while True:
             try:

@@ -1,5 +1,6 @@
 """The compiled edge for tests, in the place of the Python server that the client's tests start."""
 
+import contextlib
 import os
 import pathlib
 import sys
@@ -30,18 +31,33 @@ def is_program(pid):
         words = pathlib.Path(f"/proc/{pid}/cmdline").read_bytes().split(b"\0")
     except OSError:
         return False
-    return b"--capacity" in words and b"--save" not in words
+    # A process that is just being started has the edge's own words.
+    return b"--capacity" in words and not {b"--save", b"--snapshot", b"--program"} & set(words)
+
+
+def begun(pid):
+    """When a process began. None where it has ended."""
+    try:
+        return int(pathlib.Path(f"/proc/{pid}/stat").read_text(encoding="utf-8").rpartition(") ")[2].split()[19])
+    except OSError:
+        return None
+
+
+def programs_of(pid):
+    """All programs of an edge, the one that serves first: its threads start them, and the page too. One that follows began
+    later."""
+    found = []
+    for children in pathlib.Path(f"/proc/{pid}/task").glob("*/children"):
+        # A thread may have ended meanwhile.
+        with contextlib.suppress(OSError):
+            found += [int(child) for child in children.read_text(encoding="utf-8").split()]
+    ages = [(begun(child), child) for child in found if is_program(child)]
+    return [child for _, child in sorted((age, child) for age, child in ages if age is not None)]
 
 
 def program_of(pid):
-    """The program of an edge: its threads start it, and the page too."""
-    found = []
-    for children in pathlib.Path(f"/proc/{pid}/task").glob("*/children"):
-        try:
-            found += [int(child) for child in children.read_text(encoding="utf-8").split()]
-        except OSError:
-            pass
-    return next((child for child in found if is_program(child)), None)
+    """The program that an edge serves by. None where there is none."""
+    return next(iter(programs_of(pid)), None)
 
 
 def take_the_edge():

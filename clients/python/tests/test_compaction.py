@@ -9,14 +9,14 @@ from unittest import mock
 from support.programs import BUILT, needs_program
 from wfserve.calls import Clock
 from wfserve.durable import Settings
-from wfserve.durable.compaction import MORE_THAN_QUEUES_HOLD, folder_of, kept_log
+from wfserve.durable.compaction import MORE_THAN_QUEUES_HOLD, folder_of, kept_log, save_records
 from wfserve.durable.log import LineLog
 from wfserve.errors import LogBroken, NotCompacted, NotOpened
 from test_durable import Durable
 
-# Serves as the program does, but refuses records.
+# Serves as the program does, but loads nothing.
 REFUSES = f"""#!/bin/sh
-case "$*" in *--load*) echo "no such records" >&2; exit 2;; esac
+case "$*" in *--load*) echo "no such snapshots" >&2; exit 2;; esac
 exec {BUILT} "$@"
 """
 
@@ -74,33 +74,73 @@ class Compacted(Durable):
             self.assertEqual(service.close(), 0)
 
     def test_a_task_that_waited_is_found_again_in_a_compacted_log(self):
-        with self.started(1) as service:
+        """One that was dispatched is in its queue again, and the other one comes by its dispatch, each once."""
+        with self.started(2) as service:
+            self.assertTrue(service.dispatch_turn())
             service.compact()
-            self.assertEqual(service.poll_workflow_task().attempt, 1)
+            self.assertEqual(service.poll_workflow_task().workflow_id, "w0")
+            self.assertIsNone(service.poll_workflow_task())
+            self.assertTrue(service.dispatch_turn())
+            self.assertEqual(service.poll_workflow_task().workflow_id, "w1")
+            self.assertFalse(service.dispatch_turn())
 
-    def test_queues_grow_where_more_tasks_wait_than_they_hold(self):
+    def test_more_tasks_may_wait_than_the_queues_hold(self):
+        with self.started(5, settings=Settings(capacity=2)) as service:
+            self.assertEqual([service.dispatch_turn() for _ in range(2)], [True, True])
+            service.compact()
+            self.assertEqual(service.settings.capacity, 2)
+        with self.open(Settings(capacity=2)) as service:
+            names = set()
+            for _ in range(5):
+                names.add(service.poll_workflow_task().workflow_id)
+                service.send({"op": "dispatch_turn", "shard": 0}).result()
+        self.assertEqual(names, {f"w{number}" for number in range(5)})
+
+    def test_a_compaction_gives_the_queues_more_room(self):
         with self.started(5, settings=Settings(capacity=2)) as service:
             with self.assertLogs("wfserve.log", "WARNING") as said:
-                service.compact()
+                service.compact(8)
             self.assertIn("the queues have room for 8 tasks from now on, and had for 2", said.output[0])
-            self.assertEqual(service.describe("w0")["status"], "Running")
+            self.assertTrue(all(service.dispatch_turn() for _ in range(5)))
         for settings in (None, Settings(capacity=2), Settings(capacity=8)):
             with self.open(settings) as service:
                 self.assertEqual(service.settings.capacity, 8)
                 self.assertEqual(service.describe("w4")["status"], "Running")
+
+    def begin_from_records(self, capacity=1_024):
+        """Puts records in the place of the log's lines, as an earlier client did."""
+        log = LineLog(self.log)
+        lines = list(log.lines())[1:]
+        log.close()
+        save_records([*self.program, *Settings().options()], lines, folder_of(self.log, 1))
+        self.log.unlink()
+        log = LineLog(self.log)
+        log.append([Settings(capacity=capacity).header(1)])
+        log.close()
+
+    def test_a_log_that_goes_on_from_records_has_snapshots_after_its_next_compaction(self):
+        with self.open(clock=Clock(7)) as service:
+            service.start("a", "w", input="x", request_id="q")
+            service.dispatch_turn()
+            token = service.poll_workflow_task().token
+            before = service.history("a")
+        self.begin_from_records()
         with self.open() as service:
-            names = {service.poll_workflow_task().workflow_id for _ in range(5)}
-        self.assertEqual(names, {f"w{number}" for number in range(5)})
+            self.assertEqual((service.history("a"), service.last_moment), (before, 7))
+            self.assertEqual(os.listdir(folder_of(self.log, 1)), ["shard-00.rec"])
+            service.compact()
+            self.assertEqual(os.listdir(folder_of(self.log, 2)), ["shard-00.snap"])
+            self.assertGreater(service.records_size, 100)
+            service.call("complete_workflow_task", token=token, commands=[])
+            after = service.history("a")
+        with self.open() as service:
+            self.assertEqual((service.history("a"), service.last_moment), (after, 7))
+            self.assertFalse(service.call("start", workflow_id="a", workflow_type="w", task_queue="main", request_id="q")["ok"] == "started")
 
     def test_a_log_whose_records_have_more_than_its_queues_hold_is_opened(self):
         self.started(5).close()
-        with self.open() as service:
-            service.compact()
         # What an earlier compaction left: it gave up the lines before a program had opened the records.
-        self.log.unlink()
-        log = LineLog(self.log)
-        log.append([Settings(capacity=2).header(1)])
-        log.close()
+        self.begin_from_records(capacity=2)
         with self.assertLogs("wfserve.log", "WARNING") as said, self.open(Settings(capacity=2)) as service:
             self.assertEqual(service.describe("w4")["status"], "Running")
             service.signal("w4", "go")
@@ -114,30 +154,29 @@ class Compacted(Durable):
             self.assertEqual(sum(service.dispatch_turn() for _ in range(3)), 3)
         self.assertEqual(self.open().settings.capacity, 64)
 
-    def test_more_tasks_than_any_queue_holds_leave_the_log(self):
-        with self.started(5, settings=Settings(capacity=2)) as service:
-            data = self.log.read_bytes()
-            with mock.patch("wfserve.durable.compaction.MOST_CAPACITY", 4), self.assertRaisesRegex(NotOpened, MORE_THAN_QUEUES_HOLD):
-                service.compact()
-            self.assertEqual((self.log.read_bytes(), self.names()), (data, ["a.log"]))
-            service.signal("w4", "go")
-        self.assertEqual([e["type"] for e in self.open().history("w4")][-1], "WorkflowExecutionSignaled")
+    def test_records_with_more_tasks_than_any_queue_holds_leave_the_log(self):
+        self.started(5).close()
+        self.begin_from_records(capacity=2)
+        data = self.log.read_bytes()
+        with mock.patch("wfserve.durable.compaction.MOST_CAPACITY", 4), self.assertRaisesRegex(NotOpened, MORE_THAN_QUEUES_HOLD):
+            self.open()
+        self.assertEqual((self.log.read_bytes(), self.names()), (data, ["a.log", "a.log.records-1"]))
 
-    def test_records_that_no_program_opens_leave_the_log(self):
+    def test_snapshots_that_no_program_opens_leave_the_log(self):
         program = self.log.parent / "refuses"
         program.write_text(REFUSES)
         program.chmod(0o755)
         self.program = [str(program)]
         with self.started(1) as service:
             data = self.log.read_bytes()
-            with self.assertRaisesRegex(NotOpened, "status 2: no such records"):
+            with self.assertRaisesRegex(NotOpened, "status 2: no such snapshots"):
                 service.compact()
             self.assertEqual((self.log.read_bytes(), self.names()), (data, ["a.log", "refuses"]))
             service.signal("w0", "go")
         with self.open() as service:
             self.assertEqual([e["type"] for e in service.history("w0")][-1], "WorkflowExecutionSignaled")
 
-    def test_records_that_are_not_saved_leave_the_log(self):
+    def test_snapshots_that_are_not_written_leave_the_log(self):
         with self.started(1) as service:
             before = service.history("w0")
             data = self.log.read_bytes()
@@ -194,7 +233,7 @@ class Compacted(Durable):
             self.assertEqual(service.history("a"), before)
         self.assertEqual(self.names(), ["a.log", "a.log.generation-0", "a.log.records-1", "a.log.records-x"])
 
-    def test_nobody_else_may_read_records(self):
+    def test_nobody_else_may_read_snapshots(self):
         former = os.umask(0)
         self.addCleanup(os.umask, former)
         service, _, _ = self.compacted()

@@ -20,7 +20,7 @@ from wfserve.calls import Clock
 from wfserve.durable import DurableService, Settings, move_journal, move_log
 from wfserve.durable.journaled import fault_of, journal_settings
 from wfserve.errors import (
-    Ended, JournalDamaged, LogFault, LogInUse, NotCompacted, NotOpened, OtherJournal, OtherSettings, RefusedSettings,
+    Ended, JournalCompacted, JournalDamaged, LogFault, LogInUse, NotOpened, OtherJournal, OtherSettings, RefusedSettings,
 )
 from wfserve.journal import Journal, framed
 from wfserve.server.listing import Workflows
@@ -122,8 +122,6 @@ class Opened(Journaled):
             self.open(replayed=print)
         with self.open() as service:
             service.start("a", "w")
-            with self.assertRaisesRegex(NotCompacted, "a journal is not compacted"):
-                service.compact()
             self.assertEqual((service.records_size, service.lines), (0, 1))
 
     def test_threads_get_their_own_replies(self):
@@ -203,7 +201,8 @@ class Moved(Journaled):
         self.assertGreater(move_journal(self.kept, other), 200)
         self.assertEqual(self.histories(other), before)
 
-    def test_a_compacted_log_becomes_a_journal(self):
+    def test_a_compacted_log_becomes_a_journal_and_a_log_again(self):
+        """What goes on from snapshots is moved by snapshots."""
         draw = random.Random(SEED)
         self.fill(self.log, draw)
         with self.open(self.log) as service:
@@ -211,13 +210,20 @@ class Moved(Journaled):
         self.fill(self.log, draw)
         before = self.histories(self.log)
         os.mkdir(f"{self.kept}/journal.new")
-        steps = move_log([str(BUILT)], self.log, self.kept)
-        with Journal(f"{self.kept}/journal") as journal:
-            self.assertEqual(sum(1 for _ in journal.steps()), steps)
-        self.assertEqual(os.listdir(self.kept), ["journal"])
+        os.mkdir(f"{self.kept}/checkpoint-1")
+        self.assertEqual(move_log([str(BUILT)], self.log, self.kept), 0)
+        self.assertEqual(sorted(os.listdir(self.kept)), ["checkpoint", "checkpoint-1", "journal"])
         self.assertEqual(self.histories(self.kept), before, f"seed {SEED}")
+        self.fill(self.kept, draw)
         with self.open(self.kept) as service:
             self.assertGreater(service.last_moment, 1_000)
+        before = self.histories(self.kept)
+        other = str(self.folder / "b.log")
+        with self.assertRaisesRegex(JournalCompacted, "the journal was compacted: give the program"):
+            move_journal(self.kept, other)
+        self.assertGreater(move_journal(self.kept, other, command=[str(BUILT)]), 100)
+        self.assertEqual(sorted(os.listdir(self.folder)), ["a.log", "a.log.generation-0", "a.log.records-1", "b.log", "b.log.records-1", "kept"])
+        self.assertEqual(self.histories(other), before, f"seed {SEED}")
 
     def test_only_what_is_not_there_is_begun(self):
         with self.assertRaisesRegex(LogFault, "no such log"):

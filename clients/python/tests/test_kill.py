@@ -19,8 +19,8 @@ from support import TESTS, kill_driver
 from support.programs import BUILT, needs_program
 from wfserve.calls import Service
 from wfserve.durable import DurableService
-from wfserve.durable.compaction import folder_of
-from wfserve.durable.log import LineLog
+from wfserve.durable.compaction import kept_log
+from wfserve.durable.log import open_lines
 from wfserve.errors import Refused
 from wfserve.journal import Journal
 
@@ -90,28 +90,19 @@ class Disturbed:
 
 
 def logged_requests(log):
-    """The requests that the records of a log have, and then those of its lines, in their order; or those of a journal."""
+    """The requests of all lines that a log had in its generations, in their order; or those of a journal."""
     if os.path.isdir(log):
         with Journal(os.path.join(log, "journal")) as journal:
             return requests_in(step.entry for step in journal.steps())
-    lines = LineLog(log)
-    try:
-        header, *texts = [json.loads(line) for line in lines.lines()]
-    finally:
-        lines.close()
-    return recorded_requests(log, header.get("compacted", 0)) + texts
-
-
-def recorded_requests(log, generation):
-    """The requests of the only shard's record, but for those of turns' parts and of reads."""
-    if not generation:
-        return []
-    with open(os.path.join(folder_of(log, generation), "shard-00.rec")) as record:
-        return requests_in(json.loads(line) for line in record)
+    generation = json.loads(next(open_lines(log))).get("compacted", 0)
+    # The one before is kept by the compaction, and the others by the driver.
+    former = [f"{log}.kept-{number}" for number in range(generation - 1)]
+    paths = [*former, kept_log(log, generation - 1), log] if generation else [log]
+    return [json.loads(line) for path in paths for line in list(open_lines(path))[1:]]
 
 
 def requests_in(entries):
-    """The requests of a record that were made under an id."""
+    """The requests of a journal that were made under an id."""
     return [entry["request"] for entry in entries if "request_id" in entry["request"]]
 
 
@@ -173,7 +164,7 @@ class Killed(unittest.TestCase):
         firsts = {}
         for request in requests:
             asked = wanted[request["request_id"]]
-            # A record has every default written out.
+            # A journal has every default written out.
             self.assertEqual({name: request[name] for name in asked}, asked)
             firsts.setdefault(request["request_id"], asked)
         for (thread, number), line in run.answers.items():

@@ -7,13 +7,10 @@ rounds of 50, each over WFSERVE_ORDERS orders, 200 without it.
 """
 
 import collections
-import contextlib
-import http.client
 import json
 import os
 import pathlib
 import random
-import signal
 import subprocess
 import sys
 import threading
@@ -23,7 +20,7 @@ from concurrent.futures import ThreadPoolExecutor
 
 from support import TESTS, orders
 from support.programs import BUILT, memory_folder, needs_program, needs_server
-from support.served import Server
+from support.served import Server, kill_all
 from wfserve.errors import Refused
 from wfserve.workflows import input_of, text_of
 
@@ -38,6 +35,8 @@ LATEST = 400
 CHARGE_SECONDS = 1
 # A server that was back for so many seconds was told what waited.
 MOMENT = 0.5
+# What is killed, and how often beside the others.
+KINDS, SHARES = ("worker", "server", "program"), (4, 1, 1)
 ENDS = ("shipped", "shipped", "shipped", "cancelled", "timeout", "declined")
 
 
@@ -114,6 +113,8 @@ class Killer:
         # since when it had been away then.
         self.longest_away, self._back, self._since = 0.0, 0.0, 0.0
         self._draw = random.Random(f"{seed} kills")
+        # Whether all kills were made, and whether it was told to stop.
+        self.is_over, self.told = threading.Event(), threading.Event()
         self._ledger = folder / "ledger"
         self._said = open(folder / "workers.said", "wb")
         self.workers = [self._worker() for _ in range(WORKERS)]
@@ -123,9 +124,15 @@ class Killer:
         return subprocess.Popen(command, stdout=self._said, stderr=self._said)
 
     def run(self):
-        for _ in range(KILLS // ROUNDS):
-            time.sleep(self._draw.uniform(0.05, 0.8))
-            self._kill(self._draw.choices(("worker", "server", "program"), (4, 1, 1))[0])
+        """Kills so many, and then watches the server until it is told to stop."""
+        try:
+            for _ in range(KILLS // ROUNDS):
+                time.sleep(self._draw.uniform(0.05, 0.8))
+                self._kill(self._draw.choices(KINDS, SHARES)[0])
+        finally:
+            self.is_over.set()
+        while not self.told.wait(0.2):
+            self.server.go_on(LATEST)
 
     def _kill(self, kind):
         self.kills[kind] += 1
@@ -138,14 +145,13 @@ class Killer:
             return
         begun = time.monotonic()
         if kind == "program":
-            for program in children_of(self.server.process.pid):
-                with contextlib.suppress(ProcessLookupError):
-                    os.kill(program, signal.SIGKILL)
-            self._go_on()
+            # With it all else that the server has started: a second program, a page.
+            kill_all(*children_of(self.server.process.pid))
         else:
             self.server.kill()
             time.sleep(pause)
             self.server.start()
+        self.server.go_on(LATEST)
         self._was_away(begun)
 
     def _was_away(self, begun):
@@ -154,18 +160,6 @@ class Killer:
             self._since = begun
         self._back = time.monotonic()
         self.longest_away = max(self.longest_away, self._back - self._since)
-
-    def _go_on(self):
-        """The server starts its program again; it ends where that was killed twice at one line, and says so."""
-        while self.server.process.poll() is None:
-            try:
-                if self.server.asked("GET", "/health/ready")[0] == 200:
-                    return
-            except (OSError, http.client.HTTPException):
-                pass
-            time.sleep(0.05)
-        self.server.kill()
-        self.server.start()
 
     def _end(self, worker):
         self.killed.add(worker.pid)
@@ -212,18 +206,31 @@ class UnderKills(unittest.TestCase):
         try:
             clients, killer = Orders(server, seed), Killer(server, folder, seed)
             try:
-                killing = threading.Thread(target=killer.run)
-                killing.start()
-                clients.run()
-                killing.join()
-                self.wait(clients)
+                self.disturb(clients, killer)
             finally:
                 killer.stop()
             self.entries = [json.loads(line) for line in (folder / "ledger").read_text().splitlines()]
             self.look(clients, killer)
+        except BaseException:
+            print(server.account(), file=sys.stderr)
+            raise
         finally:
             if server.process.poll() is None:
                 server.stop()
+
+    def disturb(self, clients, killer):
+        """Runs the clients and the killer until all orders have closed. Where the killer fails, the clients do too."""
+        with ThreadPoolExecutor(1) as pool:
+            killing = pool.submit(killer.run)
+            killing.add_done_callback(lambda done: done.exception() and killer.server.give_up())
+            try:
+                clients.run()
+                killer.is_over.wait()
+                self.wait(clients)
+            finally:
+                killer.told.set()
+                killing.result()
+        self.assertEqual(killer.server.own_ends, [], "the server ended by itself")
 
     def wait(self, clients):
         """Waits until all orders have closed."""

@@ -182,7 +182,7 @@ class Serve(InAFolder):
 class Help(unittest.TestCase):
     def test_it_lists_the_options_that_the_program_has(self):
         said, has = run([ROOT / "serve", "--help"]).stdout, run([BUILT, "--help"])
-        options = set(re.findall("--[a-z]+", has.stdout + has.stderr)) - {"--help"}
+        options = set(re.findall("--[a-z]+", has.stdout + has.stderr)) - {"--help", "--version"}
         self.assertGreater(len(options), 5)
         self.assertEqual(set(re.findall("--[a-z]+", said)), options)
 
@@ -229,6 +229,22 @@ class ServeHttp(Serve):
         self.assertRegex(ran.stdout, f"^edge --page [^ ]+ {page} --program {self.program.resolve()} --log a log\n$")
         for words in (["--help"], ["--compact", "--log", "a log"]):
             self.assertIn("server --program", self.serve(*words).stdout)
+
+    def test_what_the_compiled_edge_alone_can_do_is_refused_without_it(self):
+        for words, option in (
+            (["--log", "a log", "--standby", "yes"], "--standby"), (["--compact-bytes=0"], "--compact-bytes"),
+            (["--compact-seconds", "5"], "--compact-seconds"), (["--socket", "s"], "--socket"), (["--silence=9"], "--silence"),
+        ):
+            ran = self.serve(*words)
+            self.assertEqual((ran.returncode, ran.stdout), (2, ""))
+            self.assertEqual(ran.stderr, f"serve-http: {option} is an option of the compiled edge alone: edge/setup.sh builds it\n")
+        for words in (["--log", "postgres://h/d"], ["--port", "0", "--log=postgresql://h/d"]):
+            ran = self.serve(*words)
+            self.assertEqual((ran.returncode, ran.stdout), (2, ""))
+            self.assertIn("edge/setup.sh postgres builds it", ran.stderr)
+        # They are words like others where another option has them.
+        self.assertEqual(self.serve("--queues", "a--standby", program="p").stdout, "server --program p --queues a--standby\n")
+        self.assertFalse(self.program.exists())
 
     def test_another_program_and_a_call_for_help_build_nothing(self):
         self.assertEqual(self.serve("--port", "0", program="other").stdout, "server --program other --port 0\n")

@@ -39,8 +39,15 @@ class WithAServer(unittest.TestCase):
 
     def serve(self, *options, program=str(BUILT)):
         server = Server(program, self.log, *options)
-        self.addCleanup(lambda: server.process.poll() is None and server.stop())
+        self.addCleanup(self._end, server)
         return server
+
+    def _end(self, server):
+        """Ends a server. That of a test which failed tells what it said."""
+        if not getattr(self._outcome, "success", True):
+            print(server.account(), file=sys.stderr)
+        if server.process.poll() is None:
+            server.stop()
 
     def double(self):
         """The counting program, as a file."""

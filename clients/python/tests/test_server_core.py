@@ -19,6 +19,7 @@ from support.programs import BUILT, COUNTING, needs_program, program_file
 from wfserve.durable import Settings
 from wfserve.errors import Ended, LogBroken, LogFull, NotCompacted
 from wfserve.server.calls import BadCall, Busy, call_of
+from wfserve.server.endings import Endings
 from wfserve.server.moments import Moments
 from test_server_ledger import drawn_call, worked
 
@@ -351,7 +352,7 @@ class CompactedUnderLoad(OverALog):
 
 @needs_program
 class Dies(OverALog):
-    """The program ends in the middle: it is started again, once for a line."""
+    """The program ends in the middle: it is started again, once for what it was asked."""
 
     def program(self, word, once):
         text = DIES.format(
@@ -367,9 +368,7 @@ class Dies(OverALog):
             os.kill(served.kept.program.pid, signal.SIGKILL)
             count += 1
             # A second end at the same line would be for good.
-            while served.core.metrics.restarts < count or (
-                served.core._answered <= served.core._died_at and not done.is_set()
-            ):
+            while served.core.metrics.restarts < count or (served.core._endings.count and not done.is_set()):
                 await asyncio.sleep(0.001)
         return count
 
@@ -438,6 +437,25 @@ class Dies(OverALog):
         with self.assertLogs("wfserve.server", "WARNING") as said:
             asyncio.run(called())
         self.assertRegex(said.output[0], "line 3: the program ended with status -9.*signal, workflow_id 'w'")
+
+    def test_a_program_that_is_killed_again_and_again_is_no_lines_fault(self):
+        async def called():
+            async with self.served() as served:
+                await served.call(op="start", workflow_id="w", workflow_type="T", task_queue="main")
+                for count in range(1, 9):
+                    os.kill(served.kept.program.pid, signal.SIGKILL)
+                    while served.core.metrics.restarts < count:
+                        await asyncio.sleep(0.001)
+                    self.assertEqual((await served.call(op="describe", workflow_id="w"))["status"], "Running")
+
+        with self.assertLogs("wfserve.server", "WARNING"):
+            asyncio.run(called())
+
+    def test_ends_in_a_row_are_for_good_at_last(self):
+        endings = Endings()
+        self.assertEqual([endings.go_on(was_asked) for was_asked in (False, True, False, True)], [True, True, True, False])
+        endings.answered()
+        self.assertEqual(sum(endings.go_on(False) for _ in range(20)), 5)
 
     def test_a_line_at_which_it_dies_again_ends_the_server(self):
         async def called():

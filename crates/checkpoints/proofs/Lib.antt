@@ -1,1 +1,5 @@
+mod FaultLemmas
+mod HaltLemmas
+mod HandedLemmas
+mod OrderLemmas
 mod StartLemmas

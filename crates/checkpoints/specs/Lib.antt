@@ -1,3 +1,4 @@
 pub mod Checkpoints
+pub mod Faults
 pub mod Restored
 pub mod Resumed

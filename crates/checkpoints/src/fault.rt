@@ -1,6 +1,7 @@
 //! Why a snapshot gives no shard of a service.
 
 ghost use Rattle.std.specs.Prelude.{◌≡◌};
+ghost use Rattle.checkpoints.specs.Faults.{load_fault};
 ghost use Rattle.checkpoints.specs.declared.fault.LoadFault.TheVariants.{Memory};
 
 use shard_snapshot::{Damage, RestoreFault};
@@ -36,7 +37,7 @@ impl<T: Drop> From<AllocFailed<T>> for LoadFault {
 }
 
 impl From<RestoreFault> for LoadFault {
-    ghost from_gives = { λ _ _. Unit {0} };
+    ghost from_gives = { λ fault e. e ≡ load_fault fault };
 
     /// A text in memory is always read.
     fn from(fault: RestoreFault) -> LoadFault {

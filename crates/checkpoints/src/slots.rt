@@ -1,28 +1,39 @@
 //! Shards that were restored, as shards that go on from contents.
 
-ghost use Rattle.std.specs.Prelude.{◌≡◌, IfOk};
+ghost use Rattle.std.specs.Prelude.{◌≡◌, IfOk, length, map};
+ghost use Rattle.checkpoints.specs.Restored.{AreRestored, text_of};
 ghost use Rattle.checkpoints.specs.Resumed.{AreInSlots};
 
-use crate::checkpointed::Checkpointed;
 use crate::restored::Restored;
 use script::Outcome;
 use service_model_types::request::Request;
-use shard_gate::{KeepsShard, Resumed, Starts};
+use service_model_types::settings::Settings;
+use shard_gate::{KeepsShard, Resumed, ShardObject, Starts};
 use std::alloc::{AllocError, Global};
 use step_record::Record;
 
-/// The shards in their slots, each with an empty record.
-pub(crate) fn in_slots<S: Checkpointed, H: Starts>(
+/// The shards in their slots, each with its record.
+pub(crate) fn in_slots<S: ShardObject, H: Starts>(
     alloc: Global,
     shards: Vec<Restored<S>>,
+    records: Vec<Record<Request>>,
 ) -> Result<Vec<(Resumed<S, H>, Record<Request>)>, AllocError>
-    ensures { IfOk result (λ given. AreInSlots shards.items given.items) }
+    requires { length records.items ≡ length shards.items }
+    ensures { IfOk result (λ given. AreInSlots shards.items records.items given.items) }
 {
     let mut given = Vec::new(alloc);
+    let mut records = records.into_iter();
     for restored in shards {
-        let Restored { shard, text: _ } = restored;
+        let Restored {
+            shard,
+            counts: _,
+            text: _,
+        } = restored;
         let slot = given.len();
-        given.push((Resumed::new(shard, slot), Record::new(alloc)))?;
+        match records.next() {
+            Some(record) => given.push((Resumed::new(shard, slot), record))?,
+            None => unreachable!(),
+        }
     }
     Ok(given)
 }

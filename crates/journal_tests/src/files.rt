@@ -3,7 +3,7 @@
 use crate::batches::{BATCHES, are_first, are_told, commit, commit_each, open};
 use journal_disk::{DiskError, Memory};
 use journal_file::FileDisk;
-use journal_frames::{RecoverFault, find};
+use journal_frames::{RecoverFault, find, framed};
 use script_devices::Full;
 use std::alloc::{AllocError, AllocGlobal, Global};
 use std::fs::{self, OpenOptions};
@@ -80,6 +80,52 @@ fn a_file_that_is_not_written_is_a_fault(rt: HostRuntime) {
     };
     assert!(rt; fault == Some(RecoverFault::Device(DiskError::Failed)));
     assert!(rt; fs::remove_file(&rt, READ_ONLY).is_ok());
+}
+
+/// Where a test's file begins with bytes that are no journal's.
+const AFTER: &str = "journal_tests.after";
+
+/// What such a file begins with.
+const BEFORE: &[u8] = b"room that was given back";
+
+/// The file at first: no batch, and the zero that comes after the last one.
+const AT_FIRST: &[u8] = b"room that was given back\0";
+
+/// The batches that are found in the file, the first of them in front of it, and then the others are
+/// committed to it.
+fn go_on_after<R: Files + AllocGlobal>(rt: &R) -> Option<Vec<Vec<u8>>> {
+    let alloc = rt.alloc();
+    let mut how = OpenOptions::new();
+    let file = how.read(true).write(true).open(rt, AFTER).ok()?;
+    let front = framed(alloc, BATCHES.first()?.0).ok()?;
+    let base = BEFORE.len() as u64;
+    let disk = FileDisk::after(alloc, front, base, file, Vec::new(alloc));
+    let (mut journal, bodies) = open(alloc, disk).ok()?;
+    let rest = BATCHES.get(bodies.len()..).unwrap_or_default();
+    if commit_each(alloc, &mut journal, rest) == rest.len() {
+        return Some(bodies);
+    }
+    None
+}
+
+#[test]
+fn what_comes_before_a_base_is_neither_read_nor_written(rt: HostRuntime) {
+    let alloc = rt.alloc();
+    assert!(rt; fs::write(&rt, AFTER, AT_FIRST).is_ok());
+    let Some(bodies) = go_on_after(&rt) else {
+        panic!(rt; "no file")
+    };
+    assert!(rt; bodies.len() == 1 && are_first(&bodies));
+    let Some(bodies) = go_on_after(&rt) else {
+        panic!(rt; "no file")
+    };
+    assert!(rt; bodies.len() == BATCHES.len() && are_first(&bodies));
+    let (Ok(bytes), Ok(second)) = (fs::read(&rt, AFTER), framed(alloc, BATCHES[1].0)) else {
+        panic!(rt; "no file")
+    };
+    let since = bytes.get(BEFORE.len()..).unwrap_or_default();
+    assert!(rt; bytes.starts_with(BEFORE) && since.starts_with(&second));
+    assert!(rt; fs::remove_file(&rt, AFTER).is_ok());
 }
 
 /// How many bytes each batch of a file that grows has.

@@ -6,6 +6,7 @@
 //! `run_lanes_from` does so over a service that it opens from records, and gives the records of its end;
 //! where it is asked for, it writes the one history of all shards after the last reply.
 //! `run_lanes_journaled` commits the steps of each read to a journal before it tells the replies to it.
+//! `run_lanes_resumed` and `run_lanes_resumed_journaled` do so from shards that are given.
 #![tactic(auto)]
 
 mod answer;
@@ -26,6 +27,6 @@ mod sorted;
 mod tails;
 
 pub use door::Door;
-pub use journaled::{LanesJournaled, run_lanes_journaled};
-pub use reopened::run_lanes_from;
+pub use journaled::{LanesJournaled, run_lanes_journaled, run_lanes_resumed_journaled};
+pub use reopened::{run_lanes_from, run_lanes_resumed};
 pub use run::{LanesOutcome, run_lanes};

@@ -17,6 +17,8 @@ mod lines;
 #[cfg(test)]
 mod listed;
 #[cfg(test)]
+mod numbers;
+#[cfg(test)]
 mod piece_texts;
 #[cfg(test)]
 mod refused;

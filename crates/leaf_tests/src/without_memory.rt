@@ -7,6 +7,7 @@ ghost use Rattle.std.specs.Prelude.{◌≡◌, length};
 
 use crate::deadlines::are_same;
 use crate::decisions::decided_by;
+use crate::numbers::{clear_first, fill_up};
 use crate::refused::{ask_for, due};
 use crate::retries::fields;
 use crate::rows::{id, moment};
@@ -14,6 +15,7 @@ use crate::transfers::{content, first_number, inbox, outbox, shown_acknowledged,
 use retry::{Ended, verdict_on, wait_after};
 use service_model_types::decided::Verdict;
 use service_model_types::transfer::Transfer;
+use sparse_numbers::SparseNumbers;
 use std::alloc::AllocGlobal;
 use std::process::Abort;
 use task_token::{RUN_TEXT_LENGTH, RunText, TOKEN_TEXT_LENGTH, TaskToken};
@@ -42,6 +44,24 @@ fn deadlines<R: Abort + AllocGlobal>(rt: &R) {
     deadlines.clear();
     assert!(rt; deadlines.least().is_none());
     ask_for(rt, REFUSE_NONE);
+}
+
+/// Whether memory is refused now.
+fn is_refused<R: Abort + AllocGlobal>(rt: &R) -> bool {
+    Vec::<u8>::with_capacity(rt.alloc(), 1).is_err()
+}
+
+/// The first page of a list was given back, so a number there wants memory again.
+fn numbers<R: Abort + AllocGlobal>(rt: &R) {
+    let mut numbers = SparseNumbers::new(rt.alloc());
+    fill_up(rt, &mut numbers, 1025, 7);
+    clear_first(&mut numbers, 1024);
+    ask_for(rt, REFUSE_ALL);
+    assert!(rt; numbers.set(5, 1).is_err() == is_refused(rt));
+    assert!(rt; numbers.set(6, 0).is_ok() && numbers.get(6) == 0);
+    assert!(rt; numbers.set(1024, 3).is_ok() && numbers.get(1024) == 3);
+    ask_for(rt, REFUSE_NONE);
+    assert!(rt; numbers.set(5, 1).is_ok() && numbers.get(5) == 1);
 }
 
 fn transfers<R: Abort + AllocGlobal>(rt: &R) {
@@ -97,6 +117,7 @@ fn texts<R: Abort + AllocGlobal>(rt: &R) {
 #[test]
 fn what_takes_no_memory(rt: HostRuntime) {
     deadlines(&rt);
+    numbers(&rt);
     transfers(&rt);
     decisions(&rt);
     texts(&rt);

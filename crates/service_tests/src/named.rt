@@ -6,13 +6,13 @@ ghost use Rattle.service.specs.Services.{IsPassOf};
 use crate::asked::settings;
 use crate::passes::{open, take_pass};
 use crate::shown::{came, shown};
-use crate::values::{boxed, id, start, taken, text, waiting};
+use crate::values::{boxed, id, signal_with_start, start, taken, text, waiting};
 use service::{KeepsShard, Pass, Service};
 use service_model_types::answer::Reply;
 use service_model_types::call::Stop;
 use service_model_types::request::{
     ActivityText, CompleteWorkflowTask, FailActivity, FailWorkflowTask, Hint, Read, RequestCancel,
-    Signal, SignalWithStart, TakenTask, Terminate,
+    Signal, TakenTask, Terminate,
 };
 use std::alloc::{AllocError, AllocGlobal, Global};
 use std::process::Abort;
@@ -20,7 +20,7 @@ use std::sync::Wait;
 use wf_command::Command;
 use wf_command::command::ScheduleActivityTask;
 use wf_event::payloads::PolicyFields;
-use wf_event_values::{Items, Moment, ReusePolicy, Span, TaskKind, Text};
+use wf_event_values::{Items, Moment, Span, TaskKind, Text};
 
 /// The form in which a call is made.
 #[derive(Clone, Copy)]
@@ -70,22 +70,6 @@ enum Call<'a> {
 /// A workflow that lies on this shard of two.
 fn workflow(shard: u16) -> &'static str {
     if shard == 0 { "a" } else { "b" }
-}
-
-fn both<R: Abort + AllocGlobal>(rt: &R, shard: u16) -> SignalWithStart {
-    SignalWithStart {
-        workflow_id: id(rt, workflow(shard)),
-        workflow_type: text(rt, "w"),
-        task_queue: id(rt, "main"),
-        input: text(rt, ""),
-        request_id: None,
-        reuse: ReusePolicy::AllowDuplicate,
-        run_timeout: Span::none(),
-        task_timeout: Span::none(),
-        execution_timeout: Span::none(),
-        name: text(rt, "s"),
-        signal_input: text(rt, "i"),
-    }
 }
 
 /// A signal without a request id, to the latest run.
@@ -236,7 +220,7 @@ fn may_wait<S: KeepsShard, R: Abort + AllocGlobal + Wait>(
         Call::SignalWithStart => came(service.signal_with_start(
             rt,
             pass,
-            boxed(rt, both(rt, shard)),
+            boxed(rt, signal_with_start(rt, workflow(shard))),
             at,
         )),
         Call::RequestCancel => came(service.request_cancel(rt, pass, cancel(rt, shard), at)),
@@ -309,7 +293,7 @@ fn never_waits<S: KeepsShard, R: Abort + AllocGlobal>(
         Call::Signal => came(service.try_signal(pass, signal(rt, workflow(shard)), at)),
         Call::SignalWithStart => came(service.try_signal_with_start(
             pass,
-            boxed(rt, both(rt, shard)),
+            boxed(rt, signal_with_start(rt, workflow(shard))),
             at,
         )),
         Call::RequestCancel => came(service.try_request_cancel(pass, cancel(rt, shard), at)),

@@ -1,10 +1,11 @@
 //! What the calls by name are given.
 
-use service_model_types::request::{Hint, Start, TakenTask};
+use serde_json::Value;
+use service_model_types::request::{Hint, SignalWithStart, Start, TakenTask};
 use std::alloc::AllocGlobal;
 use std::process::Abort;
 use wf_event::Boxed;
-use wf_event_values::{ConflictPolicy, Field, Id, ReusePolicy, Span, TaskKind, Text};
+use wf_event_values::{Field, Id, TaskKind, Text};
 
 pub(crate) fn id<R: Abort + AllocGlobal>(rt: &R, text: &str) -> Id {
     match Id::new(rt.alloc(), Field::WorkflowId, text) {
@@ -28,19 +29,36 @@ pub(crate) fn boxed<R: Abort + AllocGlobal, T: Drop>(rt: &R, value: T) -> Boxed<
     }
 }
 
+/// The line of a start, and of one that is signaled too: each reads its own fields.
+fn line<R: Abort + AllocGlobal>(rt: &R, workflow_id: &str) -> Value {
+    let text = format!(in rt.alloc();
+        "{{\"workflow_id\":\"{workflow_id}\",\"workflow_type\":\"w\",\"task_queue\":\"main\",\"name\":\"s\",\"signal_input\":\"i\"}}"
+    );
+    match text {
+        Ok(text) => match Value::from_str(rt.alloc(), text.as_str()) {
+            Ok(line) => line,
+            Err(_) => panic!(rt; "no value"),
+        },
+        Err(_) => panic!(rt; "no memory"),
+    }
+}
+
 /// A start under the default policies.
 pub(crate) fn start<R: Abort + AllocGlobal>(rt: &R, workflow_id: &str) -> Start {
-    Start {
-        workflow_id: id(rt, workflow_id),
-        workflow_type: text(rt, "w"),
-        task_queue: id(rt, "main"),
-        input: text(rt, ""),
-        request_id: None,
-        reuse: ReusePolicy::AllowDuplicate,
-        conflict: ConflictPolicy::Fail,
-        run_timeout: Span::none(),
-        task_timeout: Span::none(),
-        execution_timeout: Span::none(),
+    match wire_requests::start(rt.alloc(), &line(rt, workflow_id)) {
+        Ok(start) => start,
+        Err(_) => panic!(rt; "no start"),
+    }
+}
+
+/// A start that is signaled, under the default policies.
+pub(crate) fn signal_with_start<R: Abort + AllocGlobal>(
+    rt: &R,
+    workflow_id: &str,
+) -> SignalWithStart {
+    match wire_requests::signal_with_start(rt.alloc(), &line(rt, workflow_id)) {
+        Ok(both) => both,
+        Err(_) => panic!(rt; "no start"),
     }
 }
 

@@ -1,5 +1,5 @@
 -- plans that add to a run
-use Rattle.std.proofs.Common.{◌≡◌, ℕ, ◌<◌, ◌≤◌, List, Some, Ok, ap, refl, length, slice_index_or, subst, sym}
+use Rattle.std.proofs.Common.{◌≡◌, ℕ, ◌<◌, List, Some, Ok, ap, refl, length, slice_index_or, subst, sym}
 use Rattle.service_model_types.specs.declared.answer.Answer.{Answer}
 use Rattle.service_model_types.specs.declared.journal.Fact.{Fact}
 use Rattle.service_model.specs.Outcome.{run_at, takes_away}

@@ -91,6 +91,24 @@ pub record IsFreed (slots now : List ℕ) (k last : ℕ) : Type 0 where
   pub others : (j : ℕ) → j < length slots → j ≢ k → slot_of slots j ≢ last → slot_of now j ≡ slot_of slots j
 
 module _ (slots places : List ℕ) (kept : List RunView) (k last : ℕ) (h : AreSlots slots places kept) (low : k < length slots) (some : 0 < slot_of slots k) (end : last + 1 ≡ length kept) where
+  some-last : 0 < last
+  some-last = by (cases_eq last 0)
+    where
+      by : (last ≡ 0) ⊎ (last ≢ 0) → 0 < last
+      by (inl none) = absurd (omega (arith, none, end, some, h.there k low))
+      by (inr some) = omega (arith, some)
+
+  -- the place of the last slot
+  last-place : (slice_index_or places last 0 < length slots) × (slot_of slots (slice_index_or places last 0) ≡ last)
+  last-place = h.back last some-last (omega (arith, end))
+
+  module _ (m : ℕ) (named : m ≡ slice_index_or places last 0) (not : slot_of slots k ≢ last) where
+    apart : m ≡ k → ⊥
+    apart same = not (ap (slot_of slots) (sym same ∙ named) ∙ last-place.1)
+
+    pub moved-within : m < length (slice_set slots k 0)
+    moved-within = omega (arith, last-place.0, ap (λ i. i) named, length-set slots k 0)
+
   -- it was the last slot
   pub freed-last : slot_of slots k ≡ last → IsFreed slots (slice_set slots k 0) k last
   freed-last is = record {
@@ -104,26 +122,13 @@ module _ (slots places : List ℕ) (kept : List RunView) (k last : ℕ) (h : Are
   pub freed-other : (m : ℕ) → m ≡ slice_index_or places last 0 → slot_of slots k ≢ last → IsFreed slots (slice_set (slice_set slots k 0) m (slot_of slots k)) k last
   freed-other m named not = record {
     count = length-set (slice_set slots k 0) m (slot_of slots k) ∙ length-set slots k 0;
-    gone = get_or-set_other (slice_set slots k 0) m k (slot_of slots k) 0 (λ same. apart (sym same)) ∙ get_or-set_same slots k 0 0 low;
-    moved = λ j inside other same. ap (λ i. slot_of (slice_set (slice_set slots k 0) m (slot_of slots k)) i) (owner j inside same) ∙ get_or-set_same (slice_set slots k 0) m (slot_of slots k) 0 (omega (arith, back.0, ap (λ i. i) named, length-set slots k 0));
-    others = λ j inside other away. get_or-set_other (slice_set slots k 0) m j (slot_of slots k) 0 (λ same. away (ap (slot_of slots) same ∙ ap (slot_of slots) named ∙ back.1)) ∙ get_or-set_other slots k j 0 0 other;
+    gone = get_or-set_other (slice_set slots k 0) m k (slot_of slots k) 0 (λ same. apart m named not (sym same)) ∙ get_or-set_same slots k 0 0 low;
+    moved = λ j inside other same. ap (λ i. slot_of (slice_set (slice_set slots k 0) m (slot_of slots k)) i) (owner j inside same) ∙ get_or-set_same (slice_set slots k 0) m (slot_of slots k) 0 (moved-within m named not);
+    others = λ j inside other away. get_or-set_other (slice_set slots k 0) m j (slot_of slots k) 0 (λ same. away (ap (slot_of slots) same ∙ ap (slot_of slots) named ∙ last-place.1)) ∙ get_or-set_other slots k j 0 0 other;
   }
     where
-      positive : 0 < last
-      positive = by (cases_eq last 0)
-        where
-          by : (last ≡ 0) ⊎ (last ≢ 0) → 0 < last
-          by (inl none) = absurd (omega (arith, none, end, some, h.there k low))
-          by (inr some) = omega (arith, some)
-
-      back : (slice_index_or places last 0 < length slots) × (slot_of slots (slice_index_or places last 0) ≡ last)
-      back = h.back last positive (omega (arith, end))
-
-      apart : m ≡ k → ⊥
-      apart same = not (ap (slot_of slots) (sym same ∙ named) ∙ back.1)
-
       owner : (j : ℕ) → j < length slots → slot_of slots j ≡ last → j ≡ m
-      owner j inside same = sym (h.own j inside (subst (λ s. 0 < s) (sym same) positive)) ∙ ap (λ s. slice_index_or places s 0) same ∙ sym named
+      owner j inside same = sym (h.own j inside (subst (λ s. 0 < s) (sym same) some-last)) ∙ ap (λ s. slice_index_or places s 0) same ∙ sym named
 
   -- the slots after it
   module _ (now : List ℕ) (freed : IsFreed slots now k last) (fewer : List RunView) (moved : IsMoved kept fewer (slot_of slots k)) (left : List ℕ) (moved_places : IsMoved places left (slot_of slots k)) where

@@ -115,7 +115,7 @@ impl<T: KeepsRun> Store<T> {
             ≡ record (state self.old) { runs = states self.old.runs ++ no_run ∷ [] } }
     {
         let index = self.runs.len();
-        self.runs.push(Place::empty());
+        self.runs.push_gone();
         self.deadlines.push_none();
         self.dispatches.add_run();
         self.changed.made = Some(index);

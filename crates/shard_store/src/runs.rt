@@ -1,4 +1,5 @@
-//! The places of a shard's runs. One whose run was deleted takes four bytes.
+//! The places of a shard's runs. Where the runs of many places in a row were deleted, these take next to
+//! nothing.
 
 ghost use Rattle.std.specs.Borrow.{sem};
 ghost use Rattle.std.specs.Prelude.{◌≡◌, ◌≢◌, ◌<◌, ◌≤◌, ◌++◌, ◌∷◌, [], IfOk, OnOk, length, slice_index_or, slice_set};
@@ -9,6 +10,7 @@ ghost use Rattle.shard_store.specs.Places.{empty_place};
 use crate::place::Place;
 use mutable_state::Plan;
 use mutable_state_keeper::KeepsRun;
+use sparse_numbers::SparseNumbers;
 use std::alloc::{AllocError, Global};
 use std::marker::Model;
 use std::ops::Index;
@@ -16,7 +18,7 @@ use std::ops::Index;
 /// A place for each run that was ever made.
 pub(crate) struct Runs<T: KeepsRun> {
     /// The slot of each place: the first one, where no run is there.
-    slots: Vec<u32>,
+    slots: SparseNumbers,
     /// What is in each slot. Where a run goes, the one in the last slot takes its slot.
     kept: Vec<Place<T>>,
     /// The place of each slot but the first.
@@ -34,16 +36,15 @@ impl<T: KeepsRun> Drop for Runs<T> {
 }
 
 impl<T: KeepsRun> Model for Runs<T> {
-    ghost use Rattle.std.specs.Prelude.{◌-◌, ◌^◌, map, min, vec_capacity, vec_len};
+    ghost use Rattle.std.specs.Prelude.{◌-◌, map, min, vec_capacity, vec_len};
     ghost use Rattle.shard_store.specs.Places.{AreSlots, RunsView, in_slot};
 
     ghost Value = { RunsView };
 
     ghost view = { λ a. record {
       items = map (in_slot a.kept.items) a.slots.items;
-      room = min (min (vec_capacity a.slots - vec_len a.slots)
-          (vec_capacity a.places - vec_len a.places))
-          (min (vec_capacity a.kept - vec_len a.kept) (2 ^ 32 - vec_len a.kept));
+      room = min (min a.slots.room (vec_capacity a.places - vec_len a.places))
+          (vec_capacity a.kept - vec_len a.kept);
     } };
 
     ghost invariant = { λ a. AreSlots a.slots.items a.places.items a.kept.items };
@@ -59,7 +60,7 @@ impl<T: KeepsRun> Runs<T> {
         kept.push(Place::empty())?;
         places.push(0)?;
         Ok(Runs {
-            slots: Vec::new(alloc),
+            slots: SparseNumbers::new(alloc),
             kept,
             places,
         })
@@ -72,15 +73,11 @@ impl<T: KeepsRun> Runs<T> {
         self.slots.len()
     }
 
-    /// Makes room for so many more runs, of which there are fewer than 32 bits count at one time.
+    /// Makes room for so many more runs.
     pub(crate) fn reserve(&mut self, additional: usize) -> Result<(), AllocError>
         ensures same { self.new.items ≡ self.old.items }
         ensures ok { OnOk result (additional ≤ self.new.room) }
     {
-        let most = u32::MAX as usize;
-        if additional > most - self.kept.len().min(most) {
-            return Err(AllocError);
-        }
         self.slots.reserve(additional)?;
         self.kept.reserve(additional)?;
         self.places.reserve(additional)
@@ -91,28 +88,38 @@ impl<T: KeepsRun> Runs<T> {
         requires { 0 < self.old.room }
         ensures { self.new.items ≡ self.old.items ++ place ∷ [] }
     {
-        let slot = self.kept.len() as u32;
+        let slot = self.kept.len();
         let index = self.slots.len();
         self.kept.push_reserved(place);
         self.places.push_reserved(index);
         self.slots.push_reserved(slot);
     }
 
-    /// Deletes what is at a place. It takes no memory.
+    /// One more place, of a run that was deleted. It takes no memory.
+    pub(crate) fn push_gone(&mut self)
+        requires { 0 < self.old.room }
+        ensures { self.new.items ≡ self.old.items ++ empty_place ∷ [] }
+    {
+        self.slots.push_reserved(0);
+    }
+
+    /// Deletes what is at a place. It takes no memory, and where nothing is at the places about it memory is
+    /// given back.
     pub(crate) fn clear(&mut self, index: usize)
         requires { index < length self.old.items }
         ensures { self.new.items ≡ slice_set self.old.items index empty_place }
     {
-        let slot = self.slots[index];
+        let slot = self.slots.get(index);
         if slot == 0 {
             return;
         }
-        let _ = self.kept.swap_remove(slot as usize);
-        let _ = self.places.swap_remove(slot as usize);
-        self.slots[index] = 0;
-        if (slot as usize) < self.kept.len() {
-            let moved = self.places[slot as usize];
-            self.slots[moved] = slot;
+        let _ = self.kept.swap_remove(slot);
+        let _ = self.places.swap_remove(slot);
+        self.slots.replace(index, 0);
+        self.slots.give_back(index);
+        if slot < self.kept.len() {
+            let moved = self.places[slot];
+            self.slots.replace(moved, slot);
         }
     }
 }
@@ -125,7 +132,7 @@ impl<T: KeepsRun> Index<usize> for Runs<T> {
     ghost index_gives = { λ a index place. place ≡ slice_index_or a.items index place };
 
     fn index(&self, index: usize) -> &Place<T> {
-        let slot = self.slots[index] as usize;
+        let slot = self.slots.get(index);
         &self.kept[slot]
     }
 }
@@ -139,7 +146,7 @@ impl<T: KeepsRun> Runs<T> {
         ensures* writes_back { sem 𝓛 (lends_run T.row T.KeepsRun self.entry index result) }
         ensures value { result.now ≡ slice_index_or self.old.items index result.now }
     {
-        let slot = self.slots[index] as usize;
+        let slot = self.slots.get(index);
         &mut self.kept[slot]
     }
 
@@ -155,7 +162,7 @@ impl<T: KeepsRun> Runs<T> {
             (slice_index_or self.old.items index empty_place).state) }
         ensures room { self.new.room ≡ self.old.room }
     {
-        let slot = self.slots[index] as usize;
+        let slot = self.slots.get(index);
         if slot == 0 {
             // To no run only a step without facts may come.
             return;

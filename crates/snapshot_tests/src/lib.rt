@@ -5,6 +5,8 @@
 #[cfg(test)]
 mod answers;
 #[cfg(test)]
+mod counts;
+#[cfg(test)]
 mod damages;
 #[cfg(test)]
 mod pieces;

@@ -1,12 +1,12 @@
 -- deadlines by numbers, as one comes and one goes
-use Rattle.std.proofs.Common.{◌≡◌, ◌≢◌, ℕ, zero, suc, ◌<◌, ◌⊎◌, inl, inr, List, [], ◌∷◌, ◌++◌, length, slice_index_or, slice_set, map, refl, sym, ap, arith, ◌∙◌, subst}
+use Rattle.std.proofs.Common.{◌≡◌, ◌≢◌, ℕ, zero, suc, ◌+◌, ◌<◌, ◌⊎◌, inl, inr, List, [], ◌∷◌, ◌++◌, length, slice_index_or, slice_set, map, refl, sym, ap, arith, ◌∙◌}
 use Rattle.std.specs.FinMap.{FinMap, get, insert, remove, empty, get-empty, same_map, nat_cmp-IsAntisymmetric}
 use Rattle.std.specs.Ordering.{nat_cmp}
 use Rattle.std.specs.Prelude.{Option, Some, None, IfSome, IfNone, Result, Ok, Err, OnOk}
 use Rattle.std.proofs.Math.ListN.{get_or-map}
 use Rattle.std.proofs.lemmas.Bool.{cases_eq}
 use Rattle.std.proofs.lemmas.Cmp.{nat_cmp_total}
-use Rattle.std.proofs.lemmas.List.{ext_get_or, get_or-set_same, get_or-set_other, length-set, length-map, map-set, get_or_default}
+use Rattle.std.proofs.lemmas.List.{ext_get_or, get_or-set_same, get_or-set_other, length-set, length-map, map-set}
 use Rattle.timeouts.specs.Slots.{IsNotAfter, IsLeastAt}
 use Rattle.timeouts.specs.Places.{ids_of, known_by, noted, IsByPlace}
 use Rattle.timeouts.specs.declared.due.Due.{Due}
@@ -239,18 +239,16 @@ if-none None P Q f p = f p
 if-none (Some d) P Q f p = tt
 
 -- an id that was read, by its note
-pub read-id : (notes : List ℕ) (k note : ℕ) (o : Option DueId) → k < length (ids_of notes) → note ≡ slice_index_or notes k note → o ≡ noted note → slice_index_or (ids_of notes) k None ≡ o
-read-id notes k note o within is read =
-    let low : k < length notes = omega (arith, within, length-map notes noted) in
-    get_or-map noted notes k 0 ∙ ap noted (get_or_default notes k 0 note low ∙ sym is) ∙ sym read
+pub read-id : (notes : List ℕ) (k note : ℕ) (o : Option DueId) → note ≡ slice_index_or notes k 0 → o ≡ noted note → slice_index_or (ids_of notes) k None ≡ o
+read-id notes k note o is read = get_or-map noted notes k 0 ∙ ap noted (sym is) ∙ sym read
 
 -- the ids where another one is noted
 pub ids-set : (notes : List ℕ) (k note : ℕ) (o : Option DueId) → noted note ≡ o → ids_of (slice_set notes k note) ≡ slice_set (ids_of notes) k o
 ids-set notes k note o is = map-set noted notes k note ∙ ap (slice_set (ids_of notes) k) is
 
--- an id as it was noted
-pub noted-so : (o : Option ℕ) (note : ℕ) (id : DueId) → o ≡ Some note → IfSome o (λ n. noted n ≡ Some id) → noted note ≡ Some id
-noted-so o note id is so = subst (λ x. IfSome x (λ n. noted n ≡ Some id)) is so
+-- an id as it is noted
+pub noted-next : (id : DueId) (note : ℕ) → note ≡ id.number + 1 → noted note ≡ Some id
+noted-next id note is = let next : note ≡ suc id.number = omega (arith, is) in ap noted next
 
 -- one was added and removed again
 pub added-removed : (m : FinMap nat_cmp Due) (k : ℕ) (d : Due) → get m k ≡ None → remove (insert m k d) k ≡ m

@@ -1,12 +1,13 @@
 //! Deadlines by numbers, and the first of them.
 
 ghost use Rattle.std.specs.Prelude.{◌≡◌, ℕ, ◌+◌, ◌<◌, ◌≤◌, ◌∷◌, ◌++◌, [], OnErr, OnOk, IfSome, IfNone, None, Some, length, slice_set};
-ghost use Rattle.timeouts.specs.Places.{noted};
+ghost use Rattle.timeouts.specs.Places.{ids_of, noted};
 ghost use Rattle.timeouts.specs.Slots.{due_at, IsLeastAt};
 ghost use Rattle.timeouts.specs.declared.due.Due.{Due};
 
 use crate::deadlines::{Deadlines, DueId};
 use crate::due::Due;
+use sparse_numbers::SparseNumbers;
 use std::alloc::{AllocError, Global};
 use std::marker::Model;
 use wf_event_values::Moment;
@@ -15,12 +16,12 @@ use wf_event_values::Moment;
 #[derive(Drop)]
 pub struct ByPlace {
     heap: Deadlines,
-    /// The id of the deadline at each number, in four bytes: none, or one more than its own number.
-    notes: Vec<u32>,
+    /// The id of the deadline at each number: none, or one more than its own number.
+    notes: SparseNumbers,
 }
 
 impl Model for ByPlace {
-    ghost use Rattle.std.specs.Prelude.{◌-◌, length, map, vec_capacity};
+    ghost use Rattle.std.specs.Prelude.{map};
     ghost use Rattle.timeouts.specs.Slots.{Slots};
     ghost use Rattle.timeouts.specs.Places.{ids_of, known_by, IsByPlace};
 
@@ -28,7 +29,7 @@ impl Model for ByPlace {
 
     ghost view = { λ a. record {
       slots = map (known_by a.heap.members) (ids_of a.notes.items);
-      room = vec_capacity a.notes - length a.notes.items;
+      room = a.notes.room;
     } };
 
     ghost invariant = { λ a. IsByPlace a.heap.members (ids_of a.notes.items) };
@@ -41,7 +42,7 @@ impl ByPlace {
     {
         ByPlace {
             heap: Deadlines::new(alloc),
-            notes: Vec::new(alloc),
+            notes: SparseNumbers::new(alloc),
         }
     }
 
@@ -72,24 +73,35 @@ impl ByPlace {
         ensures err { OnErr result (self.new.slots ≡ slice_set self.old.slots number None) }
         ensures room { self.new.room ≡ self.old.room }
     {
-        self.clear(number);
+        self.remove(number);
         match due {
             Some(due) => self.put(number, due),
             None => Ok(()),
         }
     }
 
-    /// Removes what is at a number. It takes no memory.
+    /// Removes what is at a number, at which none comes again. It takes no memory, and where nothing is
+    /// at the numbers about it memory is given back.
     pub fn clear(&mut self, number: usize)
         requires { number < length self.old.slots }
         ensures slots { self.new.slots ≡ slice_set self.old.slots number None }
         ensures room { self.new.room ≡ self.old.room }
     {
-        let Some(id) = noted(self.notes[number]) else {
+        self.remove(number);
+        self.notes.give_back(number);
+    }
+
+    /// Removes what is at a number. It takes no memory.
+    fn remove(&mut self, number: usize)
+        requires { number < length self.old.slots }
+        ensures slots { self.new.slots ≡ slice_set self.old.slots number None }
+        ensures room { self.new.room ≡ self.old.room }
+    {
+        let Some(id) = noted(self.notes.get(number)) else {
             return;
         };
         self.heap.remove(id);
-        self.notes[number] = 0;
+        self.notes.replace(number, 0);
     }
 
     /// Puts a deadline at a number at which none is. Where memory is refused, none is there still.
@@ -102,11 +114,10 @@ impl ByPlace {
     {
         self.heap.reserve(1)?;
         let id = self.heap.add(due);
-        let Some(note) = note_of(id) else {
+        if let Err(refused) = note(&mut self.notes, number, id) {
             self.heap.remove(id);
-            return Err(AllocError);
-        };
-        self.notes[number] = note;
+            return Err(refused);
+        }
         Ok(())
     }
 
@@ -129,23 +140,25 @@ impl ByPlace {
 }
 
 /// The id that is noted so.
-fn noted(note: u32) -> Option<DueId>
+fn noted(note: usize) -> Option<DueId>
     ensures { result ≡ noted note }
 {
     if note == 0 {
         return None;
     }
-    Some(DueId {
-        number: note as usize - 1,
-    })
+    Some(DueId { number: note - 1 })
 }
 
-/// How an id is noted, where that takes no more than 32 bits.
-fn note_of(id: DueId) -> Option<u32>
-    ensures { IfSome result (λ note. noted note ≡ Some id) }
+/// Notes an id at a number. Where memory is refused, the notes stay as they were.
+fn note(notes: &mut SparseNumbers, number: usize, id: DueId) -> Result<(), AllocError>
+    requires { number < length notes.old.items }
+    ensures ok { OnOk result
+        (ids_of notes.new.items ≡ slice_set (ids_of notes.old.items) number (Some id)) }
+    ensures err { OnErr result (notes.new.items ≡ notes.old.items) }
+    ensures room { notes.new.room ≡ notes.old.room }
 {
-    if id.number >= u32::MAX as usize {
-        return None;
+    match id.number.checked_add(1) {
+        Some(note) => notes.set(number, note),
+        None => Err(AllocError),
     }
-    Some(id.number as u32 + 1)
 }

@@ -5,12 +5,13 @@ use Rattle.wfserve_run.specs.declared.fault.Fault.{Fault}
 use Rattle.wfserve_run.specs.declared.served.Served.{Served}
 use Rattle.wfserve_run.specs.declared.served.Served.TheVariants.{Script, Journaled, Version}
 use Rattle.wfserve_run.specs.declared.served.WithJournal.{WithJournal}
-use Rattle.wfserve_run.specs.declared.served.WithJournal.TheVariants.{OnePass, InLanes}
+use Rattle.wfserve_run.specs.declared.served.WithJournal.TheVariants.{OnePass, InLanes, AfterCheckpoint}
 
 -- whether a reply was a refusal
 abbrev pub is_refused : {Object Plan : Type 0} → WithJournal Object Plan → Bool
 is_refused (OnePass j) = j.refused
 is_refused (InLanes j) = j.refused
+is_refused (AfterCheckpoint refused) = refused
 
 -- 0, or 1 where a reply was a refusal
 abbrev pub served_status : {Keeper Plan : Type 0} → Served Keeper Plan → ℕ

@@ -47,6 +47,17 @@ pub enum Fault {
     LeftOutQueue {
         path: String,
     },
+    /// Of the transfers from one shard to another more are accepted than were issued, or more are acknowledged
+    /// than are accepted, by the snapshots in this folder, or of this checkpoint.
+    #[error("{path}: the snapshots are not of one moment: transfers were accepted that were not issued, or acknowledged that were not accepted")]
+    OutOfOrder {
+        path: String,
+    },
+    /// The folder has a journal, and this file beside it.
+    #[error("{path}: beside a journal: which of them is to be loaded?")]
+    BesideJournal {
+        path: String,
+    },
     /// The folder has snapshots, and this record beside them.
     #[error("{path}: a record beside snapshots: which of them is to be loaded?")]
     BesideSnapshots {
@@ -55,9 +66,22 @@ pub enum Fault {
     /// Records were to be saved of a service that was opened from snapshots.
     #[error("--save writes records from the first step on, which snapshots don't have: use --snapshot")]
     SaveBehindSnapshots,
-    /// Several passes were asked for, of a service that is opened from snapshots.
-    #[error("snapshots are served by one pass: --passes is to be 1")]
-    PassesBehindSnapshots,
+    /// The checkpoint of a journal is nothing that was written as one, or of other shards.
+    #[error("{path}: no checkpoint of this version")]
+    BadCheckpoint {
+        path: String,
+    },
+    /// A snapshot isn't the one that the checkpoint was made with.
+    #[error("{path}: the checkpoint was made with a snapshot of other bytes")]
+    OtherSnapshot {
+        path: String,
+    },
+    /// The journal isn't the one that the checkpoint was made of.
+    #[error("{path}: the checkpoint is of another journal: no such batch ends at byte {at}")]
+    OtherJournal {
+        path: String,
+        at: u64,
+    },
     /// The text that was made of a shard would not restore it. Nothing that an operator does causes it.
     #[error("{path}: no snapshot can be made of this shard; please report it")]
     NoSnapshot {
@@ -76,7 +100,7 @@ pub enum Fault {
     #[error("{path}: damaged at byte {at}")]
     Damaged {
         path: String,
-        at: usize,
+        at: u64,
     },
     /// The journal was begun with another value of this setting.
     #[error("{path}: the journal is of another --{setting}")]

@@ -14,6 +14,8 @@ pub enum WithJournal<S: ShardObject> {
     OnePass(Journaled<S>),
     /// In a lane for each pass.
     InLanes(LanesJournaled<S>),
+    /// From a checkpoint on: whether a reply was a refusal.
+    AfterCheckpoint(bool),
 }
 
 impl<S: ShardObject> WithJournal<S> {
@@ -24,6 +26,7 @@ impl<S: ShardObject> WithJournal<S> {
         match self {
             WithJournal::OnePass(journaled) => journaled.refused,
             WithJournal::InLanes(journaled) => journaled.refused,
+            WithJournal::AfterCheckpoint(refused) => *refused,
         }
     }
 }

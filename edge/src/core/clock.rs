@@ -4,7 +4,7 @@ use super::Core;
 use crate::ledger::Ledger;
 use crate::shards::Shard;
 use std::collections::BTreeSet;
-use std::sync::PoisonError;
+use std::sync::{Arc, PoisonError};
 use std::time::{Duration, Instant};
 
 /// In milliseconds.
@@ -25,13 +25,19 @@ struct Looked {
 
 impl Core {
     /// Makes turns until the core is closed or over. What an edge that ended left undone is done first, by a sweep.
-    pub(super) fn run_clock(&self) {
+    pub(super) fn run_clock(self: &Arc<Core>) {
         let mut looked = Looked { at: 0, next_sweep: Instant::now(), between: FIRST_SWEEP, missed: 0 };
         loop {
             let rest = self.turn(&mut looked);
-            let state = self.lock();
+            let mut state = self.lock();
             if state.flags.is_closed || state.over.is_some() {
                 return;
+            }
+            if state.is_old(Instant::now()) {
+                state.flags.is_compacting = true;
+                drop(state);
+                self.compact_long();
+                continue;
             }
             if !state.look {
                 let waited = self.clock.wait_timeout(state, rest);

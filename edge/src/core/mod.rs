@@ -7,11 +7,15 @@
 //!
 //! Three threads do this. The *sequencer* makes batches, and owns the log. The *reader* goes through replies in their
 //! order, and owns the program. The *clock* makes the turns that time asks for, and ends polls. What they share is one
-//! `State`, behind one lock that nobody holds while a disk or a pipe is waited for.
+//! `State`, behind one lock that nobody holds while a disk or a pipe is waited for. Beside them a *standby* keeps a
+//! second program, which takes the place of one that ends, and a *compactor* runs while the log is compacted.
 
 mod clock;
+mod compacting;
+mod endings;
 mod reader;
 mod sequencer;
+mod standby;
 mod state;
 #[cfg(test)]
 mod tests;
@@ -19,8 +23,8 @@ mod tests;
 use crate::body::Asked;
 use crate::call::{asker_of, Call, Receiver};
 use crate::changes::Changes;
-use crate::compaction::record_files;
 use crate::fault::Fault;
+use crate::generation::Files;
 use crate::json::quoted;
 use crate::kept::{Kept, Origin};
 use crate::log::Log;
@@ -30,6 +34,7 @@ use crate::opening::Opened;
 use crate::program::Program;
 use crate::shards::Shard;
 use crate::system;
+pub use compacting::Limits;
 use hyper::body::Bytes;
 use state::{Answers, State};
 use std::process::ChildStdin;
@@ -55,6 +60,8 @@ pub struct Core {
     wake: Condvar,
     /// Told where the clock has to look again.
     clock: Condvar,
+    /// Told where it stands otherwise with the second program.
+    standby: Condvar,
     input: Mutex<Input>,
     moments: Mutex<Moments>,
     /// Told once nothing is served any more.
@@ -133,16 +140,23 @@ pub struct Compacted {
 
 impl Core {
     /// Takes up an opened service, and starts the threads.
-    pub fn start(opened: Opened, moments: Moments, limit: usize) -> std::io::Result<(Arc<Core>, Threads)> {
+    pub fn start(
+        opened: Opened,
+        moments: Moments,
+        limit: usize,
+        limits: Limits,
+    ) -> std::io::Result<(Arc<Core>, Threads)> {
         let Opened { kept, observed } = opened;
         let Kept { origin, log, mut program, .. } = kept;
         let pipe = program.take_input();
         let shards = origin.settings.shards;
-        let state = State::new(origin.clone(), &log, program.pid(), observed);
+        let snapshots = Files::of(&origin.base, origin.generation).map_or(0, |files| files.snapshots_size());
+        let state = State::new(origin.clone(), &log, program.pid(), observed, limits, snapshots);
         let core = Arc::new(Core {
             state: Mutex::new(state),
             wake: Condvar::new(),
             clock: Condvar::new(),
+            standby: Condvar::new(),
             input: Mutex::new(Input { generation: 0, pipe }),
             moments: Mutex::new(moments),
             over: Notify::new(),
@@ -151,13 +165,24 @@ impl Core {
             limit,
             ends: AtomicUsize::new(0),
         });
-        let threads = core.clone().spawn(log, origin, program)?;
+        let has_standby = limits.has_standby && origin.table.is_none();
+        let threads = core.clone().spawn(log, origin, program, has_standby)?;
         Ok((core, threads))
     }
 
-    fn spawn(self: Arc<Core>, log: Log, origin: Origin, program: Program) -> std::io::Result<Threads> {
-        let (sequencer, reader, clock) = (self.clone(), self.clone(), self);
+    fn spawn(
+        self: Arc<Core>,
+        log: Log,
+        origin: Origin,
+        program: Program,
+        has_standby: bool,
+    ) -> std::io::Result<Threads> {
+        let (sequencer, reader, clock, standby) = (self.clone(), self.clone(), self.clone(), self);
         let named = |name: &str| Builder::new().name(name.to_string());
+        if has_standby {
+            // It may be opening a program when all else has ended, and goes with this process.
+            named("standby").spawn(move || standby.stand_by())?;
+        }
         Ok(Threads(vec![
             named("sequencer").spawn(move || sequencer.sequence(log, origin))?,
             named("reader").spawn(move || reader.read(program))?,
@@ -265,7 +290,7 @@ impl Core {
     pub fn metrics(&self) -> String {
         let ahead = self.moments.lock().unwrap_or_else(PoisonError::into_inner).ahead();
         let state = self.lock();
-        let gauges: [Gauge; 9] = [
+        let gauges: [Gauge; 10] = [
             ("calls_waiting", "Calls of clients that wait for their answers.", state.count as f64),
             ("polls_waiting", "Polls that wait for a task.", state.polls.len() as f64),
             ("ends_waiting", "Descriptions that wait until a run has closed.", self.ends.load(SeqCst) as f64),
@@ -274,6 +299,7 @@ impl Core {
             ("program_bytes", "Memory of the program.", resident_bytes(state.pid) as f64),
             ("clock_ahead_seconds", "How far moments are ahead of the wall clock.", ahead as f64 / 1_000.0),
             ("sweeps_found", "Turns of a sweep that found what no call had told of.", state.ledger.missed() as f64),
+            ("standby", "Whether a second program follows the log closely.", f64::from(u8::from(state.has_standby()))),
             ("ready", "Whether calls are taken.", if state.wrong().is_empty() { 1.0 } else { 0.0 }),
         ];
         state.metrics.text(&gauges)
@@ -288,10 +314,10 @@ impl Core {
         Some(format!("{changes},\"polls\":[{}]", polls.join(",")))
     }
 
-    /// The records that the log goes on from, the queues, and what the ids of runs need, as JSON for the page.
+    /// The snapshots or records that the log goes on from, the queues, and what the ids of runs need, as JSON for the page.
     pub fn records(&self) -> String {
         let origin = self.lock().origin.clone();
-        let files = record_files(&origin.base, origin.generation).unwrap_or_default();
+        let files = Files::of(&origin.base, origin.generation).map_or_else(|_| Vec::new(), |files| files.paths);
         let files: Vec<String> = files.iter().map(|file| quoted(&file.to_string_lossy())).collect();
         let (service, retention) = (origin.settings.service, origin.settings.retention);
         let queues: Vec<String> = origin.settings.queues.iter().map(|queue| quoted(queue)).collect();
@@ -307,24 +333,6 @@ impl Core {
         self.now()
     }
 
-    /// Puts the records in the place of the log's lines, with that much room in the queues. Calls wait meanwhile.
-    pub fn compact(&self, capacity: u32) -> Result<oneshot::Receiver<Result<Compacted, Fault>>, Fault> {
-        let (done, outcome) = oneshot::channel();
-        let mut state = self.lock();
-        if state.flags.is_compacting || state.flags.is_closing {
-            let said = "the log is being compacted, or the server is told to stop";
-            return Err(Fault::Busy(said.to_string()));
-        }
-        if let Some(fault) = &state.over {
-            return Err(fault.clone());
-        }
-        state.flags.is_compacting = true;
-        state.compaction = Some((capacity, done));
-        drop(state);
-        self.wake.notify_all();
-        Ok(outcome)
-    }
-
     /// Returns once nothing is served any more: why.
     pub async fn ended(&self) -> Fault {
         loop {
@@ -336,7 +344,8 @@ impl Core {
         }
     }
 
-    /// Takes no more calls, ends the polls that wait, and lets those on their way and a compaction be answered.
+    /// Takes no more calls, ends the polls that wait, and lets those on their way and a compaction be answered, and the turns
+    /// be made that follow from them.
     pub async fn drain(&self, most: Duration) {
         let late = Instant::now() + most;
         self.lock().flags.is_closing = true;
@@ -348,7 +357,8 @@ impl Core {
 
     fn is_drained(&self) -> bool {
         let state = self.lock();
-        (state.count == 0 && state.polls.len() == 0 && !state.flags.is_compacting) || state.over.is_some()
+        let is_answered = state.count == 0 && state.polls.len() == 0 && !state.flags.is_compacting;
+        (is_answered && state.is_quiet() && !state.has_work()) || state.over.is_some()
     }
 
     /// Ends the program's input, and with it the program and the threads.
@@ -357,6 +367,14 @@ impl Core {
         self.lock_input().pipe = None;
         self.wake.notify_all();
         self.clock.notify_all();
+        self.standby.notify_all();
+    }
+
+    /// The same of a program that was taken up meanwhile.
+    fn end_input_if_closed(&self) {
+        if self.lock().flags.is_closed {
+            self.lock_input().pipe = None;
+        }
     }
 
     /// Kills a program that doesn't end by itself.

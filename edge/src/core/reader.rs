@@ -1,10 +1,12 @@
 //! Goes through replies in their order: what follows is asked, and calls are answered.
 
+use super::endings::Endings;
 use super::state::{Answered, Said, State};
 use super::{Core, Input};
 use crate::call::Call;
 use crate::fault::Fault;
 use crate::kept::{start_again, NotServed};
+use crate::log_fault::LogFault;
 use crate::operations::Op;
 use crate::polls::Queue;
 use crate::program::Program;
@@ -62,10 +64,14 @@ impl Core {
     pub(super) fn read(self: Arc<Core>, mut program: Program) {
         loop {
             if program.output.wait() {
-                if let Err(fault) = self.take_replies(&mut program) {
-                    self.end(fault);
-                    program.kill();
-                    return;
+                match self.take_replies(&mut program) {
+                    Ok(None) => {}
+                    Ok(Some(next)) => let_go(std::mem::replace(&mut program, next)),
+                    Err(fault) => {
+                        self.end(fault);
+                        program.kill();
+                        return;
+                    }
                 }
                 continue;
             }
@@ -76,10 +82,18 @@ impl Core {
         }
     }
 
-    /// Goes through the replies that were read.
-    fn take_replies(&self, program: &mut Program) -> Result<(), Fault> {
+    /// Goes through the replies that were read. Another program where that takes the place of this one: then all was answered
+    /// before, and this one has just been asked what nobody waits for.
+    fn take_replies(&self, program: &mut Program) -> Result<Option<Program>, Fault> {
         let count = program.output.count(MOST_AT_ONCE);
-        let mut calls = self.lock().taken(count);
+        let mut state = self.lock();
+        if let Some(next) = state.next_program.take() {
+            drop(state);
+            self.wake.notify_all();
+            return Ok(Some(next));
+        }
+        let mut calls = state.taken(count);
+        drop(state);
         let (mut replies, mut result) = (Vec::with_capacity(calls.len()), Ok(()));
         while let (Some(number), true) = (calls.front().map(|call| call.number), result.is_ok()) {
             match program.output.take(number) {
@@ -96,7 +110,7 @@ impl Core {
         let gone_through = state.go_through(replies, self.limit);
         state.flags.is_taking = false;
         self.release(state);
-        result.and(gone_through)
+        result.and(gone_through).map(|()| None)
     }
 
     /// The program that takes the place of one that has ended; None where nothing is served any more.
@@ -112,7 +126,7 @@ impl Core {
                     std::thread::sleep(PAUSE);
                 }
                 let number = self.lock().answered + 1;
-                let asked = self.lock().starts_again(number);
+                let asked = self.lock().starts_again();
                 if let Some(asked) = asked {
                     // What it said last may come late: the next program is not kept waiting for it.
                     std::thread::spawn(move || {
@@ -133,11 +147,17 @@ impl Core {
             let state = self.lock();
             (state.origin.clone(), state.answered)
         };
+        if let Some(next) = self.taken_from_standby(&origin, answered) {
+            self.lock().endings.follow();
+            return Some(self.go_on_with(next));
+        }
         for tried in 1.. {
             match start_again(&origin, answered) {
                 Ok(next) => return Some(self.go_on_with(next)),
-                // It had served these lines before, so they are not why.
-                Err(NotServed::Program(fault)) if tried < MOST_STARTS => say!("{fault}: it is started once more"),
+                // It had been opened so before, and had served these lines, so they are not why.
+                Err(fault) if tried < MOST_STARTS && is_of_the_program(&fault) => {
+                    say!("{fault}: it is started once more");
+                }
                 Err(fault) => {
                     self.end(Fault::Ended(fault.to_string()));
                     break;
@@ -193,20 +213,29 @@ impl Core {
         *input = new;
         let _ = input.pipe.as_mut().map(|pipe| pipe.write_all(lines));
         drop(input);
+        self.end_input_if_closed();
         self.lock().flags.is_restarting = false;
         self.wake.notify_all();
     }
 }
 
+/// Whether a program was started in vain, and not its log at fault: it may have been ended while it loaded snapshots.
+fn is_of_the_program(fault: &NotServed) -> bool {
+    matches!(fault, NotServed::Program(_) | NotServed::Log(LogFault::NotOpened(_)))
+}
+
+/// Ends a program that nobody asks any more, while others go on.
+fn let_go(mut program: Program) {
+    std::thread::spawn(move || program.kill());
+}
+
 impl State {
-    /// What the program was asked, which has ended before it answered this line, where it is started again: once for a
-    /// line.
-    fn starts_again(&mut self, number: u64) -> Option<String> {
+    /// What the program was asked, which has ended, where another one takes its place.
+    fn starts_again(&mut self) -> Option<String> {
         let is_done = self.flags.is_closing && self.count == 0;
-        if self.log.is_broken || self.died_at == Some(number) || is_done {
+        if self.log.is_broken || is_done || !self.endings.go_on(!self.sent.is_empty()) {
             return None;
         }
-        self.died_at = Some(number);
         self.metrics.restarts += 1;
         Some(self.sent.front().map_or_else(String::new, |call| format!(" ({})", call.named())))
     }
@@ -229,6 +258,10 @@ impl State {
         let (mut replies, mut handed) = (replies.into_iter(), 0);
         while let Some((call, text)) = replies.next() {
             let number = call.number;
+            self.endings = Endings::default();
+            if call.is_logged() {
+                self.window.note(&text);
+            }
             match self.take_reply(call, text, limit) {
                 Ok(count) => handed += count,
                 Err(call) => {

@@ -1,21 +1,22 @@
 //! Makes batches: a batch is written to the log, then to the program, and is synced while the program works.
 
+use super::compacting::{Done, Exchange};
+use super::endings::Endings;
 use super::state::{LogState, State};
 use super::{Compacted, Core};
 use crate::call::Call;
-use crate::compaction;
 use crate::fault::Fault;
+use crate::generation::{remove_leftovers, Files};
 use crate::kept::Origin;
 use crate::ledger::Needed;
 use crate::log::Log;
 use crate::log_fault::LogFault;
-use crate::program::Program;
+use crate::program::{Program, CHANGES_NOTHING};
 use crate::say::say;
 use crate::table_records;
 use std::io::Write;
-use std::sync::{MutexGuard, PoisonError};
+use std::sync::{Arc, MutexGuard, PoisonError};
 use std::time::Instant;
-use tokio::sync::oneshot;
 
 const MOST_LINES: usize = 4_096;
 const MOST_BYTES: usize = 1 << 20;
@@ -25,7 +26,8 @@ const ROOM_FOR_TURNS: usize = 16;
 /// What the sequencer does next.
 enum Work {
     Batch(Vec<Call>),
-    Compact(u32, oneshot::Sender<Result<Compacted, Fault>>),
+    Compact(u32, Done),
+    Exchange(Box<Exchange>),
     End,
 }
 
@@ -39,12 +41,13 @@ fn fault_of(fault: LogFault) -> Fault {
 
 impl Core {
     /// Makes batches until the core is closed or over.
-    pub(super) fn sequence(&self, mut log: Log, mut origin: Origin) {
+    pub(super) fn sequence(self: &Arc<Core>, mut log: Log, mut origin: Origin) {
         let mut piped = Vec::new();
         loop {
             match self.next_work() {
                 Work::Batch(calls) => self.serve(calls, &mut log, &mut piped),
                 Work::Compact(capacity, done) => self.compact_now(capacity, done, &mut log, &mut origin),
+                Work::Exchange(exchange) => self.exchange_now(*exchange, &mut log, &mut origin),
                 Work::End => return,
             }
         }
@@ -55,21 +58,23 @@ impl Core {
         self.wake.wait(state).unwrap_or_else(PoisonError::into_inner)
     }
 
-    fn next_work(&self) -> Work {
+    fn next_work(self: &Arc<Core>) -> Work {
         let mut state = self.lock();
         loop {
             if state.flags.is_closed || state.over.is_some() {
                 return Work::End;
             }
-            if !state.flags.is_restarting {
-                if let Some((capacity, done)) = state.compaction.take() {
-                    return Work::Compact(capacity, done);
-                }
-                if !state.asked.is_empty() || !state.own.is_empty() {
-                    return Work::Batch(state.next_calls());
-                }
+            if state.is_long() {
+                state.flags.is_compacting = true;
+                drop(state);
+                self.compact_long();
+                state = self.lock();
+                continue;
             }
-            state = self.wait(state);
+            match state.next_work() {
+                Some(work) => return work,
+                None => state = self.wait(state),
+            }
         }
     }
 
@@ -164,30 +169,27 @@ impl Core {
 
     // Compaction.
 
-    /// Exchanges the log's lines for records, and the program for one that was opened from these.
-    fn compact_now(
-        &self,
-        capacity: u32,
-        done: oneshot::Sender<Result<Compacted, Fault>>,
-        log: &mut Log,
-        origin: &mut Origin,
-    ) {
+    /// Exchanges a table's lines for snapshots, and the program for one that was opened from these.
+    fn compact_now(&self, capacity: u32, done: Done, log: &mut Log, origin: &mut Origin) {
         if let Err(fault) = self.wait_until_quiet() {
             let _ = done.send(Err(fault));
             return;
         }
         let (lines, bytes) = (log.len().saturating_sub(1), log.size());
         let result = match log {
-            Log::File(file) => compaction::compact(origin, file, capacity),
+            Log::File(_) => Err(LogFault::NotCompacted("the log is no table".to_string())),
             Log::Table(table) => {
-                let replies = self.lock().replies.text();
-                table_records::compact(origin, table, capacity, replies)
+                let beside = self.lock().beside();
+                table_records::compact(origin, table, capacity, &beside)
             }
         };
         let outcome = match result {
             Ok(program) => {
                 self.take_up(program, log, origin);
-                let records = compaction::records_size(&origin.base, origin.generation);
+                let records = Files::of(&origin.base, origin.generation).map_or(0, |files| files.size());
+                if let Err(fault) = remove_leftovers(&origin.base, origin.generation) {
+                    say!("{fault}");
+                }
                 Ok(Compacted { lines, bytes, records, capacity: origin.settings.capacity })
             }
             Err(fault) if log.is_broken() => {
@@ -209,25 +211,25 @@ impl Core {
     }
 
     /// Waits until all that was written is synced and answered.
-    fn wait_until_quiet(&self) -> Result<(), Fault> {
+    pub(super) fn wait_until_quiet(&self) -> Result<(), Fault> {
         let mut state = self.lock();
-        loop {
-            if let Some(fault) = &state.over {
-                return Err(fault.clone());
-            }
-            if state.flags.is_closed {
-                return Err(Fault::Draining);
-            }
-            if state.sent.is_empty() && !state.flags.is_taking && !state.flags.is_restarting {
-                state.flags.is_exchanging = true;
-                return Ok(());
-            }
+        state.flags.is_resting = true;
+        while !state.is_settled() {
             state = self.wait(state);
+        }
+        state.flags.is_resting = false;
+        match state.over.clone() {
+            Some(fault) => Err(fault),
+            None if state.flags.is_closed => Err(Fault::Draining),
+            None => {
+                state.flags.is_exchanging = true;
+                Ok(())
+            }
         }
     }
 
-    /// Has calls served by the program that was opened from the records, once the one before has ended.
-    fn take_up(&self, mut program: Program, log: &Log, origin: &Origin) {
+    /// Has calls served by another program, which has served the lines that the log has now, and lets the one before go.
+    pub(super) fn take_up(&self, mut program: Program, log: &Log, origin: &Origin) {
         let pipe = program.take_input();
         let mut state = self.lock();
         state.generation += 1;
@@ -235,32 +237,55 @@ impl Core {
         state.next_program = Some(program);
         state.origin = origin.clone();
         state.log = LogState::of(log);
-        state.answered = 0;
-        state.synced = 0;
-        state.died_at = None;
+        state.answered = state.log.lines;
+        state.synced = state.log.lines;
+        state.endings = Endings::default();
+        state.metrics.compactions += 1;
         let generation = state.generation;
         drop(state);
-        // The program before has its input ended by this.
         let mut input = self.lock_input();
         input.generation = generation;
-        input.pipe = pipe;
+        if let Some(mut before) = std::mem::replace(&mut input.pipe, pipe) {
+            // By its answer to this the reader is woken, which need not wait until it has ended.
+            let _ = before.write_all(CHANGES_NOTHING);
+        }
         drop(input);
+        self.end_input_if_closed();
         let mut state = self.lock();
         state.flags.is_exchanging = false;
         self.wake.notify_all();
         while state.next_program.is_some() && state.over.is_none() && !state.flags.is_closed {
             state = self.wait(state);
         }
-        drop(state);
-        if let Err(fault) = compaction::remove_leftovers(&origin.base, origin.generation) {
-            say!("{fault}");
-        }
     }
 }
 
 impl State {
+    /// What is to be done next; None where nothing is.
+    fn next_work(&mut self) -> Option<Work> {
+        if self.flags.is_restarting {
+            return None;
+        }
+        if let Some((capacity, done)) = self.compaction.take() {
+            return Some(Work::Compact(capacity, done));
+        }
+        if let Some(exchange) = self.exchange.take() {
+            return Some(Work::Exchange(Box::new(exchange)));
+        }
+        let is_asked = !self.asked.is_empty() || !self.own.is_empty();
+        (is_asked && !self.window.is_far_ahead(self.log.lines)).then(|| Work::Batch(self.next_calls()))
+    }
+
+    /// Whether all that was written was answered, or nothing is served any more.
+    fn is_settled(&self) -> bool {
+        let is_over = self.over.is_some() || self.flags.is_closed;
+        is_over || (self.sent.is_empty() && !self.flags.is_taking && !self.flags.is_restarting)
+    }
+
     /// The calls of the next batch, and after them the turns that they make necessary.
     fn next_calls(&mut self) -> Vec<Call> {
+        let line = self.log.lines;
+        self.window.hold(&mut self.asked, &mut self.own, line);
         let mut calls = Vec::with_capacity(self.own.len() + self.asked.len().min(MOST_LINES) + ROOM_FOR_TURNS);
         calls.extend(self.own.drain(..).map(Call::own));
         let (mut needed, mut size) = (Needed::default(), 0);
@@ -273,8 +298,9 @@ impl State {
             self.ledger.note(&call.facts, &mut needed);
             calls.push(call);
         }
-        let turns = self.ledger.turns(&needed);
+        let mut turns = self.ledger.turns(&needed);
         self.called |= !turns.is_empty();
+        self.window.hold_turns(&mut turns);
         calls.extend(turns.into_iter().map(Call::own));
         calls
     }

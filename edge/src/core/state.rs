@@ -2,7 +2,10 @@
 
 use crate::call::{Asker, Call, Receiver};
 use crate::changes::Changes;
-use crate::core::Compacted;
+use crate::compaction::Beside;
+use crate::core::compacting::{Done, Exchange, Limits, Window};
+use crate::core::endings::Endings;
+use crate::core::standby::Place;
 use crate::deadlines::Deadlines;
 use crate::fault::Fault;
 use crate::kept::Origin;
@@ -14,15 +17,21 @@ use crate::polls::{Polls, Queue, Waiting, Woken};
 use crate::program::Program;
 use crate::replies::{Mark, Replies};
 use crate::say::say;
+use crate::system;
 use hyper::body::Bytes;
 use std::collections::{HashMap, VecDeque};
 use std::time::{Duration, Instant};
-use tokio::sync::oneshot;
 
 /// So many bytes of calls may wait.
 const MOST_WAITING_BYTES: usize = 64 << 20;
 /// For so long no turns are made where the disk was full.
 const REST: Duration = Duration::from_secs(1);
+/// A log is compacted once it has so many times the bytes of the snapshots that it goes on from, and by time once it has
+/// one part in so many of what it is compacted at.
+const TIMES_SNAPSHOTS: u64 = 2;
+const WORTH_IT: u64 = 16;
+/// A hundred years.
+const FOREVER: Duration = Duration::from_secs(3_155_760_000);
 
 /// Who is told what, once the lock is given back.
 pub type Answers = Vec<(Receiver, Result<Bytes, Fault>)>;
@@ -72,8 +81,10 @@ pub struct Flags {
     pub is_closed: bool,
     /// Whether the program is started again.
     pub is_restarting: bool,
-    /// Whether a compaction was asked, and whether log and program are being exchanged for it.
+    /// Whether the log is being compacted, whether batches rest until all is answered, and whether log and program are being
+    /// exchanged.
     pub is_compacting: bool,
+    pub is_resting: bool,
     pub is_exchanging: bool,
     /// Whether the sequencer waits to be woken.
     pub is_idle: bool,
@@ -109,10 +120,21 @@ pub struct State {
     /// Which of the programs that were started is fed, and the one that takes its place once it has ended.
     pub generation: u64,
     pub next_program: Option<Program>,
-    /// The line at which the program ended last.
-    pub died_at: Option<u64>,
+    /// How programs ended since something was answered.
+    pub endings: Endings,
     pub flags: Flags,
-    pub compaction: Option<(u32, oneshot::Sender<Result<Compacted, Fault>>)>,
+    /// The compaction of a table that was asked.
+    pub compaction: Option<(u32, Done)>,
+    /// What a compaction under way has noted and left, and the program and the log that it has made ready.
+    pub window: Window,
+    pub exchange: Option<Exchange>,
+    /// The second program.
+    pub standby: Place,
+    /// When the log is compacted without being asked: from so many bytes on, and from this moment on.
+    limits: Limits,
+    compact_at: u64,
+    worth_it: u64,
+    compact_from: Instant,
     pub over: Option<Fault>,
     /// Whether a call that may issue something was made since the last sweep.
     pub called: bool,
@@ -144,10 +166,10 @@ fn late_of(call: &Call, under_way: &HashMap<Box<str>, UnderWay>) -> Option<Insta
 }
 
 impl State {
-    pub fn new(origin: Origin, log: &Log, pid: u32, observed: Observed) -> State {
+    pub fn new(origin: Origin, log: &Log, pid: u32, observed: Observed, limits: Limits, snapshots: u64) -> State {
         let Observed { ledger, deadlines, replies, changes, .. } = observed;
         let log = LogState::of(log);
-        State {
+        let mut state = State {
             asked: VecDeque::new(),
             own: Vec::new(),
             sent: VecDeque::new(),
@@ -168,16 +190,25 @@ impl State {
             pid,
             generation: 0,
             next_program: None,
-            died_at: None,
+            endings: Endings::default(),
             flags: Flags::default(),
             compaction: None,
+            window: Window::default(),
+            exchange: None,
+            standby: Place::default(),
+            limits,
+            compact_at: u64::MAX,
+            worth_it: 0,
+            compact_from: Instant::now(),
             over: None,
             called: true,
             resting: Instant::now(),
             look: false,
             next_late: None,
             answers: Vec::new(),
-        }
+        };
+        state.was_compacted(snapshots, true);
+        state
     }
 
     /// Why no call is taken now, in one word; empty where they are.
@@ -188,13 +219,59 @@ impl State {
             State { over: Some(_), .. } => "ended",
             State { log: LogState { is_full: true, .. }, .. } => "full",
             State { flags: Flags { is_restarting: true, .. }, .. } => "restarting",
+            // The reader learns of it a little later.
+            _ if system::has_ended(self.pid) => "restarting",
             _ => "",
         }
     }
 
-    /// Whether something waits for a batch.
+    /// Whether nothing is on its way from the sequencer to the program and back.
+    pub fn is_quiet(&self) -> bool {
+        let Flags { is_idle, is_taking, is_restarting, .. } = self.flags;
+        is_idle && self.sent.is_empty() && !is_taking && !is_restarting
+    }
+
+    /// Whether something waits for the sequencer.
     pub fn has_work(&self) -> bool {
-        !self.asked.is_empty() || !self.own.is_empty() || self.flags.is_compacting
+        let is_asked = !self.asked.is_empty() || !self.own.is_empty();
+        is_asked || self.flags.is_resting || self.compaction.is_some() || self.exchange.is_some()
+    }
+
+    // Compactions.
+
+    /// Says when the log is compacted next. It goes on from snapshots of so many bytes; where it could not be compacted, that
+    /// is tried again once as much was written.
+    pub fn was_compacted(&mut self, snapshots: u64, is_done: bool) {
+        let Limits { bytes, time, .. } = self.limits;
+        let before = if is_done { 0 } else { self.log.bytes };
+        let most = bytes.max(TIMES_SNAPSHOTS * snapshots);
+        self.compact_at = if bytes == 0 { u64::MAX } else { before + most };
+        self.worth_it = before + most / WORTH_IT;
+        self.compact_from = Instant::now() + if time.is_zero() { FOREVER } else { time };
+    }
+
+    /// Whether the log has so many bytes that it is compacted.
+    pub fn is_long(&self) -> bool {
+        self.log.bytes >= self.compact_at && self.may_compact()
+    }
+
+    /// Whether it is so long ago that it was compacted last that it is now.
+    pub fn is_old(&self, now: Instant) -> bool {
+        now >= self.compact_from && self.log.lines > 0 && self.log.bytes >= self.worth_it && self.may_compact()
+    }
+
+    fn may_compact(&self) -> bool {
+        !self.flags.is_compacting && !self.flags.is_closing && self.origin.table.is_none()
+    }
+
+    /// What is kept beside the snapshots of a compaction.
+    pub fn beside(&self) -> Beside {
+        Beside { replies: self.replies.text(), attempts: self.attempts_text() }
+    }
+
+    /// What a page was told of attempts, as text; none where there is no page.
+    pub fn attempts_text(&self) -> Vec<u8> {
+        self.changes.as_ref().map_or_else(Vec::new, Changes::attempts_text)
     }
 
     // What is asked.
@@ -430,7 +507,8 @@ impl State {
 
     /// Nothing is served any more: fails all that waits.
     pub fn end(&mut self, fault: Fault) {
-        let left: Vec<Call> = self.sent.drain(..).chain(self.asked.drain(..)).collect();
+        let held = self.window.take_held();
+        let left: Vec<Call> = self.sent.drain(..).chain(self.asked.drain(..)).chain(held).collect();
         for call in left {
             self.fail(call, &fault);
         }

@@ -1,6 +1,6 @@
 //! The core over a program of some lines of shell, which answers each line with its number.
 
-use super::{Core, Outcome, Threads};
+use super::{Core, Limits, Outcome, Threads};
 use crate::body::asked;
 use crate::fault::Fault;
 use crate::kept::NotServed;
@@ -12,23 +12,36 @@ use crate::scratch::Scratch;
 use crate::settings::Named;
 use hyper::body::Bytes;
 use std::os::unix::fs::PermissionsExt;
+use std::sync::atomic::{AtomicBool, Ordering::SeqCst};
 use std::sync::{Arc, Mutex};
-use std::time::Duration;
+use std::thread::JoinHandle;
+use std::time::{Duration, Instant};
 
-/// Ends at a line with the word `poison`; turns have nothing to do, and polls find nothing.
+/// Ends at a line with the word `poison`; turns have nothing to do, and polls find nothing. One that was opened from
+/// snapshots answers polls in another way. It keeps the lines in its snapshots, and says by a file which process it is.
 const PROGRAM: &str = r#"#!/bin/sh
-n=0
+n=0 load= snapshot= poll=empty kept=
+echo $$ >> "$0.started"
+while [ $# -gt 0 ]; do
+    case "$1" in --load) load="$2" ;; --snapshot) snapshot="$2" ;; esac
+    shift
+done
+if [ -n "$load" ]; then poll=other kept="$(cat "$load/shard-00.snap")"; fi
 while read -r line; do
     n=$((n + 1))
     case "$line" in
     *poison*) exit 3 ;;
     *_turn*) echo "{\"line\":$n,\"ok\":\"none\"}" ;;
-    *poll_*) echo "{\"line\":$n,\"ok\":\"empty\"}" ;;
+    *poll_*) echo "{\"line\":$n,\"by\":\"$poll\",\"ok\":\"empty\"}" ;;
     *) echo "{\"line\":$n,\"ok\":\"signaled\"}" ;;
     esac
+    kept="$kept
+$line"
 done
+if [ -n "$snapshot" ]; then printf '%s\n{"end":{"last":0,"lines":0}}\n' "$kept" > "$snapshot/shard-00.snap"; fi
 "#;
 const SECONDS: Duration = Duration::from_secs(30);
+const LIMITS: Limits = Limits { bytes: 0, time: Duration::ZERO, has_standby: false };
 
 struct Served {
     core: Arc<Core>,
@@ -43,13 +56,17 @@ impl Served {
     }
 
     fn by(limit: usize, open: impl FnOnce(&str, &str) -> Result<Opened, NotServed>) -> Served {
+        Served::with(limit, LIMITS, open)
+    }
+
+    fn with(limit: usize, limits: Limits, open: impl FnOnce(&str, &str) -> Result<Opened, NotServed>) -> Served {
         let folder = Scratch::new();
         let (program, log) = (folder.path("program"), folder.path("a.log"));
         std::fs::write(&program, PROGRAM).unwrap();
         std::fs::set_permissions(&program, std::fs::Permissions::from_mode(0o755)).unwrap();
         let opened = open(&program, &log).map_err(|fault| fault.to_string()).unwrap();
         let moments = Moments::new(opened.last_moment(), Box::new(MachineClocks::new()));
-        let (core, threads) = Core::start(opened, moments, limit).unwrap();
+        let (core, threads) = Core::start(opened, moments, limit, limits).unwrap();
         Served { core, threads, log, _folder: folder }
     }
 
@@ -59,6 +76,18 @@ impl Served {
 
     fn call(&self, body: &str, key: Option<&str>) -> Result<Bytes, Fault> {
         wait(self.submit(body, key)?)
+    }
+
+    /// Kills all programs that were started.
+    fn kill_programs(&self) {
+        let started = std::fs::read_to_string(self._folder.path("program.started")).unwrap();
+        for program in started.lines() {
+            // Those that ended before and were waited for may have left their numbers to others.
+            let words = std::fs::read_to_string(format!("/proc/{program}/cmdline")).unwrap_or_default();
+            if words.contains(&self._folder.path("program")) {
+                crate::system::kill(program.parse().unwrap());
+            }
+        }
     }
 
     /// Ends it. The log's lines.
@@ -139,6 +168,174 @@ fn more_calls_than_may_wait_are_refused_and_polls_are_not_counted() {
         assert!(wait(outcome).unwrap().ends_with(b"\"ok\":\"empty\"}"));
     }
     assert!(matches!(served.call(poll, None), Err(Fault::Draining)));
+    served.end();
+}
+
+fn is_by(reply: &Bytes, who: &str) -> bool {
+    String::from_utf8_lossy(reply).contains(&format!("\"by\":\"{who}\""))
+}
+
+/// Makes a call again and again, until it is told to stop. The replies.
+fn calls_of(core: &Arc<Core>, body: &'static str, stop: &Arc<AtomicBool>) -> JoinHandle<Vec<Bytes>> {
+    let (core, stop) = (core.clone(), stop.clone());
+    std::thread::spawn(move || {
+        let mut replies = Vec::new();
+        while !stop.load(SeqCst) {
+            let key = format!("{}-{}", &body[7..11], replies.len());
+            let outcome = core.submit(asked(body.as_bytes(), 1).unwrap(), Some(key.into())).unwrap();
+            replies.push(outcome.blocking_recv().unwrap().unwrap());
+        }
+        replies
+    })
+}
+
+/// What the log and its snapshots have of calls of an operation, in their order.
+fn kept_by(log: &str, generation: u64, lines: &[String], op: &str) -> Vec<String> {
+    let snapshot = std::fs::read_to_string(format!("{log}.records-{generation}/shard-00.snap")).unwrap();
+    let found = snapshot.lines().chain(lines.iter().map(String::as_str)).filter(|line| line.contains(op));
+    found.map(|line| line.rsplit_once("\"call\":").unwrap().1.split('"').nth(1).unwrap().to_string()).collect()
+}
+
+#[test]
+fn a_log_is_compacted_while_it_is_served_and_loses_nothing() {
+    let (served, stop) = (Served::new(100), Arc::new(AtomicBool::new(false)));
+    let signals = calls_of(&served.core, r#"{"op":"signal","name":"n"}"#, &stop);
+    let polls = calls_of(&served.core, r#"{"op":"poll_workflow_task","task_queue":"main","wait":0}"#, &stop);
+    for generation in 1..=3 {
+        std::thread::sleep(Duration::from_millis(30));
+        // A poll is answered in another way by the program beside: so it is made once more, and polls wait for it.
+        let outcome = served.core.compact(0).unwrap();
+        assert!(matches!(served.core.compact(0), Err(Fault::Busy(_))));
+        let done = outcome.blocking_recv().unwrap().unwrap();
+        assert!(done.lines > 0 && done.records > 0);
+        assert_eq!(served.core.lock().origin.generation, generation);
+    }
+    std::thread::sleep(Duration::from_millis(30));
+    stop.store(true, SeqCst);
+    let (signals, polls) = (signals.join().unwrap(), polls.join().unwrap());
+    assert!(signals.iter().all(is_signaled) && is_by(polls.last().unwrap(), "other"));
+    let Served { core, threads, log, _folder } = served;
+    let lines = Served { core, threads, log: log.clone(), _folder: Scratch::new() }.end();
+    assert!(lines[0].contains("\"compacted\":3"));
+    for (op, name, count) in [("\"signal\"", "sign", signals.len()), ("\"poll_workflow_task\"", "poll", polls.len())] {
+        let wanted: Vec<String> = (0..count).map(|number| format!("{name}-{number}")).collect();
+        assert_eq!(kept_by(&log, 3, &lines[1..], op), wanted);
+    }
+    // Opened again it gives the replies that were had, also those from before the compactions.
+    let (program, named) = (_folder.path("program"), Named::default());
+    let opened = Opened::of(&program, &log, &named, false).map_err(|fault| fault.to_string()).unwrap();
+    let begin = asked(br#"{"op":"signal","name":"n"}"#, 1).unwrap().begin;
+    for (number, reply) in signals.iter().enumerate() {
+        let found = opened.observed.replies.get(&format!("sign-{number}"), crate::replies::mark_of(&begin));
+        assert_eq!(found, Ok(Some(reply.clone())));
+    }
+    opened.kept.program.end();
+}
+
+#[test]
+fn a_log_is_compacted_by_itself_once_it_is_long_or_old() {
+    for limits in [Limits { bytes: 2_000, ..LIMITS }, Limits { time: Duration::from_millis(50), ..LIMITS }] {
+        let served = Served::with(100, limits, |program, log| Opened::of(program, log, &Named::default(), true));
+        let late = Instant::now() + SECONDS;
+        while served.core.lock().origin.generation < 2 {
+            assert!(Instant::now() < late && served.call(r#"{"op":"signal","name":"n"}"#, None).is_ok());
+        }
+        served.end();
+    }
+}
+
+#[test]
+fn a_second_program_takes_the_place_of_one_that_ends() {
+    let limits = Limits { has_standby: true, ..LIMITS };
+    let served = Served::with(100, limits, |program, log| Opened::of(program, log, &Named::default(), true));
+    let stop = Arc::new(AtomicBool::new(false));
+    let signals = calls_of(&served.core, r#"{"op":"signal","name":"n"}"#, &stop);
+    for killed in 1..=3 {
+        let late = Instant::now() + SECONDS;
+        while !served.core.lock().has_standby() {
+            assert!(Instant::now() < late);
+            std::thread::sleep(Duration::from_millis(1));
+        }
+        // It is not started anew: there is no program under this name.
+        let (path, away) = (served._folder.path("program"), served._folder.path("away"));
+        std::fs::rename(&path, &away).unwrap();
+        crate::system::kill(served.core.lock().pid);
+        while served.core.lock().metrics.restarts < killed || served.core.lock().has_standby() {
+            assert!(Instant::now() < late);
+            std::thread::sleep(Duration::from_millis(1));
+        }
+        assert!(is_signaled(&served.call(r#"{"op":"signal","name":"after"}"#, None).unwrap()));
+        std::fs::rename(&away, &path).unwrap();
+        assert_eq!(served.core.compact(0).unwrap().blocking_recv().unwrap().map(drop), Ok(()));
+    }
+    stop.store(true, SeqCst);
+    assert!(signals.join().unwrap().iter().all(is_signaled));
+    served.end();
+}
+
+#[test]
+fn a_second_program_that_was_ended_with_the_first_one_takes_no_place() {
+    let limits = Limits { has_standby: true, ..LIMITS };
+    for rest in [0, 300, 600] {
+        let served = Served::with(100, limits, |program, log| Opened::of(program, log, &Named::default(), true));
+        assert!(is_signaled(&served.call(r#"{"op":"signal","name":"before"}"#, None).unwrap()));
+        let late = Instant::now() + SECONDS;
+        while !served.core.lock().has_standby() {
+            assert!(Instant::now() < late);
+            std::thread::sleep(Duration::from_millis(1));
+        }
+        // By then it has served all there is, so that it is not missed before it is asked.
+        std::thread::sleep(Duration::from_millis(rest));
+        served.kill_programs();
+        assert!(is_signaled(&served.call(r#"{"op":"signal","name":"after"}"#, None).unwrap()));
+        assert!(is_signaled(&served.call(r#"{"op":"signal","name":"once more"}"#, None).unwrap()));
+        // Two where it was killed just after it had taken the place.
+        assert!((1..=2).contains(&served.core.lock().metrics.restarts));
+        served.end();
+    }
+}
+
+#[test]
+fn a_program_that_is_killed_again_and_again_is_no_lines_fault() {
+    let served = Served::new(100);
+    for killed in 1..=12 {
+        assert!(is_signaled(&served.call(r#"{"op":"describe","workflow_id":"w"}"#, None).unwrap()));
+        let late = Instant::now() + SECONDS;
+        served.kill_programs();
+        while served.core.lock().metrics.restarts < killed {
+            assert!(Instant::now() < late);
+            std::thread::sleep(Duration::from_millis(1));
+        }
+    }
+    served.end();
+}
+
+#[test]
+fn a_program_that_has_ended_is_not_ready() {
+    let served = Served::new(100);
+    let pid = served.core.lock().pid;
+    assert_eq!((crate::system::has_ended(pid), served.core.health().wrong), (false, ""));
+    // Another child that has ended stands for it, so that nobody notices.
+    let ended = std::process::Command::new("/bin/sh").args(["-c", "exit 3"]).spawn().unwrap().id();
+    while !crate::system::has_ended(ended) {
+        std::thread::sleep(Duration::from_millis(1));
+    }
+    served.core.lock().pid = ended;
+    assert_eq!(served.core.health().wrong, "restarting");
+    served.core.lock().pid = pid;
+    served.end();
+}
+
+#[test]
+fn a_program_that_writes_no_snapshots_is_served_on() {
+    let served = Served::new(100);
+    assert!(served.call(r#"{"op":"signal","name":"n"}"#, None).is_ok());
+    let path = served._folder.path("program");
+    std::fs::write(&path, PROGRAM.replace("if [ -n \"$snapshot\" ]", "exit 2; if false")).unwrap();
+    let fault = served.core.compact(0).unwrap().blocking_recv().unwrap().map(drop).unwrap_err();
+    assert!(matches!(fault, Fault::NotCompacted(_)), "{fault:?}");
+    assert!(served.call(r#"{"op":"signal","name":"n"}"#, None).is_ok());
+    assert!(served.core.health().lines >= 2 && !served.core.health().is_compacting);
     served.end();
 }
 

@@ -101,6 +101,14 @@ class JournalDamaged(LogDamaged):
         self.at = at
 
 
+class CheckpointDamaged(LogDamaged):
+    """A journal's checkpoint or one of its snapshots is not as it was written, or the journal doesn't go on from it."""
+
+
+class JournalCompacted(LogFault):
+    """What was asked of a journal is in snapshots by now, and not in the journal any more."""
+
+
 class OtherJournal(LogFault):
     """A file is no journal of this version, or a line in it is no step."""
 
@@ -126,8 +134,12 @@ class RefusedSettings(LogFault):
 
 
 class NotCompacted(LogFault):
-    """The log could not be compacted. It is as it was."""
+    """The log or the journal could not be compacted. It is as it was."""
+
+
+class CompactionRuns(NotCompacted):
+    """Another process compacts the journal now."""
 
 
 class NotOpened(LogFault):
-    """The program refuses the records that the log goes on from."""
+    """The program refuses the records or snapshots that the log goes on from."""

@@ -4,9 +4,11 @@
 
 Each thread makes its own calls in order, each with a request id, and goes on behind those that were
 ANSWERED before. Each answer is told by one line: the thread, the call's number, and the line of the log.
-Where COMPACTED is 1 the log is compacted again and again meanwhile.
+Where COMPACTED is 1 the log is compacted again and again meanwhile. Each generation of it stays then as `.kept-N` after
+its name, since snapshots don't have the requests.
 """
 
+import glob
 import os
 import random
 import sys
@@ -42,9 +44,18 @@ def run_thread(service, thread, requests, answered):
         os.write(1, f"{thread} {number} {reply['line']}\n".encode())
 
 
-def compact_again(service, done):
+def keep_generations(log):
+    """Gives the logs of earlier generations that are there a name under which no compaction removes them."""
+    for path in glob.glob(f"{glob.escape(log)}.generation-*"):
+        kept = path.replace(".generation-", ".kept-")
+        if not os.path.exists(kept):
+            os.link(path, kept)
+
+
+def compact_again(service, log, done):
     """Compacts the log until the calls are done."""
     while not done.wait(0.01):
+        keep_generations(log)
         try:
             service.compact()
         except Ended:
@@ -57,7 +68,7 @@ def main():
     done = threading.Event()
     with DurableService([program], log, SETTINGS) as service:
         os.write(1, b"open\n")
-        compacting = threading.Thread(target=compact_again, args=(service, done))
+        compacting = threading.Thread(target=compact_again, args=(service, log, done))
         if compacted == "1":
             compacting.start()
         running = [

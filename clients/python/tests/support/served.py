@@ -1,13 +1,18 @@
 """A server for tests: started on a free port, and ended or killed."""
 
+import contextlib
 import http.client
 import json
+import os
 import pathlib
 import random
 import re
+import signal
 import socket
 import subprocess
+import sys
 import time
+import weakref
 
 from support.programs import SERVER, SERVER_PYTHON
 from wfserve.http import HttpService, answer_to
@@ -17,6 +22,10 @@ from wfserve.http import HttpService, answer_to
 PATIENCE = 60
 
 
+# A call that the program answers, and that changes nothing.
+ASKED = b'{"op":"describe","workflow_id":"nobody"}'
+
+
 def until(holds, seconds=PATIENCE):
     """Waits until something is so."""
     late = time.monotonic() + seconds
@@ -24,6 +33,22 @@ def until(holds, seconds=PATIENCE):
         if time.monotonic() > late:
             raise AssertionError(f"after {seconds} s it is not so")
         time.sleep(0.02)
+
+
+def has_ended(pid):
+    """Whether a process has ended, also where nobody has waited for it."""
+    try:
+        return pathlib.Path(f"/proc/{pid}/stat").read_text(encoding="utf-8").rpartition(") ")[2][0] in "ZX"
+    except (FileNotFoundError, ProcessLookupError):
+        return True
+
+
+def kill_all(*pids):
+    """Kills processes, and returns once they have ended: from then on none of them answers anything."""
+    for pid in pids:
+        with contextlib.suppress(ProcessLookupError):
+            os.kill(pid, signal.SIGKILL)
+    until(lambda: all(has_ended(pid) for pid in pids))
 
 
 def free_port():
@@ -45,18 +70,33 @@ def free_port():
     raise AssertionError("no port is free")
 
 
+# All servers that are there still, for who ends the tests as their time is over.
+SERVERS = weakref.WeakSet()
+
+
+def tell_all():
+    """Says on standard error what all servers said."""
+    for server in list(SERVERS):
+        print(server.account(), file=sys.stderr, flush=True)
+
+
 class Server:
     """A server over a log, on a port of its own. Killed and started again it has the same port."""
 
     def __init__(self, program, log, *options):
         self._clients, self.port = [], free_port()
         self.said = pathlib.Path(f"{log}.said")
+        # How each process before this one ended, with what it said; and those of them that ended by themselves.
+        self.former, self.own_ends, self.process = [], [], None
+        SERVERS.add(self)
         self._command = [
             SERVER_PYTHON, *SERVER, "--program", program, "--log", str(log), *options
         ]
         self.start()
 
     def start(self):
+        if self.process is not None:
+            self.former.append(self.ended())
         with open(self.said, "w", encoding="utf-8") as said:
             self.process = subprocess.Popen(
                 [*self._command, "--port", str(self.port)], stdout=subprocess.PIPE, stderr=said, text=True
@@ -76,7 +116,7 @@ class Server:
 
     def asked(self, method, path, body=None, headers=None):
         """The status, the headers and the text of an answer."""
-        connection = http.client.HTTPConnection(self.host, self.port, timeout=30)
+        connection = http.client.HTTPConnection(self.host, self.port, timeout=2 * PATIENCE)
         try:
             answer = answer_to(connection, method, path, body, {"Content-Type": "application/json", **(headers or {})})
             return answer.status, answer.headers, answer.read().decode()
@@ -90,9 +130,42 @@ class Server:
         """A value of now of its metrics."""
         return float(re.search(rf"^wfserve_{name} (.+)$", self.asked("GET", "/metrics")[2], re.MULTILINE)[1])
 
+    def ended(self):
+        """How the process stands, and what it said."""
+        said = self.said.read_text(encoding="utf-8", errors="replace") if self.said.exists() else "(it is not kept any more)"
+        return f"process {self.process.pid}, status {self.process.poll()}: {said}"
+
+    def account(self):
+        """What all processes said, for who looks why a test failed."""
+        return "\n".join(["what the server said:", *self.former, self.ended()])
+
+    def answers(self):
+        """Whether the program answers a call."""
+        try:
+            return self.asked("POST", "/calls", ASKED)[0] == 200
+        except (OSError, http.client.HTTPException):
+            return False
+
+    def go_on(self, seconds=PATIENCE):
+        """Returns once the program answers a call. A server that has ended by itself is started again, and that is noted."""
+        late = time.monotonic() + seconds
+        while not self.answers():
+            if self.process.poll() is not None:
+                self.own_ends.append(self.ended())
+                self.process.stdout.close()
+                self.start()
+            if time.monotonic() > late:
+                raise AssertionError(f"the program answers nothing in {seconds} s; {self.account()}")
+            time.sleep(0.02)
+
     def has_polls(self, count):
         """Waits until so many polls wait for a task."""
         until(lambda: self.gauge("polls_waiting") == count)
+
+    def give_up(self):
+        """Has its clients make no call again."""
+        for client in self._clients:
+            client.give_up()
 
     def kill(self):
         self.process.kill()

@@ -8,8 +8,9 @@
 Where the second word is a folder, the program keeps itself by the journal in it, and there is no log.
 """
 
-from .journaled import move_journal, move_log
+from .background import Compaction
+from .moving import move_journal, move_log
 from .service import DurableService
 from .settings import Settings, read_header
 
-__all__ = ["DurableService", "Settings", "move_journal", "move_log", "read_header"]
+__all__ = ["Compaction", "DurableService", "Settings", "move_journal", "move_log", "read_header"]

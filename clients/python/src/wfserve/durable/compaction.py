@@ -1,16 +1,19 @@
-"""A log that begins with the records of the shards: how they are saved and opened, and what a crash leaves.
+"""A log that begins with snapshots of the shards: how they are made and opened, and what a crash leaves.
 
-The program itself saves the record of each shard and is opened from them again (--save, --load). A log
-whose first line names a folder of records goes on where these end. Each compaction begins another
+The program itself writes a snapshot of each shard and is opened from them again (--snapshot, --load). A log
+whose first line names a folder of snapshots goes on where these end. Each compaction begins another
 generation of the log:
 
     a.log                   the log, whose first line has its generation, as 2
-    a.log.records-2         the records that it goes on from
+    a.log.records-2         the snapshots that it goes on from, shard-00.snap and so on
     a.log.generation-1      the log before, with all its lines
-    a.log.records-1         the records that the log before goes on from
+    a.log.records-1         what the log before goes on from
+
+An earlier client put records there, shard-00.rec and so on: all steps, where snapshots have what these left. A log goes on
+from either, and has snapshots after its next compaction.
 
 A log takes the place of the one before by one renaming, and only after a program that was opened from
-the new records has answered. A crash leaves the one log or the other, with its records. The generation
+the new snapshots has answered. A crash leaves the one log or the other, with what it goes on from. The generation
 before stays until the next compaction: renamed to a.log, it goes on where it was.
 """
 
@@ -24,6 +27,7 @@ import subprocess
 from typing import Iterable, Iterator, List, Sequence, Tuple
 
 from wfserve.errors import Ended, NotCompacted, NotOpened
+from wfserve.snapshots import last_moment_of
 
 from .log import sync_folder
 from .program import Program
@@ -37,7 +41,7 @@ MOMENT = re.compile(rb'"at":([0-9]+)')
 
 
 def folder_of(log: str, generation: int) -> str:
-    """The folder of a log's records, by how often it was compacted."""
+    """The folder of a log's snapshots or records, by how often it was compacted."""
     return f"{log}.records-{generation}"
 
 
@@ -70,20 +74,26 @@ def remove_leftovers(log: str, generation: int) -> None:
 
 
 def keep_private(folder: str) -> None:
-    """Lets nobody else read the records: they have all that workflows were given."""
+    """Lets nobody else read what a log goes on from: that has all that workflows were given."""
     os.chmod(folder, 0o700)
     for name in os.listdir(folder):
         os.chmod(os.path.join(folder, name), 0o600)
 
 
 def save_records(command: Sequence[str], lines: Iterable[bytes], folder: str) -> None:
-    """Has the program serve the lines of the log and save its records into a new folder, on the disk."""
+    """Has the program serve the lines of a log and save its records into a new folder, on the disk."""
+    _save([*command, "--save", folder], lines, folder)
+
+
+def save_snapshots(command: Sequence[str], lines: Iterable[bytes], folder: str) -> None:
+    """Has the program serve the lines of a log and write a snapshot of each shard into a new folder, on the disk."""
+    _save([*command, "--snapshot", folder], lines, folder)
+
+
+def _save(command: Sequence[str], lines: Iterable[bytes], folder: str) -> None:
     shutil.rmtree(folder, ignore_errors=True)
     os.mkdir(folder, 0o700)
-    saving = subprocess.Popen(
-        [*command, "--save", folder],
-        stdin=subprocess.PIPE, stdout=subprocess.DEVNULL, stderr=subprocess.PIPE,
-    )
+    saving = subprocess.Popen(command, stdin=subprocess.PIPE, stdout=subprocess.DEVNULL, stderr=subprocess.PIPE)
     _, said = saving.communicate(b"".join(line + b"\n" for line in lines))
     # A script with a refusal among its replies ends with status 1, a fault with 2.
     if saving.returncode not in (0, 1):
@@ -95,9 +105,9 @@ def save_records(command: Sequence[str], lines: Iterable[bytes], folder: str) ->
 
 
 def open_program(command: Sequence[str], settings: Settings, log: str, generation: int) -> Tuple[Program, Settings]:
-    """A program that was opened from the records and has answered, and the settings that it has.
+    """A program that was opened from the snapshots or records and has answered, and the settings that it has.
 
-    Where more tasks wait in the records than the queues hold, they get more room.
+    Where more tasks wait in records than the queues hold, they get more room. Snapshots are opened whatever waits.
     """
     while True:
         words = [*command, *settings.options(), *load_options(log, generation)]
@@ -125,14 +135,27 @@ def keep_log(log: str, generation: int) -> None:
 
 
 def record_files(log: str, generation: int) -> List[str]:
-    """The files of the records, by their shards."""
+    """The files of the snapshots or records that a log goes on from, by their shards."""
+    if not generation:
+        return []
     folder = folder_of(log, generation)
-    return sorted(os.path.join(folder, name) for name in os.listdir(folder) if name.endswith(".rec")) if generation else []
+    files = sorted(os.path.join(folder, name) for name in os.listdir(folder))
+    return [path for path in files if is_snapshot(path)] or [path for path in files if path.endswith(".rec")]
+
+
+def is_snapshot(path: str) -> bool:
+    """Whether a file is a snapshot, and no record."""
+    return path.endswith(".snap")
 
 
 def last_moment_in(log: str, generation: int) -> int:
-    """The greatest moment of the records that a log goes on from."""
-    return max((moment for path in record_files(log, generation) for moment in moments_in(path)), default=0)
+    """The greatest moment of what a log goes on from."""
+    return max(map(last_moment_in_file, record_files(log, generation)), default=0)
+
+
+def last_moment_in_file(path: str) -> int:
+    """The greatest moment of a shard's snapshot or record."""
+    return last_moment_of(path) if is_snapshot(path) else max(moments_in(path), default=0)
 
 
 def moments_in(path: str) -> Iterator[int]:

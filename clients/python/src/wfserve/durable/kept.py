@@ -23,7 +23,7 @@ from wfserve.types import Request
 
 from .compaction import (
     folder_of, keep_log, keep_private, last_moment_in, load_options, open_program, record_files, remove_leftovers,
-    save_records,
+    save_snapshots,
 )
 from .log import LineLog
 from .program import Program
@@ -107,18 +107,18 @@ class KeptProgram:
         self.log.append(lines)
 
     def record_lines(self) -> Iterator[Iterable[bytes]]:
-        """The lines of the records that the log goes on from, by shards."""
+        """The lines of the snapshots or records that the log goes on from, by shards."""
         for path in self.record_files():
             with open(path, "rb") as record:
                 yield record
 
     @property
     def records_size(self) -> int:
-        """How many bytes the records have that the log goes on from."""
+        """How many bytes the snapshots or records have that the log goes on from."""
         return sum(os.path.getsize(path) for path in self.record_files())
 
     def record_files(self) -> List[str]:
-        """The files of the records that the log goes on from, by their shards."""
+        """The files of the snapshots or records that the log goes on from, by their shards."""
         return record_files(self.log.path, self.generation)
 
     # Opening.
@@ -143,7 +143,7 @@ class KeptProgram:
             raise RefusedSettings(f"the program refuses {' '.join(settings.options())}: status {ran.returncode}")
 
     def _started(self) -> Program:
-        """The program, started with the log's settings, and from its records where it has some."""
+        """The program, started with the log's settings, and from its snapshots or records where it has some."""
         if not self.generation:
             return Program([*self.command, *self.settings.options()])
         log, generation = self.log.path, self.generation
@@ -226,14 +226,14 @@ class KeptProgram:
     # Compaction.
 
     def next_generation(self, capacity: int) -> Program:
-        """Puts the records of the shards in the place of the log's lines, and opens a program from them.
+        """Puts snapshots of the shards in the place of the log's lines, and opens a program from them.
 
         Nothing may be asked meanwhile. The former program, which has still to be ended. NotCompacted or
         NotOpened where it can't be done: all is as it was then.
         """
         log, generation = self.log.path, self.generation + 1
         words = [*self.command, *self.settings.options(), *load_options(log, self.generation)]
-        save_records(words, [for_replay(line) for line in self._lines()], folder_of(log, generation))
+        save_snapshots(words, [for_replay(line) for line in self._lines()], folder_of(log, generation))
         try:
             program, settings = self._opened_from(generation, max(capacity, self.settings.capacity))
         except BaseException:
@@ -245,7 +245,7 @@ class KeptProgram:
         return former
 
     def _opened_from(self, generation: int, capacity: int) -> Tuple[Program, Settings]:
-        """A program that was opened from these records, and its settings, once the log begins with them."""
+        """A program that was opened from these snapshots, and its settings, once the log begins with them."""
         log = self.log.path
         wanted = dataclasses.replace(self.settings, capacity=capacity)
         program, settings = open_program(self.command, wanted, log, generation)

@@ -13,7 +13,7 @@ A call returns once its line was synced and the program has answered. Threads ma
 sync serves all lines that wait for it. A call that was not answered may have taken effect or not;
 one with a request id can be made again, and takes effect once. Reads change nothing, and are no lines.
 
-A log grows by every line. `compact()` puts the records of the shards in the place of its lines: a
+A log grows by every line. `compact()` puts snapshots of the shards in the place of its lines: a
 service is opened from them in the place of serving each line again.
 
 Where a folder is named in the place of a log, the program keeps itself by the journal in it (journaled.py),
@@ -22,7 +22,7 @@ which is quicker and proved, and there is no log. What a call promises is the sa
 - a read is a step of the journal too, and waits for a sync;
 - a disk that is full ends the program: calls are answered by Ended, and the service has to be opened again;
 - a reply's line counts from the opening, and `replayed` is refused, since a journal has no replies;
-- nothing is compacted.
+- it is compacted from time to time by itself, in another process, and calls go on meanwhile.
 
 Texts of over 4,096 bytes, up to 2 MB, lie in a folder beside the log, or beside the journal's folder: orders.log.blobs.
 A client and a worker put them there by themselves (`blobs`), and each is synced before a line names it.
@@ -42,10 +42,11 @@ from typing import Any, Callable, Deque, Iterable, Iterator, List, Optional, Seq
 
 from wfserve.blobs import store_beside
 from wfserve.calls import Calls, Clock, HasMoment, answered, request_of, text_of
-from wfserve.errors import Ended, LogFault, NotCompacted
+from wfserve.errors import Ended, LogFault
 from wfserve.operations import READS
 from wfserve.types import Reply, Request
 
+from .background import Compaction
 from .journaled import JournaledProgram
 from .kept import KeptProgram, Replayed, for_read
 from .log import open_lines
@@ -85,13 +86,14 @@ def replayed_as(observe: Optional[Observe]) -> Optional[Replayed]:
 
 def opened(
     command: Sequence[str], path: str, settings: Optional[Settings], replayed: Optional[Observe],
+    compaction: Optional[Compaction],
 ) -> Union[KeptProgram, JournaledProgram]:
     """The program with its journal where the path is a folder, and else with the log that this file is."""
     if not os.path.isdir(path):
         return KeptProgram(command, path, settings, replayed_as(replayed))
     if replayed is not None:
         raise ValueError("a journal has no replies to tell again")
-    return JournaledProgram(command, path, settings)
+    return JournaledProgram(command, path, settings, compaction)
 
 
 def fail(calls: Iterable[Waiting], fault: Exception) -> None:
@@ -106,7 +108,8 @@ class DurableService(Calls):
     own, or the defaults. `most_a_sync` is how many lines one sync of a log serves at most. `replayed`
     is called with each request of the log and its reply, before the first call; what was done before
     the log was compacted last is no line of it. `blobs` keeps long texts: `sweep_blobs` deletes there, and a server
-    that serves the same log with a retention.
+    that serves the same log with a retention. `compaction` says when a journal is compacted by itself; with None it is
+    compacted by `compact` alone, as a log is in any case.
     """
 
     def __init__(
@@ -117,6 +120,7 @@ class DurableService(Calls):
         clock: Optional[HasMoment] = None,
         most_a_sync: int = 1_000,
         replayed: Optional[Observe] = None,
+        compaction: Optional[Compaction] = Compaction(),
     ):
         self.clock: HasMoment = clock or Clock()
         self.blobs = store_beside(log)
@@ -132,7 +136,7 @@ class DurableService(Calls):
         # Whether lines are on their way to the program, and whether they have to wait.
         self._writing = False
         self._paused = False
-        self._kept = opened(command, log, settings, replayed)
+        self._kept = opened(command, log, settings, replayed, compaction)
         self.last_moment = self._kept.last_moment
         self._writer = threading.Thread(target=self._write_calls, daemon=True)
         self._writer.start()
@@ -158,21 +162,22 @@ class DurableService(Calls):
 
     @property
     def size(self) -> int:
-        """How many bytes the log or the journal has."""
+        """How many bytes the log has; the journal, how many since its last compaction."""
         return self._kept.size
 
     @property
     def records_size(self) -> int:
-        """How many bytes the records have that the log goes on from. A journal has none beside it."""
-        return self._kept.records_size if isinstance(self._kept, KeptProgram) else 0
+        """How many bytes the snapshots or records have that the log or the journal goes on from."""
+        return self._kept.records_size
 
     def record_lines(self) -> Iterable[Iterable[bytes]]:
-        """The lines of the records that the log goes on from, by their shards; with a journal, of all its steps."""
+        """The lines of the snapshots or records that the log goes on from, by their shards; with a journal, of its snapshots
+        and of all its steps since."""
         return self._kept.record_lines()
 
     def requests(self) -> Iterator[bytes]:
-        """The lines of its records, each with a request, and those that its log has since, each a request; of a journal all
-        its steps. What is asked meanwhile may be there or not."""
+        """The lines of its snapshots or records, and those that its log has since, each a request; of a journal its
+        snapshots and steps. What is asked meanwhile may be there or not."""
         kept = self._kept
         for record in kept.record_lines():
             yield from record
@@ -310,18 +315,20 @@ class DurableService(Calls):
     # Compaction.
 
     def compact(self, capacity: int = 0) -> None:
-        """Puts the records of the shards in the place of the log's lines, and goes on from them.
+        """Puts snapshots of the shards in the place of the log's lines, and goes on from them.
 
-        Calls wait meanwhile. The log gives way only after a program that was opened from the records has
+        Calls wait meanwhile. The log gives way only after a program that was opened from the snapshots has
         answered, and it stays beside the new one until the next compaction. The queues get room for
-        `capacity` tasks, and for more where more wait; they keep what they have where that is more. Each
-        task that waits has its hint in its queue again, so a worker may be handed `stale` for one that it
-        was handed before. NotCompacted or NotOpened where it can't be done: the service then goes on as
-        it was. A journal is not compacted.
+        `capacity` tasks; they keep what they have where that is more. Each task that was dispatched and
+        waits has its hint in its queue again, so a worker may be handed `stale` for one that it was handed
+        before. NotCompacted or NotOpened where it can't be done: the service then goes on as it was.
+
+        With a journal, calls go on meanwhile, and the program with its queues stays: a capacity has no effect.
         """
         kept = self._kept
         if isinstance(kept, JournaledProgram):
-            raise NotCompacted(f"{kept.path}: a journal is not compacted")
+            kept.compactor.compact()
+            return
         self._pause()
         try:
             former = kept.next_generation(capacity)

@@ -1,6 +1,6 @@
 """Deletes the blobs beside a log or a journal that no history names any more.
 
-Which workflows there are, the log's lines and the records tell. Of each workflow ID the latest run is asked for, with the
+Which workflows there are, the log's lines and the snapshots or records tell. Of each workflow ID the latest run is asked for, with the
 runs that its history names. An earlier run may be kept beside it, for as long as the retention after its end, and nobody
 knows its run id. So each sweep counts what is named as put at its moment, and only what was not put for the retention and a
 day goes. Where the last sweep was longer ago than a day, one of these runs may have gone by unseen: then all blobs count as
@@ -14,6 +14,7 @@ import os
 from typing import Iterable, Iterator, List, Optional, Protocol, Sequence, Set, Tuple
 
 from wfserve.blobs import FolderStore, names_in
+from wfserve.snapshots import begins_run, run_of
 from wfserve.types import Event, Reply, Request
 
 from .settings import Settings
@@ -24,7 +25,7 @@ GRACE_SECONDS = 86_400.0
 MARK = "swept"
 # So many histories are in memory at a time, and so many descriptions.
 HISTORIES, DESCRIPTIONS = 20, 1_000
-# Only lines with one of these may begin a run.
+# Only lines with one of these may begin a run, beside those of a snapshot.
 BEGINS = (b'"start"', b'"signal_with_start"', b'"start_child"', b'"StartChildWorkflowExecution"')
 # A workflow ID, and a run where one is known.
 Named = Tuple[str, str]
@@ -38,7 +39,7 @@ class Readable(Protocol):
         """What it was opened with."""
 
     def requests(self) -> Iterable[bytes]:
-        """The lines of its records and of its log, each with a request."""
+        """The lines of its snapshots or records, and of its log."""
 
     def read_all(self, requests: Sequence[Request]) -> List[Reply]:
         """The replies to reads, refusals as the replies that they are."""
@@ -110,7 +111,12 @@ def latest(service: Readable) -> List[Named]:
 
 
 def begun_in(line: bytes) -> Iterator[str]:
-    """The workflow IDs of which a line may begin a run: a log's line is a request, and a record's has one."""
+    """The workflow IDs of which a line may begin a run: a log's line is a request, and a record's has one.
+
+    A snapshot's lines have none, but for the first event of each run.
+    """
+    if begins_run(line):
+        yield run_of(line, 0).workflow_id
     if not any(word in line for word in BEGINS):
         return
     entry = json.loads(line)

@@ -72,6 +72,10 @@ except ImportError:
 
 BODY_LIMIT = 1_048_576
 LOCAL = "127.0.0.1"
+OF_THE_EDGE = (
+    "The compiled edge, which ./serve-http takes where it is built, has these options but for --compact, and besides --socket, "
+    "--silence, --compact-bytes, --compact-seconds and --standby: edge/target/release/wfedge --help says what they mean."
+)
 SHORTEST_TOKEN = 16
 SHUTDOWN_SECONDS = 2.0
 # After so many objects garbage is looked for. A call makes some ten, and leaves no circles.
@@ -218,7 +222,9 @@ def port(text: str) -> int:
 
 
 def words_of(words: List[str]) -> argparse.Namespace:
-    parser = argparse.ArgumentParser(prog="serve-http", description="A server of workflows, and a page that shows them.")
+    parser = argparse.ArgumentParser(
+        prog="serve-http", description="A server of workflows, and a page that shows them.", epilog=OF_THE_EDGE,
+    )
     add = parser.add_argument
     add("--program", required=True, help="wfserve")
     add("--log", help="the file that keeps the service; without it nothing is kept")
@@ -231,7 +237,7 @@ def words_of(words: List[str]) -> argparse.Namespace:
     add("--queues", help="the names of a new log's task queues, with commas between them, main by default")
     add("--capacity", type=int, help="how many tasks wait in a queue at most, 1,024 by default; a log's may grow")
     add("--retention", type=int, help="for how many milliseconds a new log's service keeps what has closed, for ever by default")
-    add("--compact", action="store_true", help="puts the log's records in the place of its lines, and ends")
+    add("--compact", action="store_true", help="puts snapshots in the place of the log's lines, and ends")
     return parser.parse_args(words)
 
 
@@ -250,7 +256,7 @@ def compact(said: argparse.Namespace, log: str) -> int:
     with DurableService([said.program], log, settings_of(said, log)) as service:
         lines, size = service.lines, service.size
         service.compact()
-        print(f"{lines} lines, {size} bytes; now {service.records_size} bytes of records")
+        print(f"{lines} lines, {size} bytes; now {service.records_size} bytes of snapshots")
     return 0
 
 

@@ -24,6 +24,7 @@ from wfserve.operations import READS
 from wfserve.types import Json, Request
 
 from .calls import Busy, Draining, KeyReused, wait_of
+from .endings import Endings
 from .ledger import TURNS, Ledger, Needed, Turn
 from .lines import Call, Receiver, own_call
 from .metrics import Metrics
@@ -92,7 +93,7 @@ class Core:
         self._planned = False
         # Whether a poll that was woken could not be asked.
         self._missed = False
-        self._died_at = -1
+        self._endings = Endings()
         # When polls are looked through, in ticks.
         self._ticks: Set[int] = set()
         self._loop = asyncio.get_running_loop()
@@ -273,6 +274,7 @@ class Core:
     def _take(self, replies: List[bytes]) -> None:
         """Goes through replies in their order: what follows is asked, and calls are answered."""
         handed = 0
+        self._endings.answered()
         for text in replies:
             if not self._sent:
                 self._end(Ended(f"the program gave a reply to no line: {text[:200]!r}"))
@@ -412,14 +414,12 @@ class Core:
         self._loop.call_later(PAUSE_SECONDS, self._go_on_without)
 
     def _go_on_without(self) -> None:
-        """Starts the program again, once for a line, and gives it what it has not answered."""
-        number = self._answered + 1
-        fault = self.kept.program.ended(number)
+        """Starts the program again, once for what it was asked, and gives it what it has not answered."""
+        fault = self.kept.program.ended(self._answered + 1)
         is_done = self.closing and not self._count
-        if self.kept.log.broken or self._died_at == number or is_done:
+        if self.kept.log.broken or is_done or not self._endings.go_on(bool(self._sent)):
             self._end(fault)
             return
-        self._died_at = number
         asked = f" ({self._sent[0].named()})" if self._sent else ""
         LOG.warning("%s%s: it is started again, and given the log's lines", fault, asked)
         self.metrics.restarts += 1
@@ -464,19 +464,20 @@ class Core:
     # Compaction, and the end.
 
     async def compact(self, capacity: int) -> None:
-        """Puts the records in the place of the log's lines, with that much room in the queues. Calls wait meanwhile."""
+        """Puts snapshots in the place of the log's lines, with that much room in the queues. Calls wait meanwhile."""
         await self._quiet()
         self._pipes.close()
         try:
             former = await self._loop.run_in_executor(None, self.kept.next_generation, capacity)
             await self._loop.run_in_executor(None, self.kept.end, former)
             self._answered = self._synced = self.kept.lines
-            self._died_at = -1
+            self._endings.answered()
         finally:
             self._speak()
             self._held_by.discard("compacting")
             self.called = True
-            # Each task that waits is in its queue again.
+            # Each task that was dispatched and waits is in its queue again, and full queues may have more room now.
+            self.ask_turns(self.ledger.made_room())
             self._wake(self.polls.wake_all())
 
     async def _quiet(self) -> None:

@@ -1,8 +1,9 @@
-"""Which runs there are, by the records that a compacted log goes on from, or by those of a journal.
+"""Which runs there are, by the snapshots or records that a compacted log goes on from, or by those of a journal.
 
-A record has the requests of a shard and not their replies: what may have begun a run stands in it, and
-whether it did is asked of the service. Runs have the ordinals 1, 2, 3 .. of their shard in the order in which
-they began, so the run of the next ordinal is that of the first request that it can be of.
+A snapshot has the runs of a shard with their workflow IDs, up to its moment. A record has the requests of a shard and not
+their replies: what may have begun a run stands in it, and whether it did is asked of the service. Runs have the ordinals
+1, 2, 3 .. of their shard in the order in which they began, so the run of the next ordinal is that of the first request that
+it can be of.
 """
 
 from __future__ import annotations
@@ -14,24 +15,29 @@ from typing import Dict, Iterable, Iterator, List, Optional, Union
 from wfserve.durable import DurableService
 from wfserve.durable.kept import KeptProgram
 from wfserve.ids import run_id, run_of_token
+from wfserve.snapshots import begins_run, gone_in, run_of
 from wfserve.types import Request
 
 from .listing import Workflows, commands_in
 
 
-# Only lines with one of these may begin a run.
+# Only a record's lines with one of these may begin a run.
+ENTRY = b'{"pass":'
 MARKS = (b'"op":"start"', b'"op":"signal_with_start"', b'"kind":"start_child"', b'"ContinueAsNewWorkflowExecution"')
 ASKED_AT_ONCE = 1_000
 
 
 @dataclass
 class Beginning:
-    """A request that may have begun a run. One that continues a run names that in the place of its workflow ID."""
+    """A request that may have begun a run, or a run of a snapshot. One that continues a run names that in the place of its
+    workflow ID."""
 
     workflow_id: Optional[str]
     workflow_type: str
     at: int
     continues: Optional[str] = None
+    # Of a run of a snapshot its ordinal, and else 0.
+    ordinal: int = 0
 
 
 def beginning_in(request: Request, service: int) -> Optional[Beginning]:
@@ -49,13 +55,18 @@ def beginning_in(request: Request, service: int) -> Optional[Beginning]:
 
 
 def beginnings(record: Iterable[bytes], service: int) -> Iterator[Beginning]:
-    """What may have begun a run, in the order of the lines of a shard's record."""
+    """What may have begun a run, in the order of the lines of a shard's snapshot and record."""
+    ordinal = 0
     for line in record:
-        if not any(mark in line for mark in MARKS):
-            continue
-        found = beginning_in(json.loads(line)["request"], service)
-        if found is not None:
-            yield found
+        ordinal += gone_in(line)
+        if begins_run(line):
+            ordinal += 1
+            run = run_of(line, ordinal)
+            yield Beginning(run.workflow_id, run.workflow_type, run.at, ordinal=ordinal)
+        elif line.startswith(ENTRY) and any(mark in line for mark in MARKS):
+            found = beginning_in(json.loads(line)["request"], service)
+            if found is not None:
+                yield found
 
 
 class Recorded:
@@ -70,8 +81,9 @@ class Recorded:
     def add_all(self) -> None:
         for shard, record in enumerate(self._service.record_lines()):
             found = list(beginnings(record, self._service.settings.service))
-            self._ask_latest({it.workflow_id for it in found if it.workflow_id is not None})
+            self._ask_latest({it.workflow_id for it in found if it.workflow_id is not None and not it.ordinal})
             if self._service.settings.retention:
+                self._add_kept(shard, [it for it in found if it.ordinal])
                 self._add_latest(found)
             else:
                 self._add_in_order(shard, found)
@@ -86,6 +98,15 @@ class Recorded:
                 if "run" in reply:
                     self._known[reply["run"]] = workflow_id
 
+    def _add_kept(self, shard: int, found: List[Beginning]) -> None:
+        """Adds the runs of a snapshot but for those that were deleted since."""
+        for begin in range(0, len(found), ASKED_AT_ONCE):
+            part = [(it, run_id(self._service.settings.service, shard, it.ordinal)) for it in found[begin:][:ASKED_AT_ONCE]]
+            asked = [{"op": "describe", "workflow_id": it.workflow_id, "run": run} for it, run in part]
+            for (it, run), reply in zip(part, self._service.read_all(asked)):
+                if it.workflow_id is not None and "error" not in reply:
+                    self._workflows.add(it.workflow_id, run, it.workflow_type, it.at)
+
     def _add_latest(self, found: List[Beginning]) -> None:
         """Of what a retention deleted nothing is known, and so not whose ordinals these were."""
         latest = {workflow_id: run for run, workflow_id in self._known.items()}
@@ -96,9 +117,10 @@ class Recorded:
     def _add_in_order(self, shard: int, found: List[Beginning]) -> None:
         ordinal = 1
         for it in found:
+            ordinal = it.ordinal or ordinal
             run = run_id(self._service.settings.service, shard, ordinal)
             workflow_id = it.workflow_id if it.continues is None else self._known.get(it.continues)
-            if workflow_id is not None and self._is_of(run, workflow_id):
+            if workflow_id is not None and (it.ordinal or self._is_of(run, workflow_id)):
                 self._known[run] = workflow_id
                 self._workflows.add(workflow_id, run, it.workflow_type, it.at)
                 ordinal += 1

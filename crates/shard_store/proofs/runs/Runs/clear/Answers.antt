@@ -10,10 +10,10 @@ record At (slots : List ℕ) (k s : ℕ) : Type 0 where
   low : k < length slots
   is : s ≡ slot_of slots k
 
-at : (v : RunsView) (slots : List ℕ) (kept : List RunView) (k s : ℕ) → map (in_slot kept) slots ≡ v.items → k < length v.items → s ≡ slice_index_or slots k s → At slots k s
+at : (v : RunsView) (slots : List ℕ) (kept : List RunView) (k s : ℕ) → map (in_slot kept) slots ≡ v.items → k < length v.items → s ≡ slice_index_or slots k 0 → At slots k s
 at v slots kept k s items within read =
     let low : k < length slots = omega (arith, within, ap length items, length-map slots (in_slot kept)) in
-    record { low = low; is = read ∙ get_or_default slots k s 0 low }
+    record { low = low; is = read }
 
 -- what swap_remove leaves
 removed : {A : Type 0} (xs ys : List A) (s n m : ℕ) → n ≡ length xs → m ≡ length ys → m + 1 ≡ n → ((d : A) → s + 1 < n → slice_index_or ys s d ≡ slice_index_or xs (n - 1) d) → ((k : ℕ) (d : A) → k ≢ s → k + 1 < n → slice_index_or ys k d ≡ slice_index_or xs k d) → IsMoved xs ys s
@@ -27,13 +27,13 @@ pub returns-then-slot-eq0 : goal.returns-then-slot-eq0
 returns-then-slot-eq0 g c =
     let t = c.self.inside in
     let items = ap (λ (v : RunsView). v.items) c.self.view_is in
-    let a = at c.args.self.now t.slots.items t.kept.items c.args.index c.index-slot.result.now items c.requires c.index-slot.ensures in
+    let a = at c.args.self.now t.slots.items t.kept.items c.args.index c.get-slot.result items c.requires c.get-slot.ensures in
     sym items ∙ items-cleared t.kept.items t.slots.items c.args.index c.self.invariant.first (sym a.is ∙ c.if-slot-eq0.true) ∙ ap (λ l. slice_set l c.args.index empty_place) items
 
 pub swap_remove-requires-2 : goal.swap_remove-requires-2
 swap_remove-requires-2 g c =
     let t = c.self.inside in
-    let a = at c.args.self.now t.slots.items t.kept.items c.args.index c.index-slot.result.now (ap (λ (v : RunsView). v.items) c.self.view_is) c.requires c.index-slot.ensures in
+    let a = at c.args.self.now t.slots.items t.kept.items c.args.index c.get-slot.result (ap (λ (v : RunsView). v.items) c.self.view_is) c.requires c.get-slot.ensures in
     omega (arith, a.is, c.self.invariant.there c.args.index a.low, c.self.invariant.count, t.places.ok.0)
 
 -- the slots, and what is at the places, after it
@@ -41,7 +41,7 @@ record Behind (v : RunsView) (now left : List ℕ) (fewer : List RunView) (k : �
   are : AreSlots now left fewer
   items : map (in_slot fewer) now ≡ slice_set v.items k empty_place
 
-module _ (v : RunsView) (slots places left : List ℕ) (kept fewer : List RunView) (k s n : ℕ) (h : AreSlots slots places kept) (items : map (in_slot kept) slots ≡ v.items) (within : k < length v.items) (read : s ≡ slice_index_or slots k s)
+module _ (v : RunsView) (slots places left : List ℕ) (kept fewer : List RunView) (k s n : ℕ) (h : AreSlots slots places kept) (items : map (in_slot kept) slots ≡ v.items) (within : k < length v.items) (read : s ≡ slice_index_or slots k 0)
     (some : s ≢ 0) (moved_s : IsMoved kept fewer s) (places_s : IsMoved places left s) (count : n ≡ length fewer) where
   here : At slots k s
   here = at v slots kept k s items within read
@@ -82,30 +82,40 @@ pub invariant_of-self : goal.invariant_of-self
 invariant_of-self g c =
     let t = c.self.inside in
     let items = ap (λ (v : RunsView). v.items) c.self.view_is in
-    let kept = removed t.kept.items c.swap_remove.new.self.items c.index-slot.result.now _ _ t.kept.ok.0 c.swap_remove.new.self.ok.0 c.swap_remove.ensures.len c.swap_remove.ensures.by_index.0 c.swap_remove.ensures.by_index.1 in
-    let places = removed t.places.items c.swap_remove-2.new.self.items c.index-slot.result.now _ _ t.places.ok.0 c.swap_remove-2.new.self.ok.0 c.swap_remove-2.ensures.len c.swap_remove-2.ensures.by_index.0 c.swap_remove-2.ensures.by_index.1 in
-    (behind-other c.args.self.now t.slots.items t.places.items c.swap_remove-2.new.self.items t.kept.items c.swap_remove.new.self.items c.args.index c.index-slot.result.now c.len.result c.self.invariant items c.requires c.index-slot.ensures c.if-slot-eq0.false kept places (c.len.ensures ∙ c.swap_remove.new.self.ok.0) c.index-moved.result.now c.index-moved.ensures c.if-slot-len.true).are
+    let kept = removed t.kept.items c.swap_remove.new.self.items c.get-slot.result _ _ t.kept.ok.0 c.swap_remove.new.self.ok.0 c.swap_remove.ensures.len c.swap_remove.ensures.by_index.0 c.swap_remove.ensures.by_index.1 in
+    let places = removed t.places.items c.swap_remove-2.new.self.items c.get-slot.result _ _ t.places.ok.0 c.swap_remove-2.new.self.ok.0 c.swap_remove-2.ensures.len c.swap_remove-2.ensures.by_index.0 c.swap_remove-2.ensures.by_index.1 in
+    let freed = c.give_back.ensures.items ∙ c.replace.ensures.items in
+    let written = c.replace-then-slot-len.ensures.items ∙ ap (λ l. slice_set l c.index-moved.result.now c.get-slot.result) freed in
+    (subst (λ (l : List ℕ). Behind c.args.self.now l c.swap_remove-2.new.self.items c.swap_remove.new.self.items c.args.index) (sym written)
+    (behind-other c.args.self.now t.slots.items t.places.items c.swap_remove-2.new.self.items t.kept.items c.swap_remove.new.self.items c.args.index c.get-slot.result c.len.result c.self.invariant items c.requires c.get-slot.ensures c.if-slot-eq0.false kept places (c.len.ensures ∙ c.swap_remove.new.self.ok.0) c.index-moved.result.now c.index-moved.ensures c.if-slot-len.true)).are
 
 pub invariant_of-self-else-slot-len : goal.invariant_of-self-else-slot-len
 invariant_of-self-else-slot-len g c =
     let t = c.self.inside in
     let items = ap (λ (v : RunsView). v.items) c.self.view_is in
-    let kept = removed t.kept.items c.swap_remove.new.self.items c.index-slot.result.now _ _ t.kept.ok.0 c.swap_remove.new.self.ok.0 c.swap_remove.ensures.len c.swap_remove.ensures.by_index.0 c.swap_remove.ensures.by_index.1 in
-    let places = removed t.places.items c.swap_remove-2.new.self.items c.index-slot.result.now _ _ t.places.ok.0 c.swap_remove-2.new.self.ok.0 c.swap_remove-2.ensures.len c.swap_remove-2.ensures.by_index.0 c.swap_remove-2.ensures.by_index.1 in
-    (behind-last c.args.self.now t.slots.items t.places.items c.swap_remove-2.new.self.items t.kept.items c.swap_remove.new.self.items c.args.index c.index-slot.result.now c.len.result c.self.invariant items c.requires c.index-slot.ensures c.if-slot-eq0.false kept places (c.len.ensures ∙ c.swap_remove.new.self.ok.0) (omega (arith, c.if-slot-len.false))).are
+    let kept = removed t.kept.items c.swap_remove.new.self.items c.get-slot.result _ _ t.kept.ok.0 c.swap_remove.new.self.ok.0 c.swap_remove.ensures.len c.swap_remove.ensures.by_index.0 c.swap_remove.ensures.by_index.1 in
+    let places = removed t.places.items c.swap_remove-2.new.self.items c.get-slot.result _ _ t.places.ok.0 c.swap_remove-2.new.self.ok.0 c.swap_remove-2.ensures.len c.swap_remove-2.ensures.by_index.0 c.swap_remove-2.ensures.by_index.1 in
+    let freed = c.give_back.ensures.items ∙ c.replace.ensures.items in
+    (subst (λ (l : List ℕ). Behind c.args.self.now l c.swap_remove-2.new.self.items c.swap_remove.new.self.items c.args.index) (sym freed)
+    (behind-last c.args.self.now t.slots.items t.places.items c.swap_remove-2.new.self.items t.kept.items c.swap_remove.new.self.items c.args.index c.get-slot.result c.len.result c.self.invariant items c.requires c.get-slot.ensures c.if-slot-eq0.false kept places (c.len.ensures ∙ c.swap_remove.new.self.ok.0) (omega (arith, c.if-slot-len.false)))).are
 
 pub returns-then-slot-len : goal.returns-then-slot-len
 returns-then-slot-len g c =
     let t = c.self.inside in
     let items = ap (λ (v : RunsView). v.items) c.self.view_is in
-    let kept = removed t.kept.items c.swap_remove.new.self.items c.index-slot.result.now _ _ t.kept.ok.0 c.swap_remove.new.self.ok.0 c.swap_remove.ensures.len c.swap_remove.ensures.by_index.0 c.swap_remove.ensures.by_index.1 in
-    let places = removed t.places.items c.swap_remove-2.new.self.items c.index-slot.result.now _ _ t.places.ok.0 c.swap_remove-2.new.self.ok.0 c.swap_remove-2.ensures.len c.swap_remove-2.ensures.by_index.0 c.swap_remove-2.ensures.by_index.1 in
-    (behind-other c.args.self.now t.slots.items t.places.items c.swap_remove-2.new.self.items t.kept.items c.swap_remove.new.self.items c.args.index c.index-slot.result.now c.len.result c.self.invariant items c.requires c.index-slot.ensures c.if-slot-eq0.false kept places (c.len.ensures ∙ c.swap_remove.new.self.ok.0) c.index-moved.result.now c.index-moved.ensures c.if-slot-len.true).items
+    let kept = removed t.kept.items c.swap_remove.new.self.items c.get-slot.result _ _ t.kept.ok.0 c.swap_remove.new.self.ok.0 c.swap_remove.ensures.len c.swap_remove.ensures.by_index.0 c.swap_remove.ensures.by_index.1 in
+    let places = removed t.places.items c.swap_remove-2.new.self.items c.get-slot.result _ _ t.places.ok.0 c.swap_remove-2.new.self.ok.0 c.swap_remove-2.ensures.len c.swap_remove-2.ensures.by_index.0 c.swap_remove-2.ensures.by_index.1 in
+    let freed = c.give_back.ensures.items ∙ c.replace.ensures.items in
+    let written = c.replace-then-slot-len.ensures.items ∙ ap (λ l. slice_set l c.index-moved.result.now c.get-slot.result) freed in
+    (subst (λ (l : List ℕ). Behind c.args.self.now l c.swap_remove-2.new.self.items c.swap_remove.new.self.items c.args.index) (sym written)
+    (behind-other c.args.self.now t.slots.items t.places.items c.swap_remove-2.new.self.items t.kept.items c.swap_remove.new.self.items c.args.index c.get-slot.result c.len.result c.self.invariant items c.requires c.get-slot.ensures c.if-slot-eq0.false kept places (c.len.ensures ∙ c.swap_remove.new.self.ok.0) c.index-moved.result.now c.index-moved.ensures c.if-slot-len.true)).items
 
 pub returns-else-slot-len : goal.returns-else-slot-len
 returns-else-slot-len g c =
     let t = c.self.inside in
     let items = ap (λ (v : RunsView). v.items) c.self.view_is in
-    let kept = removed t.kept.items c.swap_remove.new.self.items c.index-slot.result.now _ _ t.kept.ok.0 c.swap_remove.new.self.ok.0 c.swap_remove.ensures.len c.swap_remove.ensures.by_index.0 c.swap_remove.ensures.by_index.1 in
-    let places = removed t.places.items c.swap_remove-2.new.self.items c.index-slot.result.now _ _ t.places.ok.0 c.swap_remove-2.new.self.ok.0 c.swap_remove-2.ensures.len c.swap_remove-2.ensures.by_index.0 c.swap_remove-2.ensures.by_index.1 in
-    (behind-last c.args.self.now t.slots.items t.places.items c.swap_remove-2.new.self.items t.kept.items c.swap_remove.new.self.items c.args.index c.index-slot.result.now c.len.result c.self.invariant items c.requires c.index-slot.ensures c.if-slot-eq0.false kept places (c.len.ensures ∙ c.swap_remove.new.self.ok.0) (omega (arith, c.if-slot-len.false))).items
+    let kept = removed t.kept.items c.swap_remove.new.self.items c.get-slot.result _ _ t.kept.ok.0 c.swap_remove.new.self.ok.0 c.swap_remove.ensures.len c.swap_remove.ensures.by_index.0 c.swap_remove.ensures.by_index.1 in
+    let places = removed t.places.items c.swap_remove-2.new.self.items c.get-slot.result _ _ t.places.ok.0 c.swap_remove-2.new.self.ok.0 c.swap_remove-2.ensures.len c.swap_remove-2.ensures.by_index.0 c.swap_remove-2.ensures.by_index.1 in
+    let freed = c.give_back.ensures.items ∙ c.replace.ensures.items in
+    (subst (λ (l : List ℕ). Behind c.args.self.now l c.swap_remove-2.new.self.items c.swap_remove.new.self.items c.args.index) (sym freed)
+    (behind-last c.args.self.now t.slots.items t.places.items c.swap_remove-2.new.self.items t.kept.items c.swap_remove.new.self.items c.args.index c.get-slot.result c.len.result c.self.invariant items c.requires c.get-slot.ensures c.if-slot-eq0.false kept places (c.len.ensures ∙ c.swap_remove.new.self.ok.0) (omega (arith, c.if-slot-len.false)))).items

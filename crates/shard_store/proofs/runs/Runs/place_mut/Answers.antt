@@ -11,27 +11,27 @@ record At (slots : List ℕ) (kept : List RunView) (k s : ℕ) : Type 0 where
   some : 0 < slot_of slots k
   is : s ≡ slot_of slots k
 
-at : (v : RunsView) (slots places : List ℕ) (kept : List RunView) (k s : ℕ) → AreSlots slots places kept → map (in_slot kept) slots ≡ v.items → slice_index_or v.items k empty_place ≢ empty_place → s ≡ slice_index_or slots k s → At slots kept k s
+at : (v : RunsView) (slots places : List ℕ) (kept : List RunView) (k s : ℕ) → AreSlots slots places kept → map (in_slot kept) slots ≡ v.items → slice_index_or v.items k empty_place ≢ empty_place → s ≡ slice_index_or slots k 0 → At slots kept k s
 at v slots places kept k s h items there read =
     let begun : slice_index_or (map (in_slot kept) slots) k empty_place ≢ empty_place = (λ none. there (sym (ap (λ l. slice_index_or l k empty_place) items) ∙ none)) in
     let low : k < length slots = omega (arith, there-low (map (in_slot kept) slots) k begun, length-map slots (in_slot kept)) in
-    record { low = low; some = there-slot kept slots k h.first begun; is = read ∙ get_or_default slots k s 0 low }
+    record { low = low; some = there-slot kept slots k h.first begun; is = read }
 
-pub index-requires : goal.index-requires
-index-requires g c =
+pub get-slot-requires : goal.get-slot-requires
+get-slot-requires g c =
     let low = there-low c.args.self.now.items c.args.index c.requires in
-    omega (arith, low, ap (λ (v : RunsView). length v.items) c.self.view_is, length-map c.self.inside.slots.items (in_slot c.self.inside.kept.items), c.self.inside.slots.ok.0)
+    omega (arith, low, ap (λ (v : RunsView). length v.items) c.self.view_is, length-map c.self.inside.slots.items (in_slot c.self.inside.kept.items))
 
 pub index_mut-requires : goal.index_mut-requires
 index_mut-requires g c =
     let t = c.self.inside in
-    let a = at c.args.self.now t.slots.items t.places.items t.kept.items c.args.index c.index.result.now c.self.invariant (ap (λ (v : RunsView). v.items) c.self.view_is) c.requires c.index.ensures in
+    let a = at c.args.self.now t.slots.items t.places.items t.kept.items c.args.index c.get-slot.result c.self.invariant (ap (λ (v : RunsView). v.items) c.self.view_is) c.requires c.get-slot.ensures in
     omega (arith, a.is, c.self.invariant.there c.args.index a.low, t.kept.ok.0)
 
 pub invariant_of-self-lent : goal.invariant_of-self-lent
 invariant_of-self-lent g c w =
     let t = c.self.inside in
-    let a = at c.args.self.now t.slots.items t.places.items t.kept.items c.args.index c.index.result.now c.self.invariant (ap (λ (v : RunsView). v.items) c.self.view_is) c.requires c.index.ensures in
+    let a = at c.args.self.now t.slots.items t.places.items t.kept.items c.args.index c.get-slot.result c.self.invariant (ap (λ (v : RunsView). v.items) c.self.view_is) c.requires c.get-slot.ensures in
     subst (λ s. AreSlots t.slots.items t.places.items (slice_set t.kept.items s w)) (sym a.is) (written t.slots.items t.places.items t.kept.items c.args.index w c.self.invariant a.low a.some)
 
 pub returns : goal.returns
@@ -39,10 +39,10 @@ returns g c =
     let t = c.self.inside in
     let k = c.args.index in
     let items = ap (λ (v : RunsView). v.items) c.self.view_is in
-    let a = at c.args.self.now t.slots.items t.places.items t.kept.items k c.index.result.now c.self.invariant items c.requires c.index.ensures in
+    let a = at c.args.self.now t.slots.items t.places.items t.kept.items k c.get-slot.result c.self.invariant items c.requires c.get-slot.ensures in
     let read : slice_index_or c.args.self.now.items k empty_place ≡ c.index_mut.result.now =
     sym (ap (λ l. slice_index_or l k empty_place) items) ∙ item-at t.kept.items t.slots.items k c.self.invariant.first
-    ∙ ap (in_slot t.kept.items) (sym a.is) ∙ get_or_default t.kept.items c.index.result.now empty_place c.index_mut.result.now (omega (arith, a.is, c.self.invariant.there k a.low)) ∙ sym c.index_mut.ensures.value in
+    ∙ ap (in_slot t.kept.items) (sym a.is) ∙ get_or_default t.kept.items c.get-slot.result empty_place c.index_mut.result.now (omega (arith, a.is, c.self.invariant.there k a.low)) ∙ sym c.index_mut.ensures.value in
     let within : k < length c.args.self.now.items = there-low c.args.self.now.items k c.requires in (
       (
         refl,

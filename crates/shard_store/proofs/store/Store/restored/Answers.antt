@@ -4,7 +4,7 @@ use Rattle.transfer.specs.Logs.{Waiting, counted_off}
 use Rattle.shard_issued.specs.Sending.{KeepsTransfers, TransfersView, all_outgoing}
 use Rattle.transfer.proofs.ContentLemmas.{with_all_sent-nil}
 use Rattle.shard_issued.proofs.DispatchLemmas.{all-looked-up}
-use Rattle.std.proofs.Common.{List, [], length, map, ap, arith, sym, subst, ◌∙◌, lit<, ◌≡◌, ℕ}
+use Rattle.std.proofs.Common.{length, map, ap, sym, subst, ◌∙◌, lit<, ℕ}
 use Rattle.std.specs.Prelude.{bytes_eq, option_map, string_bytes}
 use Rattle.std.specs.Map.{lookup}
 use Rattle.service_model.specs.Outcome.{latest_run}

@@ -1,0 +1,5 @@
+pub mod Orders
+pub mod Histories
+pub mod Counts
+pub mod CountedPairs
+pub mod StoreCounts

@@ -1,0 +1,148 @@
+//! The list, and how it grows.
+
+ghost use Rattle.std.specs.Prelude.{◌≡◌, ◌≢◌, ◌⊎◌, ◌+◌, ◌<◌, ◌≤◌, ◌∷◌, ◌++◌, [], OnErr, OnOk, length, slice_index_or, slice_set};
+
+use crate::page::{Page, SIZE};
+use crate::pages::{give_back, make, number_in, replace, write};
+use std::alloc::{AllocError, Global};
+use std::marker::Model;
+
+/// No list has room for more than so many pages.
+const MOST_PAGES: usize = 1 << 50;
+
+/// A list of numbers that grows at its end. A page of 1,024 numbers that are all 0 takes the room of
+/// its name alone, once numbers come after it.
+pub struct SparseNumbers {
+    pages: Vec<Page>,
+    /// How many numbers there are.
+    len: usize,
+    alloc: Global,
+}
+
+impl Drop for SparseNumbers {
+    fn drop(self) {
+        let SparseNumbers {
+            pages: _,
+            len: _,
+            alloc: _,
+        } = self;
+    }
+}
+
+impl Model for SparseNumbers {
+    ghost use Rattle.std.specs.Prelude.{◌-◌, ◌*◌, length};
+    ghost use Rattle.sparse_numbers.specs.Numbers.{Numbers};
+    ghost use Rattle.sparse_numbers.specs.Pages.{IsPaged, first_numbers, number_at};
+
+    ghost Value = { Numbers };
+
+    ghost view = { λ a. record {
+      items = first_numbers (number_at a.pages.items) a.len;
+      room = 1024 * length a.pages.items - a.len;
+    } };
+
+    ghost invariant = { λ a. IsPaged a.pages.items a.len };
+}
+
+impl SparseNumbers {
+    /// An empty list with no room, which takes no memory.
+    pub fn new(alloc: Global) -> SparseNumbers
+        ensures { result.items ≡ [] }
+    {
+        SparseNumbers {
+            pages: Vec::new(alloc),
+            len: 0,
+            alloc,
+        }
+    }
+
+    /// How many numbers there are.
+    pub fn len(&self) -> usize
+        ensures { result ≡ length self.now.items }
+    {
+        self.len
+    }
+
+    /// Makes room for so many more numbers.
+    ///
+    /// # Errors
+    /// Where memory was refused, or the list would have 2^60 numbers and more. They stay as they were.
+    pub fn reserve(&mut self, additional: usize) -> Result<(), AllocError>
+        ensures same { self.new.items ≡ self.old.items }
+        ensures ok { OnOk result (additional ≤ self.new.room) }
+        ensures room { self.old.room ≤ self.new.room }
+    {
+        while self.pages.len() * SIZE - self.len < additional {
+            if self.pages.len() >= MOST_PAGES {
+                return Err(AllocError);
+            }
+            let page = Page::zeros(self.alloc)?;
+            self.pages.push(page)?;
+        }
+        Ok(())
+    }
+
+    /// One more number, after the others. It takes no memory.
+    pub fn push_reserved(&mut self, number: usize)
+        requires { 0 < self.old.room }
+        ensures items { self.new.items ≡ self.old.items ++ number ∷ [] }
+        ensures room { self.new.room + 1 ≡ self.old.room }
+    {
+        write(&mut self.pages, self.len, number);
+        self.len += 1;
+        if self.len % SIZE == 0 {
+            give_back(&mut self.pages, self.alloc, self.len / SIZE - 1);
+        }
+    }
+
+    /// The number with this index, which counts from 0.
+    pub fn get(&self, index: usize) -> usize
+        requires { index < length self.now.items }
+        ensures { result ≡ slice_index_or self.now.items index 0 }
+    {
+        number_in(&self.pages, index)
+    }
+
+    /// Writes a number in the place of another.
+    ///
+    /// # Errors
+    /// Where memory was refused, which is asked for where the page is not there and the number is not 0.
+    /// Nothing changes then.
+    pub fn set(&mut self, index: usize, number: usize) -> Result<(), AllocError>
+        requires { index < length self.old.items }
+        ensures ok { OnOk result (self.new.items ≡ slice_set self.old.items index number) }
+        ensures err { OnErr result (self.new.items ≡ self.old.items) }
+        ensures room { self.new.room ≡ self.old.room }
+    {
+        if number == 0 {
+            self.replace(index, 0);
+            return Ok(());
+        }
+        make(&mut self.pages, self.alloc, index)?;
+        write(&mut self.pages, index, number);
+        Ok(())
+    }
+
+    /// Writes a number in the place of one that is not 0, or 0 in the place of any. It takes no
+    /// memory, and gives none back.
+    pub fn replace(&mut self, index: usize, number: usize)
+        requires there { index < length self.old.items }
+        requires some { (number ≡ 0) ⊎ (slice_index_or self.old.items index 0 ≢ 0) }
+        ensures items { self.new.items ≡ slice_set self.old.items index number }
+        ensures room { self.new.room ≡ self.old.room }
+    {
+        replace(&mut self.pages, index, number);
+    }
+
+    /// Gives back the memory of this number's page, where all of the page are 0 and others come after it.
+    pub fn give_back(&mut self, index: usize)
+        requires { index < length self.old.items }
+        ensures items { self.new.items ≡ self.old.items }
+        ensures room { self.new.room ≡ self.old.room }
+    {
+        let page = index / SIZE;
+        if page < self.len / SIZE {
+            give_back(&mut self.pages, self.alloc, page);
+        }
+    }
+}
