@@ -25,7 +25,8 @@ pub(crate) fn fill_up<R: Abort>(rt: &R, numbers: &mut SparseNumbers, count: usiz
 /// Makes so many first numbers 0, and gives back what that leaves free.
 pub(crate) fn clear_first(numbers: &mut SparseNumbers, count: usize)
     requires { count ≤ length numbers.old.items }
-    ensures { length numbers.new.items ≡ length numbers.old.items }
+    ensures items { length numbers.new.items ≡ length numbers.old.items }
+    ensures room { numbers.new.room ≡ numbers.old.room }
 {
     for index in 0..count {
         numbers.replace(index, 0);

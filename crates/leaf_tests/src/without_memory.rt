@@ -46,22 +46,21 @@ fn deadlines<R: Abort + AllocGlobal>(rt: &R) {
     ask_for(rt, REFUSE_NONE);
 }
 
-/// Whether memory is refused now.
-fn is_refused<R: Abort + AllocGlobal>(rt: &R) -> bool {
-    Vec::<u8>::with_capacity(rt.alloc(), 1).is_err()
-}
-
-/// The first page of a list was given back, so a number there wants memory again.
+/// Where pages were given back, the list still takes no memory for zeros, and for numbers on the other pages.
 fn numbers<R: Abort + AllocGlobal>(rt: &R) {
     let mut numbers = SparseNumbers::new(rt.alloc());
     fill_up(rt, &mut numbers, 1025, 7);
-    clear_first(&mut numbers, 1024);
+    let Ok(()) = numbers.reserve(3000) else {
+        panic!(rt; "no memory")
+    };
     ask_for(rt, REFUSE_ALL);
-    assert!(rt; numbers.set(5, 1).is_err() == is_refused(rt));
+    clear_first(&mut numbers, 1024);
     assert!(rt; numbers.set(6, 0).is_ok() && numbers.get(6) == 0);
     assert!(rt; numbers.set(1024, 3).is_ok() && numbers.get(1024) == 3);
+    numbers.extend_zeros_reserved(2500);
+    numbers.push_reserved(5);
+    assert!(rt; numbers.get(3524) == 0 && numbers.get(3525) == 5);
     ask_for(rt, REFUSE_NONE);
-    assert!(rt; numbers.set(5, 1).is_ok() && numbers.get(5) == 1);
 }
 
 fn transfers<R: Abort + AllocGlobal>(rt: &R) {

@@ -32,25 +32,25 @@ impl<T: KeepsRun> Store<T> {
         let key = String::from_str(self.alloc, id)?;
         let begun = new_run(self.alloc, moment, beginning)?;
         let run = Place::new(self.alloc, begun)?;
-        self.reserve_run()?;
+        self.reserve_runs(1)?;
         Ok(NewRun { run, key })
     }
 
-    /// Makes room for one more run.
-    pub(crate) fn reserve_run(&mut self) -> Result<(), AllocError>
+    /// Makes room for so many more runs.
+    pub(crate) fn reserve_runs(&mut self, additional: usize) -> Result<(), AllocError>
         ensures same { state self.new ≡ state self.old }
         ensures runs { self.new.runs ≡ self.old.runs }
-        ensures room { OnOk result (0 < self.new.room) }
+        ensures room { OnOk result (additional ≤ self.new.room) }
         ensures caught_up { OnOk result (IsCaughtUp self.new.changed) }
-        ensures few { OnOk result (length self.new.runs + 1 < 2 ^ 60) }
+        ensures few { OnOk result (length self.new.runs + additional < 2 ^ 60) }
     {
-        if self.runs.len() >= MOST_MEMBERS {
+        if additional > MOST_MEMBERS.saturating_sub(self.runs.len()) {
             return Err(AllocError);
         }
         self.catch_up()?;
-        self.runs.reserve(1)?;
-        self.deadlines.reserve(1)?;
-        self.dispatches.reserve(1)?;
-        self.index.reserve(1)
+        self.runs.reserve(additional)?;
+        self.deadlines.reserve(additional)?;
+        self.dispatches.reserve(additional)?;
+        self.index.reserve(additional)
     }
 }

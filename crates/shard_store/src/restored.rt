@@ -4,7 +4,7 @@
 //! What a run issued was counted, or waits and is restored itself: so what its history would issue again is
 //! dropped.
 
-ghost use Rattle.std.specs.Prelude.{◌≡◌, ◌+◌, ◌<◌, ◌^◌, ◌∷◌, ◌++◌, [], None, IfOk, OnOk, length, map};
+ghost use Rattle.std.specs.Prelude.{◌≡◌, ◌+◌, ◌<◌, ◌^◌, ◌≤◌, ◌∷◌, ◌++◌, [], IfOk, OnOk, length, map, replicate};
 ghost use Rattle.service_model.specs.RunState.{no_run};
 ghost use Rattle.shard_issued.specs.Outstanding.{IsCaughtUp};
 ghost use Rattle.shard_store.specs.ShardView.{IsSetup, state, states};
@@ -24,6 +24,9 @@ use std::alloc::{AllocError, Global};
 use timeouts::ByPlace;
 use wf_event::Boxed;
 use wf_event_values::Moment;
+
+/// For so many places of deleted runs room is made at once: more would take memory that is given back.
+const GONE_AT_ONCE: u64 = 1024;
 
 impl<T: KeepsRun> Store<T> {
     /// What a shard without runs keeps, of whose dispatches so many were counted, and of whose transfers
@@ -77,7 +80,7 @@ impl<T: KeepsRun> Store<T> {
     {
         let key = String::from_str(self.alloc, run.workflow_id().as_str())?;
         let run = Place::new(self.alloc, run)?;
-        self.reserve_run()?;
+        self.reserve_runs(1)?;
         self.add(NewRun { run, key });
         self.catch_up()?;
         self.drop_waiting();
@@ -93,32 +96,35 @@ impl<T: KeepsRun> Store<T> {
         self.dispatches.drop_waiting();
     }
 
-    /// The next place, of a run that was deleted.
+    /// The next places, of so many runs that were deleted.
     ///
     /// # Errors
     /// Where memory was refused.
-    pub fn restore_gone(&mut self) -> Result<(), AllocError>
+    pub fn restore_gone(&mut self, count: u64) -> Result<(), AllocError>
         ensures { OnOk result (state self.new
-            ≡ record (state self.old) { runs = states self.old.runs ++ no_run ∷ [] }) }
+            ≡ record (state self.old) { runs = states self.old.runs ++ replicate count no_run }) }
     {
-        self.reserve_run()?;
-        self.add_gone();
+        let mut left = count;
+        while left > 0 {
+            let some = left.min(GONE_AT_ONCE);
+            self.reserve_runs(some as usize)?;
+            self.add_gone(some as usize);
+            left -= some;
+        }
         Ok(())
     }
 
-    /// The next place, of a run that was deleted. Its deadline, of which there is none, is looked up later.
-    fn add_gone(&mut self)
-        requires caught_up { self.old.changed.made ≡ None }
-        requires room { 0 < self.old.room }
-        requires few { length self.old.runs + 1 < 2 ^ 60 }
+    /// The next places, of so many runs that were deleted. They have no deadline, and nothing to issue.
+    fn add_gone(&mut self, count: usize)
+        requires caught_up { IsCaughtUp self.old.changed }
+        requires room { count ≤ self.old.room }
+        requires few { length self.old.runs + count < 2 ^ 60 }
         ensures { state self.new
-            ≡ record (state self.old) { runs = states self.old.runs ++ no_run ∷ [] } }
+            ≡ record (state self.old) { runs = states self.old.runs ++ replicate count no_run } }
     {
-        let index = self.runs.len();
-        self.runs.push_gone();
-        self.deadlines.push_none();
-        self.dispatches.add_run();
-        self.changed.made = Some(index);
+        self.runs.extend_gone(count);
+        self.deadlines.extend_none(count);
+        self.dispatches.add_runs(count);
     }
 
     /// One more dispatch that waits, after the others.

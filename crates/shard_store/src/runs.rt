@@ -2,7 +2,7 @@
 //! nothing.
 
 ghost use Rattle.std.specs.Borrow.{sem};
-ghost use Rattle.std.specs.Prelude.{◌≡◌, ◌≢◌, ◌<◌, ◌≤◌, ◌++◌, ◌∷◌, [], IfOk, OnOk, length, slice_index_or, slice_set};
+ghost use Rattle.std.specs.Prelude.{◌≡◌, ◌≢◌, ◌<◌, ◌≤◌, ◌++◌, ◌∷◌, [], IfOk, OnOk, length, replicate, slice_index_or, slice_set};
 ghost use Rattle.mutable_state.specs.Steps.{after_step, FitStep};
 ghost use Rattle.mutable_state.specs.RunView.{HasRoomFor, RunView};
 ghost use Rattle.shard_store.specs.Places.{empty_place};
@@ -95,12 +95,12 @@ impl<T: KeepsRun> Runs<T> {
         self.slots.push_reserved(slot);
     }
 
-    /// One more place, of a run that was deleted. It takes no memory.
-    pub(crate) fn push_gone(&mut self)
-        requires { 0 < self.old.room }
-        ensures { self.new.items ≡ self.old.items ++ empty_place ∷ [] }
+    /// So many more places, of runs that were deleted. It takes no memory.
+    pub(crate) fn extend_gone(&mut self, count: usize)
+        requires { count ≤ self.old.room }
+        ensures { self.new.items ≡ self.old.items ++ replicate count empty_place }
     {
-        self.slots.push_reserved(0);
+        self.slots.extend_zeros_reserved(count);
     }
 
     /// Deletes what is at a place. It takes no memory, and where nothing is at the places about it memory is

@@ -1,7 +1,8 @@
 -- so many first numbers, as one is written or one comes
-use Rattle.std.proofs.Common.{◌≡◌, ◌≢◌, ℕ, zero, suc, ◌+◌, ◌<◌, ◌⊎◌, inl, inr, [], ◌∷◌, ◌++◌, length, slice_index_or, slice_set, refl, sym, ap, arith, ◌∙◌}
+use Rattle.std.proofs.Common.{◌≡◌, ◌≢◌, ℕ, zero, suc, ◌+◌, ◌<◌, ◌≤◌, ◌⊎◌, inl, inr, [], ◌∷◌, ◌++◌, length, slice_index_or, slice_set, append-nil, refl, sym, ap, arith, ◌∙◌}
+use Rattle.std.specs.Prelude.{replicate}
 use Rattle.std.proofs.lemmas.Bool.{cases_eq}
-use Rattle.std.proofs.lemmas.List.{ext_get_or, get_or-set_other, get_or-set_same, get_or_append_left, get_or_push, length-set, length_push}
+use Rattle.std.proofs.lemmas.List.{append_assoc, ext_get_or, get_or-set_other, get_or-set_same, get_or_append_left, get_or_push, length-set, length_push, replicate_more}
 use Rattle.sparse_numbers.specs.Numbers.{Numbers}
 use Rattle.sparse_numbers.specs.Pages.{first_numbers}
 
@@ -44,6 +45,20 @@ push-first f g n v here others =
     ap (first_numbers g) next
     ∙ ap (λ l. l ++ g n ∷ []) (same-first f g n (λ k low. others k (λ same. absurd (omega (arith, low, same)))))
     ∙ ap (λ w. first_numbers f n ++ w ∷ []) here
+
+-- so many came after them that are 0
+pub zeros-after : (f g : ℕ → ℕ) (n c : ℕ) → ((k : ℕ) → g k ≡ f k) → ((k : ℕ) → n ≤ k → f k ≡ 0) → first_numbers g (n + c) ≡ first_numbers f n ++ replicate c 0
+zeros-after f g n zero same blank =
+    let none : n + zero ≡ n = omega arith in
+    same-first f g (n + zero) (λ k low. same k) ∙ ap (first_numbers f) none ∙ sym (append-nil (first_numbers f n))
+zeros-after f g n (suc c) same blank =
+    let next : n + suc c ≡ suc (n + c) = omega arith in
+    let more : c + 1 ≡ suc c = omega arith in
+    ap (first_numbers g) next
+    ∙ ap (λ l. l ++ g (n + c) ∷ []) (zeros-after f g n c same blank)
+    ∙ ap (λ v. first_numbers f n ++ replicate c 0 ++ v ∷ []) (same (n + c) ∙ blank (n + c) (omega arith))
+    ∙ append_assoc (first_numbers f n) (replicate c 0) (0 ∷ [])
+    ∙ ap (λ l. first_numbers f n ++ l) (replicate_more c 0 ∙ ap (λ m. replicate m 0) more)
 
 -- what the list shows of them
 module _ (f : ℕ → ℕ) (n room : ℕ) (v : Numbers) (is : record { items = first_numbers f n; room = room } ≡ v) where

@@ -35,9 +35,10 @@ made ps i page low whole none zeros = same-set ps (i / 1024) page (omega (arith,
     empty k (inl nothing) = omega (arith, nothing)
     empty k (inr all) = absurd (none (omega (arith, all)))
 
-pub paged-written : (ps qs : List (List ℕ)) (len i v : ℕ) → IsPaged ps len → IsWritten ps qs i v → IsPaged qs len
-paged-written ps qs len i v h w = record {
+pub paged-written : (ps qs : List (List ℕ)) (len i v : ℕ) → i < len → IsPaged ps len → IsWritten ps qs i v → IsPaged qs len
+paged-written ps qs len i v low h w = record {
   whole = λ p. subst (λ n. (n ≡ 0) ⊎ (n ≡ 1024)) (sym (w.shape p)) (h.whole p);
+  blank = λ k from. w.others k (λ same. absurd (omega (arith, low, from, same))) ∙ h.blank k from;
   there = λ k from to. let was = h.there k from (omega (arith, to, w.count)) in omega (arith, was, w.shape (k / 1024));
   fits = omega (arith, h.fits, w.count);
   few = omega (arith, h.few, w.count);
@@ -46,6 +47,7 @@ paged-written ps qs len i v h w = record {
 pub paged-next : (ps : List (List ℕ)) (len : ℕ) → IsPaged ps len → len < 1024 * length ps → IsPaged ps (len + 1)
 paged-next ps len h low = record {
   whole = h.whole;
+  blank = λ k from. h.blank k (omega (arith, from));
   there = λ k from to. h.there k (omega (arith, from)) to;
   fits = omega (arith, low);
   few = h.few;
@@ -73,6 +75,7 @@ module _ (ps : List (List ℕ)) (page : List ℕ) (zeros : page ≡ replicate 10
   pub paged-more : (len : ℕ) → IsPaged ps len → length ps < 2 ^ 50 → IsPaged (ps ++ page ∷ []) len
   paged-more len h few = record {
     whole = λ p. whole p (cases_lt p (length ps)) (cases_eq p (length ps));
+    blank = λ k from. more-same k ∙ h.blank k from;
     there = λ k from to. there k from to (cases_lt (k / 1024) (length ps));
     fits = omega (arith, h.fits, longer);
     few = omega (arith, few, longer);

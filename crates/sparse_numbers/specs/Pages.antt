@@ -30,9 +30,10 @@ pub record IsWritten (ps qs : List (List ℕ)) (index number : ℕ) : Type 0 whe
 abbrev pub AreWhole : List (List ℕ) → Type 0
 AreWhole pages = (p : ℕ) → (length (page_in pages p) ≡ 0) ⊎ (length (page_in pages p) ≡ 1024)
 
--- pages with so many numbers: they are whole, and those for more numbers are there
+-- pages with so many numbers: they are whole, and those for more numbers are there and all 0
 pub record IsPaged (pages : List (List ℕ)) (len : ℕ) : Type 0 where
   pub whole : AreWhole pages
+  pub blank : (k : ℕ) → len ≤ k → number_at pages k ≡ 0
   pub there : (k : ℕ) → len ≤ k → k < 1024 * length pages → IsThere pages k
   pub fits : len ≤ 1024 * length pages
   pub few : length pages ≤ 2 ^ 50

@@ -1,6 +1,6 @@
 //! The list, and how it grows.
 
-ghost use Rattle.std.specs.Prelude.{◌≡◌, ◌≢◌, ◌⊎◌, ◌+◌, ◌<◌, ◌≤◌, ◌∷◌, ◌++◌, [], OnErr, OnOk, length, slice_index_or, slice_set};
+ghost use Rattle.std.specs.Prelude.{◌≡◌, ◌≢◌, ◌⊎◌, ◌+◌, ◌<◌, ◌≤◌, ◌∷◌, ◌++◌, [], OnErr, OnOk, length, replicate, slice_index_or, slice_set};
 
 use crate::page::{Page, SIZE};
 use crate::pages::{give_back, make, number_in, replace, write};
@@ -92,6 +92,20 @@ impl SparseNumbers {
         self.len += 1;
         if self.len % SIZE == 0 {
             give_back(&mut self.pages, self.alloc, self.len / SIZE - 1);
+        }
+    }
+
+    /// So many more numbers that are 0, after the others. It takes no memory, and gives back that of each
+    /// page of which all are 0.
+    pub fn extend_zeros_reserved(&mut self, count: usize)
+        requires { count ≤ self.old.room }
+        ensures items { self.new.items ≡ self.old.items ++ replicate count 0 }
+        ensures room { self.new.room + count ≡ self.old.room }
+    {
+        let first = self.len / SIZE;
+        self.len += count;
+        for page in first..self.len / SIZE {
+            give_back(&mut self.pages, self.alloc, page);
         }
     }
 

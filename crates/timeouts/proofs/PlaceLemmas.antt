@@ -184,6 +184,11 @@ pushed m ids kept = record {
     new : (k : ℕ) (id : DueId) → slice_index_or ids k None ≡ Some id → slice_index_or (ids ++ None ∷ []) k None ≡ Some id
     new k id at = same ids k ∙ at
 
+-- so many more numbers
+pub extended : (m : FinMap nat_cmp Due) (n : ℕ) (ids : List (Option DueId)) → IsByPlace m ids → IsByPlace m (ids ++ replicate n None)
+extended m zero ids kept = subst (λ l. IsByPlace m l) (sym (append-nil ids)) kept
+extended m (suc n) ids kept = subst (λ l. IsByPlace m l) (append_assoc ids (None ∷ []) (replicate n None)) (extended m n (ids ++ None ∷ []) (pushed m ids kept))
+
 -- the first of the members is the first of those at numbers
 pub least-at : (m : FinMap nat_cmp Due) (ids : List (Option DueId)) (d : Due) → IsByPlace m ids → IsLeastAt (get m) d → IsLeastAt (λ k. slice_index_or (map (known_by m) ids) k None) d
 least-at m ids d kept h = record {

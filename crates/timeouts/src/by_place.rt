@@ -1,6 +1,6 @@
 //! Deadlines by numbers, and the first of them.
 
-ghost use Rattle.std.specs.Prelude.{◌≡◌, ℕ, ◌+◌, ◌<◌, ◌≤◌, ◌∷◌, ◌++◌, [], OnErr, OnOk, IfSome, IfNone, None, Some, length, slice_set};
+ghost use Rattle.std.specs.Prelude.{◌≡◌, ℕ, ◌+◌, ◌<◌, ◌≤◌, ◌∷◌, ◌++◌, [], OnErr, OnOk, IfSome, IfNone, None, Some, length, replicate, slice_set};
 ghost use Rattle.timeouts.specs.Places.{ids_of, noted};
 ghost use Rattle.timeouts.specs.Slots.{due_at, IsLeastAt};
 ghost use Rattle.timeouts.specs.declared.due.Due.{Due};
@@ -63,6 +63,14 @@ impl ByPlace {
         ensures room { self.old.room ≤ self.new.room + 1 }
     {
         self.notes.push_reserved(0);
+    }
+
+    /// So many more numbers, at which no deadline is. It takes no memory.
+    pub fn extend_none(&mut self, count: usize)
+        requires { count ≤ self.old.room }
+        ensures { self.new.slots ≡ self.old.slots ++ replicate count None }
+    {
+        self.notes.extend_zeros_reserved(count);
     }
 
     /// Puts a deadline, or none, at a number in the place of what was there. Where memory is refused,

@@ -9,9 +9,9 @@ returns-clause-made g c =
     let b = c.args.beginning in
     record {
       place = record {
-        room = c.in_ok-reserve_run.ensures.room;
-        caught_up = c.in_ok-reserve_run.ensures.caught_up.made;
-        few = c.in_ok-reserve_run.ensures.few;
+        room = c.in_ok-reserve_runs.ensures.room;
+        caught_up = c.in_ok-reserve_runs.ensures.caught_up.made;
+        few = c.in_ok-reserve_runs.ensures.few;
         there = ap (λ (v : RunView). is_there v.state) c.in_ok-run.ensures ∙ ap is_there c.in_ok-begun.ensures ∙ there-begun c.args.moment b.facts b.request_id b.started;
         named = ap (λ (v : RunView). id_of v.state) c.in_ok-run.ensures ∙ ap id_of c.in_ok-begun.ensures ∙ id-of-begun c.args.moment b.facts b.request_id b.started ∙ sym (c.in_ok-key.ensures.ok ∙ c.as_str-id.ensures.value);
       };

@@ -10,7 +10,7 @@ invariant_of-self c =
     let t = c.self.inside in
     let room = ap (λ (v : Numbers). v.room) c.self.view_is in
     let low : t.len < 1024 * length t.pages.items = omega (arith, room, c.requires) in
-    c.give_back.ensures.paged (t.len + 1) (omega (arith, c.if-self-eq0.true)) (paged-written t.pages.items _ (t.len + 1) t.len c.args.number (paged-next t.pages.items t.len c.self.invariant low) c.write.ensures)
+    c.give_back.ensures.paged (t.len + 1) (omega (arith, c.if-self-eq0.true)) (paged-written t.pages.items _ (t.len + 1) t.len c.args.number (omega arith) (paged-next t.pages.items t.len c.self.invariant low) c.write.ensures)
 
 pub returns-then-self-eq0-clause-items : goal.returns-then-self-eq0-clause-items
 returns-then-self-eq0-clause-items c =

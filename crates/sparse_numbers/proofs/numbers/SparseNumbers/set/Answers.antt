@@ -13,7 +13,9 @@ pub invariant_of-self : goal.invariant_of-self
 invariant_of-self c = c.make.ensures.paged c.self.inside.len c.self.invariant
 
 pub invariant_of-self-2 : goal.invariant_of-self-2
-invariant_of-self-2 c = paged-written _ _ c.self.inside.len c.args.index c.args.number (c.make.ensures.paged c.self.inside.len c.self.invariant) c.write.ensures
+invariant_of-self-2 c =
+    let low = within (number_at c.self.inside.pages.items) c.self.inside.len _ _ c.self.view_is c.args.index c.requires in
+    paged-written _ _ c.self.inside.len c.args.index c.args.number low (c.make.ensures.paged c.self.inside.len c.self.invariant) c.write.ensures
 
 pub returns-clause-ok : goal.returns-clause-ok
 returns-clause-ok c =
