@@ -1,2 +1,2 @@
-mod NumberLemmas
+pub mod NumberLemmas
 mod PageLemmas

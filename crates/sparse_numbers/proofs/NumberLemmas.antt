@@ -1,6 +1,6 @@
 -- so many first numbers, as one is written or one comes
 use Rattle.std.proofs.Common.{◌≡◌, ◌≢◌, ℕ, zero, suc, ◌+◌, ◌<◌, ◌≤◌, ◌⊎◌, inl, inr, [], ◌∷◌, ◌++◌, length, slice_index_or, slice_set, append-nil, refl, sym, ap, arith, ◌∙◌}
-use Rattle.std.specs.Prelude.{replicate}
+use Rattle.std.specs.Prelude.{map, replicate}
 use Rattle.std.proofs.lemmas.Bool.{cases_eq}
 use Rattle.std.proofs.lemmas.List.{append_assoc, ext_get_or, get_or-set_other, get_or-set_same, get_or_append_left, get_or_push, length-set, length_push, replicate_more}
 use Rattle.sparse_numbers.specs.Numbers.{Numbers}
@@ -59,6 +59,11 @@ zeros-after f g n (suc c) same blank =
     ∙ ap (λ v. first_numbers f n ++ replicate c 0 ++ v ∷ []) (same (n + c) ∙ blank (n + c) (omega arith))
     ∙ append_assoc (first_numbers f n) (replicate c 0) (0 ∷ [])
     ∙ ap (λ l. first_numbers f n ++ l) (replicate_more c 0 ∙ ap (λ m. replicate m 0) more)
+
+-- what equal numbers stand for is the same
+pub map-replicate : {A B : Type 0} (f : A → B) (n : ℕ) (a : A) → map f (replicate n a) ≡ replicate n (f a)
+map-replicate f zero a = refl
+map-replicate f (suc n) a = ap (λ l. f a ∷ l) (map-replicate f n a)
 
 -- what the list shows of them
 module _ (f : ℕ → ℕ) (n room : ℕ) (v : Numbers) (is : record { items = first_numbers f n; room = room } ≡ v) where

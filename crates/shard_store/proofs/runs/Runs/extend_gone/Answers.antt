@@ -1,5 +1,6 @@
 use Rattle.std.proofs.Common.{◌∙◌, ◌++◌, ap, map, replicate}
-use Rattle.std.proofs.lemmas.List.{map-append, map-replicate}
+use Rattle.std.proofs.lemmas.List.{map-append}
+use Rattle.sparse_numbers.proofs.NumberLemmas.{map-replicate}
 use Rattle.shard_store.specs.Places.{RunsView, empty_place, in_slot}
 use Rattle.shard_store.proofs.runs.Runs.extend_gone.Goals as goal
 

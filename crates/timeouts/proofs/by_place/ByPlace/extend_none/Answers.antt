@@ -1,6 +1,7 @@
 use Rattle.std.proofs.Common.{ap, sym, subst, map, ◌∙◌, ◌++◌, replicate}
 use Rattle.std.specs.Prelude.{List, Option, None}
-use Rattle.std.proofs.lemmas.List.{map-append, map-replicate}
+use Rattle.std.proofs.lemmas.List.{map-append}
+use Rattle.sparse_numbers.proofs.NumberLemmas.{map-replicate}
 use Rattle.timeouts.specs.Slots.{Slots}
 use Rattle.timeouts.specs.declared.deadlines.DueId.{DueId}
 use Rattle.timeouts.specs.Places.{ids_of, known_by, noted, IsByPlace}
