@@ -1,4 +1,4 @@
-use Rattle.std.proofs.Common.{◌++◌, ◌+◌, arith, ap, sym, ◌∙◌}
+use Rattle.std.proofs.Common.{◌++◌, arith, ap, ◌∙◌}
 use Rattle.std.specs.Prelude.{replicate}
 use Rattle.sparse_numbers.specs.Pages.{number_at, first_numbers}
 use Rattle.sparse_numbers.proofs.NumberLemmas.{items-are, zeros-after}
