@@ -12,7 +12,7 @@ pub invariant_of-self : goal.invariant_of-self
 invariant_of-self c =
     let notes = c.self.inside.notes.items in
     subst (λ (ids : List (Option DueId)). IsByPlace c.self.inside.heap.members ids)
-        (sym (ap ids_of c.extend_zeros_reserved.ensures.items ∙ map-append noted notes (replicate c.args.count 0) ∙ ap (λ l. ids_of notes ++ l) (map-replicate noted c.args.count 0)))
+    (sym (ap ids_of c.extend_zeros_reserved.ensures.items ∙ map-append noted notes (replicate c.args.count 0) ∙ ap (λ l. ids_of notes ++ l) (map-replicate noted c.args.count 0)))
     (extended c.self.inside.heap.members c.args.count (ids_of notes) c.self.invariant)
 
 pub returns : goal.returns
