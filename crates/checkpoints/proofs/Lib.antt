@@ -2,4 +2,5 @@ mod FaultLemmas
 mod HaltLemmas
 mod HandedLemmas
 mod OrderLemmas
+mod QueueLemmas
 mod StartLemmas

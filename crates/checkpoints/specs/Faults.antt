@@ -1,5 +1,5 @@
 -- MEANING: why a text gives no shard of a service
-use Rattle.std.specs.Prelude.{◌≡◌, ◌⊎◌, ◌≤◌, ℕ, List, Err}
+use Rattle.std.specs.Prelude.{◌≡◌, ◌⊎◌, ◌≤◌, ℕ, List, Err, false}
 use Rattle.wf_event_values.specs.declared.refusal.Refusal.{Refusal}
 use Rattle.service_model_types.specs.declared.content.Content.{Content}
 use Rattle.service_model_types.specs.declared.content.Setup.{Setup}
@@ -10,6 +10,7 @@ use Rattle.shard_snapshot.specs.Stages.{Spells}
 use Rattle.shard_snapshot.specs.Texts.{IsTextFault}
 use Rattle.shard_snapshot.specs.declared.fault.RestoreFault.{RestoreFault}
 use Rattle.shard_snapshot.specs.declared.fault.RestoreFault.TheVariants as of_text
+use Rattle.checkpoints.specs.Queues.{knows_queues_in}
 use Rattle.checkpoints.specs.declared.fault.LoadFault.{LoadFault}
 use Rattle.checkpoints.specs.declared.fault.LoadFault.TheVariants as of_load
 
@@ -19,12 +20,12 @@ load_fault of_text.Memory = of_load.Memory
 load_fault (of_text.Read e) = of_load.Memory
 load_fault (of_text.Damaged line damage) = of_load.Damaged line damage
 
--- memory was refused, this line is damaged so, or the text spells a content, in which there is a task queue that isn't
--- the service's
+-- memory was refused, this line is damaged so, or the text spells a content that names a task queue which isn't the
+-- service's
 abbrev pub IsLoadFault : Setup → List ℕ → LoadFault → Type 0
 IsLoadFault setup text of_load.Memory = Unit {0}
 IsLoadFault setup text (of_load.Damaged line damage) = IsTextFault setup (of_text.Damaged line damage) text
-IsLoadFault setup text of_load.Queue = (S : Content) × Spells setup text S
+IsLoadFault setup text of_load.Queue = (S : Content) × Spells setup text S × (knows_queues_in S ≡ false)
 IsLoadFault setup text of_load.Settings = ⊥
 
 -- the service has no shard of this number, or one of its settings is out of its range

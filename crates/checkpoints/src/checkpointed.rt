@@ -3,6 +3,7 @@
 ghost use Rattle.std.specs.Prelude.{◌≡◌, ◌<◌, ◌^◌, IfErr, IfOk, string_bytes};
 ghost use Rattle.checkpoints.specs.Checkpoints.{AreCounted, Keeps};
 ghost use Rattle.checkpoints.specs.Faults.{IsLoadFault};
+ghost use Rattle.checkpoints.specs.Queues.{HasItsQueues};
 ghost use Rattle.shard_snapshot.specs.Texts.{IsSnapshot};
 ghost use Rattle.shard_store.specs.ShardView.{IsSetup};
 
@@ -35,6 +36,7 @@ pub trait Checkpointed: KeepsShard {
         requires some { 0 < setup.shards }
         ensures keeps { IfOk result (λ found. Keeps Self.stands setup text.now found.0) }
         ensures counts { IfOk result (λ found. AreCounted Self.stands found.0 found.1) }
+        ensures queues { IfOk result (λ found. HasItsQueues Self.stands found.0) }
         ensures err { IfErr result (IsLoadFault setup text.now) };
 
     /// The text of its snapshot, which spells a content for which the shard stands.

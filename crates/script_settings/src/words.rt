@@ -34,7 +34,7 @@ const RETENTION: &str =
     "For how many milliseconds a closed workflow is kept: 0 to 10^12, 0 (for ever) by default";
 
 const LOAD: &str =
-    "The folder that is opened from: records, shard-00.rec and so on, or snapshots, shard-00.snap";
+    "The folder that is opened from: a journal, snapshots shard-00.snap and so on, or records";
 
 const SAVE: &str = "The folder that the records are saved in at the end; it may be the one loaded";
 

@@ -1,4 +1,5 @@
 pub mod PlaceLemmas
+pub mod GoneLemmas
 mod SlotLemmas
 pub mod IndexLemmas
 pub mod StepLemmas
