@@ -21,8 +21,9 @@ fn knows_activity(setup: &Setup, activity: &Activity) -> bool
     ensures { result ≡ knows_by setup.now (row_said activity.now).opened.attributes }
 {
     match &activity.scheduled.attributes {
-        Attributes::ActivityTaskScheduled(scheduled) =>
-            setup.knows_queue(&scheduled.get().task_queue),
+        Attributes::ActivityTaskScheduled(scheduled) => setup.knows_queue(
+            &scheduled.get().task_queue,
+        ),
         _ => true,
     }
 }

@@ -4,13 +4,14 @@
 //! `tools/refused_leaves.py` runs this once for each allocation, with that one refused. Any other allocator
 //! refuses none.
 
-ghost use Rattle.std.specs.Prelude.{◌≡◌, ◌<◌, length};
+ghost use Rattle.std.specs.Prelude.{◌≡◌, ◌<◌, ◌≤◌, length};
 
 use crate::deadlines::are_same;
 use crate::drawn_lines::settings;
 use service_model_types::call::{Call, StepCall};
 use service_model_types::settings::Settings;
 use service_model_types::transfer::{ChildStartFailed, Sent, TransferContent};
+use sparse_numbers::SparseNumbers;
 use std::alloc::{AllocError, AllocGlobal, Global};
 use std::process::Abort;
 use task_token::TaskToken;
@@ -167,6 +168,44 @@ fn places<R: Abort + AllocGlobal>(rt: &R) {
     }
 }
 
+/// Makes room for so many numbers.
+fn make_numbers<R: Abort>(rt: &R, numbers: &mut SparseNumbers, count: usize)
+    ensures room { count ≤ numbers.new.room }
+    ensures same { numbers.new.items ≡ numbers.old.items }
+{
+    for _ in 0..TIMES {
+        if let Ok(()) = numbers.reserve(count) {
+            return;
+        }
+    }
+    panic!(rt; "refused twice")
+}
+
+/// Writes a number, whose page may have to be made.
+fn write<R: Abort>(rt: &R, numbers: &mut SparseNumbers, index: usize, number: usize)
+    requires { index < length numbers.old.items }
+    ensures { length numbers.new.items ≡ length numbers.old.items }
+{
+    for _ in 0..TIMES {
+        let before = numbers.get(index);
+        if let Ok(()) = numbers.set(index, number) {
+            return;
+        }
+        assert!(rt; numbers.get(index) == before);
+    }
+    panic!(rt; "refused twice")
+}
+
+/// Pages of zeros are given back as they come, so a number there takes memory again.
+fn numbers<R: Abort + AllocGlobal>(rt: &R) {
+    let mut numbers = SparseNumbers::new(rt.alloc());
+    make_numbers(rt, &mut numbers, 2049);
+    numbers.extend_zeros_reserved(2049);
+    write(rt, &mut numbers, 5, 7);
+    write(rt, &mut numbers, 1030, 8);
+    assert!(rt; numbers.get(5) == 7 && numbers.get(1030) == 8 && numbers.get(6) == 0);
+}
+
 fn outbox<R: Abort + AllocGlobal>(rt: &R) -> Outbox
     ensures { length result ≡ 2 }
 {
@@ -298,6 +337,7 @@ fn each_call_is_made_again(rt: HostRuntime) {
     texts(&rt);
     tokens(&rt);
     deadlines(&rt);
+    numbers(&rt);
     places(&rt);
     transfers(&rt);
     lines(&rt, &settings);
