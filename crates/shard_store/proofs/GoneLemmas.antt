@@ -1,5 +1,5 @@
 -- places of runs that were deleted come after the others
-use Rattle.std.proofs.Common.{◌≡◌, ℕ, zero, suc, ◌+◌, ◌<◌, ◌≤◌, ◌⊎◌, inl, inr, List, [], ◌∷◌, ◌++◌, length, length-append, append-nil, replicate, map, refl, sym, ap, subst, ◌∙◌, arith, slice_index_or, Option, Some, None, IfSome}
+use Rattle.std.proofs.Common.{◌≡◌, ℕ, zero, suc, ◌+◌, ◌<◌, ◌≤◌, ◌⊎◌, inl, inr, List, [], ◌∷◌, ◌++◌, length, length-append, append-nil, replicate, refl, sym, ap, subst, ◌∙◌, arith, Option, Some, None, IfSome}
 use Rattle.std.proofs.lemmas.List.{append_assoc, get_or_past, map-append}
 use Rattle.std.specs.Prelude.{option_to_list, slice_get, unwrap_or}
 use Rattle.service_model_types.specs.declared.content.Setup.{Setup}

@@ -1,4 +1,5 @@
-use Rattle.std.proofs.Common.{◌≡◌, ℕ, ◌+◌, ◌<◌, ◌++◌, length, length-append, length-replicate, replicate, List, sym, ap, subst, ◌∙◌, arith, Option, Some, None}
+use Rattle.std.proofs.Common.{◌≡◌, ℕ, ◌+◌, ◌++◌, length, length-append, replicate, List, sym, ap, subst, ◌∙◌, arith, Option, None}
+use Rattle.std.proofs.lemmas.List.{length-replicate}
 use Rattle.std.specs.Prelude.{option_map}
 use Rattle.service_model_types.specs.declared.transfer.TransferContent.{TransferContent}
 use Rattle.service_model_types.specs.declared.content.Dispatch.{Dispatch}
@@ -9,7 +10,7 @@ use Rattle.timeouts.specs.Slots.{run_due}
 use Rattle.timeouts.specs.declared.due.Due.{Due}
 use Rattle.transfer.specs.Logs.{Waiting}
 use Rattle.shard_issued.specs.Issuing.{all_waiting}
-use Rattle.shard_issued.specs.Outstanding.{HasFirsts, HasShown}
+use Rattle.shard_issued.specs.Outstanding.{AreCaughtUp, HasFirsts, HasShown}
 use Rattle.shard_issued.specs.Sending.{all_outgoing}
 use Rattle.shard_issued.proofs.SendingLemmas.{keeps-more}
 use Rattle.shard_store.specs.Places.{empty_place}
@@ -45,7 +46,7 @@ returns g c =
     let runs = states before.runs.items in
     let later = states c.extend_gone.new.self.items in
     let now = ap states c.extend_gone.ensures ∙ states-more n before.runs.items in
-    let caught_up = record { grown = ap (λ (v : ShardView). v.changed.grown) c.self.view_is ∙ c.requires.caught_up.grown; made = ap (λ (v : ShardView). v.changed.made) c.self.view_is ∙ c.requires.caught_up.made } in
+    let caught_up : AreCaughtUp before.changed = record { grown = ap (λ (v : ShardView). v.changed.grown) c.self.view_is ∙ c.requires.caught_up.grown; made = ap (λ (v : ShardView). v.changed.made) c.self.view_is ∙ c.requires.caught_up.made } in
     let waits = same-waits before.setup before.dispatches c.add_runs.new.self before.changed runs later caught_up c.add_runs.ensures.waiting in
     let sends = same-sends before.setup before.transfers runs later (ap (λ (v : ShardView). v.changed.unsent) c.self.view_is ∙ c.requires.caught_up.unsent) in
     let S : List RunState → Waiting Dispatch → List (Waiting TransferContent) → ShardState = λ r w o. record { setup = before.setup; runs = r; last = before.last; waiting = w; outgoing = o; accepted = before.transfers.accepted } in
