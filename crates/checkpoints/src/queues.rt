@@ -1,16 +1,17 @@
 //! Whether the service has the task queues that a shard names.
 
-ghost use Rattle.std.specs.Prelude.{◌≡◌, IfOk, map};
+ghost use Rattle.std.specs.Prelude.{◌≡◌, ◌<◌, IfOk, length, map};
 ghost use Rattle.std.specs.List.{list_all};
 ghost use Rattle.checkpoints.specs.Queues.{knows_by, knows_queues, knows_run};
 ghost use Rattle.mutable_state.specs.Activities.{row_said};
-ghost use Rattle.service_model.specs.RunState.{is_open};
+ghost use Rattle.service_model.specs.RunState.{ActivityRow};
 ghost use Rattle.service_model_types.specs.Routing.{knows_queue};
 ghost use Rattle.service_model_types.specs.declared.content.Dispatch.{Dispatch as Waiting};
 ghost use Rattle.shard_issued.specs.Outstanding.{IsCaughtUp};
-ghost use Rattle.shard_store.specs.ShardView.{state, states};
+ghost use Rattle.shard_store.specs.ShardView.{run_in, state, states};
 
-use mutable_state_keeper::{Activity, KeepsRun, Run, TellsRun};
+use mutable_state::Activity;
+use mutable_state_keeper::{KeepsRun, Run, TellsRun};
 use service_model_types::content::Setup;
 use shard_store::Store;
 use std::alloc::{AllocError, Global};
@@ -28,29 +29,58 @@ fn knows_activity(setup: &Setup, activity: &Activity) -> bool
     }
 }
 
-/// Whether the queues of an open run and of its activities in use are.
-fn knows_open<T: TellsRun>(alloc: Global, setup: &Setup, run: &Run<T>) -> Result<bool, AllocError>
-    requires { is_open run.now.state ≡ true }
-    ensures { IfOk result (λ known. known ≡ knows_run setup.now run.now.state) }
+/// Whether those of some activities are.
+fn knows_each(setup: &Setup, activities: &[Activity]) -> bool
+    ensures { result ≡ list_all
+        (λ (r : ActivityRow). knows_by setup.now r.opened.attributes)
+        (map row_said activities.now) }
 {
-    let activities = run.activities(alloc)?;
-    let mut known = setup.knows_queue(run.task_queue());
-    for activity in activities.as_slice() {
-        known = known && knows_activity(setup, activity);
+    for place in 0..activities.len() {
+        if !knows_activity(setup, &activities[place]) {
+            return false;
+        }
     }
-    Ok(known)
+    true
 }
 
-/// Whether the queues of all open runs are.
+/// Whether the queues of a run and of its activities in use are, where it is open.
+fn knows_run<T: TellsRun>(alloc: Global, setup: &Setup, run: &Run<T>) -> Result<bool, AllocError>
+    ensures { IfOk result (λ known. known ≡ knows_run setup.now run.now.state) }
+{
+    if !run.is_open() {
+        return Ok(true);
+    }
+    if !setup.knows_queue(run.task_queue()) {
+        return Ok(false);
+    }
+    let activities = run.activities(alloc)?;
+    Ok(knows_each(setup, activities.as_slice()))
+}
+
+/// Whether those of the run at a place are, where one is there.
+fn knows_run_at<T: TellsRun>(
+    alloc: Global,
+    store: &Store<T>,
+    index: usize,
+) -> Result<bool, AllocError>
+    requires { index < length store.now.runs }
+    ensures { IfOk result (λ known.
+        known ≡ knows_run store.now.setup (run_in store.now index)) }
+{
+    match store.run_at(index) {
+        Some(run) => knows_run(alloc, store.setup(), run),
+        None => Ok(true),
+    }
+}
+
+/// Whether those of all open runs are.
 fn knows_runs<T: TellsRun>(alloc: Global, store: &Store<T>) -> Result<bool, AllocError>
     ensures { IfOk result (λ known.
         known ≡ list_all (knows_run store.now.setup) (states store.now.runs)) }
 {
     for index in 0..store.count() {
-        if let Some(run) = store.run_at(index) {
-            if run.is_open() && !knows_open(alloc, store.setup(), run)? {
-                return Ok(false);
-            }
+        if !knows_run_at(alloc, store, index)? {
+            return Ok(false);
         }
     }
     Ok(true)

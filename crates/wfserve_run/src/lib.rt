@@ -7,8 +7,9 @@
 //! `--load` it goes on from the snapshots or the records in that folder, one file of each shard, or from
 //! the journal in it. At the end it writes records with `--save`, and snapshots with `--snapshot`. With
 //! `--journal` it goes on from the journal in that folder, and prints the replies to what one read gave
-//! once their steps are on the disk. A journal goes on from its checkpoint, where it has one. With `--trace` it prints, after the last reply, a line for each step of any shard, in
-//! the order of their tickets.
+//! once their steps are on the disk. A journal goes on from its checkpoint, where it has one. With
+//! `--trace` it prints, after the last reply, a line for each step of any shard, in the order of their
+//! tickets.
 //!
 //! Its exit status is 0, or 1 where a reply was a refusal, or 2 for a fault, whose text goes to
 //! standard error. Faults are looked for in this order: the command line, the file, the folders to
@@ -22,6 +23,7 @@ mod fault;
 mod journal;
 mod journal_faults;
 mod journal_start;
+mod loading;
 mod paths;
 mod program;
 mod records;
