@@ -10,7 +10,6 @@ what was left over. The seed is printed; with the same one the same lines are se
 """
 from __future__ import annotations
 
-import argparse
 import contextlib
 import os
 import pathlib
@@ -23,8 +22,7 @@ import time
 import unittest
 
 import client_package
-from journal_kills import SHARDS, WORKFLOWS, Fed, beside_others, drawn_lines
-from journal_program import Line, Tested, ran, served, start
+from journal_program import OF_SHARDS, Fed, InLanes, Line, Tested, drawn_lines, histories, ran, run_tests, served, start
 from wfserve.checkpoint import read_checkpoint
 from wfserve.journal import Journal, journal_in, last_moment_in
 
@@ -37,8 +35,6 @@ LET_BE = 4
 # What a compaction says that finds the program of another one at work.
 RUNS = "another process compacts this journal"
 LEFT = ("checkpoint", "compaction.lock", "journal")
-kills = 300
-seed = random.randrange(1_000_000)
 
 
 class Compacting:
@@ -86,25 +82,15 @@ def kept_in(folder: str) -> int:
     return last_moment_in(journal_in(folder)) if os.path.exists(journal_in(folder)) else 0
 
 
-def histories() -> list[Line]:
-    return [{"op": "history", "workflow_id": f"w{number}", "at": LINES + 1} for number in range(WORKFLOWS)]
-
-
-class Killed(unittest.TestCase):
+class Killed(InLanes):
     """What was answered is there when the program is started again, however often the journal was compacted or that killed."""
 
-    passes = 1
     share = 0.7
 
-    def shown(self, replies: list[Line]) -> list[Line]:
-        """What is compared of replies."""
-        return replies
-
     def test_no_answered_step_is_lost_or_doubled(self) -> None:
-        most = max(int(self.share * kills), 1)
-        self.draws = random.Random(seed)
-        self.more = ["--shards", str(SHARDS), "--passes", str(self.passes)]
-        drawn = drawn_lines(self.draws, self.passes)[:LINES]
+        most = max(int(self.share * Tested.kills), 1)
+        self.draws = random.Random(Tested.seed)
+        drawn = drawn_lines(self.draws, LINES, self.passes)
         self.lines = [{**line, "at": at} for at, line in enumerate(drawn, 1)]
         self.measure()
         self.numbers: list[int] = []
@@ -117,27 +103,27 @@ class Killed(unittest.TestCase):
               f"the journals came to checkpoints {self.numbers}", flush=True)
         if done >= 30:
             # Most are meant to.
-            self.assertGreater(3 * self.during, done, f"seed {seed}")
-            self.assertGreater(max(self.numbers), 2, f"seed {seed}")
+            self.assertGreater(3 * self.during, done, f"seed {Tested.seed}")
+            self.assertGreater(max(self.numbers), 2, f"seed {Tested.seed}")
 
     def measure(self) -> None:
         """Serves all lines by one lane and undisturbed, and compacts then."""
         with tempfile.TemporaryDirectory() as quiet:
-            self.undisturbed = self.shown(Fed([{**line, "lane": 0} for line in self.lines], quiet, self.more[:2]).served())
-            self.histories = self.shown(served(histories(), quiet, *self.more))
+            self.undisturbed = self.shown(Fed([{**line, "lane": 0} for line in self.lines], quiet, OF_SHARDS).served())
+            self.histories = self.shown(served(histories(LINES + 1), quiet, *self.more))
             self.seconds = compacted(quiet)
-            self.assertEqual(self.shown(served(histories(), quiet, *self.more)), self.histories)
+            self.assertEqual(self.shown(served(histories(LINES + 1), quiet, *self.more)), self.histories)
 
     def check_all(self, folder: str) -> None:
         """The histories of a journal are those of the one that nobody disturbed, before and after it is compacted."""
-        self.assertEqual(self.shown(served(histories(), folder, *self.more)), self.histories, f"seed {seed}")
+        self.assertEqual(self.shown(served(histories(LINES + 1), folder, *self.more)), self.histories, f"seed {Tested.seed}")
         compacted(folder)
-        self.assertEqual(self.shown(served(histories(), folder, *self.more)), self.histories, f"seed {seed}")
+        self.assertEqual(self.shown(served(histories(LINES + 1), folder, *self.more)), self.histories, f"seed {Tested.seed}")
         compacted(folder)
         found = read_checkpoint(folder)
         assert found is not None
         names = sorted(name for name in os.listdir(folder) if name not in LEFT)
-        self.assertEqual(names, [f"checkpoint-{found.number}"], f"seed {seed}")
+        self.assertEqual(names, [f"checkpoint-{found.number}"], f"seed {Tested.seed}")
         self.numbers.append(found.number)
 
     def serve_under_kills(self, folder: str, most: int) -> int:
@@ -157,7 +143,7 @@ class Killed(unittest.TestCase):
             self.check_replies(folder, before, self.shown(fed.killed()))
         before = kept_in(folder)
         rest = self.shown(served(self.lines[before:], folder, *self.more))
-        self.assertEqual(rest, self.undisturbed[before:], f"seed {seed}")
+        self.assertEqual(rest, self.undisturbed[before:], f"seed {Tested.seed}")
         return done
 
     def kill_one(self, folder: str, fed: Fed, kind: str) -> int:
@@ -180,7 +166,7 @@ class Killed(unittest.TestCase):
         return 1
 
     def check_replies(self, folder: str, before: int, replies: list[Line]) -> None:
-        where = f"seed {seed}"
+        where = f"seed {Tested.seed}"
         self.assertEqual(replies, self.undisturbed[before:before + len(replies)], where)
         self.assertLessEqual(before + len(replies), kept_in(folder), where)
 
@@ -190,10 +176,6 @@ class KilledWithLanes(Killed):
 
     passes = 8
     share = 0.3
-
-    def shown(self, replies: list[Line]) -> list[Line]:
-        """What is compared of replies."""
-        return beside_others(replies)
 
 
 class Damaged(unittest.TestCase):
@@ -227,14 +209,14 @@ class Damaged(unittest.TestCase):
             (self.folder / name).write_bytes(before[name])
 
     def test_damage_is_refused_by_name(self) -> None:
-        draws, before = random.Random(seed), self.files()
+        draws, before = random.Random(Tested.seed), self.files()
         snapshot = "checkpoint-1/shard-00.snap"
         for name, fault in (("checkpoint", "/checkpoint: "), (snapshot, "shard-00.snap: .*other bytes")):
             data = before[name]
             for _ in range(20):
                 place = draws.randrange(len(data))
                 other = data[:place] + bytes([data[place] ^ draws.randrange(1, 256)]) + data[place + 1:]
-                with self.subTest(name, place=place, seed=seed):
+                with self.subTest(name, place=place, seed=Tested.seed):
                     self.refused(fault, {name: other})
             self.refused(fault, {name: data + b"\n"})
         self.refused("shard-00.snap: ", {snapshot: None})
@@ -257,18 +239,5 @@ class Damaged(unittest.TestCase):
         self.assertEqual((self.folder / "journal").read_bytes(), data)
 
 
-def main(given: list[str]) -> int:
-    global kills, seed
-    options = argparse.ArgumentParser(description=__doc__, formatter_class=argparse.RawDescriptionHelpFormatter)
-    options.add_argument("program", type=pathlib.Path)
-    options.add_argument("--kills", type=int, default=kills)
-    options.add_argument("--seed", type=int, default=seed)
-    asked = options.parse_args(given)
-    Tested.program, kills, seed = asked.program.resolve(), asked.kills, asked.seed
-    print(f"compaction_kills: seed {seed}, {kills} kills", flush=True)
-    run = unittest.main(module=__name__, argv=[sys.argv[0]], exit=False)
-    return 0 if run.result.wasSuccessful() else 1
-
-
 if __name__ == "__main__":
-    sys.exit(main(sys.argv[1:]))
+    sys.exit(run_tests(__name__, sys.argv[1:], "kills", 300))

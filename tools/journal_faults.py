@@ -10,7 +10,6 @@ device wants root, losetup, mkfs.ext4 and mount, and is skipped by name elsewher
 """
 from __future__ import annotations
 
-import argparse
 import contextlib
 import errno
 import os
@@ -29,23 +28,22 @@ from concurrent.futures import ThreadPoolExecutor
 from dataclasses import dataclass
 from typing import Any
 
-from journal_program import RESTORED, ROOT, Line, Tested, ran, replies_in, served, start, steps_in, text, words
+from journal_program import (
+    RESTORED, ROOT, VALUES, Line, Tested, ran, replies_in, run_tests, served, start, steps_in, text, words,
+)
 from wfserve.errors import JournalDamaged
 from wfserve.journal import Journal, JournalSettings, framed
 
 # So many programs run at once.
 AT_ONCE = 2
-VALUES = (0, 29, 30, 10, 65, 255)
 SETTINGS = JournalSettings(("main",), 0, 1, 1)
 STEP = b'00{"pass":0,"request":{"at":%d,"op":"history","workflow_id":"a"}}\n'
 IMAGE_BYTES = 24 << 20
-seed = random.randrange(1_000_000)
-every = 1
 
 
 def tried(count: int) -> Iterator[int]:
     """The numbers below this one, or each Kth of them."""
-    return iter(range(random.Random(seed).randrange(every), count, every))
+    return iter(range(random.Random(Tested.seed).randrange(Tested.every), count, Tested.every))
 
 
 def four_batches() -> list[bytes]:
@@ -101,7 +99,7 @@ class Changed(unittest.TestCase):
         dropped = sum(at_once(lambda case: self.change(whole, *case), cases))
         print(f"journal_faults: of {len(cases)} changes {len(cases) - dropped} are refused, "
               f"and {dropped} look like a crash", flush=True)
-        if every == 1:
+        if Tested.every == 1:
             self.assertGreater(dropped, 0)
 
     def change(self, whole: bytes, place: int, value: int) -> bool:
@@ -197,11 +195,11 @@ class Failing(Preloaded):
         # Zeros over zeros are the same at each byte.
         whole = full(1 << 30)
         self.assertEqual(replies_in(whole), self.undisturbed)
-        cases = [*range(0, zeros, 97 * every), *(zeros + most for most in tried(1_000)), zeros + 1_000]
+        cases = [*range(0, zeros, 97 * Tested.every), *(zeros + most for most in tried(1_000)), zeros + 1_000]
         said = at_once(full, cases)
         self.assertEqual(said[-1], whole)
         self.assertEqual(sorted(map(len, said)), list(map(len, said)))
-        if every == 1:
+        if Tested.every == 1:
             self.assertEqual(len(set(said)), 5)
 
     def said(self, folder: pathlib.Path, number: int) -> str:
@@ -212,11 +210,11 @@ class Failing(Preloaded):
         reads = [{"op": "history", "workflow_id": "a", "at": at} for at in range(3)]
         for data, lines in ((b"", lines_of(3)), (b"".join(four_batches()) + b"\0" * 5_000, reads)):
             self.quiet(lines, data)
-            number, failed = 1 + random.Random(seed).randrange(every), 0
+            number, failed = 1 + random.Random(Tested.seed).randrange(Tested.every), 0
             while self.fail_at(number, data, lines):
-                number, failed = number + every, failed + 1
+                number, failed = number + Tested.every, failed + 1
             print(f"journal_faults: {failed} calls that failed", flush=True)
-            if every == 1:
+            if Tested.every == 1:
                 self.assertGreater(failed, 6)
 
     def fail_at(self, number: int, data: bytes, lines: list[Line]) -> bool:
@@ -277,7 +275,7 @@ class PowerLost(Preloaded):
             return list(parsed(told.read()))
 
     def test_what_was_not_synced_is_lost_in_part(self) -> None:
-        draws = random.Random(seed)
+        draws = random.Random(Tested.seed)
         lines = lines_of(60)
         for begun in (b"", framed(SETTINGS.text()) + b"\0" * 9_000):
             self.quiet(lines, begun)
@@ -302,7 +300,7 @@ class PowerLost(Preloaded):
                 pending.append(done)
             for tear in range(self.TEARS if pending else 1):
                 left = left_of(synced, pending, drawn_mask(draws, tear))
-                where = f"seed {seed}, after {number} calls, tear {tear}"
+                where = f"seed {Tested.seed}, after {number} calls, tear {tear}"
                 # Thousands of zeros at the end are as good as some.
                 found = texts_in(left.rstrip(b"\0") + b"\0" * min(99, len(left) - len(left.rstrip(b"\0"))))
                 self.assertIsInstance(found, list, where)
@@ -395,7 +393,7 @@ class LoopDevice(Preloaded):
         super().setUpClass()
 
     def setUp(self) -> None:
-        self.draws = random.Random(seed)
+        self.draws = random.Random(Tested.seed)
         self.folder = self.enterContext(fresh())
         self.image, self.top = self.folder / "image", self.folder / "top"
         self.top.mkdir()
@@ -418,12 +416,12 @@ class LoopDevice(Preloaded):
         done = 0
         for number in range(self.ROUNDS):
             told = self.lose_power(lines[done:])
-            where = f"seed {seed}, round {number}"
+            where = f"seed {Tested.seed}, round {number}"
             self.assertEqual(told, undisturbed[done:done + len(told)], where)
             now = steps_in(str(self.top / "kept"))
             self.assertGreaterEqual(now, done + len(told), where)
             done = now
-        self.assertEqual(served(lines[done:], str(self.top / "kept")), undisturbed[done:], f"seed {seed}")
+        self.assertEqual(served(lines[done:], str(self.top / "kept")), undisturbed[done:], f"seed {Tested.seed}")
         print(f"journal_faults: {done} of {len(lines)} steps before the last loss of power", flush=True)
 
     def test_a_program_that_does_not_sync_is_found(self) -> None:
@@ -464,18 +462,5 @@ class LoopDevice(Preloaded):
         return replies_in(said.decode())
 
 
-def main(given: list[str]) -> int:
-    global seed, every
-    options = argparse.ArgumentParser(description=__doc__, formatter_class=argparse.RawDescriptionHelpFormatter)
-    options.add_argument("program", type=pathlib.Path)
-    options.add_argument("--seed", type=int, default=seed)
-    options.add_argument("--every", type=int, default=every)
-    asked = options.parse_args(given)
-    Tested.program, seed, every = asked.program.resolve(), asked.seed, asked.every
-    print(f"journal_faults: seed {seed}", flush=True)
-    run = unittest.main(module=__name__, argv=[sys.argv[0]], exit=False)
-    return 0 if run.result.wasSuccessful() else 1
-
-
 if __name__ == "__main__":
-    sys.exit(main(sys.argv[1:]))
+    sys.exit(run_tests(__name__, sys.argv[1:], "every", 1))

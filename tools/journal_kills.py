@@ -11,8 +11,6 @@ many replies. Where the program's journal serves several lanes, all of it is mad
 """
 from __future__ import annotations
 
-import argparse
-import json
 import os
 import pathlib
 import random
@@ -22,29 +20,22 @@ import signal as signals
 import subprocess
 import sys
 import tempfile
-import threading
 import time
 import unittest
-from typing import Any
 
-from journal_program import Line, Tested, ran, replies_in, served, start, steps_in, text, words
+from journal_program import (
+    BEGIN, OF_SHARDS, SHARDS, VALUES, Fed, InLanes, Line, Tested, drawn_lines, histories, ran, replies_in, run_tests, served,
+    start, steps_in, text, words,
+)
 from wfserve.journal import JournalSettings, framed
 
-SHARDS = 4
-WORKFLOWS = 40
 LINES = 1_500
-BEGIN = b"\x1d"
 SETTINGS = JournalSettings(("main",), 0, 1, SHARDS)
 FEW_ZEROS = 300_000
-OF_OTHERS = re.compile(r"(?<=\")[0-9a-f]{8}(-[0-9a-f]{4}){3}-[0-9a-f]{12}(?=\")|(?<=\"at\": )[0-9]+(?=[,}])")
 # A kill comes after at most this share of the lines that are left, so that a journal is opened some ten times.
 SHARE = 0.3
-# So many lines are handed in before their replies come.
-AHEAD = 100
 # One kill in so many comes while the program opens.
 OPENING = 6
-kills = 60
-seed = random.randrange(1_000_000)
 
 
 def taken_in(replies: list[Line]) -> list[str]:
@@ -52,140 +43,35 @@ def taken_in(replies: list[Line]) -> list[str]:
     return [reply["workflow_id"] for reply in replies if reply.get("ok") == "task"]
 
 
-def drawn_lines(draws: random.Random, passes: int) -> list[Line]:
-    """Lines each of which makes one step, on one of the shards, at moments that never go back, by a workflow's lane."""
-    lines: list[Line] = []
-    for at in range(LINES):
-        number = draws.randrange(WORKFLOWS)
-        workflow_id = f"w{number}"
-        kind = draws.randrange(10)
-        if kind < 3:
-            line = {**start(workflow_id), "request_id": f"r{at}"}
-        elif kind < 7:
-            given = {"request_id": f"r{at}", "input": "x" * draws.randrange(200)}
-            line = {"op": "signal", "name": "s", "workflow_id": workflow_id, **given}
-        elif kind < 8:
-            line = {"op": "terminate", "workflow_id": workflow_id, "reason": "r"}
-        else:
-            line = {"op": "history", "workflow_id": workflow_id}
-        lines.append({**line, "at": at, **({"lane": number % passes} if passes > 1 else {})})
-    return lines
-
-
-def beside_others(replies: list[Line]) -> list[Line]:
-    """Replies without what depends on the lines of other workflows: run ids, and the moments of a shard's steps."""
-    return json.loads(OF_OTHERS.sub("0", json.dumps(replies)))
-
-
-def histories() -> list[Line]:
-    return [{"op": "history", "workflow_id": f"w{number}", "at": LINES} for number in range(WORKFLOWS)]
-
-
-class Fed:
-    """A program that is fed lines by tens, so that there are many batches, and whose replies are read.
-
-    `pause` is how many seconds pass from ten lines to the next ten, at least.
-    """
-
-    def __init__(self, lines: list[Line], folder: str, more: list[str], pause: float = 0):
-        self._lines, self._read, self._pause = lines, b"", pause
-        self._came = threading.Condition()
-        self._ended = False
-        self.began = time.monotonic()
-        # When its first reply and its last one came.
-        self.times: list[float] = []
-        self._program = subprocess.Popen(
-            words(folder, *more), stdin=subprocess.PIPE, stdout=subprocess.PIPE, stderr=subprocess.DEVNULL, bufsize=0)
-        self._threads = [threading.Thread(target=work) for work in (self._gather, self._feed)]
-        for thread in self._threads:
-            thread.start()
-
-    def _gather(self) -> None:
-        assert self._program.stdout is not None
-        for part in iter(lambda: self._program.stdout.read(65_536), b""):
-            with self._came:
-                self._read += part
-                self.times = [*self.times[:1], time.monotonic()]
-                self._came.notify_all()
-        with self._came:
-            self._ended = True
-            self._came.notify_all()
-
-    def _feed(self) -> None:
-        stream: Any = self._program.stdin
-        try:
-            for first in range(0, len(self._lines), 10):
-                # On a machine that is busy too, a program that is killed has not served all lines at once.
-                self.wait_for(first - AHEAD)
-                stream.write(text(self._lines[first:first + 10]).encode())
-                time.sleep(self._pause)
-            stream.close()
-        except (BrokenPipeError, ValueError):
-            return
-
-    def wait_for(self, replies: int) -> None:
-        """Returns once so many replies were read, or the program has ended."""
-        with self._came:
-            while self._read.count(b"\n") < replies and not self._ended:
-                self._came.wait()
-
-    def kill(self) -> None:
-        """Ends it at once."""
-        self._program.kill()
-
-    def killed(self) -> list[Line]:
-        """Ends it at once. The replies that were read."""
-        self.kill()
-        return self._all()
-
-    def served(self) -> list[Line]:
-        """Lets it come to its end. Its replies."""
-        return self._all()
-
-    def _all(self) -> list[Line]:
-        for thread in self._threads:
-            thread.join()
-        with self._program as program:
-            program.wait()
-        return replies_in(self._read.decode())
-
-
-class Killed(unittest.TestCase):
+class Killed(InLanes):
     """What was answered is there when the program is started again, once, whenever it was killed."""
 
-    passes = 1
-
-    def shown(self, replies: list[Line]) -> list[Line]:
-        """What is compared of replies."""
-        return replies
-
     def test_no_answered_step_is_lost_or_doubled(self) -> None:
-        self.draws = random.Random(seed)
-        self.more = ["--shards", str(SHARDS), "--passes", str(self.passes)]
-        self.lines = drawn_lines(self.draws, self.passes)
+        self.draws = random.Random(Tested.seed)
+        self.lines = drawn_lines(self.draws, LINES, self.passes)
         with tempfile.TemporaryDirectory() as quiet:
             # Undisturbed, by one lane.
-            fed = Fed([{**line, "lane": 0} for line in self.lines], quiet, self.more[:2])
+            fed = Fed([{**line, "lane": 0} for line in self.lines], quiet, OF_SHARDS)
             self.undisturbed = self.shown(fed.served())
             # How long an opening takes, and then a batch of lines.
             self.opening, last = (came - fed.began for came in fed.times)
             self.batch = 10 * (last - self.opening) / LINES
-            shown = self.shown(served(histories(), quiet, *self.more))
+            shown = self.shown(served(histories(LINES), quiet, *self.more))
         self.told = done = journals = 0
-        while done < kills:
+        while done < Tested.kills:
             with tempfile.TemporaryDirectory() as folder:
                 journals += 1
                 if journals % 3:
                     # Begun with fewer zeros than the program makes, which it goes through at each opening.
                     begun = framed(SETTINGS.text()) + b"\0" * FEW_ZEROS
                     pathlib.Path(folder, "journal").write_bytes(begun)
-                done += self.serve_under_kills(folder, kills - done)
-                self.assertEqual(self.shown(served(histories(), folder, *self.more)), shown, f"seed {seed}")
+                done += self.serve_under_kills(folder, Tested.kills - done)
+                self.assertEqual(self.shown(served(histories(LINES), folder, *self.more)), shown, f"seed {Tested.seed}")
         print(f"journal_kills: {self.passes} lanes: {self.told} of {done} kills came after some replies, and not all",
               flush=True)
         if done >= 30:
             # Five in six are meant to.
-            self.assertGreater(3 * self.told, done, f"seed {seed}")
+            self.assertGreater(3 * self.told, done, f"seed {Tested.seed}")
 
     def killed_once(self, folder: str, left: list[Line]) -> list[Line]:
         """The replies of a program that is killed while it opens, or after some replies and a moment more."""
@@ -204,7 +90,7 @@ class Killed(unittest.TestCase):
             replies = self.shown(self.killed_once(folder, self.lines[before:]))
             now = steps_in(folder)
             self.told += 0 < len(replies) and now < len(self.lines)
-            where = f"seed {seed}, kill {number} of this journal"
+            where = f"seed {Tested.seed}, kill {number} of this journal"
             self.assertEqual(replies, self.undisturbed[before:before + len(replies)], where)
             self.assertLessEqual(before + len(replies), now, where)
             self.assertLessEqual(now, len(self.lines), where)
@@ -212,7 +98,7 @@ class Killed(unittest.TestCase):
                 return number + 1
         before = steps_in(folder)
         rest = self.shown(served(self.lines[before:], folder, *self.more))
-        self.assertEqual(rest, self.undisturbed[before:], f"seed {seed}")
+        self.assertEqual(rest, self.undisturbed[before:], f"seed {Tested.seed}")
         return most
 
 
@@ -220,10 +106,6 @@ class KilledWithLanes(Killed):
     """The same with eight lanes, each of which serves the lines of some workflows."""
 
     passes = 8
-
-    def shown(self, replies: list[Line]) -> list[Line]:
-        """What is compared of replies."""
-        return beside_others(replies)
 
 
 class FullDisk(unittest.TestCase):
@@ -237,13 +119,13 @@ class FullDisk(unittest.TestCase):
 
     def test_nothing_is_answered_that_is_not_on_the_disk(self) -> None:
         """The program ends with status 2 and a text, and goes on from what is there once there is room again."""
-        draws = random.Random(seed)
+        draws = random.Random(Tested.seed)
         lines = [start(f"w{number}") for number in range(20)]
         with tempfile.TemporaryDirectory() as quiet:
             undisturbed = served(lines, quiet)
             size = pathlib.Path(quiet, "journal").stat().st_size
         for most in [0, 1, size - 1, *(draws.randrange(size) for _ in range(12))]:
-            with self.subTest(bytes=most, seed=seed), tempfile.TemporaryDirectory() as folder:
+            with self.subTest(bytes=most, seed=Tested.seed), tempfile.TemporaryDirectory() as folder:
                 done = self.limited(lines, folder, most)
                 self.assertEqual(done.returncode, 2, done.stdout)
                 self.assertRegex(done.stderr, re.escape(f"wfserve: {folder}/journal: ") + ".*File too large")
@@ -314,7 +196,7 @@ class Opened(unittest.TestCase):
 
     def test_damage_is_refused_with_its_place(self) -> None:
         """Another byte in a batch that is not the last one, drawn two hundred times."""
-        folder, draws = self.fresh(), random.Random(seed)
+        folder, draws = self.fresh(), random.Random(Tested.seed)
         for number in range(4):
             served([start(f"w{number}")], folder)
         file = pathlib.Path(folder, "journal")
@@ -324,10 +206,10 @@ class Opened(unittest.TestCase):
         for _ in range(200):
             place = draws.randrange(last)
             changed = bytearray(whole)
-            changed[place] = draws.choice([value for value in (0, 29, 30, 10, 65, 255) if value != whole[place]])
+            changed[place] = draws.choice([value for value in VALUES if value != whole[place]])
             file.write_bytes(changed)
             done = ran([start("late")], folder)
-            with self.subTest(place=place, byte=changed[place], seed=seed):
+            with self.subTest(place=place, byte=changed[place], seed=Tested.seed):
                 self.assertEqual((done.returncode, done.stdout), (2, ""))
                 self.assertRegex(done.stderr, re.escape(f"wfserve: {file}: ") + r"damaged at byte \d+\n")
                 self.assertEqual(file.read_bytes(), changed)
@@ -357,18 +239,5 @@ class Opened(unittest.TestCase):
         self.assertEqual(said[7].get("ok"), "dispatched")
 
 
-def main(given: list[str]) -> int:
-    global kills, seed
-    options = argparse.ArgumentParser(description=__doc__, formatter_class=argparse.RawDescriptionHelpFormatter)
-    options.add_argument("program", type=pathlib.Path)
-    options.add_argument("--kills", type=int, default=kills)
-    options.add_argument("--seed", type=int, default=seed)
-    asked = options.parse_args(given)
-    Tested.program, kills, seed = asked.program.resolve(), asked.kills, asked.seed
-    print(f"journal_kills: seed {seed}, {kills} kills", flush=True)
-    run = unittest.main(module=__name__, argv=[sys.argv[0]], exit=False)
-    return 0 if run.result.wasSuccessful() else 1
-
-
 if __name__ == "__main__":
-    sys.exit(main(sys.argv[1:]))
+    sys.exit(run_tests(__name__, sys.argv[1:], "kills", 60))

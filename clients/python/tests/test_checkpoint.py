@@ -210,6 +210,13 @@ class Copied(Journals):
         copy_folder(f"{self.folder}/copy-0/journal", f"{self.folder}/copy-2")
         self.assertEqual(self.steps(f"{self.folder}/copy-2"), self.steps(), f"seed {SEED}")
 
+    def test_one_batch_is_told_as_one(self):
+        self.begin([])
+        said = io.StringIO()
+        with contextlib.redirect_stdout(said):
+            self.assertEqual(main([self.path, "--copy", f"{self.folder}/file"]), 0)
+        self.assertEqual(said.getvalue(), "1 batch\n")
+
     def test_without_a_checkpoint_it_is_a_file_or_a_folder_as_is_asked_for(self):
         self.begin([step(0, 1)])
         said = io.StringIO()

@@ -36,6 +36,7 @@ from typing import Any, Callable, List, Optional, Set
 from aiohttp import web
 
 from wfserve.blobs import store_beside
+from wfserve.counts import counted
 from wfserve.durable import DurableService, Settings, read_header
 from wfserve.durable.kept import KeptProgram
 from wfserve.durable.log import first_line
@@ -256,7 +257,8 @@ def compact(said: argparse.Namespace, log: str) -> int:
     with DurableService([said.program], log, settings_of(said, log)) as service:
         lines, size = service.lines, service.size
         service.compact()
-        print(f"{lines} lines, {size} bytes; now {service.records_size} bytes of snapshots")
+        now = counted(service.records_size, "byte")
+        print(f"{counted(lines, 'line')}, {counted(size, 'byte')}; now {now} of snapshots")
     return 0
 
 

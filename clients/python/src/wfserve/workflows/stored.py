@@ -6,6 +6,7 @@ import json
 import pathlib
 from typing import Any, Callable, Iterable, Iterator, List
 
+from wfserve.counts import counted
 from wfserve.errors import WfserveError
 from wfserve.types import Reply
 
@@ -68,4 +69,4 @@ def said_of_replay(function: Callable[..., Any], name: str, place: str, converte
     count = replay(function, place, converter)
     if count == 0:
         raise ValueError(f"{place} has no history of {name}")
-    return f"{name} agrees with {count} {'history' if count == 1 else 'histories'} of {place}"
+    return f"{name} agrees with {counted(count, 'history', 'histories')} of {place}"

@@ -14,6 +14,8 @@ import typing
 import uuid
 from typing import Any, Callable, Dict, List, Tuple, Union
 
+from wfserve.counts import counted
+
 # Types that JSON has as texts, and what makes one of a text.
 TEXTS: Dict[Any, Callable[[str], Any]] = {
     datetime.datetime: datetime.datetime.fromisoformat, datetime.date: datetime.date.fromisoformat,
@@ -88,7 +90,7 @@ def of_container(value: Any, origin: Any, parts: Tuple[Any, ...]) -> Any:
         return value
     if origin is tuple and parts and parts[-1] is not Ellipsis:
         if len(value) != len(parts):
-            raise TypeError(f"a tuple of {len(parts)} is not made of {len(value)} values")
+            raise TypeError(f"a tuple of {len(parts)} is not made of {counted(len(value), 'value')}")
         return tuple(typed(it, part) for it, part in zip(value, parts))
     members = [typed(it, parts[0] if parts else Any) for it in value]
     return members if origin in LISTS else origin(members) if origin in (tuple, set, frozenset) else value
