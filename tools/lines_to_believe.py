@@ -87,6 +87,8 @@ PROMISES = (
     Promise("a script with a journal, and what is found in one",
             (Calls(("script",), ("run_journaled", "run_resumed_journaled")), Calls(("journal_text",)))),
     Promise("the same of several lanes", (Calls(("lanes",), ("run_lanes_journaled", "run_lanes_resumed_journaled")),)),
+    Promise("snapshots, and services that go on from them",
+            (Calls(("wire_record_events", "snapshot_pieces", "shard_snapshot", "snapshot_writing", "checkpoint_history", "checkpoints")),)),
     Promise("the command line", (Calls(("script_settings", "wfserve_run")),)),
     Promise("laws of the definitions", LAWS),
 )
