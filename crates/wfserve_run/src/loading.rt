@@ -1,9 +1,7 @@
-//! The shards of a service from the files of their snapshots, several at the same time.
+//! The shards of a service from the files of their snapshots.
 
-ghost use Rattle.std.specs.Prelude.{◌≡◌, ◌+◌, ◌<◌, ◌≤◌, IfOk, IfSome, map};
-ghost use Rattle.std.specs.Thread.{IsSync};
+ghost use Rattle.std.specs.Prelude.{◌<◌, IfOk, IfSome, map};
 ghost use Rattle.checkpoints.specs.Restored.{AreRestored, IsRestored, SpellInOrder, text_of};
-ghost use Rattle.wfserve_run.specs.Loading.{AreRestoredFrom};
 
 use crate::fault::Fault;
 use crate::paths::snapshot_path;
@@ -18,7 +16,6 @@ use shard_snapshot::Damage;
 use std::alloc::{AllocError, AllocGlobal, Global};
 use std::fs;
 use std::rt::Files;
-use std::thread::{self, Threads};
 
 /// What is wrong with a line that is damaged so.
 fn text_of(damage: Damage) -> &'static str {
@@ -54,9 +51,6 @@ pub(crate) fn load_fault(path: String, fault: LoadFault) -> Fault {
         },
     }
 }
-
-/// How many threads restore shards at the same time.
-const THREADS: usize = 4;
 
 /// The folder with the snapshots of a service's shards.
 #[derive(Clone, Copy)]
@@ -110,68 +104,8 @@ fn load_one<S: Checkpointed, H: Files + AllocGlobal>(
     }
 }
 
-/// So many shards one after another, of which the first has this number.
-fn load_in_turn<S: Checkpointed, H: Files + AllocGlobal>(
-    rt: &H,
-    from: Snapshots<'_>,
-    settings: &Settings,
-    first: u64,
-    count: u64,
-) -> Result<Vec<Restored<S>>, Fault>
-    requires { first + count ≤ 100 }
-    ensures { IfOk result (λ shards.
-        AreRestoredFrom S.stands settings.now first count shards.items) }
-{
-    let mut shards = Vec::new(rt.alloc());
-    for place in 0..count {
-        let loaded = load_one(rt, from, settings, first + place)?;
-        shards.push(loaded)?;
-    }
-    Ok(shards)
-}
-
-/// The same, the halves of them at the same time where there is more than one thread for it. The fault is
-/// that of the first shard that has one.
-#[cycle(shards)]
-fn load_some<S: Checkpointed + Send, H: Files + AllocGlobal + Threads + Sync>(
-    rt: &H,
-    from: Snapshots<'_>,
-    settings: &Settings,
-    first: u64,
-    count: u64,
-    threads: usize,
-) -> Result<Vec<Restored<S>>, Fault>
-    requires { first + count ≤ 100 }
-    ensures { IfOk result (λ shards.
-        AreRestoredFrom S.stands settings.now first count shards.items) }
-{
-    if threads < 2 || count < 2 {
-        return load_in_turn(rt, from, settings, first, count);
-    }
-    let half = count / 2;
-    let middle = first + half;
-    let rest = count - half;
-    let (one, other) = thread::join(
-        rt,
-        || -> Result<Vec<Restored<S>>, Fault>
-            requires { IsSync H.row × (first + half ≤ 100) }
-            ensures { IfOk result (λ shards.
-                AreRestoredFrom S.stands settings.entry.now first half shards.items) }
-        { load_some(rt, from, settings, first, half, threads / 2) },
-        || -> Result<Vec<Restored<S>>, Fault>
-            requires { IsSync H.row × (middle + rest ≤ 100) }
-            ensures { IfOk result (λ shards.
-                AreRestoredFrom S.stands settings.entry.now middle rest shards.items) }
-        { load_some(rt, from, settings, middle, rest, threads / 2) },
-    );
-    let mut shards = one?;
-    let mut more = other?;
-    shards.append(&mut more)?;
-    Ok(shards)
-}
-
 /// The service's shards, as the snapshots in a folder restore them; none where these are not of one moment.
-pub(crate) fn load_all<S: Checkpointed + Send, H: Files + AllocGlobal + Threads + Sync>(
+pub(crate) fn load_all<S: Checkpointed, H: Files + AllocGlobal>(
     rt: &H,
     from: Snapshots<'_>,
     settings: &Settings,
@@ -184,8 +118,13 @@ pub(crate) fn load_all<S: Checkpointed + Send, H: Files + AllocGlobal + Threads 
     if settings.shards > MOST_SHARDS {
         return Err(Fault::Script(ScriptFault::Setting("shards")));
     }
-    let shards = load_some(rt, from, settings, 0, settings.shards, THREADS)?;
-    if !stand_in_order(rt.alloc(), shards.as_slice())? {
+    let mut shards = Vec::new(rt.alloc());
+    for shard in 0..settings.shards {
+        let loaded = load_one(rt, from, settings, shard)?;
+        shards.push(loaded)?;
+    }
+    let told = stand_in_order(rt.alloc(), shards.as_slice())?;
+    if !told {
         return Ok(None);
     }
     Ok(Some(shards))
