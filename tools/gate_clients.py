@@ -2,17 +2,22 @@
 """The client's tests that want the built program: which modules these are, and a run of them.
 
     tools/gate_clients.py          prints the modules' names
-    tools/gate_clients.py run      runs them with the program that WFSERVE names, and names by class what was skipped
+    tools/gate_clients.py run      runs them with the program that WFSERVE names; says which modules took long, and by
+                                   class what was skipped
 
 A module belongs to them where one of its tests or classes is marked by `needs_program` (clients/python/tests/support/
 programs.py), also by inheritance. So the gate runs a new module without a list that names it. Status 0, 1 where a test
-fails or can't be loaded, and 2 where there is no program.
+fails or can't be loaded, and 2 where there is no program. Where the phase takes too long it ends with 124, and standard
+error has what each thread was at.
 """
 from __future__ import annotations
 
+import faulthandler
 import os
+import signal
 import subprocess
 import sys
+import time
 import unittest
 from collections import Counter
 from collections.abc import Iterator
@@ -22,6 +27,10 @@ TOP = Path(__file__).resolve().parent.parent
 TESTS = TOP / "clients/python/tests"
 # So long they may take, on a busy machine too.
 SECONDS = 2400
+# The status of `timeout` where they took longer.
+OVER = 124
+# A module that takes so many is named.
+SLOW = 10
 
 
 def loaded(folder: Path) -> list[unittest.TestCase]:
@@ -53,6 +62,27 @@ def modules(tests: list[unittest.TestCase]) -> list[str]:
     return sorted({type(test).__module__ for test in tests if wants_program(test)})
 
 
+class OfModule(unittest.TestSuite):
+    """The tests of a module. It knows how many seconds they took."""
+
+    def __init__(self, name: str, tests: list[unittest.TestCase]):
+        super().__init__(test for test in tests if type(test).__module__ == name)
+        self.name = name
+        self.seconds = 0.0
+
+    def run(self, result: unittest.TestResult, debug: bool = False) -> unittest.TestResult:
+        began = time.monotonic()
+        super().run(result, debug)
+        self.seconds = time.monotonic() - began
+        return result
+
+
+def slow(parts: list[OfModule]) -> list[str]:
+    """The modules that took long, the slowest first."""
+    listed = sorted((part for part in parts if part.seconds >= SLOW), key=lambda part: -part.seconds)
+    return [f"{part.seconds:.0f} s of {part.name}" for part in listed]
+
+
 def named(test: unittest.TestCase) -> str:
     """The class of a test that was skipped, also in a part of it, or what of the class was."""
     whole = getattr(test, "test_case", test)
@@ -70,11 +100,15 @@ def run(folder: Path) -> int:
     if not Path(program).is_file():
         print(f"gate: WFSERVE names no program: {program!r}", file=sys.stderr)
         return 2
+    # Where the time limit ends this, standard error has the test that it was at.
+    faulthandler.register(signal.SIGALRM, chain=True)
     tests = loaded(folder)
-    names = modules(tests)
-    wanted = unittest.TestSuite(test for test in tests if type(test).__module__ in names)
-    print(f"gate: {wanted.countTestCases()} tests of {len(names)} modules want the program", flush=True)
+    parts = [OfModule(name, tests) for name in modules(tests)]
+    wanted = unittest.TestSuite(parts)
+    print(f"gate: {wanted.countTestCases()} tests of {len(parts)} modules want the program", flush=True)
     result = unittest.TextTestRunner(verbosity=0, warnings="default").run(wanted)
+    for line in slow(parts):
+        print(f"gate: {line}", flush=True)
     for what, count in sorted(skipped(result).items()):
         print(f"gate: skipped: {count} of {what}", flush=True)
     return 0 if result.wasSuccessful() and result.testsRun else 1
@@ -85,10 +119,14 @@ def command(folder: Path = TESTS) -> list[str]:
     return [sys.executable, str(Path(__file__).resolve()), "run", str(folder)]
 
 
-def phase(program: Path) -> int:
+def phase(program: Path, folder: Path = TESTS) -> int:
     """Runs them with this program. 0 where all passed."""
     environment = {**os.environ, "WFSERVE": str(program)}
-    return subprocess.run(["timeout", str(SECONDS), *command()], cwd=TESTS, env=environment).returncode
+    limited = ["timeout", "-s", "ALRM", str(SECONDS), *command(folder)]
+    status = subprocess.run(limited, cwd=folder, env=environment).returncode
+    if status == OVER:
+        print(f"gate: the client's tests with the program took over {SECONDS} s", file=sys.stderr)
+    return status
 
 
 def main(words: list[str]) -> int:

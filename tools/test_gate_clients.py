@@ -5,6 +5,7 @@ import os
 import re
 import subprocess
 import sys
+import time
 import unittest
 from pathlib import Path
 
@@ -40,6 +41,17 @@ import unittest
 class Alone(unittest.TestCase):
     def test_nothing(self):
         self.fail("it wants no program")
+"""
+HANGS = """
+import os, signal, time, unittest
+from support.programs import needs_program
+
+class Hanging(unittest.TestCase):
+    @needs_program
+    def test_that_hangs(self):
+        # As where the time of `timeout` is over.
+        os.kill(os.getppid(), signal.SIGALRM)
+        time.sleep(100)
 """
 HEIR = """
 import test_of_class
@@ -80,6 +92,30 @@ class Chosen(Scratch):
         ran = self.ran(sys.executable)
         self.assertEqual((ran.returncode, ran.stdout), (1, ""))
         self.assertIn("no_such_module", ran.stderr)
+
+    def test_where_their_time_is_over_the_test_that_runs_is_told(self) -> None:
+        (self.top / "tests/test_hangs.py").write_text(HANGS, encoding="utf-8")
+        code = ("import sys; from pathlib import Path; import gate_clients\n"
+                "sys.exit(gate_clients.phase(Path(sys.executable), Path(sys.argv[1])))")
+        ran = subprocess.run([sys.executable, "-c", code, self.top / "tests"], cwd=gate_clients.TOP / "tools",
+                             capture_output=True, text=True, timeout=120)
+        self.assertEqual(ran.returncode, 124, ran.stderr)
+        self.assertRegex(ran.stderr, "test_hangs.py\", line \\d+ in test_that_hangs\n")
+        self.assertIn(f"took over {gate_clients.SECONDS} s", ran.stderr)
+
+    def test_those_that_took_long_are_named(self) -> None:
+        parts = [gate_clients.OfModule(name, []) for name in ("test_a", "test_b", "test_c")]
+        for part, seconds in zip(parts, (gate_clients.SLOW, 0.5, 61)):
+            part.seconds = seconds
+        self.assertEqual(gate_clients.slow(parts), ["61 s of test_c", "10 s of test_a"])
+
+        class Sleeping(unittest.TestCase):
+            def runTest(self) -> None:
+                time.sleep(0.05)
+
+        part = gate_clients.OfModule(__name__, [Sleeping(), Sleeping()])
+        self.assertTrue(part.run(unittest.TestResult()).wasSuccessful())
+        self.assertGreaterEqual(part.seconds, 0.1)
 
     def test_without_a_program_nothing_is_run(self) -> None:
         ran = self.ran(str(self.top / "none"))
