@@ -14,7 +14,14 @@ import unittest
 from support import ROOT
 
 BUILT = pathlib.Path(os.environ.get("WFSERVE", ROOT / "out/build/crates/wfserve/out/wfserve"))
-needs_program = unittest.skipUnless(BUILT.exists(), "wfserve is not built: ./serve builds it")
+NOT_BUILT = "wfserve is not built: ./serve builds it"
+
+
+def needs_program(tested):
+    """Skips a test, or a class of tests, where no program is built, and marks it: the gate runs each module that has such
+    a mark once more when the program is there (tools/gate_clients.py)."""
+    tested.wants_program = True
+    return tested if BUILT.exists() else unittest.skip(NOT_BUILT)(tested)
 
 
 def memory_folder():
