@@ -311,7 +311,6 @@ mod tests {
     use super::*;
     use crate::memory_table::{table_in, Shared};
     use crate::scratch::Scratch;
-    use std::os::unix::fs::PermissionsExt;
     use std::sync::{Arc, Mutex};
 
     /// Answers each line with its number.
@@ -337,9 +336,7 @@ mod tests {
     impl Place {
         fn new() -> Place {
             let folder = Scratch::new();
-            let (program, shared) = (folder.path("program"), Arc::new(Mutex::new(Shared::default())));
-            std::fs::write(&program, PROGRAM).unwrap();
-            std::fs::set_permissions(&program, std::fs::Permissions::from_mode(0o755)).unwrap();
+            let (program, shared) = (folder.program(PROGRAM), Arc::new(Mutex::new(Shared::default())));
             let connect = table_in(&shared);
             Place { _folder: folder, program, shared, connect }
         }

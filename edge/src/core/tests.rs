@@ -11,7 +11,6 @@ use crate::opening::Opened;
 use crate::scratch::Scratch;
 use crate::settings::Named;
 use hyper::body::Bytes;
-use std::os::unix::fs::PermissionsExt;
 use std::sync::atomic::{AtomicBool, Ordering::SeqCst};
 use std::sync::{Arc, Mutex};
 use std::thread::JoinHandle;
@@ -61,9 +60,7 @@ impl Served {
 
     fn with(limit: usize, limits: Limits, open: impl FnOnce(&str, &str) -> Result<Opened, NotServed>) -> Served {
         let folder = Scratch::new();
-        let (program, log) = (folder.path("program"), folder.path("a.log"));
-        std::fs::write(&program, PROGRAM).unwrap();
-        std::fs::set_permissions(&program, std::fs::Permissions::from_mode(0o755)).unwrap();
+        let (program, log) = (folder.program(PROGRAM), folder.path("a.log"));
         let opened = open(&program, &log).map_err(|fault| fault.to_string()).unwrap();
         let moments = Moments::new(opened.last_moment(), Box::new(MachineClocks::new()));
         let (core, threads) = Core::start(opened, moments, limit, limits).unwrap();
