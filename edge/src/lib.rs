@@ -60,6 +60,7 @@ mod system;
 pub mod table;
 mod table_log;
 mod table_records;
+mod table_tail;
 
 use crate::say::say;
 use options::{Options, HELP};
