@@ -330,8 +330,11 @@ mod tests {
     use std::os::unix::fs::PermissionsExt;
     use std::sync::{Arc, Mutex};
 
-    /// Answers each line with its number.
-    const PROGRAM: &str = "#!/bin/sh\nn=0\nwhile read -r line; do n=$((n + 1)); echo \"{\\\"line\\\":$n}\"; done\n";
+    /// Answers each line with its number, and writes it into a file.
+    const PROGRAM: &str = r#"#!/bin/sh
+n=0
+while read -r line; do n=$((n + 1)); echo "$line" >> "$0.lines"; echo "{\"line\":$n}"; done
+"#;
 
     /// The lines that were served.
     #[derive(Default)]
@@ -399,11 +402,12 @@ mod tests {
         for lines in [[b"one".as_slice(), b"two"], [b"three", b"four"]] {
             kept.log.write(lines).unwrap();
         }
+        let given = format!("{}.lines", place.program);
         for count in 0..=4 {
-            let mut seen = Seen::default();
-            let again = serve_again(&kept.origin, count, &mut seen);
-            again.map_err(|fault| fault.to_string()).unwrap().end();
-            assert_eq!(seen.0.len() as u64, count);
+            std::fs::write(&given, b"").unwrap();
+            serve_again(&kept.origin, count).map_err(|fault| fault.to_string()).unwrap().end();
+            let lines = std::fs::read_to_string(&given).unwrap();
+            assert_eq!(lines.lines().collect::<Vec<_>>(), ["one", "two", "three", "four"][..count as usize]);
         }
         kept.program.end();
     }
