@@ -94,7 +94,7 @@ impl Origin {
     }
 
     /// The table that has the lines.
-    pub fn from_table(&self) -> Result<&FromTable, LogFault> {
+    pub fn table_source(&self) -> Result<&FromTable, LogFault> {
         self.table.as_ref().ok_or_else(|| LogFault::Io(format!("{}: this is no table", self.log)))
     }
 

@@ -159,7 +159,7 @@ pub fn open<O: Observe>(
     let last_moment = files.last_moment()?;
     observer.pairs(&files.pairs()?);
     let program = origin.start()?;
-    let place = Place::behind(&header, origin.from_table()?.base);
+    let place = Place::behind(&header, origin.table_source()?.base);
     let mut follower = Follower { program, origin, place, observed: 0 };
     if let Err(fault) = follower.follow(table.as_mut(), &mut observer) {
         follower.program.kill();
@@ -274,7 +274,7 @@ impl Follower {
         fetch(table, &mut self.origin)?;
         let next = self.origin.start()?;
         std::mem::replace(&mut self.program, next).kill();
-        self.place = Place::behind(header, self.origin.from_table()?.base);
+        self.place = Place::behind(header, self.origin.table_source()?.base);
         self.observed = header.number;
         Ok(remove_leftovers(&self.origin.base, generation)?)
     }

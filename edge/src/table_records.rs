@@ -32,7 +32,7 @@ pub struct Upload {
 impl Upload {
     /// Puts the snapshots of a generation there, which have all lines up to this base.
     pub fn begin(origin: &Origin, generation: u64, base: Place) -> Result<Upload, LogFault> {
-        let from = origin.from_table()?;
+        let from = origin.table_source()?;
         let next = PiecePlace { epoch: from.epoch, generation, number: 1 };
         let mut upload = Upload { table: from.connect.table()?, next, base };
         let first = Piece { name: BASE.to_string(), data: base.batches.to_string().into_bytes() };
@@ -214,7 +214,7 @@ mod tests {
         for _ in 0..2 {
             assert_eq!(fetch(table.as_mut(), &mut origin).unwrap(), beside);
             // It has no base, as those of earlier versions.
-            assert_eq!(origin.from_table().unwrap().base, START.number);
+            assert_eq!(origin.table_source().unwrap().base, START.number);
             for name in ["shard-00.snap", "shard-01.snap", "shard-02.snap"] {
                 let found = fs::read(format!("{}/{name}", folder_of(&origin.base, START.generation))).unwrap();
                 assert_eq!(found, fs::read(format!("{folder}/{name}")).unwrap(), "{name}");
@@ -235,7 +235,7 @@ mod tests {
             let pieces = [piece(BASE, text.as_bytes()), piece("shard-00.snap", b"s")];
             let Compacted { mut table, mut origin, .. } = compacted(pieces.into_iter());
             let found = fetch(table.as_mut(), &mut origin);
-            assert_eq!(found.ok().map(|_| origin.from_table().unwrap().base), base, "{text}");
+            assert_eq!(found.ok().map(|_| origin.table_source().unwrap().base), base, "{text}");
         }
     }
 }

@@ -52,7 +52,7 @@ pub struct TableTail {
 impl TableTail {
     /// Before the first line of a log.
     pub fn of(origin: &Origin) -> Result<TableTail, LogFault> {
-        let from = origin.from_table()?;
+        let from = origin.table_source()?;
         let (table, last) = (from.connect.table()?, from.base);
         let generation = origin.generation;
         Ok(TableTail { table, generation, at_once: AtOnce::default(), last, left: VecDeque::new(), count: 0 })

@@ -70,7 +70,7 @@ POSTGRES = postgres_folder()
 needs_postgres = unittest.skipUnless(POSTGRES, "PostgreSQL is not here: apt-get install postgresql")
 needs_client = unittest.skipUnless(has_client(WFEDGE), "this edge has no client of PostgreSQL: edge/setup.sh postgres")
 
-# Keeps what a compaction deletes, for who compares it with what clients had.
+# Keeps what a compaction deletes, for who compares it with what clients had; but not what a try left that came to nothing.
 ARCHIVE = """
     create schema kept;
     create table kept.wfserve_log (like public.wfserve_log);
@@ -78,9 +78,13 @@ ARCHIVE = """
     create table kept.wfserve_records (like public.wfserve_records);
     create function kept.keep() returns trigger language plpgsql security definer as $$
         begin execute format('insert into kept.%I select ($1).*', tg_table_name) using old; return old; end $$;
+    create function kept.has_start(bigint, bigint) returns boolean language sql security definer as $$
+        select exists (select 1 from public.wfserve_starts where epoch = $1 and generation = $2
+        union all select 1 from kept.wfserve_starts where epoch = $1 and generation = $2) $$;
     create trigger keep before delete on wfserve_log for each row execute function kept.keep();
     create trigger keep before delete on wfserve_starts for each row execute function kept.keep();
-    create trigger keep before delete on wfserve_records for each row execute function kept.keep();
+    create trigger keep before delete on wfserve_records for each row
+        when (kept.has_start(old.epoch, old.generation)) execute function kept.keep();
 """
 
 
