@@ -81,11 +81,12 @@ class Disturbed(OfTables):
 @needs_postgres
 @needs_client
 class ByThemselves(OfTables):
-    options = ("--compact-bytes", "60000", "--compact-seconds", "0")
+    options = ("--compact-bytes", "20000", "--compact-seconds", "0")
 
     def test_nothing_is_lost_or_doubled_where_tables_are_compacted_by_themselves(self):
         print(f"\ntables compacted by themselves: seed {SEED}", file=sys.stderr)
-        had = self.disturbed(WFEDGE, ["kill", "follower", "programs", "kill"], random.Random(SEED))
+        had = self.disturbed(WFEDGE, ["rest", "kill", "rest", "follower", "rest", "programs"], random.Random(SEED))
+        print(f"tables compacted by themselves: {self.generation()} generations", file=sys.stderr)
         self.assertGreater(self.generation(), 0)
         self.assertEqual(self.wrong_in(had), ([], [], []))
 
@@ -231,8 +232,8 @@ class OfEarlierVersions(OfTables):
     def opened(self, names, generation):
         """Opens a table of this generation, compacts it twice and opens it again."""
         for compacted in range(3):
-            self.assertEqual(self.generation(), generation + compacted)
             node = self.one("--compact-bytes", "0")
+            self.assertEqual(self.generation(), generation + compacted)
             caller = caller_of(node)
             self.assertEqual(self.names(caller, names), ["Running"] * len(names))
             start(caller, f"also{compacted}")
@@ -245,6 +246,8 @@ class OfEarlierVersions(OfTables):
         caller = caller_of(node)
         polled = [caller.call(f"poll-{number}", op="poll_workflow_task", task_queue="main", wait=20_000) for number in range(len(names))]
         self.assertEqual(sorted(task["workflow_id"] for task in polled), sorted(names))
+        # Else it is started again where its database is made anew.
+        node.stop()
 
 
 if __name__ == "__main__":
