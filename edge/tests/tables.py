@@ -468,8 +468,6 @@ class OverATable(unittest.TestCase):
             time.sleep(WITHIN * draw.random())
             self.do(kind.partition(" ")[0], leader, draw)
             compacting.join()
-        elif kind == "rest":
-            time.sleep(2)
         elif kind == "programs":
             tell_all([pid for pid in children_of(leader.process.pid) if draw.random() < 0.5], signal.SIGKILL)
         elif kind == "follower":

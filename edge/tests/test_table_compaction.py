@@ -85,10 +85,18 @@ class ByThemselves(OfTables):
 
     def test_nothing_is_lost_or_doubled_where_tables_are_compacted_by_themselves(self):
         print(f"\ntables compacted by themselves: seed {SEED}", file=sys.stderr)
-        had = self.disturbed(WFEDGE, ["rest", "kill", "rest", "follower", "rest", "programs"], random.Random(SEED))
+        had = self.disturbed(WFEDGE, ["awaited", "kill", "programs", "awaited", "follower", "kill"], random.Random(SEED))
         print(f"tables compacted by themselves: {self.generation()} generations", file=sys.stderr)
         self.assertGreater(self.generation(), 0)
         self.assertEqual(self.wrong_in(had), ([], [], []))
+
+    def do(self, kind, leader, draw):
+        """Disturbs a leader, or waits until one has compacted the table."""
+        if kind == "awaited":
+            generation = self.generation()
+            until(lambda: self.generation() > generation, LONG)
+        else:
+            super().do(kind, leader, draw)
 
     def test_an_old_table_is_compacted_and_one_of_no_limits_never(self):
         node = self.one("--compact-bytes", "0", "--compact-seconds", "1")
