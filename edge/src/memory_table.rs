@@ -1,7 +1,8 @@
 //! A table in memory, for tests.
 
 use crate::log_fault::LogFault;
-use crate::table::{Batch, Connect, Piece, Pieces, Start, Table};
+use crate::table::{Batch, Connect, Piece, PiecePlace, Pieces, Start, Table};
+use std::collections::BTreeMap;
 use std::sync::{Arc, Mutex};
 
 /// What all connections to a table have in common.
@@ -13,6 +14,8 @@ pub struct Shared {
     pub told: u64,
     /// Compactions: where the log goes on, and from which pieces.
     pub starts: Vec<(Start, Vec<Piece>)>,
+    /// Pieces by their epoch, generation and number, which count for nothing yet.
+    pub put: BTreeMap<(u64, u64, u64), Piece>,
 }
 
 /// A table in memory.
@@ -78,11 +81,31 @@ impl Table for InMemory {
         Ok(found.and_then(|(_, pieces)| pieces.get(number as usize - 1)).cloned())
     }
 
-    fn compact(&mut self, header: &Batch, pieces: Pieces<'_>) -> Result<(), LogFault> {
-        let pieces = pieces.collect::<Result<Vec<_>, _>>()?;
-        let start = Start { generation: header.generation, number: header.number };
+    fn epoch(&self) -> u64 {
+        self.epoch
+    }
+
+    fn put(&mut self, from: PiecePlace, pieces: Pieces<'_>) -> Result<u64, LogFault> {
+        let PiecePlace { epoch, generation, mut number } = from;
+        if number == 1 {
+            self.shared.lock().unwrap().put.retain(|place, _| (place.0, place.1) != (epoch, generation));
+        }
+        for piece in pieces {
+            let former = self.shared.lock().unwrap().put.insert((epoch, generation, number), piece?);
+            assert_eq!(former, None);
+            number += 1;
+        }
+        Ok(number)
+    }
+
+    fn compact(&mut self, header: &Batch, number: u64, piece: &Piece) -> Result<(), LogFault> {
         self.append(header)?;
-        self.shared.lock().unwrap().starts.push((start, pieces));
+        let (epoch, generation) = (self.epoch, header.generation);
+        let mut shared = self.shared.lock().unwrap();
+        assert_eq!(shared.put.insert((epoch, generation, number), piece.clone()), None);
+        let put = shared.put.range((epoch, generation, 0)..(epoch, generation + 1, 0));
+        let pieces = put.map(|(_, piece)| piece.clone()).collect();
+        shared.starts.push((Start { generation, number: header.number }, pieces));
         Ok(())
     }
 
