@@ -16,6 +16,9 @@ pub struct Shared {
     pub starts: Vec<(Start, Vec<Piece>)>,
     /// Pieces by their epoch, generation and number, which count for nothing yet.
     pub put: BTreeMap<(u64, u64, u64), Piece>,
+    /// Whether only the leader's connection answers from the last piece of a compaction on, until another one is opened.
+    pub cuts_off: bool,
+    pub is_cut_off: bool,
 }
 
 /// A table in memory.
@@ -32,6 +35,9 @@ impl Table for InMemory {
 
     fn read(&mut self, after: u64, most: u32) -> Result<Vec<Batch>, LogFault> {
         let shared = self.shared.lock().unwrap();
+        if shared.is_cut_off && self.epoch == 0 {
+            return Err(LogFault::Io("the connection is cut off".to_string()));
+        }
         let rest = (after + 1..).zip(shared.batches.iter().skip(after as usize));
         let generation = |number| {
             shared.starts.iter().find(|(start, _)| start.number == number).map_or(0, |(start, _)| start.generation)
@@ -95,6 +101,9 @@ impl Table for InMemory {
             assert_eq!(former, None);
             number += 1;
         }
+        let mut shared = self.shared.lock().unwrap();
+        shared.is_cut_off =
+            shared.cuts_off && shared.put.values().next_back().map_or(false, |piece| piece.name == "end");
         Ok(number)
     }
 
@@ -115,5 +124,8 @@ impl Table for InMemory {
 /// Connects to a table.
 pub fn table_in(shared: &Arc<Mutex<Shared>>) -> Connect {
     let own = shared.clone();
-    Connect::by("a table".to_string(), move || Ok(Box::new(InMemory { shared: own.clone(), epoch: 0 })))
+    Connect::by("a table".to_string(), move || {
+        own.lock().unwrap().is_cut_off = false;
+        Ok(Box::new(InMemory { shared: own.clone(), epoch: 0 }))
+    })
 }

@@ -121,6 +121,11 @@ impl TableLog {
         self.table.forget();
     }
 
+    /// The next lines of a tail of this table, by the connection of this log.
+    pub fn next_of(&mut self, tail: &mut TableTail, number: u64) -> Result<Vec<Vec<u8>>, LogFault> {
+        tail.next_by(self.table.as_mut(), number)
+    }
+
     /// Refuses where another edge has become the leader.
     pub fn confirm(&mut self) -> Result<(), LogFault> {
         self.asked(|table| table.confirm())

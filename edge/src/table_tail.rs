@@ -41,6 +41,11 @@ pub fn gone(number: u64) -> LogFault {
 /// Reads the lines of one generation, by a connection of its own.
 pub struct TableTail {
     table: Box<dyn Table>,
+    unread: Unread,
+}
+
+/// What a tail has not handed on yet.
+struct Unread {
     generation: u64,
     at_once: AtOnce,
     /// The number of the last batch that was read, what is left of what was read, and how many lines were handed on.
@@ -54,17 +59,28 @@ impl TableTail {
     pub fn of(origin: &Origin) -> Result<TableTail, LogFault> {
         let from = origin.table_source()?;
         let (table, last) = (from.connect.table()?, from.base);
-        let generation = origin.generation;
-        Ok(TableTail { table, generation, at_once: AtOnce::default(), last, left: VecDeque::new(), count: 0 })
+        let (generation, at_once, left) = (origin.generation, AtOnce::default(), VecDeque::new());
+        Ok(TableTail { table, unread: Unread { generation, at_once, last, left, count: 0 } })
     }
 
     /// How many lines were handed on.
     pub fn count(&self) -> u64 {
-        self.count
+        self.unread.count
     }
 
     /// The next lines, up to the one of this number, which was added. Only the first ones where they are many.
     pub fn next(&mut self, number: u64) -> Result<Vec<Vec<u8>>, LogFault> {
+        self.unread.next(self.table.as_mut(), number)
+    }
+
+    /// The same, by another connection.
+    pub fn next_by(&mut self, table: &mut dyn Table, number: u64) -> Result<Vec<Vec<u8>>, LogFault> {
+        self.unread.next(table, number)
+    }
+}
+
+impl Unread {
+    fn next(&mut self, table: &mut dyn Table, number: u64) -> Result<Vec<Vec<u8>>, LogFault> {
         let (mut found, mut bytes) = (Vec::new(), 0);
         let most = number.saturating_sub(self.count).min(MOST_LINES);
         while (found.len() as u64) < most && bytes < MOST_BYTES {
@@ -73,7 +89,7 @@ impl TableTail {
                     bytes += line.len();
                     found.push(line);
                 }
-                None => self.read()?,
+                None => self.read(table)?,
             }
         }
         self.count += found.len() as u64;
@@ -81,8 +97,8 @@ impl TableTail {
     }
 
     /// Reads more lines, which are there.
-    fn read(&mut self) -> Result<(), LogFault> {
-        let batches = self.at_once.read(self.table.as_mut(), self.last)?;
+    fn read(&mut self, table: &mut dyn Table) -> Result<(), LogFault> {
+        let batches = self.at_once.read(table, self.last)?;
         if batches.is_empty() {
             return Err(gone(self.last + 1));
         }
@@ -139,6 +155,17 @@ mod tests {
         shared.lock().unwrap().batches.push(b"nine".to_vec());
         assert_eq!(next(&mut found, 8), ["nine"]);
         assert_eq!(next(&mut tail(&shared, 5), 3), ["seven", "eight", "nine"]);
+    }
+
+    #[test]
+    fn another_connection_goes_on_where_its_own_one_was() {
+        let (shared, other) = (shared(), shared());
+        let mut found = tail(&shared, 2);
+        assert_eq!(next(&mut found, 1), ["two"]);
+        shared.lock().unwrap().batches.clear();
+        let mut table = table_in(&other).table().unwrap();
+        assert_eq!(found.next_by(table.as_mut(), 7).unwrap().concat(), b"threefourfivesixseveneight");
+        assert!(found.count() == 7 && found.next(8).is_err());
     }
 
     #[test]

@@ -342,14 +342,15 @@ impl Core {
                 state.window.behind = behind.tail.count();
                 state.window.most_ahead = Some((left * 3 / 4).max(NEAR / 2));
             }
-            self.catch_up(behind, answered)?;
+            self.catch_up(behind, answered, None)?;
         }
         // What was answered meanwhile is few lines.
         self.write_replies_of(behind)
     }
 
-    /// Gives a program the lines up to this one, and compares its replies with those that were given.
-    fn catch_up(&self, behind: &mut Behind, number: u64) -> Result<(), Stopped> {
+    /// Gives a program the lines up to this one, and compares its replies with those that were given. Who has the log, in
+    /// which no line is written meanwhile, gives it.
+    fn catch_up(&self, behind: &mut Behind, number: u64, mut log: Option<&mut Log>) -> Result<(), Stopped> {
         let Behind { program, tail, successor, .. } = behind;
         let (program, successor) = match (program, successor) {
             (Some(program), Some(successor)) => (program, successor),
@@ -357,7 +358,10 @@ impl Core {
         };
         while tail.count() < number {
             let first = tail.count() + 1;
-            let lines = tail.next(number)?;
+            let lines = match log.as_deref_mut() {
+                Some(log) => tail.next_by(log, number)?,
+                None => tail.next(number)?,
+            };
             let mut marks = self.lock().take_marks(lines.len());
             let mut place = first;
             serve(program, &lines, first, |_, reply| {
@@ -429,7 +433,7 @@ impl Core {
 
     fn exchange_for(&self, behind: &mut Behind, log: &mut Log, origin: &mut Origin) -> Result<(), Stopped> {
         self.wait_until_quiet()?;
-        self.catch_up(behind, log.len().saturating_sub(1))?;
+        self.catch_up(behind, log.len().saturating_sub(1), Some(log))?;
         let replies = self.next_replies(behind);
         let successor = behind.successor.take().ok_or(Fault::Draining)?;
         successor.take_over(log, &mut behind.next, &replies)?;

@@ -42,6 +42,14 @@ impl Tail {
             Tail::Table(tail) => tail.next(number),
         }
     }
+
+    /// The same while batches rest: the connection that adds batches reads a table, so no other one has to answer.
+    pub fn next_by(&mut self, log: &mut Log, number: u64) -> Result<Vec<Vec<u8>>, LogFault> {
+        match (self, log) {
+            (Tail::Table(tail), Log::Table(log)) => log.next_of(tail, number),
+            (tail, _) => tail.next(number),
+        }
+    }
 }
 
 /// A log that goes on from new snapshots, while it is made ready beside the one that is written.

@@ -294,6 +294,17 @@ fn a_table_is_compacted_while_it_is_served_and_followed_and_loses_nothing() {
 }
 
 #[test]
+fn while_batches_rest_a_table_is_asked_by_no_second_connection() {
+    let shared = Arc::new(Mutex::new(Shared { cuts_off: true, ..Shared::default() }));
+    let connect = table_in(&shared);
+    let served = Served::by(100, |program, _| Opened::of_table(program, &connect, &Named::default(), true));
+    compacted_under_calls(&served);
+    assert!(shared.lock().unwrap().starts.len() == 3);
+    served.core.close();
+    assert!(served.threads.join(SECONDS));
+}
+
+#[test]
 fn a_table_is_not_compacted_once_another_edge_leads() {
     let shared = Arc::new(Mutex::new(Shared::default()));
     let connect = table_in(&shared);
