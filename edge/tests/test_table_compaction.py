@@ -23,13 +23,19 @@ from the_edge import WFEDGE, needs_edge
 from by_hand import replies_of
 from support.programs import BUILT, needs_program
 from support.served import until
-from tables import CLIENTS, HOUR, SEED, Caller, OverATable, needs_client, needs_postgres
+from tables import CLIENTS, HOUR, PATIENCE, SEED, Caller, OverATable, needs_client, needs_postgres
 
 # In seconds: a program without proofs writes snapshots slowly.
 LONG = 600
 CALLS = int(os.environ.get("WFEDGE_CALLS", 0))
 # The edge's role has no other table, and may delete what it likes.
 GENERATION = "select max(generation) from wfserve_starts"
+CONNECTIONS = "select count(*) from pg_stat_activity where usename = 'edge'"
+# No piece of a compaction is taken from now on.
+REFUSE = """
+    create function refuse() returns trigger language plpgsql as $$ begin raise exception 'refused'; end $$;
+    create trigger refuse before insert on wfserve_records execute function refuse()
+"""
 WITHIN = [f"{kind} within a compaction" for kind in ("kill", "programs", "hang", "connections", "follower", "database")]
 
 
@@ -153,6 +159,23 @@ class Waits(OfTables):
                 # The snapshots were written before those calls, one batch each, which lie between them and the header.
                 self.assertGreater(header - base, 20)
             node.stop()
+
+    def test_a_compaction_closes_its_connections_also_where_it_comes_to_nothing(self):
+        node = self.one("--compact-bytes", "0")
+        caller = self.caller_of(node)
+        start(caller, "w")
+        self.database.rows(REFUSE)
+        self.assertNotEqual(node.compact()[0], 200)
+        self.has_connections_of_a_leader()
+        self.assertEqual((self.generation(), self.names(caller, ["w"])), (0, ["Running"]))
+        self.database.rows("drop trigger refuse on wfserve_records")
+        self.assertEqual(node.compact()[0], 200)
+        self.has_connections_of_a_leader()
+        self.assertEqual((self.generation(), self.names(caller, ["w"])), (1, ["Running"]))
+
+    def has_connections_of_a_leader(self):
+        """Waits until an edge has just those two by which it leads."""
+        until(lambda: self.database.rows(CONNECTIONS) == ["2"], PATIENCE)
 
     @unittest.skipUnless(CALLS, "measured by hand: WFEDGE_CALLS says of how many calls")
     def test_the_longest_wait_of_a_call(self):
