@@ -332,7 +332,6 @@ mod tests {
     use super::*;
     use crate::memory_table::{table_in, Shared};
     use crate::scratch::Scratch;
-    use std::os::unix::fs::PermissionsExt;
     use std::sync::{Arc, Mutex};
 
     /// Answers each line with its number, and writes it into a file.
@@ -361,9 +360,7 @@ while read -r line; do n=$((n + 1)); echo "$line" >> "$0.lines"; echo "{\"line\"
     impl Place {
         fn new() -> Place {
             let folder = Scratch::new();
-            let (program, shared) = (folder.path("program"), Arc::new(Mutex::new(Shared::default())));
-            std::fs::write(&program, PROGRAM).unwrap();
-            std::fs::set_permissions(&program, std::fs::Permissions::from_mode(0o755)).unwrap();
+            let (program, shared) = (folder.program(PROGRAM), Arc::new(Mutex::new(Shared::default())));
             let connect = table_in(&shared);
             Place { _folder: folder, program, shared, connect }
         }
