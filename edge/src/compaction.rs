@@ -62,24 +62,9 @@ pub fn compact(origin: &mut Origin, log: &mut LineLog, capacity: u32, beside: &B
         }
         Ok(())
     };
-    compact_by(origin, capacity, give, |origin, next| {
-        write_beside(&next.base, next.generation, REPLIES, &beside.replies)?;
-        write_beside(&next.base, next.generation, ATTEMPTS, &beside.attempts)?;
-        keep_log(&origin.log, origin.generation)?;
-        log.replace(&next.settings.header(next.generation))
-    })
-}
-
-/// The same, where `give` gives a program the lines of the log, and `exchange` has the log go on from the snapshots.
-pub fn compact_by(
-    origin: &mut Origin,
-    capacity: u32,
-    give: impl FnOnce(&mut dyn Write) -> Result<(), LogFault>,
-    exchange: impl FnOnce(&Origin, &mut Origin) -> Result<(), LogFault>,
-) -> Result<Program, LogFault> {
     let mut next = next_origin(origin, capacity);
     write_snapshots(origin, give, &folder_of(&origin.base, next.generation))?;
-    let opened = open_program(&mut next).and_then(|mut program| match exchange(origin, &mut next) {
+    let opened = open_program(&mut next).and_then(|mut program| match exchange(origin, &next, log, beside) {
         Ok(()) => Ok(program),
         Err(fault) => {
             program.kill();
@@ -98,6 +83,14 @@ pub fn compact_by(
     }
     *origin = next;
     Ok(program)
+}
+
+/// Has a log go on from snapshots that were written, with this beside them.
+fn exchange(origin: &Origin, next: &Origin, log: &mut LineLog, beside: &Beside) -> Result<(), LogFault> {
+    write_beside(&next.base, next.generation, REPLIES, &beside.replies)?;
+    write_beside(&next.base, next.generation, ATTEMPTS, &beside.attempts)?;
+    keep_log(&origin.log, origin.generation)?;
+    log.replace(&next.settings.header(next.generation))
 }
 
 /// What a log of this origin goes on from after its next compaction.

@@ -65,11 +65,14 @@ pub struct Origin {
     pub table: Option<FromTable>,
 }
 
-/// Where the lines of a table are: how it is connected to, and the number of the batch that is their header.
+/// Where the lines of a table are: how it is connected to, and the batch behind which they are. That is their header, or
+/// an earlier one where lines came while the snapshots were made.
 #[derive(Clone, Debug)]
 pub struct FromTable {
     pub connect: Connect,
-    pub first: u64,
+    pub base: u64,
+    /// Under which this edge leads; 0 while it follows.
+    pub epoch: u64,
     /// Of the records.
     _folder: Arc<Local>,
 }
@@ -81,13 +84,18 @@ impl Origin {
         Origin { program, log, base, settings, generation, table: None }
     }
 
-    /// Of a table that goes on from here. Its records will lie in a folder of this process.
+    /// Of a table that goes on from here. Its snapshots will lie in a folder of this process.
     pub fn of_table(program: &str, connect: &Connect, settings: Settings, start: Start) -> Result<Origin, LogFault> {
         let (program, log) = (program.to_string(), connect.shown.clone());
         let folder = Arc::new(Local::new()?);
         let base = folder.path("table");
-        let table = Some(FromTable { connect: connect.clone(), first: start.number, _folder: folder });
+        let table = Some(FromTable { connect: connect.clone(), base: start.number, epoch: 0, _folder: folder });
         Ok(Origin { program, log, base, settings, generation: start.generation, table })
+    }
+
+    /// The table that has the lines.
+    pub fn table_source(&self) -> Result<&FromTable, LogFault> {
+        self.table.as_ref().ok_or_else(|| LogFault::Io(format!("{}: this is no table", self.log)))
     }
 
     /// A program that has served nothing.
@@ -284,7 +292,7 @@ fn take_replies(
 /// A program in the place of one that has ended, once it has served so many lines of the log.
 pub fn start_again(origin: &Origin, count: u64) -> Result<Program, NotServed> {
     if origin.table.is_some() {
-        return table_log::serve_again(origin, count, &mut Nobody);
+        return table_log::serve_again(origin, count);
     }
     let mut origin = origin.clone();
     let mut program = origin.start()?;

@@ -5,7 +5,8 @@
 //! `program`, and answers it once both are done. A log is a file (`line_log`) or a `table` of a database (`table_log`),
 //! with `blobs` beside it. Around that stand the `ledger` of turns, `deadlines` and `moments`, `polls` that wait,
 //! `replies` that can be had again, and `changes` for the `page`. `kept`, `opening` and `compaction` open a log and
-//! exchange it, `generation` has what it goes on from, and `following` a program that is given its lines behind.
+//! exchange it, `generation` has what it goes on from, and `following` a program that is given its lines behind. Those of
+//! a table are read by `table_tail`, and what it goes on from lies there as `table_records`.
 #![deny(unsafe_code)]
 
 mod attempts;
@@ -60,6 +61,7 @@ mod system;
 pub mod table;
 mod table_log;
 mod table_records;
+mod table_tail;
 
 use crate::say::say;
 use options::{Options, HELP};

@@ -31,6 +31,14 @@ impl Log {
         }
     }
 
+    /// How many batches a table has had; 0 of a file.
+    pub fn batches(&self) -> u64 {
+        match self {
+            Log::File(_) => 0,
+            Log::Table(log) => log.batches(),
+        }
+    }
+
     /// Whether a fault left it unknown what is kept, so that nothing more is written.
     pub fn is_broken(&self) -> bool {
         match self {

@@ -1,7 +1,8 @@
 //! A table in memory, for tests.
 
 use crate::log_fault::LogFault;
-use crate::table::{Batch, Connect, Piece, Pieces, Start, Table};
+use crate::table::{Batch, Connect, Piece, PiecePlace, Pieces, Start, Table};
+use std::collections::BTreeMap;
 use std::sync::{Arc, Mutex};
 
 /// What all connections to a table have in common.
@@ -13,6 +14,11 @@ pub struct Shared {
     pub told: u64,
     /// Compactions: where the log goes on, and from which pieces.
     pub starts: Vec<(Start, Vec<Piece>)>,
+    /// Pieces by their epoch, generation and number, which count for nothing yet.
+    pub put: BTreeMap<(u64, u64, u64), Piece>,
+    /// Whether only the leader's connection answers from the last piece of a compaction on, until another one is opened.
+    pub cuts_off: bool,
+    pub is_cut_off: bool,
 }
 
 /// A table in memory.
@@ -29,6 +35,9 @@ impl Table for InMemory {
 
     fn read(&mut self, after: u64, most: u32) -> Result<Vec<Batch>, LogFault> {
         let shared = self.shared.lock().unwrap();
+        if shared.is_cut_off && self.epoch == 0 {
+            return Err(LogFault::Io("the connection is cut off".to_string()));
+        }
         let rest = (after + 1..).zip(shared.batches.iter().skip(after as usize));
         let generation = |number| {
             shared.starts.iter().find(|(start, _)| start.number == number).map_or(0, |(start, _)| start.generation)
@@ -78,11 +87,34 @@ impl Table for InMemory {
         Ok(found.and_then(|(_, pieces)| pieces.get(number as usize - 1)).cloned())
     }
 
-    fn compact(&mut self, header: &Batch, pieces: Pieces<'_>) -> Result<(), LogFault> {
-        let pieces = pieces.collect::<Result<Vec<_>, _>>()?;
-        let start = Start { generation: header.generation, number: header.number };
+    fn epoch(&self) -> u64 {
+        self.epoch
+    }
+
+    fn put(&mut self, from: PiecePlace, pieces: Pieces<'_>) -> Result<u64, LogFault> {
+        let PiecePlace { epoch, generation, mut number } = from;
+        if number == 1 {
+            self.shared.lock().unwrap().put.retain(|place, _| (place.0, place.1) != (epoch, generation));
+        }
+        for piece in pieces {
+            let former = self.shared.lock().unwrap().put.insert((epoch, generation, number), piece?);
+            assert_eq!(former, None);
+            number += 1;
+        }
+        let mut shared = self.shared.lock().unwrap();
+        shared.is_cut_off =
+            shared.cuts_off && shared.put.values().next_back().map_or(false, |piece| piece.name == "end");
+        Ok(number)
+    }
+
+    fn compact(&mut self, header: &Batch, number: u64, piece: &Piece) -> Result<(), LogFault> {
         self.append(header)?;
-        self.shared.lock().unwrap().starts.push((start, pieces));
+        let (epoch, generation) = (self.epoch, header.generation);
+        let mut shared = self.shared.lock().unwrap();
+        assert_eq!(shared.put.insert((epoch, generation, number), piece.clone()), None);
+        let put = shared.put.range((epoch, generation, 0)..(epoch, generation + 1, 0));
+        let pieces = put.map(|(_, piece)| piece.clone()).collect();
+        shared.starts.push((Start { generation, number: header.number }, pieces));
         Ok(())
     }
 
@@ -92,5 +124,8 @@ impl Table for InMemory {
 /// Connects to a table.
 pub fn table_in(shared: &Arc<Mutex<Shared>>) -> Connect {
     let own = shared.clone();
-    Connect::by("a table".to_string(), move || Ok(Box::new(InMemory { shared: own.clone(), epoch: 0 })))
+    Connect::by("a table".to_string(), move || {
+        own.lock().unwrap().is_cut_off = false;
+        Ok(Box::new(InMemory { shared: own.clone(), epoch: 0 }))
+    })
 }

@@ -29,8 +29,8 @@ Serves a workflow service to many clients: HTTP, and JSON lines on a Unix socket
   --queues NAMES         the names of a new log's task queues, with commas between them, main by default
   --capacity N           how many tasks wait in a queue at most, 1,024 by default; a log's may grow
   --retention MS         for how long a new log's service keeps what has closed, for ever by default
-  --compact-bytes N      at how many bytes a log in a file is compacted while it is served, 16,777,216 by default, or at
-                         twice as many as its snapshots have where that is more; 0 for never
+  --compact-bytes N      at how many bytes a log is compacted while it is served, 16,777,216 by default, or at twice as many
+                         as its snapshots have where that is more; 0 for never
   --compact-seconds N    after how many seconds it is where a sixteenth of that was written, 3,600 by default; 0 for never
   --standby yes|no       whether a second program follows the log in a file, and takes the place of one that ends; by
                          default where the machine has four processors
@@ -51,7 +51,7 @@ pub struct Options {
     pub named: Named,
     /// For how many milliseconds the leader of a table may be silent.
     pub silence: u64,
-    /// When a log in a file is compacted without being asked.
+    /// When a log is compacted without being asked.
     pub limits: Limits,
     pub page: Vec<String>,
 }

@@ -5,9 +5,11 @@
 //! *epoch*, which is raised by who takes over; a batch of an earlier epoch is refused. That is the fence. What makes a
 //! takeover quick, a lock and a time for which a leader may be silent, decides nothing.
 //!
-//! A compaction puts records of the shards into the database, in pieces, and adds a batch that is the header of the log
-//! from then on: its *generation* says how often the log was compacted. Every edge exchanges its program at this batch
-//! for one that is opened from the records, so all of them serve the same.
+//! A compaction puts snapshots of the shards into the database, in pieces, and adds a batch that is the header of the log
+//! from then on: its *generation* says how often the log was compacted. Batches go on while the snapshots are made, so
+//! the first piece names their *base*: the batches behind it, up to the header, are lines of the new generation too. Every
+//! edge exchanges its program at the header for one that is opened from the snapshots and has served the lines since the
+//! base, so all of them serve the same.
 
 use crate::blobs::Store;
 use crate::log_fault::LogFault;
@@ -46,6 +48,14 @@ pub struct Piece {
 /// What a compaction puts into a table, piece by piece.
 pub type Pieces<'a> = &'a mut dyn Iterator<Item = Result<Piece, LogFault>>;
 
+/// Where the next piece of a compaction goes: the epoch of who puts it, the generation that it is of, and its number.
+#[derive(Clone, Copy, Debug, PartialEq, Eq)]
+pub struct PiecePlace {
+    pub epoch: u64,
+    pub generation: u64,
+    pub number: u64,
+}
+
 /// A table, by a connection of its own.
 pub trait Table: Send {
     /// Begins the log with its header, where it has none: another one may have done that meanwhile.
@@ -60,6 +70,9 @@ pub trait Table: Send {
     /// Leads from now on, where no other one does that is heard. Whether it does.
     fn try_lead(&mut self) -> Result<bool, LogFault>;
 
+    /// The epoch under which this edge leads; 0 where it never did.
+    fn epoch(&self) -> u64;
+
     /// Adds a batch under the epoch of this edge. It is kept once this has returned, by all that the database keeps it on.
     fn append(&mut self, batch: &Batch) -> Result<(), LogFault>;
 
@@ -72,9 +85,14 @@ pub trait Table: Send {
     /// A piece of what the log of this generation goes on from, numbered from 1. None behind the last one.
     fn piece(&mut self, generation: u64, number: u64) -> Result<Option<Piece>, LogFault>;
 
-    /// Has the log go on from these pieces, under the epoch of this edge, with this batch as its header. NotCompacted where
-    /// nothing was changed; after any other fault it isn't known.
-    fn compact(&mut self, header: &Batch, pieces: Pieces<'_>) -> Result<(), LogFault>;
+    /// Puts pieces there from this place on; before the first one it deletes what an earlier try left. They count for nothing
+    /// until the log goes on from them, so any connection may put them. The number of the next one.
+    fn put(&mut self, from: PiecePlace, pieces: Pieces<'_>) -> Result<u64, LogFault>;
+
+    /// Has the log go on from the pieces of its generation, under the epoch of this edge, with this batch as its header:
+    /// from those that were put, and this one of a number that was left for it. NotCompacted where nothing was changed; after
+    /// any other fault it isn't known.
+    fn compact(&mut self, header: &Batch, number: u64, piece: &Piece) -> Result<(), LogFault>;
 
     /// Has what is older than the generation before deleted meanwhile, and what a compaction left that was not ended.
     fn forget(&mut self);

@@ -8,15 +8,11 @@ use crate::log_fault::LogFault;
 use crate::program::Program;
 use crate::say::say;
 use crate::settings::{Named, Settings};
-use crate::table::{Batch, Connect, Pieces, Start, Table};
+use crate::table::{Batch, Connect, Piece, Start, Table};
 use crate::table_records::fetch;
+use crate::table_tail::{gone, AtOnce, TableTail};
 use std::time::{Duration, Instant};
 
-/// So many bytes one reading brings, as far as the last one tells, and so many batches at least and at most. A batch has
-/// up to a MiB.
-const READ_BYTES: usize = 8 << 20;
-const FEWEST: usize = 8;
-const MOST: usize = 512;
 /// So often a follower reads, and so often it tells how far it is.
 const READ: Duration = Duration::from_millis(20);
 const TELL: Duration = Duration::from_secs(1);
@@ -29,18 +25,24 @@ pub struct TableLog {
     is_broken: bool,
 }
 
-/// How far a table was read or written: its batches, their lines, and their bytes.
+/// How far a table was read or written: its batches, and the lines and the bytes of a generation, with its header's.
 #[derive(Clone, Copy, Default)]
-struct Place {
-    batches: u64,
-    lines: u64,
-    bytes: u64,
+pub struct Place {
+    pub batches: u64,
+    pub lines: u64,
+    pub bytes: u64,
 }
 
 impl Place {
-    /// Behind a header.
-    fn behind(header: &Batch) -> Place {
-        Place { batches: header.number, lines: 1, bytes: header.lines.len() as u64 }
+    /// Before the first line that follows the base of a generation with this header.
+    fn behind(header: &Batch, base: u64) -> Place {
+        Place { batches: base, lines: 1, bytes: header.lines.len() as u64 }
+    }
+
+    /// Behind the header of a generation that begins with what was added since this base.
+    fn since(self, base: Place, header: &Batch) -> Place {
+        let (lines, bytes) = (self.lines - base.lines, self.bytes - base.bytes);
+        Place { batches: header.number, lines: 1 + lines, bytes: header.lines.len() as u64 + bytes }
     }
 
     /// Goes on behind a batch of so many lines.
@@ -88,12 +90,17 @@ impl TableLog {
         Ok(())
     }
 
-    /// Has the table go on from these pieces, behind this header of a generation. The number of the header's batch.
-    /// NotCompacted where all is as it was.
-    pub fn compact(&mut self, header: Vec<u8>, generation: u64, pieces: Pieces<'_>) -> Result<u64, LogFault> {
+    /// Has the table go on from the pieces of a generation, of which this is the one of a number that was left for it, and
+    /// from the lines since this base. NotCompacted where all is as it was.
+    pub fn compact(
+        &mut self,
+        (header, generation): (Vec<u8>, u64),
+        base: Place,
+        (number, piece): (u64, &Piece),
+    ) -> Result<(), LogFault> {
         let header = Batch { number: self.place.batches + 1, lines: header, generation };
         let mut not_done = None;
-        self.asked(|table| match table.compact(&header, pieces) {
+        self.asked(|table| match table.compact(&header, number, piece) {
             Err(fault @ LogFault::NotCompacted(_)) => {
                 not_done = Some(fault);
                 Ok(())
@@ -103,8 +110,8 @@ impl TableLog {
         match not_done {
             Some(fault) => Err(fault),
             None => {
-                self.place = Place::behind(&header);
-                Ok(header.number)
+                self.place = self.place.since(base, &header);
+                Ok(())
             }
         }
     }
@@ -112,6 +119,11 @@ impl TableLog {
     /// Has the table delete meanwhile what is not needed any more.
     pub fn forget(&mut self) {
         self.table.forget();
+    }
+
+    /// The next lines of a tail of this table, by the connection of this log.
+    pub fn next_of(&mut self, tail: &mut TableTail, number: u64) -> Result<Vec<Vec<u8>>, LogFault> {
+        tail.next_by(self.table.as_mut(), number)
     }
 
     /// Refuses where another edge has become the leader.
@@ -145,20 +157,24 @@ pub fn open<O: Observe>(
     let start = Start { generation, number: header.number };
     let mut origin = Origin::of_table(program, connect, settings, start)?;
     let mut observer = observer(&origin.settings);
-    if generation > 0 && !observer.beside(&fetch(table.as_mut(), &origin)?) {
+    if generation > 0 && !observer.beside(&fetch(table.as_mut(), &mut origin)?) {
         return Err(LogFault::Damaged(format!("{}: the replies by keys are damaged", connect.shown)).into());
     }
     let files = Files::of(&origin.base, generation)?;
     let last_moment = files.last_moment()?;
     observer.pairs(&files.pairs()?);
     let program = origin.start()?;
-    let mut follower = Follower { program, origin, place: Place::behind(&header) };
+    let place = Place::behind(&header, origin.table_source()?.base);
+    let mut follower = Follower { program, origin, place, observed: 0 };
     if let Err(fault) = follower.follow(table.as_mut(), &mut observer) {
         follower.program.kill();
         return Err(fault);
     }
-    let Follower { program, origin, place } = follower;
+    let Follower { program, mut origin, place, .. } = follower;
     say!("{}: this edge leads, from line {} on", connect.shown, place.lines);
+    if let Some(from) = &mut origin.table {
+        from.epoch = table.epoch();
+    }
     table.forget();
     let log = TableLog { table, shown: connect.shown.clone(), place, is_broken: false };
     Ok((Kept { origin, log: Log::Table(log), program, last_moment }, observer))
@@ -171,7 +187,7 @@ fn header_of(program: &str, table: &mut dyn Table, named: &Named) -> Result<Batc
         let first = table.read(start.number - 1, 1)?.into_iter().next();
         match first.filter(|first| first.number == start.number) {
             Some(first) => return Ok(first),
-            None if start.generation > 0 => return Err(gone(start.number)),
+            None if start.generation > 0 => return Err(gone(start.number).into()),
             None => {}
         }
         let settings = Settings::default().with(named);
@@ -180,16 +196,13 @@ fn header_of(program: &str, table: &mut dyn Table, named: &Named) -> Result<Batc
     }
 }
 
-/// The fault where a batch is not there. An edge that is started again goes on from what is.
-fn gone(number: u64) -> NotServed {
-    LogFault::Damaged(format!("batch {number} of the table is gone: was it compacted meanwhile?")).into()
-}
-
 /// A program that is given the batches of a table.
 struct Follower {
     program: Program,
     origin: Origin,
     place: Place,
+    /// The batch up to which the observer was told all lines: a program that is exchanged serves some again.
+    observed: u64,
 }
 
 impl Follower {
@@ -197,10 +210,10 @@ impl Follower {
     fn follow(&mut self, table: &mut dyn Table, observer: &mut impl Observe) -> Result<(), NotServed> {
         let (mut told, mut is_first) = (None::<Instant>, true);
         loop {
-            self.catch_up(table, observer, u64::MAX)?;
+            self.catch_up(table, observer)?;
             if table.try_lead()? {
                 // Under this edge's epoch nobody else adds a batch.
-                return self.catch_up(table, observer, u64::MAX);
+                return self.catch_up(table, observer);
             }
             if told.map_or(true, |told| told.elapsed() >= TELL) {
                 table.tell(self.place.batches)?;
@@ -213,97 +226,105 @@ impl Follower {
         }
     }
 
-    /// Serves the lines that the table has, so many at most.
-    fn catch_up(&mut self, table: &mut dyn Table, observer: &mut impl Observe, most: u64) -> Result<(), NotServed> {
-        let mut count = FEWEST;
+    /// Serves all lines that the table has.
+    fn catch_up(&mut self, table: &mut dyn Table, observer: &mut impl Observe) -> Result<(), NotServed> {
+        let mut at_once = AtOnce::default();
         loop {
-            let batches = table.read(self.place.batches, count as u32)?;
-            if batches.is_empty() || self.place.lines > most {
+            let batches = at_once.read(table, self.place.batches)?;
+            if batches.is_empty() {
                 return Ok(());
             }
-            let bytes: usize = batches.iter().map(|batch| batch.lines.len()).sum();
-            count = (READ_BYTES / (bytes / batches.len()).max(1)).clamp(FEWEST, MOST);
-            self.pass_all(&batches, table, observer, most)?;
-        }
-    }
-
-    /// Serves batches, so that so many lines were served at most, and exchanges the program at each header.
-    fn pass_all(
-        &mut self,
-        batches: &[Batch],
-        table: &mut dyn Table,
-        observer: &mut impl Observe,
-        most: u64,
-    ) -> Result<(), NotServed> {
-        let mut rest = batches;
-        while !rest.is_empty() {
-            let count = rest.iter().take_while(|batch| batch.generation == 0).count();
-            self.serve_all(&rest[..count], observer, most)?;
-            rest = &rest[count..];
-            if let Some((header, behind)) = rest.split_first() {
-                self.take_up(header, table)?;
-                rest = behind;
+            let mut rest = batches.as_slice();
+            while !rest.is_empty() {
+                rest = self.pass(rest, table, observer)?;
             }
         }
-        Ok(())
     }
 
-    /// Has another program serve what follows a header, one that is opened from the records. All before it was served.
-    fn take_up(&mut self, header: &Batch, table: &mut dyn Table) -> Result<(), NotServed> {
+    /// Serves batches up to the next header, and goes on over it. Those that are left.
+    fn pass<'a>(
+        &mut self,
+        batches: &'a [Batch],
+        table: &mut dyn Table,
+        observer: &mut impl Observe,
+    ) -> Result<&'a [Batch], NotServed> {
+        let count = batches.iter().take_while(|batch| batch.generation == 0).count();
+        self.serve_all(&batches[..count], observer)?;
+        let (header, behind) = match batches[count..].split_first() {
+            Some(found) => found,
+            None => return Ok(&[]),
+        };
         if header.number != self.place.batches + 1 {
-            return Err(gone(self.place.batches + 1));
+            return Err(gone(self.place.batches + 1).into());
         }
+        if header.generation == self.origin.generation {
+            self.place.batches = header.number;
+            return Ok(behind);
+        }
+        self.take_up(header, table)?;
+        // The lines since its base are read again.
+        Ok(&[])
+    }
+
+    /// Has another program serve what follows a header and its base, one that is opened from the snapshots. All before the
+    /// header was served.
+    fn take_up(&mut self, header: &Batch, table: &mut dyn Table) -> Result<(), NotServed> {
         let (settings, generation) = Settings::of_header(&header.lines, &self.origin.log)?;
         self.origin.settings = settings;
         self.origin.generation = generation;
         if let Some(from) = &mut self.origin.table {
-            from.first = header.number;
+            from.base = header.number;
         }
         // Who served all before it knows the replies.
-        fetch(table, &self.origin)?;
+        fetch(table, &mut self.origin)?;
         let next = self.origin.start()?;
         std::mem::replace(&mut self.program, next).kill();
-        self.place = Place::behind(header);
+        self.place = Place::behind(header, self.origin.table_source()?.base);
+        self.observed = header.number;
         Ok(remove_leftovers(&self.origin.base, generation)?)
     }
 
-    /// Serves batches, so that so many lines were served at most.
-    fn serve_all(&mut self, batches: &[Batch], observer: &mut impl Observe, most: u64) -> Result<(), NotServed> {
-        let (first, mut lines) = (self.place.lines, Vec::new());
+    /// Serves batches.
+    fn serve_all(&mut self, batches: &[Batch], observer: &mut impl Observe) -> Result<(), NotServed> {
+        let (first, mut lines, mut known) = (self.place.lines, Vec::new(), 0);
         for batch in batches {
-            let expected = self.place.batches + 1;
-            if batch.number != expected {
-                return Err(gone(expected));
+            if batch.number != self.place.batches + 1 {
+                return Err(gone(self.place.batches + 1).into());
             }
             let before = lines.len();
-            let left = usize::try_from(most.saturating_sub(self.place.lines - 1)).unwrap_or(usize::MAX);
-            lines.extend(batch.lines.split(|byte| *byte == b'\n').take(left));
+            lines.extend(batch.lines.split(|byte| *byte == b'\n'));
             self.place.pass(batch, (lines.len() - before) as u64);
+            if batch.number <= self.observed {
+                known = lines.len();
+            }
         }
+        let mut left = known;
         serve(&mut self.program, &lines, first, |line, reply| {
-            observer.line(line, reply);
+            match left {
+                0 => observer.line(line, reply),
+                _ => left -= 1,
+            }
             Ok(())
         })
     }
 }
 
 /// A program of this origin that has served so many lines of its table, without their header.
-pub fn serve_again(origin: &Origin, count: u64, observer: &mut impl Observe) -> Result<Program, NotServed> {
-    let mut origin = origin.clone();
-    let (connect, first) = match &origin.table {
-        Some(from) => (from.connect.clone(), from.first),
-        None => return Err(LogFault::Io(format!("{}: this is no table", origin.log)).into()),
-    };
-    let mut table = connect.table()?;
-    let program = origin.start()?;
-    let mut follower = Follower { program, origin, place: Place { batches: first, lines: 1, bytes: 0 } };
-    match follower.catch_up(table.as_mut(), observer, count) {
-        Ok(()) => Ok(follower.program),
-        Err(fault) => {
-            follower.program.kill();
-            Err(fault)
+pub fn serve_again(origin: &Origin, count: u64) -> Result<Program, NotServed> {
+    let mut tail = TableTail::of(origin)?;
+    let mut program = origin.clone().start()?;
+    while tail.count() < count {
+        let first = tail.count() + 1;
+        let served = tail
+            .next(count)
+            .map_err(NotServed::from)
+            .and_then(|lines| serve(&mut program, &lines, first, |_, _| Ok::<(), NotServed>(())));
+        if let Err(fault) = served {
+            program.kill();
+            return Err(fault);
         }
     }
+    Ok(program)
 }
 
 #[cfg(test)]
@@ -313,8 +334,11 @@ mod tests {
     use crate::scratch::Scratch;
     use std::sync::{Arc, Mutex};
 
-    /// Answers each line with its number.
-    const PROGRAM: &str = "#!/bin/sh\nn=0\nwhile read -r line; do n=$((n + 1)); echo \"{\\\"line\\\":$n}\"; done\n";
+    /// Answers each line with its number, and writes it into a file.
+    const PROGRAM: &str = r#"#!/bin/sh
+n=0
+while read -r line; do n=$((n + 1)); echo "$line" >> "$0.lines"; echo "{\"line\":$n}"; done
+"#;
 
     /// The lines that were served.
     #[derive(Default)]
@@ -380,11 +404,12 @@ mod tests {
         for lines in [[b"one".as_slice(), b"two"], [b"three", b"four"]] {
             kept.log.write(lines).unwrap();
         }
+        let given = format!("{}.lines", place.program);
         for count in 0..=4 {
-            let mut seen = Seen::default();
-            let again = serve_again(&kept.origin, count, &mut seen);
-            again.map_err(|fault| fault.to_string()).unwrap().end();
-            assert_eq!(seen.0.len() as u64, count);
+            std::fs::write(&given, b"").unwrap();
+            serve_again(&kept.origin, count).map_err(|fault| fault.to_string()).unwrap().end();
+            let lines = std::fs::read_to_string(&given).unwrap();
+            assert_eq!(lines.lines().collect::<Vec<_>>(), ["one", "two", "three", "four"][..count as usize]);
         }
         kept.program.end();
     }

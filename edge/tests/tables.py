@@ -2,7 +2,8 @@
 looked at afterwards: the table's lines, given to a program by hand, give the replies that clients had.
 
 WFSERVE_SEED draws other moments, WFEDGE_TAKEOVERS more of them, and WFEDGE_CLIENTS makes more clients. WFEDGE_SILENCE is
-for how many milliseconds a leader may be silent.
+for how many milliseconds a leader may be silent, and WFEDGE_WITHIN for how many seconds at most a compaction goes on before
+it is disturbed.
 """
 
 import contextlib
@@ -23,13 +24,15 @@ import time
 import unittest
 from collections import Counter, defaultdict
 from concurrent.futures import ThreadPoolExecutor
+from dataclasses import dataclass
+from typing import List
 
-from the_edge import WFEDGE, programs_of, reply_by_key
+from the_edge import WFEDGE, children_of, programs_of, reply_by_key
 
 from by_hand import left_undone, replies_of, sweep_of
 from support.programs import BUILT, memory_folder
 from support.served import free_port
-from wfserve.durable.settings import read_header
+from wfserve.durable.settings import Settings, read_header
 
 SEED = int(os.environ.get("WFSERVE_SEED", random.randrange(1 << 32)))
 TAKEOVERS = int(os.environ.get("WFEDGE_TAKEOVERS", 8))
@@ -42,6 +45,10 @@ PATIENCE = 120
 LONGEST_PAUSE, PACE = 0.1, 0.02
 # So many seconds a client waits for an answer before it asks elsewhere, and for how many a poll waits for a task.
 ANSWER, POLL = 0.6, 0.5
+# In seconds: when a compaction that was asked is disturbed.
+WITHIN = float(os.environ.get("WFEDGE_WITHIN", 1.5))
+# After these another edge leads, or the same one anew.
+ENDED = ("kill", "stop", "database")
 PASSWORD = "of tests: ' & more"
 TOKEN = "a token of some length"
 
@@ -63,7 +70,7 @@ POSTGRES = postgres_folder()
 needs_postgres = unittest.skipUnless(POSTGRES, "PostgreSQL is not here: apt-get install postgresql")
 needs_client = unittest.skipUnless(has_client(WFEDGE), "this edge has no client of PostgreSQL: edge/setup.sh postgres")
 
-# Keeps what a compaction deletes, for who compares it with what clients had.
+# Keeps what a compaction deletes, for who compares it with what clients had; but not what a try left that came to nothing.
 ARCHIVE = """
     create schema kept;
     create table kept.wfserve_log (like public.wfserve_log);
@@ -71,10 +78,25 @@ ARCHIVE = """
     create table kept.wfserve_records (like public.wfserve_records);
     create function kept.keep() returns trigger language plpgsql security definer as $$
         begin execute format('insert into kept.%I select ($1).*', tg_table_name) using old; return old; end $$;
+    create function kept.has_start(bigint, bigint) returns boolean language sql security definer as $$
+        select exists (select 1 from public.wfserve_starts where epoch = $1 and generation = $2
+        union all select 1 from kept.wfserve_starts where epoch = $1 and generation = $2) $$;
     create trigger keep before delete on wfserve_log for each row execute function kept.keep();
     create trigger keep before delete on wfserve_starts for each row execute function kept.keep();
-    create trigger keep before delete on wfserve_records for each row execute function kept.keep();
+    create trigger keep before delete on wfserve_records for each row
+        when (kept.has_start(old.epoch, old.generation)) execute function kept.keep();
 """
+
+
+@dataclass
+class Generation:
+    """A log from one compaction to the next: its settings, its lines, how many of them the next one doesn't have, and the words
+    that open its snapshots."""
+
+    settings: Settings
+    lines: List[bytes]
+    once: int
+    load: List[str]
 
 
 class Database:
@@ -175,16 +197,22 @@ class Database:
         return [row.split("|") for row in self.rows(f"select {columns} from {table} where {where}{also}")]
 
     def generations(self, folder):
-        """The settings, the lines, and the words that open the records, of each generation of the log."""
+        """The generations of the log. A generation has the lines behind its base, some of which the one before has too."""
         batches = sorted((int(number), bytes.fromhex(lines)) for number, lines in self._all("wfserve_log", "number, encode(lines, 'hex')"))
         starts = sorted((int(number), generation, epoch) for number, generation, epoch in self._all("wfserve_starts", "number, generation, epoch"))
         assert [number for number, _ in batches] == list(range(1, len(batches) + 1)), "batches are gone"
-        found, firsts = [], [(1, "0", "0"), *starts]
-        for (first, generation, epoch), following in zip(firsts, [*[start[0] for start in starts], len(batches) + 1]):
-            lines = b"\n".join(lines for _, lines in batches[first - 1:following - 1]).split(b"\n")
-            settings, said = read_header(lines[0], "the table")
+        pieces = self._all("wfserve_records", "epoch, generation, convert_from(data, 'UTF8')", "name = 'base'")
+        bases, found = {(epoch, generation): int(base) for epoch, generation, base in pieces}, []
+        firsts = [(1, "0", "0"), *starts]
+        for place, (first, generation, epoch) in enumerate(firsts):
+            following = firsts[place + 1] if place + 1 < len(firsts) else (len(batches) + 1, None, None)
+            base, next_base = bases.get((epoch, generation), first), bases.get((following[2], following[1]), following[0])
+            settings, said = read_header(batches[first - 1][1], "the table")
             assert said == int(generation), (said, generation)
-            found.append((settings, lines[1:], self._load(folder, epoch, generation) if said else []))
+            own = [(number, line) for number, lines in batches[base:following[0] - 1] if number != first for line in lines.split(b"\n")]
+            once = sum(number <= next_base for number, _ in own)
+            load = self._load(folder, epoch, generation) if said else []
+            found.append(Generation(settings, [line for _, line in own], once, load))
         return found
 
     def _load(self, folder, epoch, generation):
@@ -378,12 +406,16 @@ class OverATable(unittest.TestCase):
     def new_database(self):
         return Database(self.folder / "one")
 
+    # What else the edges are started with.
+    options = ()
+
     def nodes(self, edge):
-        options = ["--shards", "2", "--token-file", str(self.token_file)]
+        options = ["--shards", "2", "--token-file", str(self.token_file), *self.options]
         found = [Node(edge, self.address, self.folder / f"said-{number}", *options, machine=machine)
                  for number, machine in enumerate(self.machines)]
         for node in found:
             self.addCleanup(node.stop)
+        self.all_nodes = found
         return found
 
     def leader(self, nodes):
@@ -419,8 +451,8 @@ class OverATable(unittest.TestCase):
                 if kind == "compact":
                     waits[kind].append(time.monotonic() - began)
                 else:
-                    # Who hung, or was cut off, leads on where the other one was not there yet.
-                    mended = time.monotonic() if kind in ("hang", "cut") else None
+                    # Who was not ended leads on where the other one was not there yet.
+                    mended = None if kind.startswith(ENDED) else time.monotonic()
                     waits[kind].append(self.next_answer(nodes, callers, began, mended))
         finally:
             stop.set()
@@ -430,12 +462,20 @@ class OverATable(unittest.TestCase):
         """Disturbs a leader."""
         if kind == "kill":
             leader.tell(signal.SIGKILL)
-        elif kind == "kill within a compaction":
+        elif kind.endswith(" within a compaction"):
             compacting = threading.Thread(target=leader.compact)
             compacting.start()
-            time.sleep(0.4 * draw.random())
-            leader.tell(signal.SIGKILL)
+            time.sleep(WITHIN * draw.random())
+            self.do(kind.partition(" ")[0], leader, draw)
             compacting.join()
+        elif kind == "programs":
+            tell_all([pid for pid in children_of(leader.process.pid) if draw.random() < 0.5], signal.SIGKILL)
+        elif kind == "follower":
+            for node in self.all_nodes:
+                if node is not leader:
+                    node.tell(signal.SIGKILL)
+        elif kind == "connections":
+            self.database.rows(f"select pg_terminate_backend(pid) from pg_stat_activity where usename = 'edge' and random() < {draw.random():.3f}")
         elif kind == "stop":
             leader.tell(signal.SIGTERM)
         elif kind == "hang":
@@ -500,6 +540,14 @@ class OverATable(unittest.TestCase):
         print(f"takeovers: {shown(waits)}; {len(had)} replies, {self.again} calls made again", file=sys.stderr)
         return had
 
+    def same_snapshots(self, it, following, folder):
+        """The snapshots of a generation are those of a program that is given by hand the lines that it doesn't have."""
+        made = pathlib.Path(tempfile.mkdtemp(dir=folder))
+        replies_of(BUILT, it.settings, it.lines[:it.once], [*it.load, "--snapshot", str(made)])
+        wanted, found = ({path.name: path.read_bytes() for path in place.iterdir()} for place in (made, pathlib.Path(following.load[1])))
+        self.assertEqual(sorted(wanted), sorted(found))
+        self.assertEqual([name for name in wanted if wanted[name] != found[name]], [])
+
     def wrong_in(self, had):
         """The replies of clients that the lines of their keys don't give, keys that have several lines, and turns that are
         missing at the end."""
@@ -507,17 +555,19 @@ class OverATable(unittest.TestCase):
         keys = Counter()
         with tempfile.TemporaryDirectory(dir=self.folder) as folder:
             generations = self.database.generations(folder)
-            for place, (settings, lines, load) in enumerate(generations, 1):
-                turns = sweep_of(settings, lines, moments[-1:]) if place == len(generations) else []
-                replies = replies_of(BUILT, settings, [*lines, *turns], load)
-                self.assertEqual(len(replies), len(lines) + len(turns))
-                for line, reply in zip(lines, replies):
+            for place, it in enumerate(generations, 1):
+                turns = sweep_of(it.settings, it.lines, moments[-1:]) if place == len(generations) else []
+                replies = replies_of(BUILT, it.settings, [*it.lines, *turns], it.load)
+                self.assertEqual(len(replies), len(it.lines) + len(turns))
+                for number, (line, reply) in enumerate(zip(it.lines, replies)):
                     key = line.rpartition(b',"call":"')[2].partition(b'"')[0].decode() if b',"call":"' in line else None
                     if key is not None:
                         given[key].add(reply)
-                        keys[key] += 1
-                moments += [json.loads(line)["at"] for line in lines]
+                        keys[key] += number < it.once
+                moments += [json.loads(line)["at"] for line in it.lines[:it.once]]
                 left = left_undone(turns, replies)
+            for it, following in zip(generations, generations[1:]):
+                self.same_snapshots(it, following, folder)
         self.assertEqual(moments, sorted(moments))
         wrong = [(key, text) for key, text in had.items() if text not in given[key]]
         return wrong, [key for key, count in keys.items() if count > 1 and "-poll-" not in key], left

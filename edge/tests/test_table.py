@@ -119,8 +119,8 @@ class TwoEdges(OverATable):
         # What is older than the generation before is deleted meanwhile.
         self.becomes("select generation from wfserve_starts order by 1", ["3", "4"])
         self.becomes("select distinct generation from wfserve_records order by 1", ["3", "4"])
-        first = "select min(number) = (select number from wfserve_starts where generation = 3) from wfserve_log"
-        self.assertEqual(self.database.rows(first), ["t"])
+        base = "select convert_from(data, 'UTF8')::bigint from wfserve_records where generation = 3 and name = 'base'"
+        self.assertEqual(self.database.rows(f"select min(number) = ({base}) + 1 from wfserve_log"), ["t"])
         for node in nodes:
             node.stop()
         self.assertEqual(self.wrong_in(had), ([], [], []))

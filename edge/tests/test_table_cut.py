@@ -19,8 +19,8 @@ from tables import CLIENTS, SEED, Database, OverATable, needs_client, needs_post
 
 ROUNDS = int(os.environ.get("WFEDGE_ROUNDS", 1))
 RESULTS = os.environ.get("WFEDGE_RESULTS")
-# Of ten disturbances so many are of each kind, in drawn orders.
-KINDS = ["kill"] * 6 + ["cut", "hang", "kill within a compaction", "compact"]
+# Of twelve disturbances so many are of each kind, in drawn orders.
+KINDS = ["kill"] * 6 + ["cut", "hang", "compact", *(f"{kind} within a compaction" for kind in ("kill", "hang", "cut"))]
 
 
 @needs_edge

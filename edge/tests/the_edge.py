@@ -43,15 +43,19 @@ def begun(pid):
         return None
 
 
-def programs_of(pid):
-    """All programs of an edge, the one that serves first: its threads start them, and the page too. One that follows began
-    later."""
+def children_of(pid):
+    """All processes that an edge has started: its threads start them."""
     found = []
     for children in pathlib.Path(f"/proc/{pid}/task").glob("*/children"):
         # A thread may have ended meanwhile.
         with contextlib.suppress(OSError):
             found += [int(child) for child in children.read_text(encoding="utf-8").split()]
-    ages = [(begun(child), child) for child in found if is_program(child)]
+    return found
+
+
+def programs_of(pid):
+    """All programs of an edge, the one that serves first, without the page. One that follows began later."""
+    ages = [(begun(child), child) for child in children_of(pid) if is_program(child)]
     return [child for _, child in sorted((age, child) for age, child in ages if age is not None)]
 
 

@@ -7,9 +7,10 @@
 //!
 //! `wfserve_starts` has a row for each compaction, and `wfserve_records` what the log goes on from then, under the epoch of
 //! the leader that put it there: so pieces of a leader that is none any more are never taken for another one's. A statement
-//! of the same form as a batch's adds the row and the header of the log since: the compaction counts from then on.
+//! of the same form as a batch's adds the row and the header of the log since: the compaction counts from then on. Batches
+//! behind its base, which its first piece names, are lines of the log since too.
 
-use crate::connection::{Connection, Result};
+use crate::connection::{Connection, Result, Values};
 use crate::planted::Planted;
 use std::sync::atomic::{AtomicBool, Ordering::SeqCst};
 use std::sync::Arc;
@@ -17,7 +18,7 @@ use std::time::Duration;
 use tokio_postgres::{Row, Statement};
 use wfedge::log_fault::LogFault;
 use wfedge::say::line as say_line;
-use wfedge::table::{Batch, Piece, Pieces, Start, Table};
+use wfedge::table::{Batch, Piece, PiecePlace, Pieces, Start, Table};
 
 const TABLES: &str = "
     begin;
@@ -67,12 +68,16 @@ const CLEAR: &str = "delete from wfserve_records where epoch = $1 and generation
 const PUT: &str = "insert into wfserve_records values ($1, $2, $3, $4, $5)";
 const COMPACT: &str = "
     with lead as (select 1 from wfserve_leader where epoch = $1 for share),
-    start as (insert into wfserve_starts select $4, $2, $1, clock_timestamp() from lead)
+    start as (insert into wfserve_starts select $4, $2, $1, clock_timestamp() from lead),
+    last as (insert into wfserve_records select $1, $4, $5, $6, $7 from lead)
     insert into wfserve_log select $2, $1, $3 from lead";
-// What is older than the generation before, a little at a time.
+// What is older than the generation before, a little at a time. Its lines begin behind its base, or with its header.
 const FORGET: [&str; 3] = [
     "delete from wfserve_log where number in (select number from wfserve_log where number <
-        (select number from wfserve_starts order by generation desc offset 1 limit 1) order by number limit 1000)",
+        (select coalesce((select convert_from(data, 'UTF8')::bigint + 1 from wfserve_records record
+        where record.epoch = start.epoch and record.generation = start.generation and record.number = 1
+        and name = 'base'), start.number) from wfserve_starts start order by generation desc offset 1 limit 1)
+        order by number limit 1000)",
     "delete from wfserve_starts where generation < (select max(generation) - 1 from wfserve_starts)",
     "delete from wfserve_records where (epoch, generation, number) in (select epoch, generation, number
         from wfserve_records record where (epoch < (select epoch from wfserve_leader)
@@ -162,18 +167,6 @@ impl Postgres {
         LogFault::Broken(format!("another edge leads: epoch {} is over", self.epoch))
     }
 
-    /// Puts the pieces of a compaction there. They count for nothing yet.
-    fn put_all(&self, generation: i64, pieces: Pieces<'_>) -> Result<()> {
-        let clear = self.connection.prepare(CLEAR)?;
-        self.connection.change(&clear, &[&self.epoch, &generation])?;
-        let put = self.connection.prepare(PUT)?;
-        for (number, piece) in (1_i64..).zip(pieces) {
-            let Piece { name, data } = piece?;
-            self.connection.change(&put, &[&self.epoch, &generation, &number, &name, &data])?;
-        }
-        Ok(())
-    }
-
     /// Says that this edge leads, until it can't.
     fn keep_heard(&mut self) {
         let (epoch, silence, is_unheard) = (self.epoch, self.silence, self.is_unheard.clone());
@@ -225,6 +218,10 @@ impl Table for Postgres {
         Ok(true)
     }
 
+    fn epoch(&self) -> u64 {
+        self.epoch as u64
+    }
+
     fn append(&mut self, batch: &Batch) -> Result<()> {
         if self.planted.take(self.epoch, batch) {
             return Ok(());
@@ -265,12 +262,27 @@ impl Table for Postgres {
         Ok(rows.first().map(|row| Piece { name: row.get(0), data: row.get(1) }))
     }
 
-    fn compact(&mut self, header: &Batch, pieces: Pieces<'_>) -> Result<()> {
-        let put = self.put_all(header.generation as i64, pieces);
-        let compact = put.and_then(|()| self.connection.prepare(COMPACT));
-        let compact = compact.map_err(|fault| LogFault::NotCompacted(fault.to_string()))?;
-        let (number, generation) = (header.number as i64, header.generation as i64);
-        match self.connection.change(&compact, &[&self.epoch, &number, &header.lines, &generation])? {
+    fn put(&mut self, from: PiecePlace, pieces: Pieces<'_>) -> Result<u64> {
+        let (epoch, generation, mut number) = (from.epoch as i64, from.generation as i64, from.number as i64);
+        if number == 1 {
+            let clear = self.connection.prepare(CLEAR)?;
+            self.connection.change(&clear, &[&epoch, &generation])?;
+        }
+        let put = self.connection.prepare(PUT)?;
+        for piece in pieces {
+            let Piece { name, data } = piece?;
+            self.connection.change(&put, &[&epoch, &generation, &number, &name, &data])?;
+            number += 1;
+        }
+        Ok(number as u64)
+    }
+
+    fn compact(&mut self, header: &Batch, number: u64, piece: &Piece) -> Result<()> {
+        let prepared = self.connection.prepare(COMPACT);
+        let compact = prepared.map_err(|fault| LogFault::NotCompacted(fault.to_string()))?;
+        let (batch, generation, number) = (header.number as i64, header.generation as i64, number as i64);
+        let values: Values<'_> = &[&self.epoch, &batch, &header.lines, &generation, &number, &piece.name, &piece.data];
+        match self.connection.change(&compact, values)? {
             1 if !self.is_unheard.load(SeqCst) => Ok(()),
             _ => Err(self.ousted()),
         }

@@ -1,24 +1,24 @@
-//! Compacts a log in a file while it is served.
+//! Compacts a log while it is served.
 //!
 //! A program beside the one that serves is given the log's lines, and writes snapshots after one of them. Another one is
 //! opened from these, and given the lines since as they come: so it serves the same, and is soon as far. Then batches
-//! rest for a moment, in which it and its log take the place of the others.
+//! rest for a moment, in which it and its log (`successor`) take the place of the others.
 //!
 //! A program that is opened from snapshots has the tasks that wait in its queues in another order, so a poll may be
 //! handed another one. Then the next log would tell something else than clients were told. So each reply to a line since
 //! the snapshots is compared, and where one differs the compaction is made once more, with polls and dispatch turns held
 //! back until the programs were exchanged: all other replies are the same by whatever order of the queues.
 
-use super::state::State;
+use super::state::{LogState, State};
+use super::successor::{Successor, Tail};
 use super::{Compacted, Core};
 use crate::call::Call;
-use crate::compaction::{give_line, keep_log, next_origin, open_program, write_beside, write_snapshots};
+use crate::compaction::{give_line, next_origin, open_program, write_snapshots};
 use crate::fault::Fault;
-use crate::following::{serve, Tail};
+use crate::following::serve;
 use crate::generation::{folder_of, remove_leftovers, Files, ATTEMPTS, REPLIES};
 use crate::kept::{tell_growth, Origin};
 use crate::ledger::Turn;
-use crate::line_log::LineLog;
 use crate::log::Log;
 use crate::log_fault::LogFault;
 use crate::operations::Op;
@@ -43,7 +43,7 @@ const FREE_ROUNDS: u32 = 4;
 const REST: Duration = Duration::from_millis(1);
 const LONG_REST: Duration = Duration::from_millis(50);
 
-/// When a log in a file is compacted without being asked, and whether a second program follows it.
+/// When a log is compacted without being asked, and whether a second program follows one in a file.
 #[derive(Clone, Copy, Debug, PartialEq, Eq)]
 pub struct Limits {
     /// From so many bytes on, or from twice as many as the snapshots have where these are more; 0 for never.
@@ -59,8 +59,9 @@ pub type Done = oneshot::Sender<Result<Compacted, Fault>>;
 /// What the threads of a core note and leave while a log is compacted.
 #[derive(Default)]
 pub struct Window {
-    /// The marks of the replies to the lines since the snapshots.
+    /// The marks of the replies to the lines behind this one, up to which the snapshots go.
     marks: Option<VecDeque<u64>>,
+    marks_from: u64,
     /// Whether polls and dispatch turns are held back, and behind which line none was made.
     is_holding: bool,
     holds_from: Option<u64>,
@@ -83,10 +84,11 @@ fn is_by_queues(op: Op) -> bool {
 }
 
 impl Window {
-    /// Notes the reply to a line.
-    pub fn note(&mut self, reply: &[u8]) {
-        if let Some(marks) = &mut self.marks {
-            marks.push_back(mark_of(reply));
+    /// Notes the reply to the line of this number.
+    pub fn note(&mut self, number: u64, reply: &[u8]) {
+        match &mut self.marks {
+            Some(marks) if number > self.marks_from => marks.push_back(mark_of(reply)),
+            _ => {}
         }
     }
 
@@ -147,14 +149,20 @@ pub struct Behind {
     program: Option<Program>,
     next: Origin,
     tail: Tail,
-    log: Option<LineLog>,
+    successor: Option<Successor>,
     /// How many of the replies by keys lie beside the snapshots.
     replies: u64,
 }
 
 impl Behind {
-    fn log(&mut self) -> Result<&mut LineLog, Fault> {
-        self.log.as_mut().ok_or(Fault::Draining)
+    fn successor(&mut self) -> Result<&mut Successor, Fault> {
+        self.successor.as_mut().ok_or(Fault::Draining)
+    }
+
+    /// Puts a text beside the snapshots.
+    fn write_beside(&mut self, name: &str, text: &[u8]) -> Result<(), Stopped> {
+        let next = self.next.clone();
+        Ok(self.successor()?.write_beside(&next, name, text)?)
     }
 }
 
@@ -173,8 +181,7 @@ pub struct Exchange {
 }
 
 impl Core {
-    /// Puts snapshots in the place of the log's lines, with that much room in the queues. A log in a file is served
-    /// meanwhile; the calls of a table wait.
+    /// Puts snapshots in the place of the log's lines, with that much room in the queues. It is served meanwhile.
     pub fn compact(self: &Arc<Core>, capacity: u32) -> Result<oneshot::Receiver<Result<Compacted, Fault>>, Fault> {
         let (done, outcome) = oneshot::channel();
         let mut state = self.lock();
@@ -186,14 +193,8 @@ impl Core {
             return Err(fault.clone());
         }
         state.flags.is_compacting = true;
-        if state.origin.table.is_some() {
-            state.compaction = Some((capacity, done));
-            drop(state);
-            self.wake.notify_all();
-        } else {
-            drop(state);
-            self.compact_beside(capacity, Some(done))?;
-        }
+        drop(state);
+        self.compact_beside(capacity, Some(done))?;
         Ok(outcome)
     }
 
@@ -252,8 +253,7 @@ impl Core {
     ) -> Result<Compacted, Stopped> {
         let result = self.come_behind(origin, capacity, is_asked, holds).and_then(|mut behind| {
             self.come_near(&mut behind, is_asked)?;
-            keep_log(&origin.log, origin.generation)?;
-            behind.log()?.sync()?;
+            behind.successor()?.make_ready(origin)?;
             let (lines, next) = (behind.tail.count(), behind.next.clone());
             let bytes = self.lock().log.bytes;
             self.exchange(behind)?;
@@ -283,38 +283,41 @@ impl Core {
     /// Writes snapshots, and opens a program from them.
     fn come_behind(&self, origin: &Origin, capacity: u32, is_asked: bool, holds: bool) -> Result<Behind, Stopped> {
         let mut next = next_origin(origin, capacity);
-        let mut tail = Tail::of(&origin.log)?;
+        let (mut tail, mut base) = (Tail::of(origin)?, LogState::default());
         let give = |input: &mut dyn Write| -> Result<(), LogFault> {
             let not = |fault: Fault| LogFault::NotCompacted(fault.to_string());
             for _ in 0..FREE_ROUNDS {
                 let answered = self.go_on(is_asked).map_err(not)?;
                 give_lines(input, &mut tail, answered)?;
             }
-            let last = self.begin_window(is_asked, holds).map_err(not)?;
-            give_lines(input, &mut tail, last)
+            base = self.begin_window(is_asked, holds).map_err(not)?;
+            give_lines(input, &mut tail, base.lines)
         };
         write_snapshots(origin, give, &folder_of(&next.base, next.generation))?;
         let mut program = open_program(&mut next)?;
-        let log = match LineLog::beside(&origin.log, &next.settings.header(next.generation)) {
-            Ok(log) => log,
+        let successor = match Successor::begin(origin, &next, &base) {
+            Ok(successor) => successor,
             Err(fault) => {
                 program.kill();
                 return Err(fault.into());
             }
         };
-        Ok(Behind { program: Some(program), next, tail, log: Some(log), replies: 0 })
+        Ok(Behind { program: Some(program), next, tail, successor: Some(successor), replies: 0 })
     }
 
-    /// From now on replies are noted, to the lines behind this one. With `holds` no poll and no dispatch turn is among
-    /// them.
-    fn begin_window(&self, is_asked: bool, holds: bool) -> Result<u64, Fault> {
+    /// From now on replies are noted, to the lines behind those that the log has here. With `holds` no poll and no dispatch
+    /// turn is among them.
+    fn begin_window(&self, is_asked: bool, holds: bool) -> Result<LogState, Fault> {
         self.lock().window.is_holding = holds;
         loop {
             self.go_on(is_asked)?;
             let mut state = self.lock();
             if !holds || state.has_held() {
+                // All batches so far are whole in the log, also where they are not answered.
+                let log = state.log;
                 state.window.marks = Some(VecDeque::new());
-                return Ok(state.answered);
+                state.window.marks_from = log.lines;
+                return Ok(log);
             }
             drop(state);
             std::thread::sleep(REST);
@@ -326,10 +329,10 @@ impl Core {
         self.write_replies_of(behind)?;
         // The lines since tell again what else was told by then.
         let attempts = self.lock().attempts_text();
-        write_beside(&behind.next.base, behind.next.generation, ATTEMPTS, &attempts)?;
+        behind.write_beside(ATTEMPTS, &attempts)?;
         for round in 0.. {
             let answered = self.go_on(is_asked)?;
-            let left = answered - behind.tail.count();
+            let left = answered.saturating_sub(behind.tail.count());
             if left <= NEAR {
                 break;
             }
@@ -339,22 +342,26 @@ impl Core {
                 state.window.behind = behind.tail.count();
                 state.window.most_ahead = Some((left * 3 / 4).max(NEAR / 2));
             }
-            self.catch_up(behind, answered)?;
+            self.catch_up(behind, answered, None)?;
         }
         // What was answered meanwhile is few lines.
-        Ok(self.write_replies_of(behind)?)
+        self.write_replies_of(behind)
     }
 
-    /// Gives a program the lines up to this one, and compares its replies with those that were given.
-    fn catch_up(&self, behind: &mut Behind, number: u64) -> Result<(), Stopped> {
-        let Behind { program, tail, log, .. } = behind;
-        let (program, log) = match (program, log) {
-            (Some(program), Some(log)) => (program, log),
+    /// Gives a program the lines up to this one, and compares its replies with those that were given. Who has the log, in
+    /// which no line is written meanwhile, gives it.
+    fn catch_up(&self, behind: &mut Behind, number: u64, mut log: Option<&mut Log>) -> Result<(), Stopped> {
+        let Behind { program, tail, successor, .. } = behind;
+        let (program, successor) = match (program, successor) {
+            (Some(program), Some(successor)) => (program, successor),
             _ => return Err(Fault::Draining.into()),
         };
         while tail.count() < number {
             let first = tail.count() + 1;
-            let lines = tail.next(number)?;
+            let lines = match log.as_deref_mut() {
+                Some(log) => tail.next_by(log, number)?,
+                None => tail.next(number)?,
+            };
             let mut marks = self.lock().take_marks(lines.len());
             let mut place = first;
             serve(program, &lines, first, |_, reply| {
@@ -362,7 +369,7 @@ impl Core {
                 place += 1;
                 is_same.then_some(()).ok_or(Stopped::Differs(place - 1))
             })?;
-            log.write(lines.iter().map(Vec::as_slice))?;
+            successor.add(&lines)?;
             self.lock().window.behind = tail.count();
             self.wake.notify_all();
         }
@@ -370,13 +377,19 @@ impl Core {
     }
 
     /// Writes the replies by keys that were kept since this was done last beside the snapshots.
-    fn write_replies_of(&self, behind: &mut Behind) -> Result<(), LogFault> {
+    fn write_replies_of(&self, behind: &mut Behind) -> Result<(), Stopped> {
+        let replies = self.next_replies(behind);
+        behind.write_beside(REPLIES, &replies)
+    }
+
+    /// The replies by keys that were kept since they were asked for last, as text.
+    fn next_replies(&self, behind: &mut Behind) -> Vec<u8> {
         let (replies, added) = {
             let state = self.lock();
             (state.replies.after(behind.replies), state.replies.added())
         };
         behind.replies = added;
-        write_beside(&behind.next.base, behind.next.generation, REPLIES, &text_of(&replies))
+        text_of(&replies)
     }
 
     /// Has the sequencer exchange log and program.
@@ -402,7 +415,13 @@ impl Core {
     /// Exchanges log and program, in the sequencer.
     pub(super) fn exchange_now(&self, exchange: Exchange, log: &mut Log, origin: &mut Origin) {
         let Exchange { mut behind, done } = exchange;
-        let result = self.exchange_for(&mut behind, log, origin);
+        let mut result = self.exchange_for(&mut behind, log, origin);
+        if let (Err(Stopped::Fault(fault)), true) = (&mut result, log.is_broken()) {
+            // Whether the log was exchanged is not known.
+            *fault = Fault::LogBroken(fault.to_string());
+            self.lock().log = LogState::of(log);
+            self.end(fault.clone());
+        }
         let mut state = self.lock();
         state.flags.is_exchanging = false;
         state.called = true;
@@ -414,14 +433,10 @@ impl Core {
 
     fn exchange_for(&self, behind: &mut Behind, log: &mut Log, origin: &mut Origin) -> Result<(), Stopped> {
         self.wait_until_quiet()?;
-        let file = match log {
-            Log::File(file) => file,
-            Log::Table(_) => return Err(LogFault::NotCompacted("the log is no file".to_string()).into()),
-        };
-        self.catch_up(behind, file.len().saturating_sub(1))?;
-        self.write_replies_of(behind)?;
-        behind.log()?.sync()?;
-        file.give_way(behind.log.take().ok_or(Fault::Draining)?)?;
+        self.catch_up(behind, log.len().saturating_sub(1), Some(log))?;
+        let replies = self.next_replies(behind);
+        let successor = behind.successor.take().ok_or(Fault::Draining)?;
+        successor.take_over(log, &mut behind.next, &replies)?;
         *origin = behind.next.clone();
         if let Some(program) = behind.program.take() {
             self.take_up(program, log, origin);

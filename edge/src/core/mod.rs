@@ -17,6 +17,7 @@ mod reader;
 mod sequencer;
 mod standby;
 mod state;
+mod successor;
 #[cfg(test)]
 mod tests;
 

@@ -260,7 +260,7 @@ impl State {
             let number = call.number;
             self.endings = Endings::default();
             if call.is_logged() {
-                self.window.note(&text);
+                self.window.note(number, &text);
             }
             match self.take_reply(call, text, limit) {
                 Ok(count) => handed += count,

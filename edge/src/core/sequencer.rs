@@ -1,19 +1,16 @@
 //! Makes batches: a batch is written to the log, then to the program, and is synced while the program works.
 
-use super::compacting::{Done, Exchange};
+use super::compacting::Exchange;
 use super::endings::Endings;
 use super::state::{LogState, State};
-use super::{Compacted, Core};
+use super::Core;
 use crate::call::Call;
 use crate::fault::Fault;
-use crate::generation::{remove_leftovers, Files};
 use crate::kept::Origin;
 use crate::ledger::Needed;
 use crate::log::Log;
 use crate::log_fault::LogFault;
 use crate::program::{Program, CHANGES_NOTHING};
-use crate::say::say;
-use crate::table_records;
 use std::io::Write;
 use std::sync::{Arc, MutexGuard, PoisonError};
 use std::time::Instant;
@@ -26,7 +23,6 @@ const ROOM_FOR_TURNS: usize = 16;
 /// What the sequencer does next.
 enum Work {
     Batch(Vec<Call>),
-    Compact(u32, Done),
     Exchange(Box<Exchange>),
     End,
 }
@@ -46,7 +42,6 @@ impl Core {
         loop {
             match self.next_work() {
                 Work::Batch(calls) => self.serve(calls, &mut log, &mut piped),
-                Work::Compact(capacity, done) => self.compact_now(capacity, done, &mut log, &mut origin),
                 Work::Exchange(exchange) => self.exchange_now(*exchange, &mut log, &mut origin),
                 Work::End => return,
             }
@@ -169,47 +164,6 @@ impl Core {
 
     // Compaction.
 
-    /// Exchanges a table's lines for snapshots, and the program for one that was opened from these.
-    fn compact_now(&self, capacity: u32, done: Done, log: &mut Log, origin: &mut Origin) {
-        if let Err(fault) = self.wait_until_quiet() {
-            let _ = done.send(Err(fault));
-            return;
-        }
-        let (lines, bytes) = (log.len().saturating_sub(1), log.size());
-        let result = match log {
-            Log::File(_) => Err(LogFault::NotCompacted("the log is no table".to_string())),
-            Log::Table(table) => {
-                let beside = self.lock().beside();
-                table_records::compact(origin, table, capacity, &beside)
-            }
-        };
-        let outcome = match result {
-            Ok(program) => {
-                self.take_up(program, log, origin);
-                let records = Files::of(&origin.base, origin.generation).map_or(0, |files| files.size());
-                if let Err(fault) = remove_leftovers(&origin.base, origin.generation) {
-                    say!("{fault}");
-                }
-                Ok(Compacted { lines, bytes, records, capacity: origin.settings.capacity })
-            }
-            Err(fault) if log.is_broken() => {
-                self.end(fault_of(fault.clone()));
-                Err(fault_of(fault))
-            }
-            Err(fault) => Err(Fault::NotCompacted(fault.to_string())),
-        };
-        let mut state = self.lock();
-        state.flags.is_compacting = false;
-        state.flags.is_exchanging = false;
-        state.called = true;
-        // Each task that waits is in its queue again.
-        state.wake_all_polls();
-        state.look = true;
-        self.release(state);
-        self.wake.notify_all();
-        let _ = done.send(outcome);
-    }
-
     /// Waits until all that was written is synced and answered.
     pub(super) fn wait_until_quiet(&self) -> Result<(), Fault> {
         let mut state = self.lock();
@@ -265,9 +219,6 @@ impl State {
     fn next_work(&mut self) -> Option<Work> {
         if self.flags.is_restarting {
             return None;
-        }
-        if let Some((capacity, done)) = self.compaction.take() {
-            return Some(Work::Compact(capacity, done));
         }
         if let Some(exchange) = self.exchange.take() {
             return Some(Work::Exchange(Box::new(exchange)));

@@ -2,8 +2,7 @@
 
 use crate::call::{Asker, Call, Receiver};
 use crate::changes::Changes;
-use crate::compaction::Beside;
-use crate::core::compacting::{Done, Exchange, Limits, Window};
+use crate::core::compacting::{Exchange, Limits, Window};
 use crate::core::endings::Endings;
 use crate::core::standby::Place;
 use crate::deadlines::Deadlines;
@@ -62,14 +61,15 @@ pub struct Said {
 pub struct LogState {
     pub lines: u64,
     pub bytes: u64,
+    pub batches: u64,
     pub is_full: bool,
     pub is_broken: bool,
 }
 
 impl LogState {
     pub fn of(log: &Log) -> LogState {
-        let lines = log.len().saturating_sub(1);
-        LogState { lines, bytes: log.size(), is_full: log.is_full(), is_broken: log.is_broken() }
+        let (lines, bytes, batches) = (log.len().saturating_sub(1), log.size(), log.batches());
+        LogState { lines, bytes, batches, is_full: log.is_full(), is_broken: log.is_broken() }
     }
 }
 
@@ -123,8 +123,6 @@ pub struct State {
     /// How programs ended since something was answered.
     pub endings: Endings,
     pub flags: Flags,
-    /// The compaction of a table that was asked.
-    pub compaction: Option<(u32, Done)>,
     /// What a compaction under way has noted and left, and the program and the log that it has made ready.
     pub window: Window,
     pub exchange: Option<Exchange>,
@@ -192,7 +190,6 @@ impl State {
             next_program: None,
             endings: Endings::default(),
             flags: Flags::default(),
-            compaction: None,
             window: Window::default(),
             exchange: None,
             standby: Place::default(),
@@ -234,7 +231,7 @@ impl State {
     /// Whether something waits for the sequencer.
     pub fn has_work(&self) -> bool {
         let is_asked = !self.asked.is_empty() || !self.own.is_empty();
-        is_asked || self.flags.is_resting || self.compaction.is_some() || self.exchange.is_some()
+        is_asked || self.flags.is_resting || self.exchange.is_some()
     }
 
     // Compactions.
@@ -261,12 +258,7 @@ impl State {
     }
 
     fn may_compact(&self) -> bool {
-        !self.flags.is_compacting && !self.flags.is_closing && self.origin.table.is_none()
-    }
-
-    /// What is kept beside the snapshots of a compaction.
-    pub fn beside(&self) -> Beside {
-        Beside { replies: self.replies.text(), attempts: self.attempts_text() }
+        !self.flags.is_compacting && !self.flags.is_closing
     }
 
     /// What a page was told of attempts, as text; none where there is no page.
@@ -520,9 +512,6 @@ impl State {
         let over = self.polls.over(|call| Some(call.late), None);
         for Waiting { call, .. } in over.polls {
             self.fail_waiting(call, &fault);
-        }
-        if let Some((_, done)) = self.compaction.take() {
-            let _ = done.send(Err(fault.clone()));
         }
         self.flags.is_compacting = false;
         self.over.get_or_insert(fault);

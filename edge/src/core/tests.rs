@@ -193,9 +193,9 @@ fn kept_by(log: &str, generation: u64, lines: &[String], op: &str) -> Vec<String
     found.map(|line| line.rsplit_once("\"call\":").unwrap().1.split('"').nth(1).unwrap().to_string()).collect()
 }
 
-#[test]
-fn a_log_is_compacted_while_it_is_served_and_loses_nothing() {
-    let (served, stop) = (Served::new(100), Arc::new(AtomicBool::new(false)));
+/// Compacts a log three times while calls are made. The replies to signals and to polls.
+fn compacted_under_calls(served: &Served) -> (Vec<Bytes>, Vec<Bytes>) {
+    let stop = Arc::new(AtomicBool::new(false));
     let signals = calls_of(&served.core, r#"{"op":"signal","name":"n"}"#, &stop);
     let polls = calls_of(&served.core, r#"{"op":"poll_workflow_task","task_queue":"main","wait":0}"#, &stop);
     for generation in 1..=3 {
@@ -211,16 +211,11 @@ fn a_log_is_compacted_while_it_is_served_and_loses_nothing() {
     stop.store(true, SeqCst);
     let (signals, polls) = (signals.join().unwrap(), polls.join().unwrap());
     assert!(signals.iter().all(is_signaled) && is_by(polls.last().unwrap(), "other"));
-    let Served { core, threads, log, _folder } = served;
-    let lines = Served { core, threads, log: log.clone(), _folder: Scratch::new() }.end();
-    assert!(lines[0].contains("\"compacted\":3"));
-    for (op, name, count) in [("\"signal\"", "sign", signals.len()), ("\"poll_workflow_task\"", "poll", polls.len())] {
-        let wanted: Vec<String> = (0..count).map(|number| format!("{name}-{number}")).collect();
-        assert_eq!(kept_by(&log, 3, &lines[1..], op), wanted);
-    }
-    // Opened again it gives the replies that were had, also those from before the compactions.
-    let (program, named) = (_folder.path("program"), Named::default());
-    let opened = Opened::of(&program, &log, &named, false).map_err(|fault| fault.to_string()).unwrap();
+    (signals, polls)
+}
+
+/// An opened log gives the replies that were had, also those from before the compactions.
+fn knows_replies(opened: Opened, signals: &[Bytes]) {
     let begin = asked(br#"{"op":"signal","name":"n"}"#, 1).unwrap().begin;
     for (number, reply) in signals.iter().enumerate() {
         let found = opened.observed.replies.get(&format!("sign-{number}"), crate::replies::mark_of(&begin));
@@ -230,15 +225,118 @@ fn a_log_is_compacted_while_it_is_served_and_loses_nothing() {
 }
 
 #[test]
+fn a_log_is_compacted_while_it_is_served_and_loses_nothing() {
+    let served = Served::new(100);
+    let (signals, polls) = compacted_under_calls(&served);
+    let Served { core, threads, log, _folder } = served;
+    let lines = Served { core, threads, log: log.clone(), _folder: Scratch::new() }.end();
+    assert!(lines[0].contains("\"compacted\":3"));
+    for (op, name, count) in [("\"signal\"", "sign", signals.len()), ("\"poll_workflow_task\"", "poll", polls.len())] {
+        let wanted: Vec<String> = (0..count).map(|number| format!("{name}-{number}")).collect();
+        assert_eq!(kept_by(&log, 3, &lines[1..], op), wanted);
+    }
+    let (program, named) = (_folder.path("program"), Named::default());
+    knows_replies(Opened::of(&program, &log, &named, false).map_err(|fault| fault.to_string()).unwrap(), &signals);
+}
+
+/// What a table and its snapshots have of calls of an operation, in their order.
+fn kept_in(shared: &Shared, op: &str) -> Vec<String> {
+    let (start, pieces) = shared.starts.last().unwrap();
+    let text = |name: &str| {
+        let found = pieces.iter().filter(|piece| piece.name == name).flat_map(|piece| piece.data.clone());
+        String::from_utf8(found.collect()).unwrap()
+    };
+    let base: u64 = text("base").parse().unwrap();
+    let batches = (base + 1..).zip(&shared.batches[base as usize..]).filter(|(number, _)| *number != start.number);
+    let since: Vec<String> = batches.map(|(_, lines)| String::from_utf8(lines.clone()).unwrap()).collect();
+    let whole = [text("shard-00.snap"), since.join("\n")].join("\n");
+    let found = whole.lines().filter(|line| line.contains(op));
+    found.map(|line| line.rsplit_once("\"call\":").unwrap().1.split('"').nth(1).unwrap().to_string()).collect()
+}
+
+#[test]
+fn a_table_is_compacted_while_it_is_served_and_followed_and_loses_nothing() {
+    let shared = Arc::new(Mutex::new(Shared::default()));
+    let connect = table_in(&shared);
+    let open = |program: &str| Opened::of_table(program, &connect, &Named::default(), true);
+    let served = Served::by(100, |program, _| open(program));
+    let program = served._folder.path("program");
+    std::thread::scope(|scope| {
+        let follower = scope.spawn(|| open(&program).map_err(|fault| fault.to_string()).unwrap());
+        while shared.lock().unwrap().told == 0 {
+            std::thread::sleep(Duration::from_millis(1));
+        }
+        let (signals, polls) = compacted_under_calls(&served);
+        served.core.close();
+        assert!(served.threads.join(SECONDS));
+        for (op, name, count) in
+            [("\"signal\"", "sign", signals.len()), ("\"poll_workflow_task\"", "poll", polls.len())]
+        {
+            let wanted: Vec<String> = (0..count).map(|number| format!("{name}-{number}")).collect();
+            assert_eq!(kept_in(&shared.lock().unwrap(), op), wanted);
+        }
+        let place = |opened: &Opened| (opened.kept.log.len(), opened.kept.log.size(), opened.kept.log.batches());
+        shared.lock().unwrap().is_led = false;
+        let followed = follower.join().unwrap();
+        shared.lock().unwrap().is_led = false;
+        let anew = open(&program).map_err(|fault| fault.to_string()).unwrap();
+        let served = served.core.lock().log;
+        assert_eq!(place(&followed), (served.lines + 1, served.bytes, served.batches));
+        assert_eq!(place(&anew), place(&followed));
+        for opened in [followed, anew] {
+            assert_eq!(opened.kept.origin.generation, 3);
+            knows_replies(opened, &signals);
+        }
+    });
+}
+
+#[test]
+fn while_batches_rest_a_table_is_asked_by_no_second_connection() {
+    let shared = Arc::new(Mutex::new(Shared { cuts_off: true, ..Shared::default() }));
+    let connect = table_in(&shared);
+    let served = Served::by(100, |program, _| Opened::of_table(program, &connect, &Named::default(), true));
+    compacted_under_calls(&served);
+    assert!(shared.lock().unwrap().starts.len() == 3);
+    served.core.close();
+    assert!(served.threads.join(SECONDS));
+}
+
+#[test]
+fn a_table_is_not_compacted_once_another_edge_leads() {
+    let shared = Arc::new(Mutex::new(Shared::default()));
+    let connect = table_in(&shared);
+    let served = Served::by(100, |program, _| Opened::of_table(program, &connect, &Named::default(), true));
+    assert!(served.call(r#"{"op":"signal","name":"n"}"#, None).is_ok());
+    shared.lock().unwrap().epoch += 1;
+    // The clock's own turns may have found it first.
+    let outcome = served.core.compact(0).and_then(|outcome| outcome.blocking_recv().unwrap().map(drop));
+    assert!(outcome.unwrap_err().to_string().contains("another edge leads"));
+    assert!(served.core.lock().over.is_some() && shared.lock().unwrap().starts.is_empty());
+    served.core.close();
+    served.threads.join(SECONDS);
+}
+
+/// Makes calls until a log was compacted twice by itself.
+fn compacted_by_itself(served: &Served) {
+    let late = Instant::now() + SECONDS;
+    while served.core.lock().origin.generation < 2 {
+        assert!(Instant::now() < late && served.call(r#"{"op":"signal","name":"n"}"#, None).is_ok());
+    }
+}
+
+#[test]
 fn a_log_is_compacted_by_itself_once_it_is_long_or_old() {
+    let table = table_in(&Arc::new(Mutex::new(Shared::default())));
     for limits in [Limits { bytes: 2_000, ..LIMITS }, Limits { time: Duration::from_millis(50), ..LIMITS }] {
         let served = Served::with(100, limits, |program, log| Opened::of(program, log, &Named::default(), true));
-        let late = Instant::now() + SECONDS;
-        while served.core.lock().origin.generation < 2 {
-            assert!(Instant::now() < late && served.call(r#"{"op":"signal","name":"n"}"#, None).is_ok());
-        }
+        compacted_by_itself(&served);
         served.end();
     }
+    let limits = Limits { bytes: 2_000, ..LIMITS };
+    let served = Served::with(100, limits, |program, _| Opened::of_table(program, &table, &Named::default(), true));
+    compacted_by_itself(&served);
+    served.core.close();
+    assert!(served.threads.join(SECONDS));
 }
 
 #[test]

@@ -1,0 +1,115 @@
+//! What a log that is compacted while it is served is read by, and what takes its place.
+
+use crate::compaction::{keep_log, write_beside};
+use crate::core::state::LogState;
+use crate::following;
+use crate::generation::REPLIES;
+use crate::kept::Origin;
+use crate::line_log::LineLog;
+use crate::log::Log;
+use crate::log_fault::LogFault;
+use crate::table_log::Place;
+use crate::table_records::Upload;
+use crate::table_tail::TableTail;
+
+/// Reads the lines of a log that is written meanwhile.
+pub enum Tail {
+    File(following::Tail),
+    Table(Box<TableTail>),
+}
+
+impl Tail {
+    /// Before the first line of a log.
+    pub fn of(origin: &Origin) -> Result<Tail, LogFault> {
+        match origin.table {
+            None => following::Tail::of(&origin.log).map(Tail::File),
+            Some(_) => Ok(Tail::Table(Box::new(TableTail::of(origin)?))),
+        }
+    }
+
+    /// How many lines were read, without the header.
+    pub fn count(&self) -> u64 {
+        match self {
+            Tail::File(tail) => tail.count(),
+            Tail::Table(tail) => tail.count(),
+        }
+    }
+
+    /// The next lines, up to the one of this number, which was written. Only the first ones where they are many.
+    pub fn next(&mut self, number: u64) -> Result<Vec<Vec<u8>>, LogFault> {
+        match self {
+            Tail::File(tail) => tail.next(number),
+            Tail::Table(tail) => tail.next(number),
+        }
+    }
+
+    /// The same while batches rest: the connection that adds batches reads a table, so no other one has to answer.
+    pub fn next_by(&mut self, log: &mut Log, number: u64) -> Result<Vec<Vec<u8>>, LogFault> {
+        match (self, log) {
+            (Tail::Table(tail), Log::Table(log)) => log.next_of(tail, number),
+            (tail, _) => tail.next(number),
+        }
+    }
+}
+
+/// A log that goes on from new snapshots, while it is made ready beside the one that is written.
+pub enum Successor {
+    /// A file, which is given the lines since the snapshots.
+    File(LineLog),
+    /// Pieces in the table, which has these lines.
+    Table(Box<Upload>),
+}
+
+impl Successor {
+    /// Behind snapshots that have all lines of a log up to this base.
+    pub fn begin(origin: &Origin, next: &Origin, base: &LogState) -> Result<Successor, LogFault> {
+        if origin.table.is_none() {
+            return LineLog::beside(&origin.log, &next.settings.header(next.generation)).map(Successor::File);
+        }
+        let base = Place { batches: base.batches, lines: base.lines + 1, bytes: base.bytes };
+        Ok(Successor::Table(Box::new(Upload::begin(next, next.generation, base)?)))
+    }
+
+    /// Takes lines since the snapshots, as they were written.
+    pub fn add(&mut self, lines: &[Vec<u8>]) -> Result<(), LogFault> {
+        match self {
+            Successor::File(log) => log.write(lines.iter().map(Vec::as_slice)),
+            Successor::Table(_) => Ok(()),
+        }
+    }
+
+    /// Puts a text beside the snapshots, behind what is there under this name.
+    pub fn write_beside(&mut self, next: &Origin, name: &str, text: &[u8]) -> Result<(), LogFault> {
+        match self {
+            Successor::File(_) => write_beside(&next.base, next.generation, name, text),
+            Successor::Table(upload) => upload.write(name, text),
+        }
+    }
+
+    /// Does all that can be done while the log is written.
+    pub fn make_ready(&mut self, origin: &Origin) -> Result<(), LogFault> {
+        match self {
+            Successor::File(log) => keep_log(&origin.log, origin.generation).and_then(|()| log.sync()),
+            Successor::Table(upload) => upload.end(),
+        }
+    }
+
+    /// Takes the place of a log which has no other lines than this one was given, with these replies by keys besides.
+    pub fn take_over(self, log: &mut Log, next: &mut Origin, replies: &[u8]) -> Result<(), LogFault> {
+        match (self, log) {
+            (Successor::File(mut new), Log::File(log)) => {
+                write_beside(&next.base, next.generation, REPLIES, replies)?;
+                new.sync()?;
+                log.give_way(new)
+            }
+            (Successor::Table(upload), Log::Table(log)) => {
+                let base = upload.take_over(log, next.settings.header(next.generation), replies)?;
+                if let Some(from) = &mut next.table {
+                    from.base = base;
+                }
+                Ok(())
+            }
+            _ => Err(LogFault::NotCompacted(format!("{}: it is another log", next.log))),
+        }
+    }
+}
