@@ -7,14 +7,13 @@
 
 A module belongs to them where one of its tests or classes is marked by `needs_program` (clients/python/tests/support/
 programs.py), also by inheritance. So the gate runs a new module without a list that names it. Status 0, 1 where a test
-fails or can't be loaded, and 2 where there is no program. Where the phase takes too long it ends with 124, and standard
+fails or can't be loaded, and 2 where there is no program. Where they take too long it ends with 1, and standard
 error has what each thread was at.
 """
 from __future__ import annotations
 
 import faulthandler
 import os
-import signal
 import subprocess
 import sys
 import time
@@ -27,8 +26,6 @@ TOP = Path(__file__).resolve().parent.parent
 TESTS = TOP / "clients/python/tests"
 # Three times what they took beside proofs, at a load of 9.
 SECONDS = 2800
-# The status of `timeout` where they took longer.
-OVER = 124
 # A module that takes so many is named.
 SLOW = 10
 
@@ -94,19 +91,20 @@ def skipped(result: unittest.TestResult) -> Counter[str]:
     return Counter(f"{named(test)}: {why}" for test, why in result.skipped)
 
 
-def run(folder: Path) -> int:
-    """Runs all tests of the modules that want the program. The status."""
+def run(folder: Path, seconds: float = SECONDS) -> int:
+    """Runs all tests of the modules that want the program, in so many seconds. The status."""
     program = os.environ.get("WFSERVE", "")
     if not Path(program).is_file():
         print(f"gate: WFSERVE names no program: {program!r}", file=sys.stderr)
         return 2
-    # Where the time limit ends this, standard error has the test that it was at.
-    faulthandler.register(signal.SIGALRM, chain=True)
     tests = loaded(folder)
     parts = [OfModule(name, tests) for name in modules(tests)]
     wanted = unittest.TestSuite(parts)
     print(f"gate: {wanted.countTestCases()} tests of {len(parts)} modules want the program", flush=True)
+    # Once their time is over, standard error has the test that this was at, and the status is 1.
+    faulthandler.dump_traceback_later(seconds, exit=True)
     result = unittest.TextTestRunner(verbosity=0, warnings="default").run(wanted)
+    faulthandler.cancel_dump_traceback_later()
     for line in slow(parts):
         print(f"gate: {line}", flush=True)
     for what, count in sorted(skipped(result).items()):
@@ -114,19 +112,15 @@ def run(folder: Path) -> int:
     return 0 if result.wasSuccessful() and result.testsRun else 1
 
 
-def command(folder: Path = TESTS) -> list[str]:
+def command(folder: Path = TESTS, seconds: float = SECONDS) -> list[str]:
     """What runs them, for a process of its own in their folder."""
-    return [sys.executable, str(Path(__file__).resolve()), "run", str(folder)]
+    return [sys.executable, str(Path(__file__).resolve()), "run", str(folder), str(seconds)]
 
 
-def phase(program: Path, folder: Path = TESTS) -> int:
-    """Runs them with this program. 0 where all passed."""
+def phase(program: Path, folder: Path = TESTS, seconds: float = SECONDS) -> int:
+    """Runs them with this program, in so many seconds. 0 where all passed."""
     environment = {**os.environ, "WFSERVE": str(program)}
-    limited = ["timeout", "-s", "ALRM", str(SECONDS), *command(folder)]
-    status = subprocess.run(limited, cwd=folder, env=environment).returncode
-    if status == OVER:
-        print(f"gate: the client's tests with the program took over {SECONDS} s", file=sys.stderr)
-    return status
+    return subprocess.run(command(folder, seconds), cwd=folder, env=environment).returncode
 
 
 def main(words: list[str]) -> int:
@@ -134,7 +128,7 @@ def main(words: list[str]) -> int:
     sys.path[:] = [path for path in sys.path if Path(path or ".").resolve() != TOP / "tools"]
     folder = Path(words[1]) if len(words) > 1 else TESTS
     if words[:1] == ["run"]:
-        return run(folder)
+        return run(folder, float(words[2]) if len(words) > 2 else SECONDS)
     if words:
         print(__doc__.strip())
         return 0 if words[0] in ("-h", "--help") else 2

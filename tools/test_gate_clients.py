@@ -43,14 +43,12 @@ class Alone(unittest.TestCase):
         self.fail("it wants no program")
 """
 HANGS = """
-import os, signal, time, unittest
+import time, unittest
 from support.programs import needs_program
 
 class Hanging(unittest.TestCase):
     @needs_program
     def test_that_hangs(self):
-        # As where the time of `timeout` is over.
-        os.kill(os.getppid(), signal.SIGALRM)
         time.sleep(100)
 """
 HEIR = """
@@ -96,12 +94,12 @@ class Chosen(Scratch):
     def test_where_their_time_is_over_the_test_that_runs_is_told(self) -> None:
         (self.top / "tests/test_hangs.py").write_text(HANGS, encoding="utf-8")
         code = ("import sys; from pathlib import Path; import gate_clients\n"
-                "sys.exit(gate_clients.phase(Path(sys.executable), Path(sys.argv[1])))")
+                "sys.exit(gate_clients.phase(Path(sys.executable), Path(sys.argv[1]), 8))")
         ran = subprocess.run([sys.executable, "-c", code, self.top / "tests"], cwd=gate_clients.TOP / "tools",
                              capture_output=True, text=True, timeout=120)
-        self.assertEqual(ran.returncode, 124, ran.stderr)
+        self.assertEqual(ran.returncode, 1, ran.stderr)
         self.assertRegex(ran.stderr, "test_hangs.py\", line \\d+ in test_that_hangs\n")
-        self.assertIn(f"took over {gate_clients.SECONDS} s", ran.stderr)
+        self.assertIn("Timeout (0:00:08)!", ran.stderr)
 
     def test_those_that_took_long_are_named(self) -> None:
         parts = [gate_clients.OfModule(name, []) for name in ("test_a", "test_b", "test_c")]
