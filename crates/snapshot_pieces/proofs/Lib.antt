@@ -2,7 +2,6 @@ mod LineLemmas
 pub mod NamesBack
 pub mod SheetLemmas
 mod CountLemmas
-mod NumberLemmas
 pub mod ValuesBack
 pub mod PlainLemmas
 pub mod TextsUtf8

@@ -8,11 +8,11 @@ use Rattle.snapshot_pieces.specs.Lines.{EndsThere, HasRead, TakesPiece}
 use Rattle.snapshot_pieces.specs.Trees.{line_of}
 use Rattle.snapshot_pieces.specs.declared.piece.Piece.{Piece}
 
-all_push : (ps : List Piece) (p : Piece) → AllByRecursion IsPiece ps → IsPiece p → AllByRecursion IsPiece (ps ++ p ∷ [])
+pub all_push : (ps : List Piece) (p : Piece) → AllByRecursion IsPiece ps → IsPiece p → AllByRecursion IsPiece (ps ++ p ∷ [])
 all_push [] p h k = (k, tt)
 all_push (q ∷ ps) p h k = (h.0, all_push ps p h.1 k)
 
-lines_push : (ps : List Piece) (p : Piece) → flat_map line_of (ps ++ p ∷ []) ≡ flat_map line_of ps ++ line_of p
+pub lines_push : (ps : List Piece) (p : Piece) → flat_map line_of (ps ++ p ∷ []) ≡ flat_map line_of ps ++ line_of p
 lines_push [] p = append-nil (line_of p)
 lines_push (q ∷ ps) p = ap (λ t. line_of q ++ t) (lines_push ps p) ∙ sym (append_assoc (line_of q) (flat_map line_of ps) (line_of p))
 

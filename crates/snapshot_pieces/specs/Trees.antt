@@ -44,10 +44,6 @@ note_rows n =
     count (codes "activity") n.activity ∷ count (codes "at") n.at ∷ if_text (codes "details") (details_of n.note)
     ∷ text (codes "kind") (note_kind_name (note_kind n.note)) ∷ count (codes "times") n.times ∷ []
 
--- a heartbeat, made once
-abbrev pub beat : ℕ → ℕ → List ℕ → NotePiece
-beat activity at details = record { activity = activity; at = at; note = note.Beat details; times = 1 }
-
 unfoldable pub both_rows : ℕ → ℕ → List Row
 both_rows accepted acknowledged =
     count (codes "accepted") accepted ∷ count (codes "acknowledged") acknowledged ∷ []

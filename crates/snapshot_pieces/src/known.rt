@@ -56,7 +56,8 @@ fn known_notes(note: &NotePiece)
     let _times = note.times;
 }
 
-fn known_counted(counted: &CountedPiece)
+/// That what was counted is within the limits of its types, where each shard has both counts.
+pub fn known_counted(counted: &CountedPiece)
     requires { length counted.now.accepted ≡ length counted.now.acknowledged }
     ensures { IsCounted counted.now }
 {

@@ -23,13 +23,12 @@ mod reading;
 mod values;
 mod writing;
 
-pub use known::{is_whole, known_piece};
+pub use known::{is_whole, known_counted, known_piece};
 pub use lines::{Ahead, PieceFault, next_piece};
 pub use piece::{CountedPiece, EndPiece, Head, NotePiece, Piece, TransferPiece};
 pub use reading::read_piece;
 pub use writing::{
-    add_beat_line, add_dispatch_line, add_event_line, add_note_line, add_piece_line,
-    add_request_line, add_transfer_line,
+    add_counted_line, add_dispatch_line, add_event_line, add_piece_line, add_transfer_line,
 };
 
 /// The text that a piece is written as is read as the piece.

@@ -9,7 +9,8 @@ ghost use Rattle.snapshot_pieces.specs.Trees.{line_of};
 ghost use Rattle.snapshot_pieces.specs.declared.lines.PieceFault.TheVariants.{Cut, Memory};
 
 use crate::piece::Piece;
-use crate::reading::read_piece;
+use crate::reading::piece_by_text;
+use json::Scratch;
 use std::alloc::{AllocError, Global};
 use std::io::{self, Read};
 use std::marker::Model;
@@ -44,6 +45,8 @@ pub struct Ahead {
     chunk: Vec<u8>,
     from: usize,
     to: usize,
+    /// The window through which lines are read.
+    scratch: Scratch,
 }
 
 impl Model for Ahead {
@@ -70,6 +73,7 @@ impl Ahead {
             chunk,
             from: 0,
             to: 0,
+            scratch: Scratch::new(alloc),
         })
     }
 
@@ -86,7 +90,7 @@ impl Ahead {
         };
         let length = part.len();
         self.line.extend_from_slice(part)?;
-        let Some(piece) = read_piece(alloc, self.line.as_slice())? else {
+        let Some(piece) = piece_by_text(alloc, &mut self.scratch, self.line.as_slice())? else {
             return Err(PieceFault::NoPiece);
         };
         self.line.clear();

@@ -47,7 +47,7 @@ pub struct TransferPiece {
 }
 
 /// The end of a snapshot.
-#[derive(Drop)]
+#[derive(Clone, Copy)]
 pub struct EndPiece {
     /// The moment of the shard's last step.
     pub last: Moment,

@@ -7,16 +7,16 @@ ghost use Rattle.serde_json.specs.View.{items_of};
 ghost use Rattle.service_model_types.specs.Notes.{details_of};
 ghost use Rattle.wire_pages.specs.Pages.{sheet_of, add, add_member, add_value};
 ghost use Rattle.wire_record_rows.specs.Rows.{add_row, add_rows, if_text, object_of};
-ghost use Rattle.snapshot_pieces.specs.Trees.{beat, both_counts, both_rows, counted_rows, dispatch_rows, end_rows, head_rows, note_rows, piece_tree};
+ghost use Rattle.snapshot_pieces.specs.Trees.{both_counts, both_rows, counted_rows, dispatch_rows, end_rows, head_rows, note_rows, piece_tree};
 ghost use Rattle.snapshot_pieces.specs.declared.piece.Piece.TheVariants as piece;
 
-use crate::kinds::{NoteKind, note_kind};
+use crate::kinds::note_kind;
 use crate::piece::{CountedPiece, EndPiece, Head, NotePiece};
 use service_model_types::content::Dispatch;
 use service_model_types::journal::Note;
 use service_model_types::transfer::Transfer;
 use std::alloc::AllocError;
-use wf_event_values::{Id, Moment, Text};
+use wf_event_values::Id;
 use wire_pages::Page;
 use wire_record_transfers::put_transfer;
 
@@ -107,38 +107,6 @@ pub(crate) fn put_note(page: &mut Page, note: &NotePiece) -> Result<(), AllocErr
 {
     begin_under(page, "note")?;
     put_note_rows(page, note)?;
-    end_both(page)
-}
-
-#[tactic(auto, unfolding(wire_record_rows::specs::Rows::add_row, wire_record_rows::specs::Rows::add_rows, crate::specs::Trees::note_rows))]
-fn put_beat_rows(
-    page: &mut Page,
-    activity: u64,
-    at: Moment,
-    details: &Text,
-) -> Result<(), AllocError>
-    ensures { OnOk result (sheet_of page.new
-        ≡ add_rows (note_rows (beat activity at details.now)) (sheet_of page.old)) }
-{
-    page.number("activity", activity)?;
-    page.number("at", at.millis())?;
-    page.text("details", details.as_str())?;
-    page.text("kind", NoteKind::Beat.name())?;
-    page.number("times", 1)
-}
-
-pub(crate) fn put_beat(
-    page: &mut Page,
-    activity: u64,
-    at: Moment,
-    details: &Text,
-) -> Result<(), AllocError>
-    ensures { OnOk result (sheet_of page.new
-        ≡ add_value (piece_tree (piece.Note (beat activity at details.now)))
-        (sheet_of page.old)) }
-{
-    begin_under(page, "note")?;
-    put_beat_rows(page, activity, at, details)?;
     end_both(page)
 }
 

@@ -2,21 +2,20 @@
 
 ghost use Rattle.std.specs.Prelude.{◌≡◌, ◌++◌, ◌∷◌, [], OnOk, string_bytes};
 ghost use Rattle.wire_pages.specs.Pages.{sheet_of, blank};
-ghost use Rattle.snapshot_pieces.specs.Trees.{beat, line_of, piece_text};
+ghost use Rattle.snapshot_pieces.specs.Trees.{line_of, piece_text};
 ghost use Rattle.snapshot_pieces.specs.declared.piece.Piece.TheVariants as piece;
 
 use crate::piece::{CountedPiece, EndPiece, Head, NotePiece, Piece};
 use crate::put::{
-    put_beat, put_counted, put_dispatch, put_end, put_gone, put_head, put_note, put_request,
-    put_waiting,
+    put_counted, put_dispatch, put_end, put_gone, put_head, put_note, put_request, put_waiting,
 };
 use service_model_types::content::Dispatch;
 use service_model_types::transfer::Transfer;
 use std::alloc::{AllocError, Global};
 use std::mem;
 use wf_event::Event;
-use wf_event_values::{Id, Moment, Text};
-use wire_events::event_text;
+use wf_event_values::Id;
+use wire_events::put_event;
 use wire_pages::Page;
 
 /// A page after the text, which is taken.
@@ -52,8 +51,10 @@ fn add_event(alloc: Global, text: &mut String, event: &Event) -> Result<(), Allo
     ensures { OnOk result (string_bytes text.new
         ≡ string_bytes text.old ++ piece_text (piece.Event event.now)) }
 {
-    let added = event_text(alloc, event)?;
-    text.push_str(added.as_str())
+    let mut page = page_after(alloc, text);
+    put_event(&mut page, event)?;
+    *text = page.into_text();
+    Ok(())
 }
 
 fn add_request(alloc: Global, text: &mut String, id: &Id) -> Result<(), AllocError>
@@ -72,22 +73,6 @@ fn add_note(alloc: Global, text: &mut String, note: &NotePiece) -> Result<(), Al
 {
     let mut page = page_after(alloc, text);
     put_note(&mut page, note)?;
-    *text = page.into_text();
-    Ok(())
-}
-
-fn add_beat(
-    alloc: Global,
-    text: &mut String,
-    activity: u64,
-    at: Moment,
-    details: &Text,
-) -> Result<(), AllocError>
-    ensures { OnOk result (string_bytes text.new ≡ string_bytes text.old
-        ++ piece_text (piece.Note (beat activity at details.now))) }
-{
-    let mut page = page_after(alloc, text);
-    put_beat(&mut page, activity, at, details)?;
     *text = page.into_text();
     Ok(())
 }
@@ -172,36 +157,16 @@ pub fn add_event_line(alloc: Global, text: &mut String, event: &Event) -> Result
     text.push('\n')
 }
 
-/// Adds the line of the request id that made the next event, with its line feed.
-pub fn add_request_line(alloc: Global, text: &mut String, id: &Id) -> Result<(), AllocError>
-    ensures { OnOk result (string_bytes text.new
-        ≡ string_bytes text.old ++ line_of (piece.Request id.now)) }
-{
-    add_request(alloc, text, id)?;
-    text.push('\n')
-}
-
-/// Adds the line of notes, with its line feed.
-pub fn add_note_line(alloc: Global, text: &mut String, note: &NotePiece) -> Result<(), AllocError>
-    ensures { OnOk result (string_bytes text.new
-        ≡ string_bytes text.old ++ line_of (piece.Note note.now)) }
-{
-    add_note(alloc, text, note)?;
-    text.push('\n')
-}
-
-/// Adds the line of a heartbeat that was made once, with its line feed.
-pub fn add_beat_line(
+/// Adds the line of what was counted, with its line feed.
+pub fn add_counted_line(
     alloc: Global,
     text: &mut String,
-    activity: u64,
-    at: Moment,
-    details: &Text,
+    counted: &CountedPiece,
 ) -> Result<(), AllocError>
-    ensures { OnOk result (string_bytes text.new ≡ string_bytes text.old
-        ++ line_of (piece.Note (beat activity at details.now))) }
+    ensures { OnOk result (string_bytes text.new
+        ≡ string_bytes text.old ++ line_of (piece.Counted counted.now)) }
 {
-    add_beat(alloc, text, activity, at, details)?;
+    add_counted(alloc, text, counted)?;
     text.push('\n')
 }
 

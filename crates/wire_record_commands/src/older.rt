@@ -1,34 +1,33 @@
 //! Commands as an earlier time wrote them: with a whole factor in the place of each coefficient.
 
 ghost use Rattle.std.specs.Prelude.{◌≡◌, ◌&&◌, IfOk, OnOk, get_or, map};
-ghost use Rattle.serde_json.specs.View.{view};
 ghost use Rattle.wire_pages.specs.Pages.{sheet_of, add_member};
 ghost use Rattle.wire_record_commands.specs.Older.{all_count, counts_for, factor_in, older_list};
 
 use crate::commands::put_command;
-use serde_json::Value;
 use std::alloc::{AllocError, Global};
 use wf_command::Command;
 use wire_pages::Page;
 use wire_requests::counts_as;
+use wire_trees::Tree;
 
 /// The factor that a command's value has, else 0.
 #[tactic(auto, unfolding(crate::specs::Older::factor_in))]
-fn factor_in(value: &Value) -> u64
-    ensures { result ≡ factor_in (view value.now) }
+fn factor_in<V: Tree>(value: &V) -> u64
+    ensures { result ≡ factor_in (V.stands_for value.now) }
 {
-    let Some(policy) = value.get("retry") else {
+    let Some(policy) = value.member("retry") else {
         return 0;
     };
-    match policy.get("factor") {
-        Some(factor) => factor.as_u64().unwrap_or(0),
+    match policy.member("factor") {
+        Some(factor) => factor.whole_number().unwrap_or(0),
         None => 0,
     }
 }
 
 /// The factors that commands' values have, one for each.
-pub fn factors_in(alloc: Global, values: &[Value]) -> Result<Vec<u64>, AllocError>
-    ensures { IfOk result (λ v. v.items ≡ map factor_in (map view values.now)) }
+pub fn factors_in<V: Tree>(alloc: Global, values: &[V]) -> Result<Vec<u64>, AllocError>
+    ensures { IfOk result (λ v. v.items ≡ map factor_in (map V.stands_for values.now)) }
 {
     let mut factors = Vec::new(alloc);
     for value in values {

@@ -1,31 +1,30 @@
 //! Keys that only records have.
 
 ghost use Rattle.std.specs.Prelude.{◌≡◌, Ok, Err, MatchResult};
-ghost use Rattle.serde_json.specs.View.{view};
 ghost use Rattle.wf_event_values.specs.Gives.{Gives};
 ghost use Rattle.wire_record_rows.specs.Keys.{keyed, inner, shard_in};
 
-use serde_json::Value;
 use std::alloc::Global;
 use wf_event_values::{Field, Refusal};
 use wire_fields::FieldValue;
+use wire_trees::Tree;
 
 /// A key that has to be there.
-pub fn keyed<T: FieldValue>(alloc: Global, object: &Value, key: &str) -> Result<T, Refusal>
-    ensures { Gives result (keyed T.value_of key.now (view object.now)) }
+pub fn keyed<T: FieldValue, V: Tree>(alloc: Global, object: &V, key: &str) -> Result<T, Refusal>
+    ensures { Gives result (keyed T.value_of key.now (V.stands_for object.now)) }
 {
-    match object.get(key) {
+    match object.member(key) {
         Some(value) => T::from_value(alloc, Field::Line, value),
         None => Err(Refusal::InvalidArgument(Field::Line)),
     }
 }
 
 /// The value under a key.
-pub fn inner<'a>(object: &'a Value, key: &str) -> Result<&'a Value, Refusal>
-    ensures { MatchResult result (λ v. inner key.now (view object.now) ≡ Ok (view v.now))
-        (λ e. inner key.now (view object.now) ≡ Err e) }
+pub fn inner<'a, V: Tree>(object: &'a V, key: &str) -> Result<&'a V, Refusal>
+    ensures { MatchResult result (λ v. inner key.now (V.stands_for object.now) ≡ Ok (V.stands_for v.now))
+        (λ e. inner key.now (V.stands_for object.now) ≡ Err e) }
 {
-    match object.get(key) {
+    match object.member(key) {
         Some(value) => Ok(value),
         None => Err(Refusal::InvalidArgument(Field::Line)),
     }

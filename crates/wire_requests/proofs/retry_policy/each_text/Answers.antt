@@ -3,7 +3,7 @@ use Rattle.std.specs.Prelude.{◌≢◌, map, Err}
 use Rattle.wf_event_values.specs.declared.refusal.Refusal.TheVariants.{NoMemory}
 use Rattle.wire_fields.specs.Steps.{for_each}
 use Rattle.wire_fields.specs.Kinds.{text_of}
-use Rattle.wire_requests.proofs.ElementLemmas.{reading-none, reading-at, reading-more, reading-refused, reading-done}
+use Rattle.wire_fields.proofs.ElementLemmas.{reading-none, reading-at, reading-more, reading-refused, reading-done}
 use Rattle.wire_requests.proofs.retry_policy.each_text.Goals as goal
 
 pub loop-value-init : goal.loop-value-init
