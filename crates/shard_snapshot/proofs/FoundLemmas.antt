@@ -1,5 +1,5 @@
 -- a text spells one content, and that is found by its lines
-use Rattle.std.proofs.Common.{◌≡◌, ℕ, List, [], ◌∷◌, ◌++◌, false, flat_map, refl, sym, ap, ◌∙◌, Option, Some, None, Result, Ok, Err}
+use Rattle.std.proofs.Common.{◌≡◌, ℕ, List, [], ◌∷◌, ◌++◌, flat_map, refl, sym, ap, ◌∙◌, Option, Some}
 use Rattle.std.specs.Prelude.{filter_map}
 use Rattle.std.specs.List.{AllByRecursion, cons_option}
 use Rattle.service_model_types.specs.declared.content.Content.{Content}
@@ -12,7 +12,7 @@ use Rattle.snapshot_pieces.specs.Trees.{line_of, piece_text}
 use Rattle.snapshot_pieces.specs.declared.piece.Piece.{Piece}
 use Rattle.snapshot_pieces.proofs.PieceLemmas.{named, one_line}
 use Rattle.shard_snapshot.specs.Found.{content_in, pieces_in, restored_in}
-use Rattle.shard_snapshot.specs.Stages.{IsRestored, Spells, led_by}
+use Rattle.shard_snapshot.specs.Stages.{Spells, led_by}
 
 -- the lines of a text that begins with a piece's
 first-line : (p : Piece) (rest : List ℕ) → IsPiece p → ended [] (line_of p ++ rest) ≡ piece_text p ∷ ended [] rest

@@ -5,3 +5,4 @@ mod PieceLemmas
 mod SetupLemmas
 mod StageLemmas
 mod TextLemmas
+mod WrittenLemmas

@@ -1,6 +1,6 @@
 -- a content that a text spells is one of the shard with the text's setup
 use Rattle.std.proofs.Common.{◌≡◌, ℕ, zero, suc, ◌+◌, Bool, true, false, cond, List, [], ◌∷◌, ◌++◌, length, map, refl, ap, ◌∙◌, subst, replicate, Option, Some, None, Result, Ok, Err, arith}
-use Rattle.std.specs.Prelude.{is_some, ◌==◌, ◌&&◌, ◌||◌, max, nat_le, nat_lt}
+use Rattle.std.specs.Prelude.{is_some, ◌==◌, ◌&&◌, ◌||◌, nat_le, nat_lt}
 use Rattle.std.specs.List.{AllByRecursion}
 use Rattle.std.proofs.lemmas.Bool.Decides.{nat_tests}
 use Rattle.wf_event.specs.declared.event.Event.{Event}
@@ -23,7 +23,7 @@ use Rattle.snapshot_pieces.specs.declared.piece.Piece.TheVariants as piece
 use Rattle.snapshot_pieces.specs.declared.piece.TransferPiece.{TransferPiece}
 use Rattle.shard_snapshot.specs.declared.damage.Damage.{Damage}
 use Rattle.shard_snapshot.specs.declared.damage.Damage.TheVariants as damage
-use Rattle.shard_snapshot.specs.Laid.{Laid, added_to, begun_in, beginning_with, between, counted, counted_dispatch, dispatch_laid, end_laid, ended, event_laid, gone_laid, has_counts, is_next, laid, laid_first, may_end, next_event, none_waits, note_laid, noted_times, on_ok, request_laid, sent, stepped, transfer_laid, where_so, with_run}
+use Rattle.shard_snapshot.specs.Laid.{Laid, added_to, begun_in, beginning_with, between, counted, counted_dispatch, dispatch_laid, end_laid, ended, event_laid, gone_laid, has_counts, is_next, laid_first, may_end, next_event, none_waits, note_laid, noted_times, on_ok, request_laid, sent, stepped, transfer_laid, where_so, with_run}
 use Rattle.shard_snapshot.specs.Stages.{IsOfShard, Point, AtHead, AtCounts, Lays, IsRestored, Spells, is_head, led, next}
 use Rattle.shard_snapshot.proofs.FollowLemmas.{both}
 use Rattle.shard_snapshot.proofs.LaidLemmas.{all-end, same-ok}

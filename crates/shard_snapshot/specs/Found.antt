@@ -1,5 +1,5 @@
 -- MEANING: the content that a text spells, found by its lines
-use Rattle.std.specs.Prelude.{◌≡◌, ℕ, List, [], filter_map, Option, Some, None, Result, Ok, Err}
+use Rattle.std.specs.Prelude.{ℕ, List, [], filter_map, Option, Some, None, Result, Ok, Err}
 use Rattle.service_model_types.specs.declared.content.Content.{Content}
 use Rattle.service_model_types.specs.declared.content.Setup.{Setup}
 use Rattle.wire_lines.specs.Pending.{ended}

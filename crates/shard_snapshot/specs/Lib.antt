@@ -4,3 +4,4 @@ pub mod Restored
 pub mod SoFar
 pub mod Stages
 pub mod Texts
+pub mod Written

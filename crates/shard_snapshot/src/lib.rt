@@ -12,11 +12,13 @@ mod ends;
 mod fault;
 mod restoring;
 mod text;
+mod writing;
 
 pub use damage::Damage;
 pub use fault::RestoreFault;
 pub use restoring::Restoring;
 pub use text::{restore, restore_text};
+pub use writing::Writing;
 
 /// A content that a text spells is one of a shard with the text's setup: it counts what it accepted of
 /// each shard, and its dispatches name it.

@@ -184,7 +184,7 @@ fn put<T: KeepsRun>(shard: &mut Restoring<T>, piece: Piece, count: u64) -> Resul
 }
 
 /// The fault of a piece that lays nothing, after so many.
-fn fault_of(damage: Damage, count: u64) -> RestoreFault
+pub(crate) fn fault_of(damage: Damage, count: u64) -> RestoreFault
     requires { count + 1 < 2 ^ 64 }
     ensures { result ≡ fault_of count damage }
 {

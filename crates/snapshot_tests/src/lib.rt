@@ -18,3 +18,5 @@ mod same;
 mod told;
 #[cfg(test)]
 mod whole;
+#[cfg(test)]
+mod written;

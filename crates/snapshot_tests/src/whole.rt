@@ -33,7 +33,7 @@ fn whole<R: Abort + AllocGlobal>(rt: &R, parts: &[&str]) -> (u64, &'static str) 
 }
 
 /// The end of a text of a run that closed.
-const THE_END: &str = r#"{"end":{"last":2000,"lines":7}}
+pub(crate) const THE_END: &str = r#"{"end":{"last":2000,"lines":7}}
 "#;
 
 #[test]

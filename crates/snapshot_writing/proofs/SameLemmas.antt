@@ -1,5 +1,5 @@
 -- lists that are the same at each place
-use Rattle.std.proofs.Common.{◌≡◌, ◌⊎◌, inl, inr, ⊎_elim, ℕ, zero, suc, ◌+◌, ◌<◌, List, [], ◌∷◌, length, refl, ap, ap₂, subst, sym, ◌∙◌, arith, Option, Some, None}
+use Rattle.std.proofs.Common.{◌≡◌, ◌⊎◌, inl, inr, ⊎_elim, ℕ, zero, suc, ◌+◌, ◌<◌, List, [], ◌∷◌, length, refl, ap, ap₂, subst, sym, arith, Some, None}
 use Rattle.std.specs.Prelude.{slice_get, unwrap_or}
 
 some-same : {A : Type 0} (x y : A) → Some x ≡ Some y → x ≡ y

@@ -18,6 +18,20 @@ pub enum SnapshotFault {
     OtherShard,
 }
 
+impl From<RestoreFault> for SnapshotFault {
+    ghost use Rattle.snapshot_writing.specs.Faults.{fault_of};
+
+    ghost from_gives = { λ fault e. e ≡ fault_of fault };
+
+    fn from(fault: RestoreFault) -> SnapshotFault {
+        match fault {
+            RestoreFault::Damaged(line, damage) => SnapshotFault::NotRestored(line, damage),
+            // Nothing is read where a text is made.
+            RestoreFault::Memory | RestoreFault::Read(_) => SnapshotFault::Memory,
+        }
+    }
+}
+
 impl From<AllocError> for SnapshotFault {
     ghost from_gives = { λ _ e. e ≡ Memory };
 

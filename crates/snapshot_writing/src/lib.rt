@@ -1,11 +1,10 @@
 //! The text of a shard's snapshot.
 //!
-//! A text is made from what the shard keeps, restored, and compared with the shard. So its promise rests on
-//! the reader alone, and not on the order or the choice of the lines that were written.
+//! A text is made from what the shard keeps, restored line by line as it is made, and what was restored is
+//! compared with the shard. So its promise doesn't rest on the order or the choice of the lines.
 #![tactic(auto)]
 
 mod fault;
-mod lines;
 mod notes;
 mod runs;
 mod same;

@@ -1,10 +1,12 @@
 //! The lines of a run: its history, what was noted of activities in use, and what is buffered.
 
-use crate::lines::Lines;
+use crate::fault::SnapshotFault;
 use crate::notes::add_notes;
 use buffered::History;
-use mutable_state_keeper::{Run, TellsRun};
+use mutable_state_keeper::{KeepsRun, Run, TellsRun};
 use service_model_types::journal::{CancelRequest, NewEvent};
+use shard_snapshot::Writing;
+use snapshot_pieces::Piece;
 use std::alloc::{AllocError, Global};
 use wf_event::{Attributes, Event};
 use wf_event_values::{Field, Id, Refusal};
@@ -62,23 +64,23 @@ impl Requests<'_> {
 }
 
 /// An event, after the request id that made it.
-fn add_event(
-    lines: &mut Lines,
+fn add_event<T: KeepsRun>(
+    lines: &mut Writing<T>,
     requests: &mut Requests<'_>,
     event: &Event,
-) -> Result<(), AllocError> {
-    if let Some(id) = requests.of(lines.alloc, &event.attributes)? {
-        lines.add_request(&id)?;
+) -> Result<(), SnapshotFault> {
+    if let Some(id) = requests.of(lines.alloc(), &event.attributes)? {
+        lines.write(Piece::Request(id))?;
     }
-    lines.add_event(event)
+    Ok(lines.write_event(event)?)
 }
 
 /// The events of a history.
-fn add_shown(
-    lines: &mut Lines,
+fn add_shown<T: KeepsRun>(
+    lines: &mut Writing<T>,
     requests: &mut Requests<'_>,
     history: &History,
-) -> Result<(), AllocError> {
+) -> Result<(), SnapshotFault> {
     for event in history.events() {
         add_event(lines, requests, event)?;
     }
@@ -95,11 +97,11 @@ fn numbered(id: u64, event: &NewEvent) -> Result<Event, AllocError> {
 }
 
 /// The buffered events, numbered on from the history.
-fn add_held(
-    lines: &mut Lines,
+fn add_held<T: KeepsRun>(
+    lines: &mut Writing<T>,
     requests: &mut Requests<'_>,
     history: &History,
-) -> Result<(), AllocError> {
+) -> Result<(), SnapshotFault> {
     let mut id = history.count() as u64;
     for event in history.held().iter() {
         id = id.saturating_add(1);
@@ -109,16 +111,19 @@ fn add_held(
 }
 
 /// What was noted of the activities in use.
-fn add_activities<T: TellsRun>(lines: &mut Lines, run: &Run<T>) -> Result<(), AllocError> {
-    for activity in run.activities(lines.alloc)? {
+fn add_activities<T: TellsRun>(lines: &mut Writing<T>, run: &Run<T>) -> Result<(), SnapshotFault> {
+    for activity in run.activities(lines.alloc())? {
         add_notes(lines, &activity)?;
     }
     Ok(())
 }
 
 /// The lines of a run.
-pub(crate) fn add_run<T: TellsRun>(lines: &mut Lines, run: &Run<T>) -> Result<(), AllocError> {
-    let kept = run.history(lines.alloc)?;
+pub(crate) fn add_run<T: TellsRun>(
+    lines: &mut Writing<T>,
+    run: &Run<T>,
+) -> Result<(), SnapshotFault> {
+    let kept = run.history(lines.alloc())?;
     let history = kept.get();
     let mut requests = Requests {
         start: run.start_request(),

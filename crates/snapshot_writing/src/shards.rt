@@ -1,28 +1,20 @@
 //! The lines of a shard: its head, what was counted, its runs, what waits, and the end.
 
-ghost use Rattle.std.specs.Prelude.{◌<◌};
+ghost use Rattle.std.specs.Prelude.{◌≡◌, ◌<◌, IfOk, string_bytes};
 ghost use Rattle.shard_issued.specs.Outstanding.{IsCaughtUp};
+ghost use Rattle.shard_snapshot.specs.Texts.{IsSnapshot};
 
-use crate::lines::Lines;
+use crate::fault::SnapshotFault;
 use crate::runs::add_run;
 use mutable_state_keeper::{KeepsRun, TellsRun};
+use service_model_types::content::Dispatch;
 use service_model_types::transfer::Transfer;
+use shard_snapshot::Writing;
 use shard_store::Store;
-use snapshot_pieces::{CountedPiece, EndPiece, Head, Piece};
+use snapshot_pieces::{CountedPiece, Piece, TransferPiece};
 use std::alloc::{AllocError, Global};
 use transfer::copied;
 use wf_event_values::Items;
-
-/// What the shard was opened with.
-fn add_head<T: KeepsRun>(lines: &mut Lines, store: &Store<T>) -> Result<(), AllocError> {
-    let setup = store.setup();
-    lines.add(&Piece::Head(Head {
-        service: setup.service,
-        shard: setup.shard,
-        shards: setup.shards,
-        retention: setup.retention,
-    }))
-}
 
 /// How many transfers each shard acknowledged.
 fn acknowledged<T: KeepsRun>(alloc: Global, store: &Store<T>) -> Result<Vec<u64>, AllocError>
@@ -35,30 +27,30 @@ fn acknowledged<T: KeepsRun>(alloc: Global, store: &Store<T>) -> Result<Vec<u64>
     Ok(counts)
 }
 
-/// What was counted.
-fn add_counted<T: KeepsRun>(lines: &mut Lines, store: &Store<T>) -> Result<(), AllocError>
+/// The head, and what was counted.
+fn begin<T: KeepsRun>(alloc: Global, store: &Store<T>) -> Result<Writing<T>, SnapshotFault>
     requires { IsCaughtUp store.now.changed }
 {
-    let alloc = lines.alloc;
     let mut accepted = Vec::new(alloc);
     accepted.extend_from_slice(store.accepted())?;
-    lines.add(&Piece::Counted(CountedPiece {
+    let counted = CountedPiece {
         dispatched: store.counted_dispatches(),
         accepted: Items::from_vec(accepted),
         acknowledged: Items::from_vec(acknowledged(alloc, store)?),
-    }))
+    };
+    Ok(Writing::start(alloc, store.setup(), counted)?)
 }
 
 /// Places of so many runs that were deleted, if of any.
-fn add_gone(lines: &mut Lines, places: u64) -> Result<(), AllocError> {
-    if places == 0 {
-        return Ok(());
+fn add_gone<T: KeepsRun>(lines: &mut Writing<T>, places: u64) -> Result<(), SnapshotFault> {
+    if places > 0 {
+        lines.write(Piece::Gone(places))?;
     }
-    lines.add(&Piece::Gone(places))
+    Ok(())
 }
 
 /// The runs, in the order of their places.
-fn add_runs<T: TellsRun>(lines: &mut Lines, store: &Store<T>) -> Result<(), AllocError> {
+fn add_runs<T: TellsRun>(lines: &mut Writing<T>, store: &Store<T>) -> Result<(), SnapshotFault> {
     let mut gone: u64 = 0;
     for index in 0..store.count() {
         match store.run_at(index) {
@@ -74,12 +66,18 @@ fn add_runs<T: TellsRun>(lines: &mut Lines, store: &Store<T>) -> Result<(), Allo
 }
 
 /// The dispatches that wait.
-fn add_dispatches<T: KeepsRun>(lines: &mut Lines, store: &Store<T>) -> Result<(), AllocError>
+fn add_dispatches<T: KeepsRun>(
+    lines: &mut Writing<T>,
+    store: &Store<T>,
+) -> Result<(), SnapshotFault>
     requires { IsCaughtUp store.now.changed }
 {
     for index in 0..store.waiting_dispatches() {
         if let Some(dispatch) = store.dispatch_at(index) {
-            lines.add_dispatch(dispatch)?;
+            lines.write(Piece::Dispatch(Dispatch {
+                queue: dispatch.queue.clone()?,
+                hint: dispatch.hint,
+            }))?;
         }
     }
     Ok(())
@@ -87,10 +85,10 @@ fn add_dispatches<T: KeepsRun>(lines: &mut Lines, store: &Store<T>) -> Result<()
 
 /// The transfers to a shard that it did not acknowledge.
 fn add_transfers_to<T: KeepsRun>(
-    lines: &mut Lines,
+    lines: &mut Writing<T>,
     store: &Store<T>,
     to: u16,
-) -> Result<(), AllocError>
+) -> Result<(), SnapshotFault>
     requires caught_up { IsCaughtUp store.now.changed }
     requires there { to < store.now.setup.shards }
 {
@@ -105,13 +103,13 @@ fn add_transfers_to<T: KeepsRun>(
             number,
             content: copied(content)?,
         };
-        lines.add_transfer(to, &transfer)?;
+        lines.write(Piece::Transfer(TransferPiece { to, transfer }))?;
     }
     Ok(())
 }
 
 /// Those to all shards.
-fn add_transfers<T: KeepsRun>(lines: &mut Lines, store: &Store<T>) -> Result<(), AllocError>
+fn add_transfers<T: KeepsRun>(lines: &mut Writing<T>, store: &Store<T>) -> Result<(), SnapshotFault>
     requires { IsCaughtUp store.now.changed }
 {
     for to in 0..store.setup().shards {
@@ -120,17 +118,17 @@ fn add_transfers<T: KeepsRun>(lines: &mut Lines, store: &Store<T>) -> Result<(),
     Ok(())
 }
 
-/// The lines of a shard that is caught up.
-pub(crate) fn add_shard<T: TellsRun>(lines: &mut Lines, store: &Store<T>) -> Result<(), AllocError>
+/// The lines of a shard that is caught up, and the shard that they restore.
+pub(crate) fn written<T: TellsRun>(
+    alloc: Global,
+    store: &Store<T>,
+) -> Result<(String, Store<T>), SnapshotFault>
     requires { IsCaughtUp store.now.changed }
+    ensures { IfOk result (λ r. IsSnapshot r.1.setup (string_bytes r.0) r.1) }
 {
-    add_head(lines, store)?;
-    add_counted(lines, store)?;
-    add_runs(lines, store)?;
-    add_dispatches(lines, store)?;
-    add_transfers(lines, store)?;
-    lines.add(&Piece::End(EndPiece {
-        last: store.last(),
-        lines: lines.count,
-    }))
+    let mut lines = begin(alloc, store)?;
+    add_runs(&mut lines, store)?;
+    add_dispatches(&mut lines, store)?;
+    add_transfers(&mut lines, store)?;
+    Ok(lines.finish(store.last())?)
 }

@@ -1,7 +1,6 @@
-use Rattle.std.proofs.Common.{◌≡◌, ◌∙◌, ap, arith, sym, List, None}
+use Rattle.std.proofs.Common.{◌≡◌, ◌∙◌, ap, arith, sym, None}
 use Rattle.std.specs.Prelude.{option_copied, slice_get}
 use Rattle.std.proofs.lemmas.Bool.Decides.{nat_tests}
-use Rattle.service_model_types.specs.declared.content.Dispatch.{Dispatch}
 use Rattle.snapshot_writing.proofs.SameLemmas.{both-end}
 use Rattle.snapshot_writing.proofs.same.are_same_dispatches.Goals as goal
 

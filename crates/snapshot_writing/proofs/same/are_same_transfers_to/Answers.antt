@@ -1,4 +1,4 @@
-use Rattle.std.proofs.Common.{◌≡◌, ◌∙◌, ap, arith, sym, List, None}
+use Rattle.std.proofs.Common.{◌≡◌, ◌∙◌, ap, arith, sym, None}
 use Rattle.std.specs.Prelude.{option_copied, slice_get}
 use Rattle.std.proofs.lemmas.Bool.Decides.{nat_tests}
 use Rattle.transfer.specs.Outboxes.{waiting_to}
