@@ -215,8 +215,8 @@ module _ (x : Service) (logs : List (List Entry)) where
 
   pub back-met : BackMet (IsAlong x logs) (PassesMet x)
   back-met a b a' b' h qa qb = (
-    λ s below. begins-then (seen (known_by a) s) (seen (known_by a') s) (record_at logs s) (met-sees (known_by a) (known_by b) (known_by a') (known_by b') s (h.met.agree s below)).0 (qa s below),
-    λ s below. begins-then (seen (known_by b) s) (seen (known_by b') s) (record_at logs s) (met-sees (known_by a) (known_by b) (known_by a') (known_by b') s (h.met.agree s below)).1 (qb s below),
+    λ s below. begins-then (seen (known_by a) s) (seen (known_by a') s) (record_at logs s) (met-sees (known_by a) (known_by b) (known_by a') (known_by b') s (h.met.agree s below).0).0 (qa s below),
+    λ s below. begins-then (seen (known_by b) s) (seen (known_by b') s) (record_at logs s) (met-sees (known_by a) (known_by b) (known_by a') (known_by b') s (h.met.agree s below).0).1 (qb s below),
   )
 
 pub ran-along : (x : Service) (logs : List (List Entry)) (K : Settings) (ps : List Pass) (unread held unread' held' : Option (List ℕ)) (refused : Bool) (ends : List Pass) → length logs ≡ (settings_of x).shards

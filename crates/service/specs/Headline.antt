@@ -54,7 +54,6 @@ pub record IsSequential (x : Service) (v w : View Request Content) (shard : ℕ)
 
 -- "Records of callers that meet agree": two passes knew a and b, and know c and d after they met
 pub record MeetAndAgree (shards : ℕ) (a b c d : View Request Content) : Type 0 where
-  -- of each shard, one had seen a beginning of the record that the other had, and then both have seen the longer
-  pub agree : (shard : ℕ) → shard < shards → Agree a b c d shard
-  -- so it is with the tickets of its entries
-  pub tickets : (shard : ℕ) → shard < shards → AgreeTickets a b c d shard
+  -- of each shard, one had seen a beginning of the record that the other had, and of its tickets, and then both have
+  -- seen the longer
+  pub agree : (shard : ℕ) → shard < shards → Agree a b c d shard × AgreeTickets a b c d shard
