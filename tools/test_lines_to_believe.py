@@ -114,7 +114,7 @@ class LinesToBelieve(unittest.TestCase):
         docs_claims.sources_of.cache_clear()
         rows = lines_to_believe.table(Definitions())
         self.assertEqual(lines_to_believe.faults("\n".join(rows)), [])
-        wrong = rows[:2] + [rows[2][:-3] + "0 |"] + rows[3:]
+        wrong = rows[:2] + [rows[2][:-2] + "0 |"] + rows[3:]
         self.assertEqual(len(lines_to_believe.faults("\n".join(wrong))), 1)
 
     def test_a_table_is_written_over_the_one_that_is_there(self):
