@@ -41,7 +41,7 @@ const NEAR: u64 = 512;
 const FREE_ROUNDS: u32 = 4;
 /// So long batches wait for a program beside that comes no nearer, and so many lines bring it nearer.
 pub const MOST_HELD: Duration = Duration::from_secs(1);
-const NEARER: u64 = 64;
+const NEARER: u64 = 8;
 /// So long a thread rests that waits for another one.
 const REST: Duration = Duration::from_millis(1);
 const LONG_REST: Duration = Duration::from_millis(50);
