@@ -40,7 +40,9 @@ $line"
 done
 if [ -n "$snapshot" ]; then printf '%s\n{"end":{"last":0,"lines":0}}\n' "$kept" > "$snapshot/shard-00.snap"; fi
 "#;
-const SECONDS: Duration = Duration::from_secs(30);
+/// For so long what is waited for is not given up: on a machine that does much else all of this takes a thousand times as
+/// long as on a quiet one.
+const SECONDS: Duration = Duration::from_secs(120);
 const LIMITS: Limits = Limits { bytes: 0, time: Duration::ZERO, has_standby: false };
 
 struct Served {
@@ -194,13 +196,23 @@ fn kept_by(log: &str, generation: u64, lines: &[String], op: &str) -> Vec<String
     found.map(|line| line.rsplit_once("\"call\":").unwrap().1.split('"').nth(1).unwrap().to_string()).collect()
 }
 
+/// Returns once so many lines more were written, and a while later.
+fn wait_for_lines(served: &Served, more: u64) {
+    let (late, wanted) = (Instant::now() + SECONDS, served.core.lines() + more);
+    while served.core.lines() < wanted {
+        assert!(Instant::now() < late);
+        std::thread::sleep(Duration::from_millis(1));
+    }
+    std::thread::sleep(Duration::from_millis(30));
+}
+
 /// Compacts a log three times while calls are made. The replies to signals and to polls.
 fn compacted_under_calls(served: &Served) -> (Vec<Bytes>, Vec<Bytes>) {
     let stop = Arc::new(AtomicBool::new(false));
     let signals = calls_of(&served.core, r#"{"op":"signal","name":"n"}"#, &stop);
     let polls = calls_of(&served.core, r#"{"op":"poll_workflow_task","task_queue":"main","wait":0}"#, &stop);
     for generation in 1..=3 {
-        std::thread::sleep(Duration::from_millis(30));
+        wait_for_lines(served, 10);
         // A poll is answered in another way by the program beside: so it is made once more, and polls wait for it.
         let outcome = served.core.compact(0).unwrap();
         assert!(matches!(served.core.compact(0), Err(Fault::Busy(_))));
@@ -208,7 +220,7 @@ fn compacted_under_calls(served: &Served) -> (Vec<Bytes>, Vec<Bytes>) {
         assert!(done.lines > 0 && done.records > 0);
         assert_eq!(served.core.lock().origin.generation, generation);
     }
-    std::thread::sleep(Duration::from_millis(30));
+    wait_for_lines(served, 10);
     stop.store(true, SeqCst);
     let (signals, polls) = (signals.join().unwrap(), polls.join().unwrap());
     assert!(signals.iter().all(is_signaled) && is_by(polls.last().unwrap(), "other"));
