@@ -4,6 +4,7 @@ use crate::log_fault::LogFault;
 use crate::table::{Batch, Connect, Piece, PiecePlace, Pieces, Start, Table};
 use std::collections::BTreeMap;
 use std::sync::{Arc, Mutex};
+use std::time::Duration;
 
 /// What all connections to a table have in common.
 #[derive(Default)]
@@ -19,6 +20,8 @@ pub struct Shared {
     /// Whether only the leader's connection answers from the last piece of a compaction on, until another one is opened.
     pub cuts_off: bool,
     pub is_cut_off: bool,
+    /// Whether a connection that does not lead hangs where it reads.
+    pub hangs: bool,
 }
 
 /// A table in memory.
@@ -34,6 +37,9 @@ impl Table for InMemory {
     }
 
     fn read(&mut self, after: u64, most: u32) -> Result<Vec<Batch>, LogFault> {
+        while self.epoch == 0 && self.shared.lock().unwrap().hangs {
+            std::thread::sleep(Duration::from_millis(1));
+        }
         let shared = self.shared.lock().unwrap();
         if shared.is_cut_off && self.epoch == 0 {
             return Err(LogFault::Io("the connection is cut off".to_string()));

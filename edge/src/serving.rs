@@ -125,7 +125,8 @@ fn opened(options: &Options, log: &str, client: Option<Client>) -> Result<Opened
 fn finish(core: &Core, threads: Threads) {
     core.close();
     if !threads.join(ENDING) {
-        say!("the program did not end with its input, and is killed: the log has all");
+        let left = threads.left().join(", ");
+        say!("the program did not end with its input, and is killed: the log has all ({left})");
         core.kill_program();
         threads.join(SHUTDOWN);
     }

@@ -32,13 +32,16 @@ use std::io::Write;
 use std::sync::mpsc::{channel, RecvTimeoutError, Sender};
 use std::sync::Arc;
 use std::thread::Builder;
-use std::time::Duration;
+use std::time::{Duration, Instant};
 use tokio::sync::oneshot;
 
 /// Fewer lines than a batch may have: batches rest for no longer than one of them takes.
 const NEAR: u64 = 512;
 /// So often what was written meanwhile is given before batches have to wait for it.
 const FREE_ROUNDS: u32 = 4;
+/// So long batches wait for a program beside that comes no nearer, and so many lines bring it nearer.
+pub const MOST_HELD: Duration = Duration::from_secs(1);
+const NEARER: u64 = 8;
 /// So long a thread rests that waits for another one.
 const REST: Duration = Duration::from_millis(1);
 const LONG_REST: Duration = Duration::from_millis(50);
@@ -70,6 +73,9 @@ pub struct Window {
     /// How many lines the program beside has served, and by how many the other one may be ahead of it.
     behind: u64,
     most_ahead: Option<u64>,
+    /// Since when batches wait and it has served nothing, and whether that was too long: then the compaction is given up.
+    held_since: Option<Instant>,
+    is_given_up: bool,
 }
 
 /// The mark of a reply.
@@ -95,6 +101,33 @@ impl Window {
     /// Whether batches have to wait for the program beside. The log has so many lines.
     pub fn is_far_ahead(&self, lines: u64) -> bool {
         self.most_ahead.map_or(false, |most| lines > self.behind + most)
+    }
+
+    /// For how long batches may still wait for the program beside. Once it comes no nearer in that time, none waits for it
+    /// any more. None where none waits.
+    pub fn left_of_wait(&mut self, lines: u64, now: Instant) -> Option<Duration> {
+        if !self.is_far_ahead(lines) {
+            self.held_since = None;
+            return None;
+        }
+        let left = MOST_HELD.saturating_sub(now - *self.held_since.get_or_insert(now));
+        if left.is_zero() {
+            self.most_ahead = None;
+            self.is_given_up = true;
+        }
+        Some(left)
+    }
+
+    /// From now on batches wait that are by so many lines ahead of the program beside.
+    pub fn have_wait(&mut self, most_ahead: u64) {
+        self.most_ahead = Some(most_ahead);
+        self.held_since = None;
+    }
+
+    /// The program beside has served so many lines.
+    fn come_nearer(&mut self, lines: u64) {
+        self.behind = lines;
+        self.held_since = None;
     }
 
     /// Takes what is held back out of what waits for a batch that begins behind this line.
@@ -254,6 +287,8 @@ impl Core {
         let result = self.come_behind(origin, capacity, is_asked, holds).and_then(|mut behind| {
             self.come_near(&mut behind, is_asked)?;
             behind.successor()?.make_ready(origin)?;
+            // That may have taken a while, and in the exchange batches wait for each line that is left.
+            self.catch_up_near(&mut behind, is_asked)?;
             let (lines, next) = (behind.tail.count(), behind.next.clone());
             let bytes = self.lock().log.bytes;
             self.exchange(behind)?;
@@ -276,6 +311,10 @@ impl Core {
         match &state.over {
             Some(fault) => Err(fault.clone()),
             None if state.flags.is_closed || (state.flags.is_closing && !is_asked) => Err(Fault::Draining),
+            None if state.window.is_given_up => {
+                let said = "what it had to wait for came no nearer while calls waited";
+                Err(Fault::NotCompacted(said.to_string()))
+            }
             None => Ok(state.answered),
         }
     }
@@ -330,6 +369,13 @@ impl Core {
         // The lines since tell again what else was told by then.
         let attempts = self.lock().attempts_text();
         behind.write_beside(ATTEMPTS, &attempts)?;
+        self.catch_up_near(behind, is_asked)?;
+        // What was answered meanwhile is few lines.
+        self.write_replies_of(behind)
+    }
+
+    /// Gives a program lines until hardly any are left.
+    fn catch_up_near(&self, behind: &mut Behind, is_asked: bool) -> Result<(), Stopped> {
         for round in 0.. {
             let answered = self.go_on(is_asked)?;
             let left = answered.saturating_sub(behind.tail.count());
@@ -339,13 +385,12 @@ impl Core {
             if round >= FREE_ROUNDS {
                 // Who serves is about as fast: then its batches wait, each a little.
                 let mut state = self.lock();
-                state.window.behind = behind.tail.count();
-                state.window.most_ahead = Some((left * 3 / 4).max(NEAR / 2));
+                state.window.come_nearer(behind.tail.count());
+                state.window.have_wait((left * 3 / 4).max(NEAR / 2));
             }
             self.catch_up(behind, answered, None)?;
         }
-        // What was answered meanwhile is few lines.
-        self.write_replies_of(behind)
+        Ok(())
     }
 
     /// Gives a program the lines up to this one, and compares its replies with those that were given. Who has the log, in
@@ -366,11 +411,14 @@ impl Core {
             let mut place = first;
             serve(program, &lines, first, |_, reply| {
                 let is_same = marks.pop_front() == Some(mark_of(reply));
+                if place % NEARER == 0 {
+                    self.lock().window.come_nearer(place);
+                }
                 place += 1;
                 is_same.then_some(()).ok_or(Stopped::Differs(place - 1))
             })?;
             successor.add(&lines)?;
-            self.lock().window.behind = tail.count();
+            self.lock().window.come_nearer(tail.count());
             self.wake.notify_all();
         }
         Ok(())

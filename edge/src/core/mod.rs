@@ -118,6 +118,12 @@ impl Threads {
         }
         false
     }
+
+    /// The names of those that have not ended.
+    pub fn left(&self) -> Vec<&str> {
+        let left = self.0.iter().filter(|thread| !thread.is_finished());
+        left.map(|thread| thread.thread().name().unwrap_or_default()).collect()
+    }
 }
 
 /// How things are, for `GET /health/ready`.

@@ -13,7 +13,7 @@ use crate::log_fault::LogFault;
 use crate::program::{Program, CHANGES_NOTHING};
 use std::io::Write;
 use std::sync::{Arc, MutexGuard, PoisonError};
-use std::time::Instant;
+use std::time::{Duration, Instant};
 
 const MOST_LINES: usize = 4_096;
 const MOST_BYTES: usize = 1 << 20;
@@ -53,6 +53,17 @@ impl Core {
         self.wake.wait(state).unwrap_or_else(PoisonError::into_inner)
     }
 
+    /// Waits where nothing is to be done, but no longer than batches may wait for a program beside.
+    fn wait_for_work<'a>(&self, mut state: MutexGuard<'a, State>) -> MutexGuard<'a, State> {
+        match state.left_of_wait(Instant::now()) {
+            None => self.wait(state),
+            Some(left) => {
+                state.flags.is_idle = true;
+                self.wake.wait_timeout(state, left).unwrap_or_else(PoisonError::into_inner).0
+            }
+        }
+    }
+
     fn next_work(self: &Arc<Core>) -> Work {
         let mut state = self.lock();
         loop {
@@ -68,7 +79,7 @@ impl Core {
             }
             match state.next_work() {
                 Some(work) => return work,
-                None => state = self.wait(state),
+                None => state = self.wait_for_work(state),
             }
         }
     }
@@ -225,6 +236,12 @@ impl State {
         }
         let is_asked = !self.asked.is_empty() || !self.own.is_empty();
         (is_asked && !self.window.is_far_ahead(self.log.lines)).then(|| Work::Batch(self.next_calls()))
+    }
+
+    /// For how long calls that are far ahead of a program beside may still wait for it; None where none wait.
+    fn left_of_wait(&mut self, now: Instant) -> Option<Duration> {
+        let is_asked = !self.asked.is_empty() || !self.own.is_empty();
+        (is_asked && !self.flags.is_restarting).then(|| self.window.left_of_wait(self.log.lines, now))?
     }
 
     /// Whether all that was written was answered, or nothing is served any more.

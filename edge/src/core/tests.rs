@@ -1,5 +1,6 @@
 //! The core over a program of some lines of shell, which answers each line with its number.
 
+use super::compacting::{Window, MOST_HELD};
 use super::{Core, Limits, Outcome, Threads};
 use crate::body::asked;
 use crate::fault::Fault;
@@ -39,7 +40,9 @@ $line"
 done
 if [ -n "$snapshot" ]; then printf '%s\n{"end":{"last":0,"lines":0}}\n' "$kept" > "$snapshot/shard-00.snap"; fi
 "#;
-const SECONDS: Duration = Duration::from_secs(30);
+/// For so long what is waited for is not given up: on a machine that does much else all of this takes a thousand times as
+/// long as on a quiet one.
+const SECONDS: Duration = Duration::from_secs(120);
 const LIMITS: Limits = Limits { bytes: 0, time: Duration::ZERO, has_standby: false };
 
 struct Served {
@@ -193,13 +196,23 @@ fn kept_by(log: &str, generation: u64, lines: &[String], op: &str) -> Vec<String
     found.map(|line| line.rsplit_once("\"call\":").unwrap().1.split('"').nth(1).unwrap().to_string()).collect()
 }
 
+/// Returns once so many lines more were written, and a while later.
+fn wait_for_lines(served: &Served, more: u64) {
+    let (late, wanted) = (Instant::now() + SECONDS, served.core.lines() + more);
+    while served.core.lines() < wanted {
+        assert!(Instant::now() < late);
+        std::thread::sleep(Duration::from_millis(1));
+    }
+    std::thread::sleep(Duration::from_millis(30));
+}
+
 /// Compacts a log three times while calls are made. The replies to signals and to polls.
 fn compacted_under_calls(served: &Served) -> (Vec<Bytes>, Vec<Bytes>) {
     let stop = Arc::new(AtomicBool::new(false));
     let signals = calls_of(&served.core, r#"{"op":"signal","name":"n"}"#, &stop);
     let polls = calls_of(&served.core, r#"{"op":"poll_workflow_task","task_queue":"main","wait":0}"#, &stop);
     for generation in 1..=3 {
-        std::thread::sleep(Duration::from_millis(30));
+        wait_for_lines(served, 10);
         // A poll is answered in another way by the program beside: so it is made once more, and polls wait for it.
         let outcome = served.core.compact(0).unwrap();
         assert!(matches!(served.core.compact(0), Err(Fault::Busy(_))));
@@ -207,7 +220,7 @@ fn compacted_under_calls(served: &Served) -> (Vec<Bytes>, Vec<Bytes>) {
         assert!(done.lines > 0 && done.records > 0);
         assert_eq!(served.core.lock().origin.generation, generation);
     }
-    std::thread::sleep(Duration::from_millis(30));
+    wait_for_lines(served, 10);
     stop.store(true, SeqCst);
     let (signals, polls) = (signals.join().unwrap(), polls.join().unwrap());
     assert!(signals.iter().all(is_signaled) && is_by(polls.last().unwrap(), "other"));
@@ -313,7 +326,48 @@ fn a_table_is_not_compacted_once_another_edge_leads() {
     assert!(outcome.unwrap_err().to_string().contains("another edge leads"));
     assert!(served.core.lock().over.is_some() && shared.lock().unwrap().starts.is_empty());
     served.core.close();
-    served.threads.join(SECONDS);
+    assert!(served.threads.join(SECONDS), "{:?}", served.threads.left());
+}
+
+#[test]
+fn no_call_waits_for_a_tail_that_hangs() {
+    let shared = Arc::new(Mutex::new(Shared::default()));
+    let connect = table_in(&shared);
+    let served = Served::by(100, |program, _| Opened::of_table(program, &connect, &Named::default(), true));
+    let signal = || served.call(r#"{"op":"signal","name":"n"}"#, None);
+    assert!(is_signaled(&signal().unwrap()));
+    shared.lock().unwrap().hangs = true;
+    let compacted = served.core.compact(0).unwrap();
+    // As where calls come as fast as the program beside serves them: what is ahead of it waits.
+    served.core.lock().window.have_wait(0);
+    let begun = Instant::now();
+    assert!(is_signaled(&signal().unwrap()));
+    assert!(begun.elapsed() >= MOST_HELD);
+    assert!(is_signaled(&signal().unwrap()));
+    shared.lock().unwrap().hangs = false;
+    let fault = compacted.blocking_recv().unwrap().map(drop).unwrap_err();
+    assert!(matches!(fault, Fault::NotCompacted(_)), "{fault:?}");
+    // Nothing is left of it, and the next one is done.
+    assert!(served.core.compact(0).unwrap().blocking_recv().unwrap().is_ok());
+    assert!(is_signaled(&signal().unwrap()) && shared.lock().unwrap().starts.len() == 1);
+    served.core.close();
+    assert!(served.threads.join(SECONDS), "{:?}", served.threads.left());
+}
+
+#[test]
+fn batches_wait_while_a_program_beside_comes_nearer() {
+    let (mut window, begun) = (Window::default(), Instant::now());
+    let after = |millis| begun + Duration::from_millis(millis);
+    assert_eq!(window.left_of_wait(100, begun), None);
+    window.have_wait(10);
+    assert_eq!(window.left_of_wait(10, begun), None);
+    assert_eq!(window.left_of_wait(11, begun), Some(MOST_HELD));
+    assert_eq!(window.left_of_wait(11, after(900)), Some(Duration::from_millis(100)));
+    window.have_wait(0);
+    assert_eq!(window.left_of_wait(11, after(900)), Some(MOST_HELD));
+    assert_eq!(window.left_of_wait(11, after(1_899)), Some(Duration::from_millis(1)));
+    assert_eq!(window.left_of_wait(11, after(1_900)), Some(Duration::ZERO));
+    assert_eq!((window.left_of_wait(11, after(1_900)), window.is_far_ahead(1_000)), (None, false));
 }
 
 /// Makes calls until a log was compacted twice by itself.
@@ -445,5 +499,5 @@ fn a_read_is_not_answered_once_another_edge_leads() {
     let refused = read().map(|outcome| outcome.blocking_recv().unwrap());
     assert!(matches!(refused, Err(Fault::LogBroken(_)) | Ok(Err(Fault::LogBroken(_)))), "{refused:?}");
     served.core.close();
-    served.threads.join(SECONDS);
+    assert!(served.threads.join(SECONDS), "{:?}", served.threads.left());
 }
