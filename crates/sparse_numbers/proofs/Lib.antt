@@ -1,2 +1,3 @@
+mod BeforeLemmas
 pub mod NumberLemmas
 mod PageLemmas

@@ -72,13 +72,13 @@ module _ (ps : List (List ℕ)) (page : List ℕ) (zeros : page ≡ replicate 10
           ap (λ l. slice_index_or l (k % 1024) 0) (get_or_past (ps ++ page ∷ []) (k / 1024) [] (omega (arith, longer, high, past)))
           ∙ sym (ap (λ l. slice_index_or l (k % 1024) 0) (get_or_past ps (k / 1024) [] high))
 
-  pub paged-more : (len : ℕ) → IsPaged ps len → length ps < 2 ^ 50 → IsPaged (ps ++ page ∷ []) len
+  pub paged-more : (len : ℕ) → IsPaged ps len → length (ps ++ page ∷ []) ≤ 2 ^ 50 → IsPaged (ps ++ page ∷ []) len
   paged-more len h few = record {
     whole = λ p. whole p (cases_lt p (length ps)) (cases_eq p (length ps));
     blank = λ k from. more-same k ∙ h.blank k from;
     there = λ k from to. there k from to (cases_lt (k / 1024) (length ps));
     fits = omega (arith, h.fits, longer);
-    few = omega (arith, few, longer);
+    few = few;
   }
     where
       whole : (p : ℕ) → (p < length ps) ⊎ (length ps ≤ p) → (p ≡ length ps) ⊎ (p ≢ length ps) → (length (page_in (ps ++ page ∷ []) p) ≡ 0) ⊎ (length (page_in (ps ++ page ∷ []) p) ≡ 1024)

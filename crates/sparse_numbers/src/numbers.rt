@@ -2,30 +2,23 @@
 
 ghost use Rattle.std.specs.Prelude.{◌≡◌, ◌≢◌, ◌⊎◌, ◌+◌, ◌<◌, ◌≤◌, ◌∷◌, ◌++◌, [], OnErr, OnOk, length, replicate, slice_index_or, slice_set};
 
-use crate::page::{Page, SIZE};
-use crate::pages::{give_back, make, number_in, replace, write};
+use crate::page::SIZE;
+use crate::pages::Pages;
 use std::alloc::{AllocError, Global};
 use std::marker::Model;
 
-/// No list has room for more than so many pages.
-const MOST_PAGES: usize = 1 << 50;
-
 /// A list of numbers that grows at its end. A page of 1,024 numbers that are all 0 takes the room of
-/// its name alone, once numbers come after it.
+/// its name alone, once numbers come after it; and none, where all before it are 0 too and such pages
+/// are more than the others.
 pub struct SparseNumbers {
-    pages: Vec<Page>,
+    pages: Pages,
     /// How many numbers there are.
     len: usize,
-    alloc: Global,
 }
 
 impl Drop for SparseNumbers {
     fn drop(self) {
-        let SparseNumbers {
-            pages: _,
-            len: _,
-            alloc: _,
-        } = self;
+        let SparseNumbers { pages: _, len: _ } = self;
     }
 }
 
@@ -37,11 +30,11 @@ impl Model for SparseNumbers {
     ghost Value = { Numbers };
 
     ghost view = { λ a. record {
-      items = first_numbers (number_at a.pages.items) a.len;
-      room = 1024 * length a.pages.items - a.len;
+      items = first_numbers (number_at a.pages) a.len;
+      room = 1024 * length a.pages - a.len;
     } };
 
-    ghost invariant = { λ a. IsPaged a.pages.items a.len };
+    ghost invariant = { λ a. IsPaged a.pages a.len };
 }
 
 impl SparseNumbers {
@@ -50,9 +43,8 @@ impl SparseNumbers {
         ensures { result.items ≡ [] }
     {
         SparseNumbers {
-            pages: Vec::new(alloc),
+            pages: Pages::new(alloc),
             len: 0,
-            alloc,
         }
     }
 
@@ -73,11 +65,7 @@ impl SparseNumbers {
         ensures room { self.old.room ≤ self.new.room }
     {
         while self.pages.len() * SIZE - self.len < additional {
-            if self.pages.len() >= MOST_PAGES {
-                return Err(AllocError);
-            }
-            let page = Page::zeros(self.alloc)?;
-            self.pages.push(page)?;
+            self.pages.push()?;
         }
         Ok(())
     }
@@ -88,10 +76,10 @@ impl SparseNumbers {
         ensures items { self.new.items ≡ self.old.items ++ number ∷ [] }
         ensures room { self.new.room + 1 ≡ self.old.room }
     {
-        write(&mut self.pages, self.len, number);
+        self.pages.write(self.len, number);
         self.len += 1;
         if self.len % SIZE == 0 {
-            give_back(&mut self.pages, self.alloc, self.len / SIZE - 1);
+            self.pages.give_back(self.len / SIZE - 1);
         }
     }
 
@@ -105,7 +93,7 @@ impl SparseNumbers {
         let first = self.len / SIZE;
         self.len += count;
         for page in first..self.len / SIZE {
-            give_back(&mut self.pages, self.alloc, page);
+            self.pages.give_back(page);
         }
     }
 
@@ -114,7 +102,7 @@ impl SparseNumbers {
         requires { index < length self.now.items }
         ensures { result ≡ slice_index_or self.now.items index 0 }
     {
-        number_in(&self.pages, index)
+        self.pages.get(index)
     }
 
     /// Writes a number in the place of another.
@@ -132,8 +120,8 @@ impl SparseNumbers {
             self.replace(index, 0);
             return Ok(());
         }
-        make(&mut self.pages, self.alloc, index)?;
-        write(&mut self.pages, index, number);
+        self.pages.make(index)?;
+        self.pages.write(index, number);
         Ok(())
     }
 
@@ -145,7 +133,7 @@ impl SparseNumbers {
         ensures items { self.new.items ≡ slice_set self.old.items index number }
         ensures room { self.new.room ≡ self.old.room }
     {
-        replace(&mut self.pages, index, number);
+        self.pages.replace(index, number);
     }
 
     /// Gives back the memory of this number's page, where all of the page are 0 and others come after it.
@@ -156,7 +144,7 @@ impl SparseNumbers {
     {
         let page = index / SIZE;
         if page < self.len / SIZE {
-            give_back(&mut self.pages, self.alloc, page);
+            self.pages.give_back(page);
         }
     }
 }

@@ -85,10 +85,17 @@ impl Page {
         }
     }
 
-    /// Whether all numbers are 0, where few are not.
+    /// Whether the page is not there.
+    pub(crate) fn is_absent(&self) -> bool
+        ensures { IsTrue result → self.now ≡ [] }
+    {
+        self.numbers.is_empty()
+    }
+
+    /// Whether the page is there for nothing: all its numbers are 0.
     pub(crate) fn is_blank(&self) -> bool
         ensures { IsTrue result → (k : ℕ) → slice_index_or self.now k 0 ≡ 0 }
     {
-        self.used == 0 && self.numbers.iter().all(|number| *number == 0)
+        self.used == 0 && !self.numbers.is_empty() && self.numbers.iter().all(|number| *number == 0)
     }
 }

@@ -18,7 +18,7 @@ loop-page-preserved c =
 pub returns-clause-items : goal.returns-clause-items
 returns-clause-items c =
     let t = c.self.inside in
-    let at = number_at t.pages.items in
-    ap (first_numbers (number_at c.loop-page.self-inside.pages.items)) c.loop-page.invariant.len
-    ∙ zeros-after at (number_at c.loop-page.self-inside.pages.items) t.len c.args.count c.loop-page.invariant.same c.self.invariant.blank
+    let at = number_at t.pages in
+    ap (first_numbers (number_at c.loop-page.self-inside.pages)) c.loop-page.invariant.len
+    ∙ zeros-after at (number_at c.loop-page.self-inside.pages) t.len c.args.count c.loop-page.invariant.same c.self.invariant.blank
     ∙ ap (λ l. l ++ replicate c.args.count 0) (items-are at t.len _ _ c.self.view_is)

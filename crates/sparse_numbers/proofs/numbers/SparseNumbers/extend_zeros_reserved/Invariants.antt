@@ -4,8 +4,8 @@ use Rattle.sparse_numbers.proofs.numbers.SparseNumbers.extend_zeros_reserved.Giv
 
 abbrev pub invariant-loop-page : goal.invariant-loop-page
 invariant-loop-page l = record {
-  paged : IsPaged l.self-inside.pages.items l.self-inside.len;
-  same : SameNumbers l.initial.self-inside.pages.items l.self-inside.pages.items;
-  count : length l.self-inside.pages.items ≡ length l.initial.self-inside.pages.items;
+  paged : IsPaged l.self-inside.pages l.self-inside.len;
+  same : SameNumbers l.initial.self-inside.pages l.self-inside.pages;
+  count : length l.self-inside.pages ≡ length l.initial.self-inside.pages;
   len : l.self-inside.len ≡ l.initial.self-inside.len;
 }

@@ -4,4 +4,4 @@ use Rattle.sparse_numbers.proofs.NumberLemmas.{number-is}
 use Rattle.sparse_numbers.proofs.numbers.SparseNumbers.get.Goals as goal
 
 pub returns : goal.returns
-returns c = c.number_in.ensures ∙ sym (number-is (number_at c.self.inside.pages.items) c.self.inside.len _ _ c.self.view_is c.args.index c.requires)
+returns c = c.get.ensures ∙ sym (number-is (number_at c.self.inside.pages) c.self.inside.len _ _ c.self.view_is c.args.index c.requires)

@@ -8,5 +8,5 @@ invariant_of-self c = c.give_back.ensures.paged c.self.inside.len (omega (arith,
 
 pub returns-then-page-self-clause-items : goal.returns-then-page-self-clause-items
 returns-then-page-self-clause-items c =
-    same-first (number_at c.self.inside.pages.items) _ c.self.inside.len (λ k low. c.give_back.ensures.same k)
-    ∙ items-are (number_at c.self.inside.pages.items) c.self.inside.len _ _ c.self.view_is
+    same-first (number_at c.self.inside.pages) _ c.self.inside.len (λ k low. c.give_back.ensures.same k)
+    ∙ items-are (number_at c.self.inside.pages) c.self.inside.len _ _ c.self.view_is

@@ -3,4 +3,4 @@ use Rattle.sparse_numbers.proofs.NumberLemmas.{as-many}
 use Rattle.sparse_numbers.proofs.numbers.SparseNumbers.len.Goals as goal
 
 pub returns : goal.returns
-returns c = as-many (number_at c.self.inside.pages.items) c.self.inside.len _ _ c.self.view_is
+returns c = as-many (number_at c.self.inside.pages) c.self.inside.len _ _ c.self.view_is
