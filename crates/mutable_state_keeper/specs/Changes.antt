@@ -2,15 +2,15 @@
 use Rattle.std.specs.Prelude.{◌≡◌, false}
 use Rattle.service_model.specs.Pending.{NoTask}
 use Rattle.service_model.specs.RunState.{RunState, is_open}
-use Rattle.mutable_state.specs.declared.change.Change.{Change}
+use Rattle.mutable_state.specs.declared.change.StepFacts.{StepFacts}
 use Rattle.mutable_state.specs.Steps.{after_step, FitStep}
 
 -- the state after the facts of a change
-abbrev pub after_change : Change → RunState → RunState
+abbrev pub after_change : StepFacts → RunState → RunState
 after_change c s = after_step c.moment c.facts s
 
 -- the facts of a change may come next
-abbrev pub MayCome : Change → RunState → Type 0
+abbrev pub MayCome : StepFacts → RunState → Type 0
 MayCome c s = FitStep c.moment s c.facts
 
 -- a run that has closed has no workflow task

@@ -12,7 +12,7 @@ use Rattle.service_model_types.specs.Replies.{Reply}
 use Rattle.service_model.specs.RunState.{Beginning, RunState, id_of, is_open, started_of}
 use Rattle.service_model.specs.Starts.{start_request}
 use Rattle.service_model.specs.Tasks.{continued}
-use Rattle.mutable_state.specs.declared.change.Change.{Change as MoreFacts}
+use Rattle.mutable_state.specs.declared.change.StepFacts.{StepFacts}
 use Rattle.mutable_state.specs.Steps.{FitStep, after_step}
 use Rattle.shard_steps.specs.Starts.{first_facts}
 use Rattle.shard_steps.specs.declared.starts.Beginning.{Beginning as NewBeginning}
@@ -35,7 +35,7 @@ free-behind v old at i m facts same made opened over one =
     let runs = states v.runs in
     let here : state_at runs m.index ≡ run_in old i = ap (λ s. state_at s.runs m.index) same ∙ ap (state_at (states old.runs)) made.place ∙ sym (at-place (runs_in old) i) in
     let low : m.index < length runs = omega (arith, made.there, length-states v.runs) in
-    let closed : is_open (grown m runs) ≡ false = ap (λ (c : MoreFacts). is_open (after_step c.moment c.facts (state_at runs m.index))) made.change ∙ ap (λ s. is_open (after_step at facts s)) here ∙ over in
+    let closed : is_open (grown m runs) ≡ false = ap (λ (c : StepFacts). is_open (after_step c.moment c.facts (state_at runs m.index))) made.change ∙ ap (λ s. is_open (after_step at facts s)) here ∙ over in
     subst (λ s. HasClosed (runs_added (Some m) runs) (id_of s)) here (closed-alone runs m.index (grown m runs) low (ap is_open here ∙ opened) closed one)
 
 -- a plan that closes the run and makes another

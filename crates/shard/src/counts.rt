@@ -11,7 +11,7 @@ ghost use Rattle.shard_store.specs.ShardView.{state};
 use mutable_state_keeper::KeepsRun;
 use service_model_types::answer::{Acknowledged, Answer, NumberedDispatch};
 use service_model_types::content::Dispatch;
-use shard_store::{Change, Count, Plan, Store, answered};
+use shard_store::{Count, Parts, Plan, Store, answered};
 use std::alloc::AllocError;
 use wf_event_values::Moment;
 
@@ -54,17 +54,8 @@ pub(crate) fn count_dispatch<T: KeepsRun>(
     if number - 1 != counted || store.waiting_dispatches() == 0 {
         return Ok(answered(moment, Answer::Counted(Acknowledged::OutOfOrder)));
     }
-    Ok(Plan {
-        moment,
-        change: Change {
-            added: None,
-            created: None,
-            taken: None,
-            count: Count::Dispatch,
-            answer: None,
-        },
-        reply: Ok(Answer::Counted(Acknowledged::Acknowledged)),
-    })
+    let answer = Answer::Counted(Acknowledged::Acknowledged);
+    Ok(Parts::none().count(Count::Dispatch).plan(moment, answer))
 }
 
 /// A copy of a dispatch, with texts of its own.

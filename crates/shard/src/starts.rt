@@ -19,7 +19,7 @@ use service_model_types::answer::Answer;
 use service_model_types::decided::Decision;
 use service_model_types::request::Start;
 use shard_steps::{Beginning, beginning_of, replaced_reason, terminated_facts};
-use shard_store::{Change, Count, Plan, Store, answered, refused};
+use shard_store::{Parts, Plan, Store, answered, refused};
 use std::alloc::AllocError;
 use wf_event_values::{ConflictPolicy, Field, Id, Moment, Refusal, ReusePolicy};
 
@@ -136,17 +136,8 @@ pub(crate) fn begin_run<T: KeepsRun>(
         (starts_new (runs_at store.old moment) None (first_facts beginning))) }
 {
     let made = store.prepare_made(moment, beginning)?;
-    Ok(Plan {
-        moment,
-        change: Change {
-            added: None,
-            created: Some(made),
-            taken: None,
-            count: Count::Nothing,
-            answer: None,
-        },
-        reply: Ok(Answer::Started(store.run_id(store.count()))),
-    })
+    let answer = Answer::Started(store.run_id(store.count()));
+    Ok(Parts::none().make(Some(made)).plan(moment, answer))
 }
 
 /// The termination of the workflow ID's open run, which is at that place, and the run of the start:
@@ -171,15 +162,9 @@ fn replace_open_run<T: KeepsRun>(
     let more = store.prepare_in(index, moment, facts)?;
     let beginning = beginning_of(store.alloc(), moment, request)?;
     let made = store.prepare_made(moment, beginning)?;
-    Ok(Plan {
-        moment,
-        change: Change {
-            added: Some(more),
-            created: Some(made),
-            taken: None,
-            count: Count::Nothing,
-            answer: None,
-        },
-        reply: Ok(Answer::Started(store.run_id(store.count()))),
-    })
+    let answer = Answer::Started(store.run_id(store.count()));
+    Ok(Parts::none()
+        .add(more)
+        .make(Some(made))
+        .plan(moment, answer))
 }

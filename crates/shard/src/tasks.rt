@@ -23,7 +23,7 @@ use service_model_types::request::{
     CompleteWorkflowTask, FailWorkflowTask, TakenTask, WaitingTask,
 };
 use shard_steps::{ended, started_facts};
-use shard_store::{Change, Count, MoreOf, Plan, Store, adding, answered, refused};
+use shard_store::{MoreOf, Parts, Plan, Store, adding, answered, refused};
 use std::alloc::AllocError;
 use task_completion::Completion;
 use wf_event_values::{Moment, Refusal, TaskKind};
@@ -177,17 +177,10 @@ fn complete_running_task<T: KeepsRun>(
     let Completion { plan, fault } = store.complete_in(index, commands, moment)?;
     // Only a completion that was judged without a fault begins another run.
     let created = make_follower(store, moment, index, fault, commands)?;
-    Ok(Plan {
-        moment,
-        change: Change {
-            added: Some(MoreOf { index, plan }),
-            created,
-            taken: None,
-            count: Count::Nothing,
-            answer: None,
-        },
-        reply: Ok(ended(fault)),
-    })
+    Ok(Parts::none()
+        .add(MoreOf { index, plan })
+        .make(created)
+        .plan(moment, ended(fault)))
 }
 
 /// A workflow task is failed by its worker.

@@ -13,7 +13,7 @@ use mutable_state_keeper::KeepsRun;
 use service_model_types::answer::Answer;
 use service_model_types::journal::Fact;
 use service_model_types::transfer::{Sent, Transfer};
-use shard_store::{Change, Count, Plan, Store};
+use shard_store::{Count, Parts, Plan, Store};
 use std::alloc::AllocError;
 use wf_event::{Attributes, Boxed};
 use wf_event_values::{Items, Moment};
@@ -44,17 +44,10 @@ fn accept_alone<T: KeepsRun>(
     ensures { FitsStep store.now result moment
         (accepts transfer.now None None (option_to_list answer)) }
 {
-    Plan {
-        moment,
-        change: Change {
-            added: None,
-            created: None,
-            taken: None,
-            answer,
-            count: Count::Accepts(transfer.from),
-        },
-        reply: Ok(Answer::Accepted(transfer.number)),
-    }
+    Parts::none()
+        .count(Count::Accepts(transfer.from))
+        .answer(answer)
+        .plan(moment, Answer::Accepted(transfer.number))
 }
 
 /// A delivery that changes nothing but the count.
@@ -88,17 +81,11 @@ pub(crate) fn accept_facts<T: KeepsRun>(
         (option_to_list answer))) }
 {
     let more = store.prepare_in(index, moment, facts)?;
-    Ok(Plan {
-        moment,
-        change: Change {
-            added: Some(more),
-            created: None,
-            taken: None,
-            answer,
-            count: Count::Accepts(transfer.from),
-        },
-        reply: Ok(Answer::Accepted(transfer.number)),
-    })
+    Ok(Parts::none()
+        .add(more)
+        .count(Count::Accepts(transfer.from))
+        .answer(answer)
+        .plan(moment, Answer::Accepted(transfer.number)))
 }
 
 /// A delivery that adds an event to the open run at a place.

@@ -11,7 +11,7 @@ use mutable_state_keeper::KeepsRun;
 use service_model_types::answer::{Acknowledged, Answer};
 use service_model_types::request::Acknowledge;
 use service_model_types::transfer::Transfer;
-use shard_store::{Change, Count, Plan, Store, answered, refused};
+use shard_store::{Count, Parts, Plan, Store, answered, refused};
 use std::alloc::AllocError;
 use transfer::copied;
 use wf_event::Boxed;
@@ -63,15 +63,7 @@ pub fn acknowledge_transfer<T: KeepsRun>(
         Acknowledged::Acknowledged => Count::Acknowledges(request.to),
         _ => Count::Nothing,
     };
-    Ok(Plan {
-        moment,
-        change: Change {
-            added: None,
-            created: None,
-            taken: None,
-            answer: None,
-            count,
-        },
-        reply: Ok(Answer::Counted(judgement)),
-    })
+    Ok(Parts::none()
+        .count(count)
+        .plan(moment, Answer::Counted(judgement)))
 }

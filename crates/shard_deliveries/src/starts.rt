@@ -20,7 +20,7 @@ use service_model_types::transfer::{
     ChildStartFailed, ChildStarted, Sent, StartChildTransfer, Transfer, TransferContent,
 };
 use shard_steps::{Beginning, first_task};
-use shard_store::{Change, Count, Plan, Store};
+use shard_store::{Count, Parts, Plan, Store};
 use std::alloc::{AllocError, Global};
 use wf_event::Boxed;
 use wf_event::payloads::{Parent, WorkflowExecutionStarted};
@@ -94,17 +94,11 @@ fn start_child_where_free<T: KeepsRun>(
         }),
     };
     let boxed = Boxed::new(store.alloc(), answer)?;
-    Ok(Plan {
-        moment,
-        change: Change {
-            added: None,
-            created: Some(made),
-            taken: None,
-            answer: Some(boxed),
-            count: Count::Accepts(transfer.from),
-        },
-        reply: Ok(Answer::Accepted(transfer.number)),
-    })
+    Ok(Parts::none()
+        .make(Some(made))
+        .count(Count::Accepts(transfer.from))
+        .answer(Some(boxed))
+        .plan(moment, Answer::Accepted(transfer.number)))
 }
 
 /// How a child's run begins.

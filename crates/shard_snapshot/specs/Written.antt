@@ -1,5 +1,5 @@
 -- PROOF: what is known while a snapshot is written
-use Rattle.std.specs.Prelude.{◌≡◌, ℕ, ◌++◌, Bool, List, flat_map, length, Ok}
+use Rattle.std.specs.Prelude.{◌≡◌, ℕ, ◌++◌, true, Bool, List, flat_map, length, Ok}
 use Rattle.std.specs.List.{AllByRecursion}
 use Rattle.service_model_types.specs.declared.content.Setup.{Setup}
 use Rattle.snapshot_pieces.specs.Limits.{IsPiece}
@@ -8,7 +8,7 @@ use Rattle.snapshot_pieces.specs.declared.piece.CountedPiece.{CountedPiece}
 use Rattle.snapshot_pieces.specs.declared.piece.Head.{Head}
 use Rattle.snapshot_pieces.specs.declared.piece.Piece.{Piece}
 use Rattle.snapshot_pieces.specs.declared.piece.Piece.TheVariants as piece
-use Rattle.shard_snapshot.specs.Laid.{Laid}
+use Rattle.shard_snapshot.specs.Laid.{Laid, laid_first}
 use Rattle.shard_snapshot.specs.Restored.{IsLaid, RestoringView}
 use Rattle.shard_snapshot.specs.Stages.{Lays, led_by}
 
@@ -40,3 +40,12 @@ pub record AreFirst (setup : Setup) (c : CountedPiece) (text : List ℕ) : Type 
   pub head : IsPiece (piece.Head (head_of setup))
   pub counted : IsPiece (piece.Counted c)
   pub lines : text ≡ line_of (piece.Head (head_of setup)) ++ line_of (piece.Counted c)
+
+-- two lines are written, and the shard is what was counted
+pub record Starts (setup : Setup) (c : CountedPiece) (w : WritingView) : Type 0 where
+  pub opened : w.setup ≡ setup
+  pub whole : w.is_whole ≡ true
+  pub count : w.count ≡ 2
+  pub content : Laid
+  pub first : laid_first setup c ≡ Ok content
+  pub is : IsLaid w.shard content

@@ -1,9 +1,13 @@
 //! A snapshot that is written line by line, and restored as it is written.
 
-ghost use Rattle.std.specs.Prelude.{◌≡◌, true, IfOk, string_bytes};
-ghost use Rattle.shard_snapshot.specs.Laid.{has_counts};
+ghost use Rattle.std.specs.Prelude.{◌≡◌, ◌+◌, true, IfErr, IfOk, OnOk, string_bytes};
+ghost use Rattle.snapshot_pieces.specs.Reading.{is_whole};
+ghost use Rattle.snapshot_pieces.specs.declared.piece.Piece.TheVariants as piece;
+ghost use Rattle.shard_snapshot.specs.Laid.{Laid, end_laid, has_counts, laid_first};
+ghost use Rattle.shard_snapshot.specs.Restored.{IsLaid};
+ghost use Rattle.shard_snapshot.specs.SoFar.{IsNextFault, Puts};
 ghost use Rattle.shard_snapshot.specs.Texts.{IsSnapshot};
-ghost use Rattle.shard_snapshot.specs.Written.{AreFirst};
+ghost use Rattle.shard_snapshot.specs.Written.{AreFirst, Starts};
 ghost use Rattle.shard_store.specs.ShardView.{IsSetup};
 
 use crate::damage::Damage;
@@ -75,6 +79,8 @@ impl<T: KeepsRun> Writing<T> {
         counted: CountedPiece,
     ) -> Result<Writing<T>, RestoreFault>
         requires { IsSetup setup.now }
+        ensures ok { IfOk result (λ lines. Starts setup.now counted lines) }
+        ensures err { IfErr result (IsNextFault 1 (laid_first setup.now counted)) }
     {
         if !has_counts(setup, &counted) {
             return Err(RestoreFault::Damaged(2, Damage::Count));
@@ -101,7 +107,12 @@ impl<T: KeepsRun> Writing<T> {
     ///
     /// # Errors
     /// Why it lays nothing. What was written is of no more use then.
-    pub fn write(&mut self, piece: Piece) -> Result<(), RestoreFault> {
+    pub fn write(&mut self, piece: Piece) -> Result<(), RestoreFault>
+        ensures lays { self.old.is_whole ≡ true → is_whole piece ≡ true →
+            Puts result self.old.shard self.new.shard self.old.count piece }
+        ensures whole { OnOk result ((self.old.is_whole ≡ true) × (self.new.is_whole ≡ true)) }
+        ensures count { OnOk result (self.new.count ≡ self.old.count + 1) }
+    {
         if self.count >= u64::MAX - 1 {
             return Err(RestoreFault::Memory);
         }
@@ -124,7 +135,12 @@ impl<T: KeepsRun> Writing<T> {
     ///
     /// # Errors
     /// As there.
-    pub fn write_event(&mut self, event: &Event) -> Result<(), RestoreFault> {
+    pub fn write_event(&mut self, event: &Event) -> Result<(), RestoreFault>
+        ensures lays { self.old.is_whole ≡ true →
+            Puts result self.old.shard self.new.shard self.old.count (piece.Event event.now) }
+        ensures whole { OnOk result ((self.old.is_whole ≡ true) × (self.new.is_whole ≡ true)) }
+        ensures count { OnOk result (self.new.count ≡ self.old.count + 1) }
+    {
         if self.count >= u64::MAX - 1 {
             return Err(RestoreFault::Memory);
         }
@@ -149,7 +165,9 @@ impl<T: KeepsRun> Writing<T> {
     /// # Errors
     /// Why there is no such shard.
     pub fn finish(self, last: Moment) -> Result<(String, Store<T>), RestoreFault>
-        ensures { IfOk result (λ r. IsSnapshot r.1.setup (string_bytes r.0) r.1) }
+        ensures ok { IfOk result (λ r. IsSnapshot r.1.setup (string_bytes r.0) r.1) }
+        ensures err { IfErr result (λ e. self.is_whole ≡ true → (l : Laid) → IsLaid self.shard l →
+            IsNextFault self.count (end_laid l (record { last = last; lines = self.count })) e) }
     {
         if self.count >= u64::MAX - 1 {
             return Err(RestoreFault::Memory);

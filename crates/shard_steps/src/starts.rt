@@ -8,7 +8,7 @@ ghost use Rattle.service_model.specs.Starts.{deadline_of, first_task};
 ghost use Rattle.shard_steps.specs.Starts.{started_by, beginning_of, signaled_beginning, new_run, MayBegin};
 
 use crate::signals::signal_fact;
-use mutable_state::{Change, plain};
+use mutable_state::{StepFacts, plain};
 use mutable_state_keeper::{KeepsRun, Run};
 use service_model_types::journal::{Fact, copied};
 use service_model_types::limits::used_task_timeout;
@@ -41,7 +41,7 @@ pub fn new_run<T: KeepsRun>(
         facts,
     } = beginning;
     let mut run = Run::begin(alloc, moment, started, request_id)?;
-    let plan = run.prepare(Change { moment, facts })?;
+    let plan = run.prepare(StepFacts { moment, facts })?;
     run.commit(plan);
     Ok(run)
 }

@@ -9,13 +9,13 @@ use Rattle.service_model.specs.RunState.{id_of, is_open, state_of}
 use Rattle.service_model.specs.Service.{content_after, entries, with_added, with_removed}
 use Rattle.service_model.proofs.GrowthLemmas.{IsFree, MayAdd, MayBecome, MayMake, MayTake, keeps-step}
 use Rattle.service_model.proofs.ListLemmas.{map-get}
-use Rattle.mutable_state.specs.declared.change.Change.{Change as MoreFacts}
+use Rattle.mutable_state.specs.declared.change.StepFacts.{StepFacts}
 use Rattle.mutable_state.specs.Steps.{FitStep, IsLater}
 use Rattle.mutable_state.proofs.ClosingLemmas.{closes-after, closes-begun}
 use Rattle.mutable_state.proofs.GrowthLemmas.{beginning-stays, step-begins}
 use Rattle.shard_steps.specs.Starts.{first_facts}
 use Rattle.shard_store.specs.ShardView.{ShardState, ShardView, states}
-use Rattle.shard_store.specs.Fitting.{FitsAdded, FitsChange, FitsCreated, FitsStep, FitsTaken, IsFreeFor, runs_added, state_at}
+use Rattle.shard_store.specs.Fitting.{FitsAdded, FitsChange, FitsCreated, FitsStep, FitsTaken, IsFreeFor, added_of, created_of, runs_added, state_at, taken_of}
 use Rattle.shard_store.specs.Open.{HasClosed, IsOneOpen}
 use Rattle.shard_store.specs.Standing.{StandsFor}
 use Rattle.shard_store.specs.declared.plan.Change.{Change}
@@ -34,7 +34,7 @@ added-may S v moment (Some m) o h (facts, added, fits) =
     let J = slice_index_or S.runs i [] in
     let more = entries (S.steps + 1) moment 0 facts in
     let stands = added-stands S v moment m facts h fits in
-    let may : FitStep moment s facts = subst (λ (c : MoreFacts). FitStep c.moment s c.facts) fits.change fits.has_room.fits in
+    let may : FitStep moment s facts = subst (λ (c : StepFacts). FitStep c.moment s c.facts) fits.change fits.has_room.fits in
     let begins = step-begins moment facts s in
     let P : ℕ → Type 0 = λ k. MayBecome moment (slice_index_or S.runs k []) (slice_index_or S.runs k [] ++ more) in
     let place : m.index + 1 - 1 ≡ i = omega arith in
@@ -55,11 +55,11 @@ pub are-aged : (v : ShardView) (S : Content) → StandsFor v S → AreAged v.las
 are-aged v S h = subst (λ (s : ShardState). AreAged s.last s.runs) (sym h.says) h.aged
 
 -- a run that it deletes may go
-taken-may : {T : Type 0} (S : Content) (v : ShardView) (moment : ℕ) (c : Change T) (i : Option ℕ) (o : Outcome) → StandsFor v S → FitsAdded v moment c.added o.added → FitsTaken v c i o.removed →
+taken-may : {T : Type 0} (S : Content) (v : ShardView) (moment : ℕ) (c : Change T) (i : Option ℕ) (o : Outcome) → StandsFor v S → FitsAdded v moment (added_of c) o.added → FitsTaken v c i o.removed →
     MayTake (with_added (S.steps + 1) moment o.added S.runs) o.removed
 taken-may S v moment c None o h added none = subst (MayTake (with_added (S.steps + 1) moment o.added S.runs)) (sym none) tt
 taken-may {T} S v moment c (Some i) o h added (removed, may, alone) =
-    let none : o.added ≡ None = subst (λ (a : Option MoreOf). FitsAdded v moment a o.added) (ap (λ (x : Change T). x.added) alone) added in
+    let none : o.added ≡ None = subst (λ (a : Option MoreOf). FitsAdded v moment a o.added) (ap added_of alone) added in
     let place : i + 1 - 1 ≡ i = omega arith in
     let before : map state_of S.runs ≡ states v.runs = sym (ap (λ s. s.runs) h.says) in
     let oldest : IsOldestRun (states v.runs) i = may.oldest (one-open v S h) (are-aged v S h) in
@@ -68,12 +68,12 @@ taken-may {T} S v moment c (Some i) o h added (removed, may, alone) =
     (subst (λ k. IsOldestRun (map state_of S.runs) k) (sym place) (subst (λ l. IsOldestRun l i) (sym before) oldest)))
 
 -- a step that makes a run deletes none
-none-taken : {T : Type 0} (v : ShardView) (c : Change T) (n : NewRun T) (i o : Option ℕ) → c.created ≡ Some n → FitsTaken v c i o → o ≡ None
+none-taken : {T : Type 0} (v : ShardView) (c : Change T) (n : NewRun T) (i o : Option ℕ) → created_of c ≡ Some n → FitsTaken v c i o → o ≡ None
 none-taken v c n None o is none = none
-none-taken {T} v c n (Some i) o is (removed, may, alone) = let clash = sym is ∙ ap (λ (x : Change T). x.created) alone in absurd (cc)
+none-taken {T} v c n (Some i) o is (removed, may, alone) = let clash = sym is ∙ ap created_of alone in absurd (cc)
 
 -- and a run that it makes may be made
-created-may : {T : Type 0} (S : Content) (v : ShardView) (moment : ℕ) (c : Change T) (n : Option (NewRun T)) (o : Outcome) → StandsFor v S → FitsChange v moment c o → c.created ≡ n → FitsCreated v moment n o.created →
+created-may : {T : Type 0} (S : Content) (v : ShardView) (moment : ℕ) (c : Change T) (n : Option (NewRun T)) (o : Outcome) → StandsFor v S → FitsChange v moment c o → created_of c ≡ n → FitsCreated v moment n o.created →
     MayMake S moment (with_removed o.removed (with_added (S.steps + 1) moment o.added S.runs)) o.created
 created-may S v moment c None o h fits is none = subst (MayMake S moment (with_removed o.removed (with_added (S.steps + 1) moment o.added S.runs))) (sym none) tt
 created-may S v moment c (Some n) o h fits is (b, created, made) =
@@ -81,12 +81,12 @@ created-may S v moment c (Some n) o h fits is (b, created, made) =
     let X = entries (S.steps + 1) moment 0 (first_facts b) in
     let made_of = created-stands S v moment n b made in
     let begun : state_of X ≡ n.run.state = made_of.says ∙ sym made.made in
-    let done : DoneRuns S runs (runs_added c.added (states v.runs)) = added-done S v moment c.added o.added h fits.added in
+    let done : DoneRuns S runs (runs_added (added_of c) (states v.runs)) = added-done S v moment (added_of c) o.added h fits.added in
     let before : map state_of S.runs ≡ states v.runs = sym (ap (λ s. s.runs) h.says) in
-    let free : HasOneOpen S → HasClosed (runs_added c.added (states v.runs)) (id_of n.run.state) = λ one.
+    let free : HasOneOpen S → HasClosed (runs_added (added_of c) (states v.runs)) (id_of n.run.state) = λ one.
     let all = fits.free (subst (λ l. IsOneOpen l) before (of-journals S one)) in
-    subst (λ k. IsFreeFor k (runs_added c.added (states v.runs))) is all in
-    let stay : with_removed o.removed runs ≡ runs = ap (λ r. with_removed r runs) (none-taken v c n c.taken o.removed is fits.taken) in
+    subst (λ k. IsFreeFor k (runs_added (added_of c) (states v.runs))) is all in
+    let stay : with_removed o.removed runs ≡ runs = ap (λ r. with_removed r runs) (none-taken v c n (taken_of c) o.removed is fits.taken) in
     subst (MayMake S moment (with_removed o.removed runs)) (sym created) (record {
       free = λ one. subst (λ l. IsFree l X) (sym stay) (record {
         each = λ k J at same. (free one).each k (state_of J) (ap (λ l. slice_get l k) (sym done.says) ∙ map-get state_of runs k J at) (same ∙ ap id_of begun);
@@ -98,7 +98,7 @@ created-may S v moment c (Some n) o h fits is (b, created, made) =
 pub keeps-after : {T : Type 0} (v : ShardView) (S : Content) (m : ℕ) (o : Outcome) (plan : Plan T) → StandsFor v S → FitsStep v plan m o → S.last_moment ≤ m → KeepsHistories S (content_after S m o)
 keeps-after v S m o plan stands fits later = keeps-step S m o (record {
   later = later;
-  adds = added-may S v m plan.change.added o.added stands fits.change.added;
-  takes = taken-may S v m plan.change plan.change.taken o stands fits.change.added fits.change.taken;
-  makes = created-may S v m plan.change plan.change.created o stands fits.change refl fits.change.created;
+  adds = added-may S v m (added_of plan.change) o.added stands fits.change.added;
+  takes = taken-may S v m plan.change (taken_of plan.change) o stands fits.change.added fits.change.taken;
+  makes = created-may S v m plan.change (created_of plan.change) o stands fits.change refl fits.change.created;
 })

@@ -4,7 +4,7 @@ use Rattle.service_model_types.specs.declared.answer.Answer.{Answer}
 use Rattle.service_model_types.specs.declared.journal.Fact.{Fact}
 use Rattle.service_model.specs.Outcome.{run_at, takes_away}
 use Rattle.service_model.specs.RunState.{RunState, no_run}
-use Rattle.mutable_state.specs.declared.change.Change.{Change as MoreFacts}
+use Rattle.mutable_state.specs.declared.change.StepFacts.{StepFacts}
 use Rattle.mutable_state.specs.Steps.{FitStep}
 use Rattle.mutable_state.specs.RunView.{HasRoomFor, RunView}
 use Rattle.shard_issued.specs.Outstanding.{IsCaughtUp}
@@ -20,7 +20,7 @@ fits-more v old at i m facts same made fits =
     let here : FitStep at (state_at (states old.runs) m.index) facts = subst (λ k. FitStep at (state_at (states old.runs) k) facts) (sym made.place) now in
     let there : FitStep at (state_at (states v.runs) m.index) facts = subst (λ (l : List RunState). FitStep at (slice_index_or l m.index no_run) facts) (sym (ap (λ s. s.runs) same)) here in
     record {
-      has_room = record { there = made.there; caught_up = made.caught_up; room = made.room; fits = subst (λ (c : MoreFacts). FitStep c.moment (state_at (states v.runs) m.index) c.facts) (sym made.change) there };
+      has_room = record { there = made.there; caught_up = made.caught_up; room = made.room; fits = subst (λ (c : StepFacts). FitStep c.moment (state_at (states v.runs) m.index) c.facts) (sym made.change) there };
       change = made.change;
     }
 

@@ -21,13 +21,13 @@ use Rattle.service_model.specs.Service.{dispatched_for, dispatched_new, entries,
 use Rattle.service_model.specs.Service as content
 use Rattle.service_model.specs.Shown.{shown, numbered, put_all}
 use Rattle.service_model.specs.Windows.{placed}
-use Rattle.mutable_state.specs.declared.change.Change.{Change as MoreFacts}
+use Rattle.mutable_state.specs.declared.change.StepFacts.{StepFacts}
 use Rattle.mutable_state.specs.Formed.{IsFormed, Stands}
 use Rattle.mutable_state.specs.Steps.{begun, after_step, FitStep, IsLater}
 use Rattle.mutable_state.proofs.GrowthLemmas.{Begins, step-begins, beginning-stays}
 use Rattle.mutable_state.proofs.JournalLemmas.{formed-later, formed-none, stands-next, stands-begun}
 use Rattle.shard_store.specs.ShardView.{ShardView, ShardState, state, states}
-use Rattle.shard_store.specs.Fitting.{FitsAdded, FitsAnswer, FitsChange, FitsCount, FitsCreated, FitsMore, FitsStep, FitsTaken, IsMade, accepted_by, acknowledged_by, after_added, after_answer, after_change, after_count, after_taken, counted_by, grown, issued_for, issued_new, outgoing_added, outgoing_answered, runs_added, runs_created, runs_taken, state_after, state_at, transfers_for, waiting_added, waiting_created}
+use Rattle.shard_store.specs.Fitting.{FitsAdded, FitsAnswer, FitsChange, FitsCount, FitsCreated, FitsMore, FitsStep, FitsTaken, IsMade, accepted_by, acknowledged_by, added_of, after_added, after_answer, after_change, after_count, after_taken, answer_of, count_of, counted_by, created_of, grown, issued_for, issued_new, outgoing_added, outgoing_answered, runs_added, runs_created, runs_taken, state_after, state_at, taken_of, transfers_for, waiting_added, waiting_created}
 use Rattle.transfer.specs.Logs.{Waiting, one_counted, with_issued}
 use Rattle.transfer.specs.Outboxes.{AreIssued, counted_to, rest_of, waiting_to, with_all_sent}
 use Rattle.shard_issued.specs.Issuing.{queued_dispatch, waiting_in}
@@ -89,7 +89,7 @@ added-stands S v moment m facts h fits =
     let known-runs : map state_of S.runs ≡ states v.runs = sym (ap (λ s. s.runs) h.says) in
     let there : m.index < length S.runs = omega (arith, fits.has_room.there, ap length known-runs, length-map S.runs state_of, length-states v.runs) in
     let here : state_of J ≡ state_at (states v.runs) m.index = sym (state-at S.runs m.index) ∙ ap (λ t. state_at t m.index) known-runs in
-    let may : FitStep moment (state_at (states v.runs) m.index) facts = subst (λ (c : MoreFacts). FitStep c.moment (state_at (states v.runs) m.index) c.facts) fits.change fits.has_room.fits in
+    let may : FitStep moment (state_at (states v.runs) m.index) facts = subst (λ (c : StepFacts). FitStep c.moment (state_at (states v.runs) m.index) c.facts) fits.change fits.has_room.fits in
     let stood : Stands S.steps J (state_at (states v.runs) m.index) = record { says = here; formed = all-at S.steps S.runs m.index there h.formed } in
     record {
       before = here;
@@ -122,7 +122,7 @@ added-done S v moment (Some m) o h (facts, added, fits) =
     let P : List Journal → Type 0 = λ Js. AllByRecursion (IsFormed (S.steps + 1)) Js in
     record {
       says = ap (map state_of) is ∙ map-set S.runs n K ∙ ap (λ t. slice_set t n (state_of K)) known-runs
-          ∙ ap (λ s. slice_set (states v.runs) n s) (stands.says ∙ ap (λ (c : MoreFacts). after_step c.moment c.facts (state_at (states v.runs) n)) (sym fits.change));
+          ∙ ap (λ s. slice_set (states v.runs) n s) (stands.says ∙ ap (λ (c : StepFacts). after_step c.moment c.facts (state_at (states v.runs) n)) (sym fits.change));
       formed = subst P (sym is) (all-set (IsFormed (S.steps + 1)) S.runs n K (all-later S.steps S.runs h.formed) stands.formed);
     }
 
@@ -163,9 +163,9 @@ created-done S v moment (Some n) o Js runs before (b, created, made) =
       formed = subst P (sym is) (all-push (IsFormed (S.steps + 1)) Js J before.formed stands.formed);
     }
 
-done : {T : Type 0} (S : Content) (v : ShardView) (moment : ℕ) (c : Change T) (o : Outcome) → StandsFor v S → FitsChange v moment c o → DoneRuns S (runs_of_step S moment o) (runs_created c.created (runs_taken c.taken (runs_added c.added (states v.runs))))
+done : {T : Type 0} (S : Content) (v : ShardView) (moment : ℕ) (c : Change T) (o : Outcome) → StandsFor v S → FitsChange v moment c o → DoneRuns S (runs_of_step S moment o) (runs_created (created_of c) (runs_taken (taken_of c) (runs_added (added_of c) (states v.runs))))
 unfolding runs_of_step
-done S v moment c o h fits = created-done S v moment c.created o.created _ _ (taken-done S v c c.taken o.removed _ _ (added-done S v moment c.added o.added h fits.added) fits.taken) fits.created
+done S v moment c o h fits = created-done S v moment (created_of c) o.created _ _ (taken-done S v c (taken_of c) o.removed _ _ (added-done S v moment (added_of c) o.added h fits.added) fits.taken) fits.created
 
 -- counts change nothing else
 record SameBut (S T : Content) : Type 0 where
@@ -205,7 +205,7 @@ issued-added S v moment (Some m) o h (facts, added, fits) =
     ∙ ap (λ t. dispatches_of t (n + 1) (state_of (J n)) (state_of (K n)) facts) setup
     ∙ ap (λ t. dispatches_of v.setup (n + 1) t (state_of (K n)) facts) stands.before
     ∙ ap (λ t. dispatches_of v.setup (n + 1) s t facts) stands.behind.says
-    ∙ ap (λ (c : MoreFacts). dispatches_of v.setup (n + 1) s (after_step c.moment c.facts s) c.facts) (sym fits.change)
+    ∙ ap (λ (c : StepFacts). dispatches_of v.setup (n + 1) s (after_step c.moment c.facts s) c.facts) (sym fits.change)
 
 -- what is issued for the run that it makes
 abbrev issued_created : {T : Type 0} → Option (NewRun T) → ShardState → List Dispatch
@@ -299,18 +299,18 @@ counted-waits S v count.Dispatch o B X h (is, counts) all so_far =
 all-waits : {T : Type 0} (S : Content) (v : ShardView) (moment : ℕ) (c : Change T) (o : Outcome) (B : Content) → StandsFor v S → FitsChange v moment c o →
     B.dispatches ≡ S.dispatches ++ (dispatched_for S (S.steps + 1) moment o.added ++ dispatched_new S (S.steps + 1) moment o.created) → B.dispatched ≡ S.dispatched → Waits (with_count o.counting B) (after_change c (state v)).waiting
 all-waits S v moment c o B h fits all so_far =
-    let w = counted_by c.count v.waiting in
-    let s = after_count c.count (state v) in
-    let t = after_taken c.taken (after_answer c.answer (after_added c.added s)) in
-    let X = issued_added c.added s in
-    let Y = issued_created c.created t in
+    let w = counted_by (count_of c) v.waiting in
+    let s = after_count (count_of c) (state v) in
+    let t = after_taken (taken_of c) (after_answer (answer_of c) (after_added (added_of c) s)) in
+    let X = issued_added (added_of c) s in
+    let Y = issued_created (created_of c) t in
     let known-runs : length (states v.runs) ≡ length S.runs = ap (λ s. length s.runs) h.says ∙ length-map S.runs state_of in
-    let first : dispatched_for S (S.steps + 1) moment o.added ≡ X = issued-added S v moment c.added o.added h fits.added ∙ sym (issued-counted c.added c.count (state v)) in
-    let second : dispatched_new S (S.steps + 1) moment o.created ≡ Y = issued-created S v moment c.created o.created t (ap (λ s. s.setup) h.says) (length-taken c.taken (runs_added c.added (states v.runs)) ∙ length-added c.added (states v.runs) ∙ known-runs) fits.created in
+    let first : dispatched_for S (S.steps + 1) moment o.added ≡ X = issued-added S v moment (added_of c) o.added h fits.added ∙ sym (issued-counted (added_of c) (count_of c) (state v)) in
+    let second : dispatched_new S (S.steps + 1) moment o.created ≡ Y = issued-created S v moment (created_of c) o.created t (ap (λ s. s.setup) h.says) (length-taken (taken_of c) (runs_added (added_of c) (states v.runs)) ∙ length-added (added_of c) (states v.runs) ∙ known-runs) fits.created in
     let issued : B.dispatches ≡ S.dispatches ++ (X ++ Y) = all ∙ ap (λ l. S.dispatches ++ (l ++ dispatched_new S (S.steps + 1) moment o.created)) first ∙ ap (λ l. S.dispatches ++ (X ++ l)) second in
     let is : (after_change c (state v)).waiting ≡ with_issued w (X ++ Y) =
-    waiting-created c.created t ∙ ap (λ x. with_issued x Y) (waiting-added c.added s) ∙ ap (λ l. record { items = l; counted = w.counted }) (append_assoc w.items X Y) in
-    subst (Waits (with_count o.counting B)) (sym is) (counted-waits S v c.count o.counting B (X ++ Y) h fits.count issued so_far)
+    waiting-created (created_of c) t ∙ ap (λ x. with_issued x Y) (waiting-added (added_of c) s) ∙ ap (λ l. record { items = l; counted = w.counted }) (append_assoc w.items X Y) in
+    subst (Waits (with_count o.counting B)) (sym is) (counted-waits S v (count_of c) o.counting B (X ++ Y) h fits.count issued so_far)
 
 -- the transfers of the run to which a step adds
 abbrev sent_added : Option MoreOf → ShardState → List Sent
@@ -333,7 +333,7 @@ sent-added S v moment (Some m) o h (facts, added, fits) =
     ∙ ap (λ t. transfers_of t (n + 1) (state_of (J n)) (state_of (K n))) setup
     ∙ ap (λ t. transfers_of v.setup (n + 1) t (state_of (K n))) stands.before
     ∙ ap (λ t. transfers_of v.setup (n + 1) s t) stands.behind.says
-    ∙ ap (λ (c : MoreFacts). transfers_of v.setup (n + 1) s (after_step c.moment c.facts s)) (sym fits.change)
+    ∙ ap (λ (c : StepFacts). transfers_of v.setup (n + 1) s (after_step c.moment c.facts s)) (sym fits.change)
 
 -- what waits after a change, by what was sent
 outgoing-added : (m : Option MoreOf) (s : ShardState) → outgoing_added m s ≡ with_all_sent (sent_added m s) 0 s.outgoing
@@ -390,14 +390,14 @@ counted-accepts v (count.Acknowledges to) o B (is, counts) = ap (λ c. (with_cou
 all-sends : {T : Type 0} (S : Content) (v : ShardView) (moment : ℕ) (c : Change T) (o : Outcome) (B : Content) → StandsFor v S → FitsChange v moment c o →
     B.outgoing ≡ content.with_all_sent (sent_for S (S.steps + 1) moment o.added ++ o.answers) 0 S.outgoing → Sends (with_count o.counting B) (after_change c (state v)).outgoing
 all-sends S v moment c o B h fits all =
-    let s = after_count c.count (state v) in
-    let X = sent_added c.added s in
-    let Y = option_to_list c.answer in
-    let first : sent_for S (S.steps + 1) moment o.added ≡ X = sent-added S v moment c.added o.added h fits.added ∙ sym (sent-counted c.added c.count (state v)) in
-    let sent : B.outgoing ≡ content.with_all_sent (X ++ Y) 0 S.outgoing = all ∙ ap (λ l. content.with_all_sent (l ++ o.answers) 0 S.outgoing) first ∙ ap (λ l. content.with_all_sent (X ++ l) 0 S.outgoing) (answer-is v c.answer o.answers fits.answer) in
-    let sends = counted-sends v c.count o.counting S B (X ++ Y) fits.count (sym (ap (λ (t : ShardState). t.outgoing) h.says)) h.issued sent in
+    let s = after_count (count_of c) (state v) in
+    let X = sent_added (added_of c) s in
+    let Y = option_to_list (answer_of c) in
+    let first : sent_for S (S.steps + 1) moment o.added ≡ X = sent-added S v moment (added_of c) o.added h fits.added ∙ sym (sent-counted (added_of c) (count_of c) (state v)) in
+    let sent : B.outgoing ≡ content.with_all_sent (X ++ Y) 0 S.outgoing = all ∙ ap (λ l. content.with_all_sent (l ++ o.answers) 0 S.outgoing) first ∙ ap (λ l. content.with_all_sent (X ++ l) 0 S.outgoing) (answer-is v (answer_of c) o.answers fits.answer) in
+    let sends = counted-sends v (count_of c) o.counting S B (X ++ Y) fits.count (sym (ap (λ (t : ShardState). t.outgoing) h.says)) h.issued sent in
     record {
-      says = sends.says ∙ with_all_sent-behind X Y s.outgoing ∙ ap (with_all_sent Y 0) (sym (outgoing-added c.added s)) ∙ sym (outgoing-answered c.answer (outgoing_added c.added s));
+      says = sends.says ∙ with_all_sent-behind X Y s.outgoing ∙ ap (with_all_sent Y 0) (sym (outgoing-added (added_of c) s)) ∙ sym (outgoing-answered (answer_of c) (outgoing_added (added_of c) s));
       issued = sends.issued;
     }
 
@@ -416,7 +416,7 @@ stands-after v w S m o plan stands fits kept did =
     let runs = done S v m plan.change o stands fits.change in
     let waits : Waits C D.waiting = all-waits S v m plan.change o B stands fits.change refl refl in
     let sends : Sends C D.outgoing = all-sends S v m plan.change o B stands fits.change refl in
-    let accepts : C.accepted ≡ D.accepted = counted-accepts v plan.change.count o.counting B fits.change.count ∙ ap (accepted_by plan.change.count) (sym (ap (λ s. s.accepted) stands.says)) in
+    let accepts : C.accepted ≡ D.accepted = counted-accepts v (count_of plan.change) o.counting B fits.change.count ∙ ap (accepted_by (count_of plan.change)) (sym (ap (λ s. s.accepted) stands.says)) in
     let P : List Journal → Type 0 = λ Js. AllByRecursion (IsFormed C.steps) Js in
     let Q : ℕ → Type 0 = λ k. AllByRecursion (IsFormed k) (runs_of_step S m o) in
     let K : Setup → List RunState → ℕ → Waiting Dispatch → List (Waiting TransferContent) → List ℕ → ShardState = λ setup rs last w out acc. record { setup = setup; runs = rs; last = last; waiting = w; outgoing = out; accepted = acc } in
@@ -495,15 +495,15 @@ stays-taken (Some i) runs k s there = in_set runs i k there
 -- each older run showed before what it shows first after, or was deleted
 pub grows-after : {T : Type 0} (v : ShardView) (at : ℕ) (plan : Plan T) (o : Outcome) (w : ShardView) → FitsChange v at plan.change o → state w ≡ state_after plan (state v) → Grows (states v.runs) (states w.runs)
 grows-after v at plan o w fits did =
-    let now = runs_added plan.change.added (states v.runs) in
-    let later = runs_taken plan.change.taken now in
+    let now = runs_added (added_of plan.change) (states v.runs) in
+    let later = runs_taken (taken_of plan.change) now in
     subst (λ runs. Grows (states v.runs) runs) (sym (ap (λ s. s.runs) did)) (record {
       runs = λ n s there.
-          let (t, more, found, is) = (grows-added v at plan.change.added o.added fits.added).runs n s there in
-          let (u, kept, how) = stays-taken plan.change.taken now n t found in (
+          let (t, more, found, is) = (grows-added v at (added_of plan.change) o.added fits.added).runs n s there in
+          let (u, kept, how) = stays-taken (taken_of plan.change) now n t found in (
             u,
             more,
-            stays-created plan.change.created later n u kept,
+            stays-created (created_of plan.change) later n u kept,
             ⊎_elim (λ e. inl e) (λ (e : u ≡ t). ⊎_elim (λ f. inl (e ∙ f)) (λ f. inr (ap (λ (x : RunState). x.shown) e ∙ f)) is) how,
           );
     })

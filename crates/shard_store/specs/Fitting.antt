@@ -22,10 +22,12 @@ use Rattle.shard_store.specs.Places.{empty_place}
 use Rattle.shard_store.specs.ShardView.{ShardView, ShardState, ordinal_of, states}
 use Rattle.shard_store.specs.Open.{HasClosed, IsOneOpen}
 use Rattle.shard_store.specs.declared.plan.Change.{Change}
+use Rattle.shard_store.specs.declared.plan.Change.TheVariants as change
 use Rattle.shard_store.specs.declared.plan.Count.{Count}
 use Rattle.shard_store.specs.declared.plan.Count.TheVariants as count
 use Rattle.shard_store.specs.declared.plan.NewRun.{NewRun}
 use Rattle.shard_store.specs.declared.plan.MoreOf.{MoreOf}
+use Rattle.shard_store.specs.declared.plan.Parts.{Parts}
 use Rattle.shard_store.specs.declared.plan.Plan.{Plan}
 
 -- the run at a place in the list
@@ -108,9 +110,34 @@ abbrev pub FitsCreated : {T : Type 0} → ShardView → ℕ → Option (NewRun T
 FitsCreated v at None o = o ≡ None
 FitsCreated v at (Some n) o = (b : Beginning) × (o ≡ Some (first_facts b)) × IsMade v at n b
 
--- a change that deletes a run alone
+-- a change that deletes a run
 abbrev pub taking : {T : Type 0} → ℕ → Change T
-taking index = record { added = None; created = None; taken = Some index; count = count.Nothing; answer = None }
+taking index = change.Takes index
+
+-- no part
+abbrev pub no_parts : {T : Type 0} → Parts T
+no_parts = record { added = None; created = None; count = count.Nothing; answer = None }
+
+-- what a change has of each part: one that deletes a run has none of the others
+abbrev pub added_of : {T : Type 0} → Change T → Option MoreOf
+added_of (change.Takes index) = None
+added_of (change.Makes parts) = parts.added
+
+abbrev pub created_of : {T : Type 0} → Change T → Option (NewRun T)
+created_of (change.Takes index) = None
+created_of (change.Makes parts) = parts.created
+
+abbrev pub taken_of : {T : Type 0} → Change T → Option ℕ
+taken_of (change.Takes index) = Some index
+taken_of (change.Makes parts) = None
+
+abbrev pub count_of : {T : Type 0} → Change T → Count
+count_of (change.Takes index) = count.Nothing
+count_of (change.Makes parts) = parts.count
+
+abbrev pub answer_of : {T : Type 0} → Change T → Option Sent
+answer_of (change.Takes index) = None
+answer_of (change.Makes parts) = parts.answer
 
 -- the place in the plan is that of the run that is removed, and the plan does nothing else
 abbrev pub FitsTaken : {T : Type 0} → ShardView → Change T → Option ℕ → Option ℕ → Type 0
@@ -156,12 +183,12 @@ IsFreeFor (Some n) runs = HasClosed runs (id_of n.run.state)
 -- the change is what the outcome does to the runs and the counts; where a workflow ID has at most one open run, none
 -- is open beside a new one
 pub record FitsChange {T : Type 0} (v : ShardView) (at : ℕ) (c : Change T) (o : Outcome) : Type 0 where
-  pub added : FitsAdded v at c.added o.added
-  pub created : FitsCreated v at c.created o.created
-  pub taken : FitsTaken v c c.taken o.removed
-  pub count : FitsCount v c.count o.counting
-  pub answer : FitsAnswer v c.answer o.answers
-  pub free : IsOneOpen (states v.runs) → IsFreeFor c.created (runs_added c.added (states v.runs))
+  pub added : FitsAdded v at (added_of c) o.added
+  pub created : FitsCreated v at (created_of c) o.created
+  pub taken : FitsTaken v c (taken_of c) o.removed
+  pub count : FitsCount v (count_of c) o.counting
+  pub answer : FitsAnswer v (answer_of c) o.answers
+  pub free : IsOneOpen (states v.runs) → IsFreeFor (created_of c) (runs_added (added_of c) (states v.runs))
 
 -- the plan is what the outcome does at the moment
 pub record FitsStep {T : Type 0} (v : ShardView) (plan : Plan T) (at : ℕ) (o : Outcome) : Type 0 where
@@ -171,11 +198,11 @@ pub record FitsStep {T : Type 0} (v : ShardView) (plan : Plan T) (at : ℕ) (o :
 
 -- a change that changes nothing
 abbrev pub nothing : {T : Type 0} → Change T
-nothing = record { added = None; created = None; taken = None; count = count.Nothing; answer = None }
+nothing = change.Makes no_parts
 
 -- a change that adds to an older run alone
 abbrev pub adding : {T : Type 0} → MoreOf → Change T
-adding m = record { added = Some m; created = None; taken = None; count = count.Nothing; answer = None }
+adding m = change.Makes (record no_parts { added = Some m })
 
 -- the dispatches that are issued for the run to which a step adds
 abbrev pub issued_for : MoreOf → ShardState → List Dispatch
@@ -248,7 +275,7 @@ after_created n s = record s { runs = runs_created n s.runs; waiting = waiting_c
 
 -- and after a change
 abbrev pub after_change : {T : Type 0} → Change T → ShardState → ShardState
-after_change c s = after_created c.created (after_taken c.taken (after_answer c.answer (after_added c.added (after_count c.count s))))
+after_change c s = after_created (created_of c) (after_taken (taken_of c) (after_answer (answer_of c) (after_added (added_of c) (after_count (count_of c) s))))
 
 -- and after a plan was done
 abbrev pub state_after : {T : Type 0} → Plan T → ShardState → ShardState

@@ -5,9 +5,10 @@ ghost use Rattle.indexmap.specs.IndexMap.{get_by_text};
 ghost use Rattle.service_model.specs.Aging.{IsOldestRun};
 ghost use Rattle.service_model.specs.Outcome.{Outcome};
 ghost use Rattle.shard_store.specs.ShardView.{state, states};
-ghost use Rattle.shard_store.specs.Fitting.{FitsChange, after_added, after_answer, after_change, after_count, after_created, after_taken, without, HasPlace, HasRoom, MayAdd, MayAnswer, MayCount, MayGrow, MayTake};
+ghost use Rattle.shard_store.specs.Fitting.{FitsChange, after_added, after_answer, after_change, after_count, after_created, after_taken, taken_of, without, HasPlace, HasRoom, MayAdd, MayAnswer, MayCount, MayGrow, MayTake};
+ghost use Rattle.shard_store.specs.declared.plan.Change.TheVariants as change;
 
-use crate::plan::{Change, Count, MoreOf, NewRun};
+use crate::plan::{Change, Count, MoreOf, NewRun, Parts};
 use crate::store::Store;
 use indexmap::IndexMap;
 use mutable_state_keeper::KeepsRun;
@@ -20,28 +21,26 @@ impl<T: KeepsRun> Store<T> {
     /// Deletes a run, or does all else.
     pub(crate) fn carry_out(&mut self, change: Change<T>)
         requires fits { (at : ℕ) × (o : Outcome) × FitsChange self.old at change o }
-        requires oldest { IfSome change.taken (IsOldestRun (states self.old.runs)) }
+        requires oldest { IfSome (taken_of change) (IsOldestRun (states self.old.runs)) }
         ensures { state self.new ≡ after_change change (state self.old) }
     {
-        match change.taken {
-            Some(index) => self.take_away(index),
-            None => self.carry_on(change),
+        match change {
+            Change::Takes(index) => self.take_away(index),
+            Change::Makes(parts) => self.carry_on(parts),
         }
     }
 
     /// Moves on a count, adds to an older run, answers a transfer, and adds a new run.
-    fn carry_on(&mut self, change: Change<T>)
-        requires fits { (at : ℕ) × (o : Outcome) × FitsChange self.old at change o }
-        requires none { change.taken ≡ None }
-        ensures { state self.new ≡ after_change change (state self.old) }
+    fn carry_on(&mut self, parts: Parts<T>)
+        requires { (at : ℕ) × (o : Outcome) × FitsChange self.old at (change.Makes parts) o }
+        ensures { state self.new ≡ after_change (change.Makes parts) (state self.old) }
     {
-        let Change {
+        let Parts {
             added,
             created,
-            taken: _,
             count,
             answer,
-        } = change;
+        } = parts;
         self.move_on(count);
         self.grow_by(added);
         self.answer_by(answer);

@@ -15,7 +15,7 @@ ghost use Rattle.shard_store.specs.Fitting.{IsPrepared, state_at, view_at};
 use crate::plan::MoreOf;
 use crate::store::Store;
 use event_pieces::SharedEvents;
-use mutable_state::Change as MoreFacts;
+use mutable_state::{PlannedFacts, StepFacts};
 use mutable_state_keeper::KeepsRun;
 use service_model_types::journal::Fact;
 use std::alloc::AllocError;
@@ -25,11 +25,7 @@ use wf_event_values::{Items, Moment, Text};
 
 impl<T: KeepsRun> Store<T> {
     /// Makes room for a step's facts in the run at a place.
-    fn make_room(
-        &mut self,
-        index: usize,
-        more: MoreFacts,
-    ) -> Result<mutable_state::Plan, AllocError>
+    fn make_room(&mut self, index: usize, more: StepFacts) -> Result<PlannedFacts, AllocError>
         requires { is_there (run_in self.old index) ≡ true }
         ensures same { state self.new ≡ state self.old }
         ensures there { index < length self.new.runs }
@@ -64,7 +60,7 @@ impl<T: KeepsRun> Store<T> {
         ensures same { state self.new ≡ state self.old }
         ensures more { IfOk result (λ more. IsPrepared self.new moment index facts more) }
     {
-        let plan = self.make_room(index, MoreFacts { moment, facts })?;
+        let plan = self.make_room(index, StepFacts { moment, facts })?;
         Ok(MoreOf { index, plan })
     }
 
@@ -96,7 +92,7 @@ impl<T: KeepsRun> Store<T> {
         index: usize,
         message: Text,
         moment: Moment,
-    ) -> Result<mutable_state::Plan, AllocError>
+    ) -> Result<PlannedFacts, AllocError>
         requires there { index < length self.old.runs }
         requires started { (state_at (states self.old.runs) index).task ≡ IsStarted }
         ensures same { state self.new ≡ state self.old }

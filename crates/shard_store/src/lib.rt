@@ -20,5 +20,5 @@ mod transfers;
 mod waiting;
 
 pub use place::Place;
-pub use plan::{Change, Count, MoreOf, NewRun, Plan, adding, answered, refused, taking};
+pub use plan::{Change, Count, MoreOf, NewRun, Parts, Plan, adding, answered, refused, taking};
 pub use store::Store;

@@ -1,10 +1,12 @@
 //! What a step will do to a shard, with all that it needs made.
 
-ghost use Rattle.std.specs.Prelude.{◌≡◌, Ok};
+ghost use Rattle.std.specs.Prelude.{◌≡◌, Ok, Some};
 ghost use Rattle.service_model.specs.Outcome.{answered, refused};
-ghost use Rattle.shard_store.specs.Fitting.{adding, nothing, taking};
+ghost use Rattle.shard_store.specs.Fitting.{adding, no_parts, nothing, taking};
+ghost use Rattle.shard_store.specs.declared.plan.Change.TheVariants as change;
 
 use crate::place::Place;
+use mutable_state::PlannedFacts;
 use mutable_state_keeper::KeepsRun;
 use service_model_types::answer::{Answer, Reply};
 use service_model_types::transfer::Sent;
@@ -22,7 +24,7 @@ pub struct NewRun<T: KeepsRun> {
 #[derive(Drop)]
 pub struct MoreOf {
     pub index: usize,
-    pub plan: mutable_state::Plan,
+    pub plan: PlannedFacts,
 }
 
 /// Which count a step moves on.
@@ -37,16 +39,78 @@ pub enum Count {
     Acknowledges(u16),
 }
 
-/// What a step does to a shard: what an older run gets, the run that is made, the place of the run
-/// that is deleted, the count that is moved on, and the transfer that answers another one. That
-/// is large, and few steps have one, so it lies elsewhere.
+/// What a step does to a shard: it deletes the run at a place, or it makes parts.
 #[derive(Drop)]
-pub struct Change<T: KeepsRun> {
+pub enum Change<T: KeepsRun> {
+    Takes(usize),
+    Makes(Parts<T>),
+}
+
+/// The parts of a step, each of them or none: what an older run gets, the run that is made, the count
+/// that is moved on, and the transfer that answers another one. That is large, and few steps have
+/// one, so it lies elsewhere.
+#[derive(Drop)]
+pub struct Parts<T: KeepsRun> {
     pub added: Option<MoreOf>,
     pub created: Option<NewRun<T>>,
-    pub taken: Option<usize>,
     pub count: Count,
     pub answer: Option<Boxed<Sent>>,
+}
+
+impl<T: KeepsRun> Parts<T> {
+    /// None of them.
+    pub fn none() -> Parts<T>
+        ensures { result ≡ no_parts }
+    {
+        Parts {
+            added: None,
+            created: None,
+            count: Count::Nothing,
+            answer: None,
+        }
+    }
+
+    /// And an older run gets these facts.
+    pub fn add(self, more: MoreOf) -> Parts<T>
+        ensures { result ≡ record self { added = Some more } }
+    {
+        Parts {
+            added: Some(more),
+            ..self
+        }
+    }
+
+    /// And this run is made, if one is.
+    pub fn make(self, created: Option<NewRun<T>>) -> Parts<T>
+        ensures { result ≡ record self { created = created } }
+    {
+        Parts { created, ..self }
+    }
+
+    /// And this count is moved on.
+    pub fn count(self, count: Count) -> Parts<T>
+        ensures { result ≡ record self { count = count } }
+    {
+        Parts { count, ..self }
+    }
+
+    /// And this transfer answers another one, if one does.
+    pub fn answer(self, answer: Option<Boxed<Sent>>) -> Parts<T>
+        ensures { result ≡ record self { answer = answer } }
+    {
+        Parts { answer, ..self }
+    }
+
+    /// A step that makes these parts, and answers.
+    pub fn plan(self, moment: Moment, answer: Answer) -> Plan<T>
+        ensures { result ≡ record { moment = moment; change = change.Makes self; reply = Ok answer } }
+    {
+        Plan {
+            moment,
+            change: Change::Makes(self),
+            reply: Ok(answer),
+        }
+    }
 }
 
 /// A step that can't fail any more.
@@ -87,11 +151,7 @@ pub fn answered<T: KeepsRun>(moment: Moment, answer: Answer) -> Plan<T>
       reply = (answered answer).reply;
     } }
 {
-    Plan {
-        moment,
-        change: nothing(),
-        reply: Ok(answer),
-    }
+    Parts::none().plan(moment, answer)
 }
 
 /// A step that changes nothing, and refuses.
@@ -104,7 +164,7 @@ pub fn refused<T: KeepsRun>(moment: Moment, refusal: Refusal) -> Plan<T>
 {
     Plan {
         moment,
-        change: nothing(),
+        change: Change::Makes(Parts::none()),
         reply: Err(refusal),
     }
 }
@@ -113,17 +173,7 @@ pub fn refused<T: KeepsRun>(moment: Moment, refusal: Refusal) -> Plan<T>
 pub fn adding<T: KeepsRun>(moment: Moment, more: MoreOf, answer: Answer) -> Plan<T>
     ensures { result ≡ record { moment = moment; change = adding more; reply = Ok answer } }
 {
-    Plan {
-        moment,
-        change: Change {
-            added: Some(more),
-            created: None,
-            taken: None,
-            count: Count::Nothing,
-            answer: None,
-        },
-        reply: Ok(answer),
-    }
+    Parts::none().add(more).plan(moment, answer)
 }
 
 /// A step that deletes the run at a place, and answers.
@@ -132,25 +182,7 @@ pub fn taking<T: KeepsRun>(moment: Moment, index: usize, answer: Answer) -> Plan
 {
     Plan {
         moment,
-        change: Change {
-            added: None,
-            created: None,
-            taken: Some(index),
-            count: Count::Nothing,
-            answer: None,
-        },
+        change: Change::Takes(index),
         reply: Ok(answer),
-    }
-}
-
-fn nothing<T: KeepsRun>() -> Change<T>
-    ensures { result ≡ nothing }
-{
-    Change {
-        added: None,
-        created: None,
-        taken: None,
-        count: Count::Nothing,
-        answer: None,
     }
 }

@@ -8,7 +8,7 @@ ghost use Rattle.mutable_state.specs.RunView.{HasRoomFor, RunView};
 ghost use Rattle.shard_store.specs.Places.{empty_place};
 
 use crate::place::Place;
-use mutable_state::Plan;
+use mutable_state::PlannedFacts;
 use mutable_state_keeper::KeepsRun;
 use sparse_numbers::SparseNumbers;
 use std::alloc::{AllocError, Global};
@@ -151,7 +151,7 @@ impl<T: KeepsRun> Runs<T> {
     }
 
     /// Adds a step's facts to the run at a place. It takes no memory.
-    pub(crate) fn commit(&mut self, index: usize, plan: Plan)
+    pub(crate) fn commit(&mut self, index: usize, plan: PlannedFacts)
         requires there { index < length self.old.items }
         requires room { HasRoomFor
             (slice_index_or self.old.items index empty_place) plan.change.facts }

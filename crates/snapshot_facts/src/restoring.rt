@@ -16,7 +16,7 @@ ghost use Rattle.mutable_state.specs.Readers.{used_rows};
 ghost use Rattle.mutable_state.specs.Steps.{after_step, is_start, may_ask};
 ghost use Rattle.snapshot_facts.specs.Restoring.{event_may_come, is_pending_row, is_timer_cancel, is_used_row, may_come, may_stand, note_may_come, settles_some};
 
-use mutable_state::{Change, is_scheduled, is_started};
+use mutable_state::{StepFacts, is_scheduled, is_started};
 use mutable_state_keeper::{KeepsRun, Run};
 use service_model_types::journal::{EventFact, Fact, Note, NoteFact};
 use service_model_types::phase::TaskPhase;
@@ -213,7 +213,7 @@ pub fn try_add<T: KeepsRun>(
     let mut facts = Vec::with_capacity(alloc, 1)?;
     facts.push(fact)?;
     let facts = Items::from_vec(facts);
-    let plan = run.prepare(Change { moment, facts })?;
+    let plan = run.prepare(StepFacts { moment, facts })?;
     run.commit(plan);
     Ok(true)
 }

@@ -3,8 +3,8 @@ use Rattle.std.proofs.lemmas.List.{get_or-set_same}
 use Rattle.std.specs.Prelude.{Result, Ok, Err, IfOk, OnOk}
 use Rattle.service_model.specs.RunState.{is_there}
 use Rattle.mutable_state.specs.RunView.{HasRoomFor, RunView}
-use Rattle.mutable_state.specs.declared.change.Change.{Change}
-use Rattle.mutable_state.specs.declared.change.Plan.{Plan}
+use Rattle.mutable_state.specs.declared.change.StepFacts.{StepFacts}
+use Rattle.mutable_state.specs.declared.change.PlannedFacts.{PlannedFacts}
 use Rattle.shard_issued.specs.Issuing.{all_waiting}
 use Rattle.shard_issued.specs.Sending.{all_outgoing}
 use Rattle.shard_issued.proofs.EachLemmas.{each-same}
@@ -54,10 +54,10 @@ returns-clause-there g c =
     omega (arith, low, length-set c.self.inside.runs.items c.args.index c.prepare.new.self)
 
 -- the room at a place where this run was put
-room-set : {E : Type 0} (result : Result Plan E) (runs : List RunView) (i : ℕ) (x : RunView) (more : Change) → i < length runs → IfOk result (λ plan. plan.change ≡ more) → OnOk result (HasRoomFor x more.facts)
+room-set : {E : Type 0} (result : Result PlannedFacts E) (runs : List RunView) (i : ℕ) (x : RunView) (more : StepFacts) → i < length runs → IfOk result (λ plan. plan.change ≡ more) → OnOk result (HasRoomFor x more.facts)
     → IfOk result (λ plan. HasRoomFor (view_at (slice_set runs i x) i) plan.change.facts)
 room-set (Ok plan) runs i x more low made room =
-    subst (λ (v : RunView). HasRoomFor v plan.change.facts) (sym (get_or-set_same runs i x empty_place low)) (subst (λ (c : Change). HasRoomFor x c.facts) (sym made) room)
+    subst (λ (v : RunView). HasRoomFor v plan.change.facts) (sym (get_or-set_same runs i x empty_place low)) (subst (λ (c : StepFacts). HasRoomFor x c.facts) (sym made) room)
 room-set (Err e) runs i x more low made room = tt
 
 pub returns-clause-room : goal.returns-clause-room
