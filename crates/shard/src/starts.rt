@@ -163,8 +163,10 @@ fn replace_open_run<T: KeepsRun>(
     let beginning = beginning_of(store.alloc(), moment, request)?;
     let made = store.prepare_made(moment, beginning)?;
     let answer = Answer::Started(store.run_id(store.count()));
-    Ok(Parts::none()
-        .add(more)
-        .make(Some(made))
-        .plan(moment, answer))
+    Ok(
+        Parts::none()
+            .add(more)
+            .make(Some(made))
+            .plan(moment, answer),
+    )
 }

@@ -63,7 +63,9 @@ pub fn acknowledge_transfer<T: KeepsRun>(
         Acknowledged::Acknowledged => Count::Acknowledges(request.to),
         _ => Count::Nothing,
     };
-    Ok(Parts::none()
-        .count(count)
-        .plan(moment, Answer::Counted(judgement)))
+    Ok(
+        Parts::none()
+            .count(count)
+            .plan(moment, Answer::Counted(judgement)),
+    )
 }

@@ -94,11 +94,13 @@ fn start_child_where_free<T: KeepsRun>(
         }),
     };
     let boxed = Boxed::new(store.alloc(), answer)?;
-    Ok(Parts::none()
-        .make(Some(made))
-        .count(Count::Accepts(transfer.from))
-        .answer(Some(boxed))
-        .plan(moment, Answer::Accepted(transfer.number)))
+    Ok(
+        Parts::none()
+            .make(Some(made))
+            .count(Count::Accepts(transfer.from))
+            .answer(Some(boxed))
+            .plan(moment, Answer::Accepted(transfer.number)),
+    )
 }
 
 /// How a child's run begins.
