@@ -163,10 +163,6 @@ fn replace_open_run<T: KeepsRun>(
     let beginning = beginning_of(store.alloc(), moment, request)?;
     let made = store.prepare_made(moment, beginning)?;
     let answer = Answer::Started(store.run_id(store.count()));
-    Ok(
-        Parts::none()
-            .add(more)
-            .make(Some(made))
-            .plan(moment, answer),
-    )
+    let parts = Parts::none().add(more).make(Some(made));
+    Ok(parts.plan(moment, answer))
 }

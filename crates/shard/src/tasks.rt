@@ -177,12 +177,8 @@ fn complete_running_task<T: KeepsRun>(
     let Completion { plan, fault } = store.complete_in(index, commands, moment)?;
     // Only a completion that was judged without a fault begins another run.
     let created = make_follower(store, moment, index, fault, commands)?;
-    Ok(
-        Parts::none()
-            .add(MoreOf { index, plan })
-            .make(created)
-            .plan(moment, ended(fault)),
-    )
+    let parts = Parts::none().add(MoreOf { index, plan }).make(created);
+    Ok(parts.plan(moment, ended(fault)))
 }
 
 /// A workflow task is failed by its worker.

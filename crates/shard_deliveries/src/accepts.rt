@@ -81,13 +81,9 @@ pub(crate) fn accept_facts<T: KeepsRun>(
         (option_to_list answer))) }
 {
     let more = store.prepare_in(index, moment, facts)?;
-    Ok(
-        Parts::none()
-            .add(more)
-            .count(Count::Accepts(transfer.from))
-            .answer(answer)
-            .plan(moment, Answer::Accepted(transfer.number)),
-    )
+    let count = Count::Accepts(transfer.from);
+    let parts = Parts::none().add(more).count(count).answer(answer);
+    Ok(parts.plan(moment, Answer::Accepted(transfer.number)))
 }
 
 /// A delivery that adds an event to the open run at a place.

@@ -63,9 +63,6 @@ pub fn acknowledge_transfer<T: KeepsRun>(
         Acknowledged::Acknowledged => Count::Acknowledges(request.to),
         _ => Count::Nothing,
     };
-    Ok(
-        Parts::none()
-            .count(count)
-            .plan(moment, Answer::Counted(judgement)),
-    )
+    let parts = Parts::none().count(count);
+    Ok(parts.plan(moment, Answer::Counted(judgement)))
 }

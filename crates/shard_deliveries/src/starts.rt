@@ -94,13 +94,10 @@ fn start_child_where_free<T: KeepsRun>(
         }),
     };
     let boxed = Boxed::new(store.alloc(), answer)?;
-    Ok(
-        Parts::none()
-            .make(Some(made))
-            .count(Count::Accepts(transfer.from))
-            .answer(Some(boxed))
-            .plan(moment, Answer::Accepted(transfer.number)),
-    )
+    let count = Count::Accepts(transfer.from);
+    let parts = Parts::none().make(Some(made));
+    let parts = parts.count(count).answer(Some(boxed));
+    Ok(parts.plan(moment, Answer::Accepted(transfer.number)))
 }
 
 /// How a child's run begins.
