@@ -328,7 +328,7 @@ class OneHistory(unittest.TestCase):
     """Transfer turns from each of two shards to the other, by four threads at the same time."""
 
     # How many signals each shard's workflow sends the other one's.
-    COUNT = 40
+    COUNT = 50
     # An answer goes back for each signal.
     TRANSFERS = 2 * COUNT
     SCHEDULES = 20
@@ -338,8 +338,8 @@ class OneHistory(unittest.TestCase):
         for shard in (0, 1):
             lines += [{"op": "dispatch_turn", "shard": shard}, poll()]
         for shard, other in ((0, "b"), (1, "a")):
-            signal = {"type": "SignalExternalWorkflowExecution", "workflow_id": other, "name": "s"}
-            commands = [signal] * self.COUNT
+            signal = {"type": "SignalExternalWorkflowExecution", "workflow_id": other}
+            commands = [{**signal, "name": f"s{number}"} for number in range(1, self.COUNT + 1)]
             lines.append({"op": "complete_workflow_task", "token": token(shard, 1), "commands": commands})
         lines.append(barrier)
         for _ in range(self.TRANSFERS):
@@ -382,6 +382,7 @@ class OneHistory(unittest.TestCase):
         self.assertEqual([step["ticket"] for step in steps], list(range(1, len(steps) + 1)))
         self.assertEqual({step["pass"] for step in steps}, set(range(4)))
         issued, accepted, acknowledged = [0, 0], [0, 0], [0, 0]
+        names: list[list[str]] = [[], []]
         for step in steps:
             request, own = step["request"], step["shard"]
             if request["op"] == "complete_workflow_task":
@@ -392,11 +393,14 @@ class OneHistory(unittest.TestCase):
                 if number == accepted[own] + 1:
                     accepted[own] = number
                     # A signal is answered by a transfer back.
-                    issued[own] += request["transfer"]["kind"] == "signal_external"
+                    if request["transfer"]["kind"] == "signal_external":
+                        issued[own] += 1
+                        names[own].append(request["transfer"]["content"]["name"])
             elif request["op"] == "acknowledge":
                 self.assertLessEqual(request["number"], accepted[1 - own], step)
                 acknowledged[own] = max(acknowledged[own], request["number"])
         self.assertEqual(acknowledged, [self.TRANSFERS] * 2)
+        self.assertEqual(names, [[f"s{number}" for number in range(1, self.COUNT + 1)]] * 2)
 
 
 def main():

@@ -1,4 +1,4 @@
--- pages behind some that are left out
+-- pages after some that are left out
 use Rattle.std.proofs.Common.{◌≡◌, ◌≢◌, ℕ, ◌+◌, ◌*◌, ◌/◌, ◌%◌, ◌-◌, ◌<◌, ◌≤◌, ◌⊎◌, inl, inr, List, length, sym, ap, arith, subst, ◌∙◌}
 use Rattle.std.specs.Prelude.{replicate, slice_index_or, slice_set, take, drop, [], ◌++◌}
 use Rattle.std.proofs.lemmas.Bool.{cases_eq, cases_lt}
