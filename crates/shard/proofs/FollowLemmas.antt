@@ -23,6 +23,7 @@ use Rattle.shard_store.specs.ShardView.{ShardView, ordinal_of, run_in, runs_in, 
 use Rattle.shard_store.specs.declared.plan.Count.TheVariants as count
 use Rattle.shard_store.specs.declared.plan.MoreOf.{MoreOf}
 use Rattle.shard_store.specs.declared.plan.NewRun.{NewRun}
+use Rattle.shard_store.specs.declared.plan.Change.TheVariants as change
 use Rattle.shard_store.proofs.IndexLemmas.{at-place, length-states}
 use Rattle.shard_store.proofs.OpenLemmas.{closed-alone}
 use Rattle.shard_store.proofs.PlanLemmas.{fits-added}
@@ -42,7 +43,7 @@ free-behind v old at i m facts same made opened over one =
 pub both-fits : {T : Type 0} (v old : ShardView) (at i : ℕ) (m : MoreOf) (facts : List Fact) (b : NewBeginning) (new : NewRun T) (reply : Reply) (o : Outcome) → state v ≡ state old → IsPrepared v at i facts m →
     FitStep at (run_in old i) facts → is_open (run_in old i) ≡ true → is_open (after_step at facts (run_in old i)) ≡ false → id_of (run_in old i) ≡ b.started.workflow_id → IsMade v at new b →
     o.added ≡ Some (record { run = ordinal_of i; facts = facts }) → o.created ≡ Some (first_facts b) → o.removed ≡ None → reply ≡ o.reply → o.counting ≡ CountsNothing → o.answers ≡ [] →
-    FitsStep v (record { moment = at; change = record { added = Some m; created = Some new; taken = None; count = count.Nothing; answer = None }; reply = reply }) at o
+    FitsStep v (record { moment = at; change = change.Makes (record { added = Some m; created = Some new; count = count.Nothing; answer = None }); reply = reply }) at o
 both-fits v old at i m facts b new reply o same prepared fits opened over named made added created removed replies counts answers =
     let runs = runs_added (Some m) (states v.runs) in
     record {

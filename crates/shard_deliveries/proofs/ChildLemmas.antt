@@ -23,6 +23,7 @@ use Rattle.shard_store.specs.declared.plan.NewRun.{NewRun}
 use Rattle.shard_store.specs.Fitting.{CountsAccepted, FitsStep, IsFree, IsMade}
 use Rattle.shard_store.specs.Open.{HasClosed}
 use Rattle.shard_store.specs.ShardView.{ShardView, runs_at, runs_in, state, states}
+use Rattle.shard_store.specs.declared.plan.Change.TheVariants as change
 use Rattle.shard_store.proofs.IndexLemmas.{length-states}
 use Rattle.shard_store.proofs.OpenLemmas.{free-closed}
 use Rattle.shard_store.proofs.StepLemmas.{id-of-begun}
@@ -49,7 +50,7 @@ child-free R c is = by_latest (latest_run R.states c.workflow_id) is
 
 -- where a child's run begins so, it is told that it started
 pub child-fits : {T : Type 0} (v old : ShardView) (at : ℕ) (t : Transfer) (c : StartChildTransfer) (b : Beginning) (n : NewRun T) (to : ℕ) (run : Run) → state v ≡ state old → IsCaughtUp v.changed → CountsAccepted old t.from → b ≡ child_beginning c → IsMade v at n b → is_free_for (runs_in old) c ≡ true → to ≡ c.parent_run.shard → run ≡ run_id old.setup (length v.runs + 1) →
-    FitsStep v (record { moment = at; change = record { added = None; created = Some n; taken = None; count = count.Accepts t.from; answer = Some (record { to = to; content = ChildStarted (record { parent_run = c.parent_run; initiated = c.initiated; run = run }) }) }; reply = Ok (Accepted t.number) }) at (starts_child (runs_at old at) t c)
+    FitsStep v (record { moment = at; change = change.Makes (record { added = None; created = Some n; count = count.Accepts t.from; answer = Some (record { to = to; content = ChildStarted (record { parent_run = c.parent_run; initiated = c.initiated; run = run }) }) }); reply = Ok (Accepted t.number) }) at (starts_child (runs_at old at) t c)
 child-fits v old at t c b n to run same caught_up counts begins made free there is =
     let total : length v.runs ≡ length (states old.runs) = sym (length-states v.runs) ∙ ap (λ s. length s.runs) same in
     let own : run ≡ run_id old.setup (length (states old.runs) + 1) = is ∙ ap (λ k. run_id old.setup (k + 1)) total in

@@ -13,6 +13,8 @@ use Rattle.shard_steps.proofs.ClosingLemmas.{terminated-behind}
 use Rattle.shard_steps.proofs.StartLemmas.{first-fits, terminate-fits}
 use Rattle.shard_store.specs.Fitting.{IsPrepared}
 use Rattle.shard_store.specs.ShardView.{ordinal_of, run_in, runs_at}
+use Rattle.shard_store.specs.declared.plan.Parts.{Parts}
+use Rattle.shard_deliveries.proofs.AcceptLemmas.{planned}
 use Rattle.shard.proofs.FollowLemmas.{both-fits}
 use Rattle.shard_store.proofs.IndexLemmas.{length-states}
 use Rattle.shard_store.proofs.PlanLemmas.{stays-prepared}
@@ -39,6 +41,11 @@ returns-clause-plan g c =
     let prepared = stays-prepared c.prepare_in.new.self v at i facts more c.in_ok-made.ensures.runs c.in_ok-made.ensures.caught_up first in
     let count = c.count.ensures.count ∙ sym (length-states v.runs) ∙ ap (λ s. length s.runs) same in
     let id = c.run_id.ensures ∙ ap (λ s. run_id s.setup (c.count.result + 1)) same ∙ ap (λ k. run_id old.setup (k + 1)) count in
-    both-fits v old at i more facts b c.in_ok-made.made (Ok (Started c.run_id.result)) (by_decision (runs_at old at) (ordinal_of i) (started_fact at q ∷ first_task q.task_queue ∷ []) TerminateThenNew) same prepared
+    let parts =
+      c.make-parts.ensures
+      ∙ ap (λ (p : Parts g.row.T.Denot). record p { created = Some c.in_ok-made.made })
+      (c.add.ensures ∙ ap (λ (p : Parts g.row.T.Denot). record p { added = Some more }) c.none.ensures) in
+    planned {T = g.row.T.Denot} _ _ _ _ _ _ _ c.plan.ensures parts
+    (both-fits v old at i more facts b c.in_ok-made.made (Ok (Started c.run_id.result)) (by_decision (runs_at old at) (ordinal_of i) (started_fact at q ∷ first_task q.task_queue ∷ []) TerminateThenNew) same prepared
     (terminate-fits at s reason c.requires.open) c.requires.open (terminated-behind at s reason) (c.requires.named ∙ sym (ap (λ (x : Beginning). x.started.workflow_id) c.in_ok-beginning.ensures)) c.in_ok-made.ensures.made
-    refl (ap (λ x. Some (first_facts x)) (sym c.in_ok-beginning.ensures)) refl (ap (λ r. Ok (Started r)) id) refl refl
+    refl (ap (λ x. Some (first_facts x)) (sym c.in_ok-beginning.ensures)) refl (ap (λ r. Ok (Started r)) id) refl refl)

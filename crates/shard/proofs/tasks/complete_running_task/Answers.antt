@@ -10,8 +10,11 @@ use Rattle.shard_store.specs.Fitting.{FitsCreated, FitsStep, state_at, view_at}
 use Rattle.shard.specs.Following.{continuing}
 use Rattle.shard_store.specs.ShardView.{ordinal_of, runs_at, states}
 use Rattle.shard_store.specs.declared.plan.Count.TheVariants as count
+use Rattle.shard_store.specs.declared.plan.Change.TheVariants as change
+use Rattle.shard_store.specs.declared.plan.Parts.{Parts}
 use Rattle.shard_store.proofs.IndexLemmas.{at-place, length-states}
 use Rattle.shard_steps.proofs.TaskLemmas.{running-started}
+use Rattle.shard_deliveries.proofs.AcceptLemmas.{planned}
 use Rattle.shard.proofs.TaskLemmas.{completion-fits}
 use Rattle.shard.proofs.tasks.complete_running_task.Goals as goal
 
@@ -45,5 +48,9 @@ returns-clause-plan g c =
     let made : M R q.commands = subst (λ l. M R l) c.as_slice-commands.ensures (subst (λ r. M r c.as_slice-commands.result.now) known c.in_ok-created.ensures.made) in
     let fits = completion-fits {T = g.row.T.Denot} v w old at i q next all done created same (c.in_ok-created.ensures.same ∙ same) c.in_ok-created.ensures.runs c.in_ok-plan.ensures.there c.in_ok-plan.ensures.caught_up c.in_ok-created.ensures.caught_up c.requires.run
     (ap (λ k. judge_all setup next (run_at R k) [] q.commands) (sym c.requires.run)) (subst J judged c.in_ok-plan.ensures.plan) made in
-    let P : Answer → Type 0 = λ a. FitsStep {T = g.row.T.Denot} w (record { moment = at; change = record { added = Some (record { index = i; plan = done.plan }); created = created; taken = None; count = count.Nothing; answer = None }; reply = Ok a }) at (complete_judged R q all) in
-    subst P (sym c.ended.ensures) fits
+    let P : Answer → Type 0 = λ a. FitsStep {T = g.row.T.Denot} w (record { moment = at; change = change.Makes (record { added = Some (record { index = i; plan = done.plan }); created = created; count = count.Nothing; answer = None }); reply = Ok a }) at (complete_judged R q all) in
+    let parts =
+      c.make-parts.ensures
+      ∙ ap (λ (p : Parts g.row.T.Denot). record p { created = created })
+      (c.add.ensures ∙ ap (λ (p : Parts g.row.T.Denot). record p { added = Some (record { index = i; plan = done.plan }) }) c.none.ensures) in
+    planned {T = g.row.T.Denot} _ _ _ _ _ _ _ c.plan.ensures parts (subst P (sym c.ended.ensures) fits)
