@@ -1,5 +1,5 @@
 -- a snapshot that is being written, line by line
-use Rattle.std.proofs.Common.{◌≡◌, ℕ, ◌+◌, Bool, true, false, List, [], ◌∷◌, ◌++◌, length-append, refl, sym, ap, ◌∙◌, subst, arith, append-nil, None, Ok}
+use Rattle.std.proofs.Common.{◌≡◌, ℕ, ◌+◌, Bool, true, false, List, [], ◌∷◌, ◌++◌, length-append, refl, sym, ap, ◌∙◌, subst, arith, append-nil, None, Ok, Result}
 use Rattle.std.specs.Prelude.{◌==◌, ◌&&◌}
 use Rattle.service_model_types.specs.declared.content.Content.{Content}
 use Rattle.service_model_types.specs.declared.content.Setup.{Setup}
@@ -12,9 +12,12 @@ use Rattle.snapshot_pieces.specs.declared.piece.EndPiece.{EndPiece}
 use Rattle.snapshot_pieces.specs.declared.piece.Piece.{Piece}
 use Rattle.snapshot_pieces.specs.declared.piece.Piece.TheVariants as piece
 use Rattle.snapshot_pieces.proofs.ReadLemmas.{all_push, lines_push}
+use Rattle.shard_snapshot.specs.declared.damage.Damage.{Damage}
+use Rattle.shard_snapshot.specs.declared.damage.Damage.TheVariants.{NoMemory}
+use Rattle.shard_snapshot.specs.declared.fault.RestoreFault.TheVariants.{Memory}
 use Rattle.shard_snapshot.specs.Laid.{Laid, end_laid, laid, laid_first, on_ok}
 use Rattle.shard_snapshot.specs.Restored.{IsLaid, RestoringView}
-use Rattle.shard_snapshot.specs.SoFar.{end_in}
+use Rattle.shard_snapshot.specs.SoFar.{IsNextFault, end_in}
 use Rattle.shard_snapshot.specs.Stages.{AtCounts, AtHead, IsRestored, Lays, is_head}
 use Rattle.shard_snapshot.specs.Texts.{IsSnapshot}
 use Rattle.shard_snapshot.specs.Written.{AreFirst, IsWritten, head_of}
@@ -97,3 +100,7 @@ written-end setup text whole n r e store h good count added (S, is, stands) = of
   };
   stands = stands;
 })
+
+-- that memory ran out says nothing of a piece
+pub of-memory : {A : Type 0} (n : ℕ) (given : Result A Damage) → IsNextFault n given Memory
+of-memory n given = (NoMemory, refl, λ other. absurd (other refl))
