@@ -42,9 +42,9 @@ returns-clause-plan g c =
     let count = c.count.ensures.count ∙ sym (length-states v.runs) ∙ ap (λ s. length s.runs) same in
     let id = c.run_id.ensures ∙ ap (λ s. run_id s.setup (c.count.result + 1)) same ∙ ap (λ k. run_id old.setup (k + 1)) count in
     let parts =
-      c.make-parts.ensures
-      ∙ ap (λ (p : Parts g.row.T.Denot). record p { created = Some c.in_ok-made.made })
-      (c.add.ensures ∙ ap (λ (p : Parts g.row.T.Denot). record p { added = Some more }) c.none.ensures) in
+    c.make-parts.ensures
+    ∙ ap (λ (p : Parts g.row.T.Denot). record p { created = Some c.in_ok-made.made })
+    (c.add.ensures ∙ ap (λ (p : Parts g.row.T.Denot). record p { added = Some more }) c.none.ensures) in
     planned {T = g.row.T.Denot} _ _ _ _ _ _ _ c.plan.ensures parts
     (both-fits v old at i more facts b c.in_ok-made.made (Ok (Started c.run_id.result)) (by_decision (runs_at old at) (ordinal_of i) (started_fact at q ∷ first_task q.task_queue ∷ []) TerminateThenNew) same prepared
     (terminate-fits at s reason c.requires.open) c.requires.open (terminated-behind at s reason) (c.requires.named ∙ sym (ap (λ (x : Beginning). x.started.workflow_id) c.in_ok-beginning.ensures)) c.in_ok-made.ensures.made

@@ -50,7 +50,7 @@ returns-clause-plan g c =
     (ap (λ k. judge_all setup next (run_at R k) [] q.commands) (sym c.requires.run)) (subst J judged c.in_ok-plan.ensures.plan) made in
     let P : Answer → Type 0 = λ a. FitsStep {T = g.row.T.Denot} w (record { moment = at; change = change.Makes (record { added = Some (record { index = i; plan = done.plan }); created = created; count = count.Nothing; answer = None }); reply = Ok a }) at (complete_judged R q all) in
     let parts =
-      c.make-parts.ensures
-      ∙ ap (λ (p : Parts g.row.T.Denot). record p { created = created })
-      (c.add.ensures ∙ ap (λ (p : Parts g.row.T.Denot). record p { added = Some (record { index = i; plan = done.plan }) }) c.none.ensures) in
+    c.make-parts.ensures
+    ∙ ap (λ (p : Parts g.row.T.Denot). record p { created = created })
+    (c.add.ensures ∙ ap (λ (p : Parts g.row.T.Denot). record p { added = Some (record { index = i; plan = done.plan }) }) c.none.ensures) in
     planned {T = g.row.T.Denot} _ _ _ _ _ _ _ c.plan.ensures parts (subst P (sym c.ended.ensures) fits)
