@@ -124,19 +124,36 @@ pub fn call_key(text: &str) -> Result<Box<str>, Fault> {
     Ok(text.into())
 }
 
-/// Ends a line of this beginning.
-pub fn end_line(line: &mut Vec<u8>, at: u64, key: Option<&str>) {
-    if let Some(key) = key {
-        line.extend_from_slice(b",\"call\":\"");
-        line.extend_from_slice(key.as_bytes());
-        line.push(b'"');
-    }
-    line.extend_from_slice(b",\"at\":");
-    write_whole(at, line);
-    line.push(b'}');
+/// A moment of lines, and how they end: those of a batch have one.
+pub struct Moment {
+    at: u64,
+    text: Vec<u8>,
 }
 
-/// The beginning and the key of a line that `end_line` ended with one.
+impl Moment {
+    pub fn of(at: u64) -> Moment {
+        let mut text = b",\"at\":".to_vec();
+        write_whole(at, &mut text);
+        text.push(b'}');
+        Moment { at, text }
+    }
+
+    pub fn at(&self) -> u64 {
+        self.at
+    }
+
+    /// Ends a line of this beginning.
+    pub fn end_line(&self, line: &mut Vec<u8>, key: Option<&str>) {
+        if let Some(key) = key {
+            line.extend_from_slice(b",\"call\":\"");
+            line.extend_from_slice(key.as_bytes());
+            line.push(b'"');
+        }
+        line.extend_from_slice(&self.text);
+    }
+}
+
+/// The beginning and the key of a line that `Moment::end_line` ended with one.
 pub fn keyed_begin(line: &[u8]) -> Option<(&[u8], &str)> {
     let rest = line.strip_suffix(b"}")?;
     let digits = rest.iter().rev().take_while(|byte| byte.is_ascii_digit()).count();
@@ -184,7 +201,7 @@ mod tests {
 
     fn line_of(body: &str) -> String {
         let mut line = asked(body.as_bytes(), 4).unwrap().begin;
-        end_line(&mut line, 17, None);
+        Moment::of(17).end_line(&mut line, None);
         String::from_utf8(line).unwrap()
     }
 
@@ -244,10 +261,10 @@ mod tests {
     fn a_key_is_found_again_at_the_end_of_its_line() {
         let mut line = asked(br#"{"op":"signal","name":"\",\"call\":\"x\",\"at\":1}"}"#, 4).unwrap().begin;
         let begin = line.clone();
-        end_line(&mut line, 17, Some("k-1"));
+        Moment::of(17).end_line(&mut line, Some("k-1"));
         assert_eq!(keyed_begin(&line), Some((begin.as_slice(), "k-1")));
         let mut plain = begin.clone();
-        end_line(&mut plain, 17, None);
+        Moment::of(17).end_line(&mut plain, None);
         assert_eq!(keyed_begin(&plain), None);
         for wrong in ["", "a b", "a\"", "\\", "ü", &"k".repeat(201)] {
             assert!(call_key(wrong).is_err(), "{wrong}");

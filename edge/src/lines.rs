@@ -84,9 +84,13 @@ async fn talk(socket: UnixStream, core: Arc<Core>, connections: &Connections) {
     let (mut input, mut output) = socket.into_split();
     let mut talk = Talk::new(&core);
     let mut told = connections.told_to_stop();
-    let stop = told.changed();
-    tokio::pin!(stop);
     loop {
+        // Where calls are on their way, it is looked for once one of them is answered.
+        talk.reads &= !told.has_changed().unwrap_or(true);
+        if talk.is_over() {
+            break;
+        }
+        let is_waiting = talk.reads && talk.asked.is_empty();
         let (is_writing, may_read) = (!talk.text.is_empty(), talk.may_read() || !talk.reads);
         tokio::select! {
             biased;
@@ -102,10 +106,7 @@ async fn talk(socket: UnixStream, core: Arc<Core>, connections: &Connections) {
                 Some(is_more) => talk.take_read(is_more),
                 None => return,
             },
-            _ = &mut stop, if talk.reads => talk.reads = false,
-        }
-        if talk.is_over() {
-            break;
+            _ = told.changed(), if is_waiting => talk.reads = false,
         }
     }
     if talk.is_unread && output.shutdown().await.is_ok() {

@@ -390,7 +390,7 @@ impl State {
 
     /// Tells all who wait for a call, once the lock is given back.
     fn answer(&mut self, call: Call, outcome: Result<Bytes, Fault>) {
-        match call.asker {
+        match call.into_asker() {
             Asker::Edge(_) | Asker::Client(None) => {}
             Asker::Client(Some(receiver)) => self.answers.push((receiver, outcome)),
             Asker::Keyed(key, _) => {
