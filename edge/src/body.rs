@@ -74,7 +74,8 @@ fn asked_of(body: &[u8], mut request: Object<'_>, shards: Shard) -> Result<Asked
     let op = request.text("op").map_or(Op::Unknown, Op::of);
     let wait = if op.is_poll() || op == Op::Describe { wait_of(&request)? } else { 0 };
     let (before, is_named) = (request.0.len(), request.text("op").map_or(false, |name| !name.is_empty()));
-    request.0.retain(|member| op.has_key(&member.0) || (member.0 == "op" && is_named));
+    let keys = op.keys();
+    request.0.retain(|member| keys.has(&member.0) || (member.0 == "op" && is_named));
     if is_any_too_deep(&request) {
         return Err(Fault::BadCall(format!("its values lie more than {DEEPEST} deep")));
     }

@@ -11,8 +11,21 @@ use std::ops::{Deref, DerefMut};
 use std::time::{Duration, Instant};
 use tokio::sync::oneshot;
 
-/// Who waits for a reply: it is told the reply's text, or why there is none.
-pub type Receiver = oneshot::Sender<Result<Bytes, Fault>>;
+/// Who waits for a reply: it is told what becomes of its call.
+pub type Receiver = oneshot::Sender<Told>;
+
+/// What becomes of a call: the reply's text, or why there is none. The call itself comes along where one waits for it, and is
+/// dropped by the thread that made it, which has its memory at hand.
+pub struct Told {
+    pub outcome: Result<Bytes, Fault>,
+    _call: Option<Call>,
+}
+
+impl Told {
+    pub fn new(outcome: Result<Bytes, Fault>, call: Option<Call>) -> Told {
+        Told { outcome, _call: call }
+    }
+}
 
 /// Who asked for a call.
 pub enum Asker {
@@ -107,9 +120,9 @@ impl Call {
         }
     }
 
-    /// Who asked for it.
-    pub fn into_asker(self) -> Asker {
-        self.0.asker
+    /// Who asked for it, which it has no more.
+    pub fn take_asker(&mut self) -> Asker {
+        std::mem::replace(&mut self.0.asker, Asker::Client(None))
     }
 
     /// Makes its line, at this moment.

@@ -11,6 +11,7 @@ use crate::plain_http::{found, put_answer, Dated, Found};
 use crate::statuses::status_of;
 use hyper::body::Bytes;
 use std::cell::RefCell;
+use std::future::Future;
 use std::pin::Pin;
 use std::sync::Arc;
 use std::time::Duration;
@@ -65,9 +66,10 @@ pub async fn serve(socket: TcpStream, front: Arc<Front>, counted: Counted) {
 
 impl Talk {
     /// Serves plain calls until the connection ends. Whether hyper goes on with it.
-    async fn serve(&mut self, mut stop: watch::Receiver<bool>) -> bool {
-        let idle = sleep(self.most_idle() + PAUSE);
-        tokio::pin!(idle);
+    async fn serve(&mut self, told: watch::Receiver<bool>) -> bool {
+        let mut stopped = told.clone();
+        let (stop, idle) = (stopped.changed(), sleep(self.most_idle() + PAUSE));
+        tokio::pin!(stop, idle);
         loop {
             let goes_on = match self.take() {
                 Taken::Call(asked, is_named) => {
@@ -79,9 +81,9 @@ impl Talk {
                         Some(outcome) => self.answer(outcome, is_named).await,
                         None => false,
                     };
-                    is_taken && !self.is_stopped && !stop.has_changed().unwrap_or(true)
+                    is_taken && !self.is_stopped && !told.has_changed().unwrap_or(true)
                 }
-                Taken::Nothing => self.read_first(&mut stop, idle.as_mut()).await,
+                Taken::Nothing => self.read_first(stop.as_mut(), idle.as_mut()).await,
                 Taken::Part if self.read_rest().await => true,
                 Taken::Part | Taken::Other => return true,
             };
@@ -121,12 +123,12 @@ impl Talk {
     }
 
     /// Reads a request's first bytes. False where none come: the client has hung up or says nothing, or the edge stops.
-    async fn read_first(&mut self, stop: &mut watch::Receiver<bool>, mut idle: Pin<&mut Sleep>) -> bool {
+    async fn read_first<F: Future>(&mut self, mut stop: Pin<&mut F>, mut idle: Pin<&mut Sleep>) -> bool {
         loop {
             tokio::select! {
                 biased;
                 read = self.socket.read_buf(&mut self.read) => return matches!(read, Ok(count) if count > 0),
-                _ = stop.changed() => {
+                _ = stop.as_mut(), if !self.is_stopped => {
                     self.is_stopped = true;
                     if self.was_asked {
                         return false;

@@ -105,7 +105,7 @@ impl Served {
 
 fn wait(outcome: Outcome) -> Result<Bytes, Fault> {
     let runtime = tokio::runtime::Builder::new_current_thread().enable_all().build().unwrap();
-    runtime.block_on(async { tokio::time::timeout(SECONDS, outcome).await }).unwrap().unwrap()
+    runtime.block_on(async { tokio::time::timeout(SECONDS, outcome).await }).unwrap().unwrap().outcome
 }
 
 fn is_signaled(reply: &Bytes) -> bool {
