@@ -1,6 +1,6 @@
 #!/usr/bin/env bash
 # Builds wfedge, the compiled edge: target/release/wfedge beside this file. As root it installs what is missing by
-# apt: cargo, and the crates that it stands on, as Debian packages. It builds offline, in one to six minutes.
+# apt: cargo, and the crates that it stands on, as Debian packages. It builds offline, in two to ten minutes.
 #   edge/setup.sh             the edge; with a client of PostgreSQL where the crates for that are installed
 #   edge/setup.sh postgres    installs these crates too
 set -eu
