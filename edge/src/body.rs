@@ -6,8 +6,9 @@
 
 use crate::facts::Facts;
 use crate::fault::Fault;
-use crate::json::{place_of, quoted, write_whole, Object, Value};
+use crate::json::{quoted, write_whole, Object, Value};
 use crate::operations::Op;
+use crate::scan::place_of_byte;
 use crate::shards::Shard;
 
 /// A poll may wait so many milliseconds.
@@ -181,8 +182,7 @@ pub fn facts_of_line(line: &[u8], shards: Shard) -> (Facts, Option<u64>) {
 /// A log of an earlier time has reads, and a history is long. A description sets the same moment on the same shard,
 /// and changes as little.
 pub fn for_replay(line: &[u8]) -> Option<Vec<u8>> {
-    let is_marked = place_of(b"\"history\"", line).is_some();
-    let request = match is_marked.then(|| Value::of(line)) {
+    let request = match names_history(line).then(|| Value::of(line)) {
         Some(Ok(Value::Object(request))) if request.text("op") == Some("history") => request,
         _ => return None,
     };
@@ -194,6 +194,18 @@ pub fn for_replay(line: &[u8]) -> Option<Vec<u8>> {
         }
     }
     Some((text + "}").into_bytes())
+}
+
+/// Whether a line has this word in quotes. It is looked for by its last letter, which few words have.
+fn names_history(line: &[u8]) -> bool {
+    let mut begin = 0;
+    while let Some(length) = place_of_byte(b'y', &line[begin..]) {
+        begin += length + 1;
+        if line[..begin].ends_with(b"\"history") && line.get(begin) == Some(&b'"') {
+            return true;
+        }
+    }
+    false
 }
 
 #[cfg(test)]
