@@ -58,7 +58,8 @@ pub async fn serve(socket: TcpStream, front: Arc<Front>, counted: Counted) {
     let (read, text, last) = (Vec::with_capacity(ROOM), Vec::new(), Instant::now());
     let mut talk = Talk { socket, front, read, text, last, soon: None, was_asked: false, is_stopped: false };
     if talk.serve(counted.0.told_to_stop()).await {
-        let Talk { socket, front, read, was_asked, is_stopped, .. } = talk;
+        let Talk { socket, front, read, was_asked, .. } = talk;
+        let is_stopped = counted.0.is_stopped();
         // Few connections come here, and hyper's state of one is large.
         Box::pin(serve_http(socket, Before { read, was_asked, is_stopped }, front, counted)).await;
     }

@@ -53,6 +53,11 @@ impl Connections {
         self.stop.subscribe()
     }
 
+    /// Whether they have to.
+    pub fn is_stopped(&self) -> bool {
+        *self.stop.borrow()
+    }
+
     /// Has all connections end once what they were asked is answered, and waits for that so long.
     pub async fn stop(&self, most: Duration) {
         let late = Instant::now() + most;
