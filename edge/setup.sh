@@ -1,12 +1,12 @@
 #!/usr/bin/env bash
 # Builds wfedge, the compiled edge: target/release/wfedge beside this file. As root it installs what is missing by
-# apt: cargo, and the crates that it stands on, as Debian packages. It builds offline, in one to six minutes.
+# apt: cargo, and the crates that it stands on, as Debian packages. It builds offline, in two to ten minutes.
 #   edge/setup.sh             the edge; with a client of PostgreSQL where the crates for that are installed
 #   edge/setup.sh postgres    installs these crates too
 set -eu
 cd "$(dirname "$0")"
-packages=(librust-tokio-dev librust-hyper-dev librust-serde-dev librust-serde-derive-dev librust-serde-json-dev
-    librust-crc32fast-dev librust-libc-dev librust-sha2-dev)
+packages=(librust-tokio-dev librust-hyper-dev librust-httparse-dev librust-httpdate-dev librust-serde-dev
+    librust-serde-derive-dev librust-serde-json-dev librust-crc32fast-dev librust-libc-dev librust-sha2-dev)
 client=(librust-tokio-postgres-dev librust-tokio-native-tls-dev librust-native-tls-dev)
 is_there() {
     dpkg-query -W -f '${Status}' "$1" 2> /dev/null | grep -q 'ok installed'

@@ -6,8 +6,9 @@
 
 use crate::facts::Facts;
 use crate::fault::Fault;
-use crate::json::{place_of, quoted, write_whole, Object, Value};
+use crate::json::{quoted, write_whole, Object, Value};
 use crate::operations::Op;
+use crate::scan::place_of_byte;
 use crate::shards::Shard;
 
 /// A poll may wait so many milliseconds.
@@ -74,7 +75,8 @@ fn asked_of(body: &[u8], mut request: Object<'_>, shards: Shard) -> Result<Asked
     let op = request.text("op").map_or(Op::Unknown, Op::of);
     let wait = if op.is_poll() || op == Op::Describe { wait_of(&request)? } else { 0 };
     let (before, is_named) = (request.0.len(), request.text("op").map_or(false, |name| !name.is_empty()));
-    request.0.retain(|member| op.has_key(&member.0) || (member.0 == "op" && is_named));
+    let keys = op.keys();
+    request.0.retain(|member| keys.has(&member.0) || (member.0 == "op" && is_named));
     if is_any_too_deep(&request) {
         return Err(Fault::BadCall(format!("its values lie more than {DEEPEST} deep")));
     }
@@ -124,19 +126,36 @@ pub fn call_key(text: &str) -> Result<Box<str>, Fault> {
     Ok(text.into())
 }
 
-/// Ends a line of this beginning.
-pub fn end_line(line: &mut Vec<u8>, at: u64, key: Option<&str>) {
-    if let Some(key) = key {
-        line.extend_from_slice(b",\"call\":\"");
-        line.extend_from_slice(key.as_bytes());
-        line.push(b'"');
-    }
-    line.extend_from_slice(b",\"at\":");
-    write_whole(at, line);
-    line.push(b'}');
+/// A moment of lines, and how they end: those of a batch have one.
+pub struct Moment {
+    at: u64,
+    text: Vec<u8>,
 }
 
-/// The beginning and the key of a line that `end_line` ended with one.
+impl Moment {
+    pub fn of(at: u64) -> Moment {
+        let mut text = b",\"at\":".to_vec();
+        write_whole(at, &mut text);
+        text.push(b'}');
+        Moment { at, text }
+    }
+
+    pub fn at(&self) -> u64 {
+        self.at
+    }
+
+    /// Ends a line of this beginning.
+    pub fn end_line(&self, line: &mut Vec<u8>, key: Option<&str>) {
+        if let Some(key) = key {
+            line.extend_from_slice(b",\"call\":\"");
+            line.extend_from_slice(key.as_bytes());
+            line.push(b'"');
+        }
+        line.extend_from_slice(&self.text);
+    }
+}
+
+/// The beginning and the key of a line that `Moment::end_line` ended with one.
 pub fn keyed_begin(line: &[u8]) -> Option<(&[u8], &str)> {
     let rest = line.strip_suffix(b"}")?;
     let digits = rest.iter().rev().take_while(|byte| byte.is_ascii_digit()).count();
@@ -163,8 +182,7 @@ pub fn facts_of_line(line: &[u8], shards: Shard) -> (Facts, Option<u64>) {
 /// A log of an earlier time has reads, and a history is long. A description sets the same moment on the same shard,
 /// and changes as little.
 pub fn for_replay(line: &[u8]) -> Option<Vec<u8>> {
-    let is_marked = place_of(b"\"history\"", line).is_some();
-    let request = match is_marked.then(|| Value::of(line)) {
+    let request = match names_history(line).then(|| Value::of(line)) {
         Some(Ok(Value::Object(request))) if request.text("op") == Some("history") => request,
         _ => return None,
     };
@@ -178,13 +196,25 @@ pub fn for_replay(line: &[u8]) -> Option<Vec<u8>> {
     Some((text + "}").into_bytes())
 }
 
+/// Whether a line has this word in quotes. It is looked for by its last letter, which few words have.
+fn names_history(line: &[u8]) -> bool {
+    let mut begin = 0;
+    while let Some(length) = place_of_byte(b'y', &line[begin..]) {
+        begin += length + 1;
+        if line[..begin].ends_with(b"\"history") && line.get(begin) == Some(&b'"') {
+            return true;
+        }
+    }
+    false
+}
+
 #[cfg(test)]
 mod tests {
     use super::*;
 
     fn line_of(body: &str) -> String {
         let mut line = asked(body.as_bytes(), 4).unwrap().begin;
-        end_line(&mut line, 17, None);
+        Moment::of(17).end_line(&mut line, None);
         String::from_utf8(line).unwrap()
     }
 
@@ -244,10 +274,10 @@ mod tests {
     fn a_key_is_found_again_at_the_end_of_its_line() {
         let mut line = asked(br#"{"op":"signal","name":"\",\"call\":\"x\",\"at\":1}"}"#, 4).unwrap().begin;
         let begin = line.clone();
-        end_line(&mut line, 17, Some("k-1"));
+        Moment::of(17).end_line(&mut line, Some("k-1"));
         assert_eq!(keyed_begin(&line), Some((begin.as_slice(), "k-1")));
         let mut plain = begin.clone();
-        end_line(&mut plain, 17, None);
+        Moment::of(17).end_line(&mut plain, None);
         assert_eq!(keyed_begin(&plain), None);
         for wrong in ["", "a b", "a\"", "\\", "ü", &"k".repeat(201)] {
             assert!(call_key(wrong).is_err(), "{wrong}");

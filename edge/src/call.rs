@@ -1,17 +1,31 @@
 //! A call on its way through the edge: its line, who waits for it, and how it is answered.
 
-use crate::body::end_line;
+use crate::body::Moment;
 use crate::facts::Facts;
 use crate::fault::Fault;
 use crate::ledger::Turn;
 use crate::operations::Op;
 use crate::replies::{mark_of, Mark};
 use hyper::body::Bytes;
+use std::ops::{Deref, DerefMut};
 use std::time::{Duration, Instant};
 use tokio::sync::oneshot;
 
-/// Who waits for a reply: it is told the reply's text, or why there is none.
-pub type Receiver = oneshot::Sender<Result<Bytes, Fault>>;
+/// Who waits for a reply: it is told what becomes of its call.
+pub type Receiver = oneshot::Sender<Told>;
+
+/// What becomes of a call: the reply's text, or why there is none. The call itself comes along where one waits for it, and is
+/// dropped by the thread that made it, which has its memory at hand.
+pub struct Told {
+    pub outcome: Result<Bytes, Fault>,
+    _call: Option<Call>,
+}
+
+impl Told {
+    pub fn new(outcome: Result<Bytes, Fault>, call: Option<Call>) -> Told {
+        Told { outcome, _call: call }
+    }
+}
 
 /// Who asked for a call.
 pub enum Asker {
@@ -23,8 +37,12 @@ pub enum Asker {
     Edge(Turn),
 }
 
-/// A line that the log and the program get, or one that the program alone gets, as a read.
-pub struct Call {
+/// A line that the log and the program get, or one that the program alone gets, as a read. Many lists have it one after the
+/// other, so it lies in one place.
+pub struct Call(Box<Content>);
+
+/// What a call is.
+pub struct Content {
     /// The line's text. Until it is made, and after its first bytes, its moment and key are not there.
     pub text: Vec<u8>,
     begin: usize,
@@ -40,12 +58,27 @@ pub struct Call {
     pub at: u64,
 }
 
+impl Deref for Call {
+    type Target = Content;
+
+    fn deref(&self) -> &Content {
+        &self.0
+    }
+}
+
+impl DerefMut for Call {
+    fn deref_mut(&mut self) -> &mut Content {
+        &mut self.0
+    }
+}
+
 impl Call {
     /// A client's call.
     pub fn of(begin: Vec<u8>, facts: Facts, wait: u64, asker: Asker) -> Call {
         let since = Instant::now();
         let late = since + Duration::from_millis(wait);
-        Call { begin: begin.len(), text: begin, facts, asker, since, late, was_woken: false, number: 0, at: 0 }
+        let (begin, text) = (begin.len(), begin);
+        Call(Box::new(Content { begin, text, facts, asker, since, late, was_woken: false, number: 0, at: 0 }))
     }
 
     /// The call of a turn of the edge's own.
@@ -87,19 +120,22 @@ impl Call {
         }
     }
 
+    /// Who asked for it, which it has no more.
+    pub fn take_asker(&mut self) -> Asker {
+        std::mem::replace(&mut self.0.asker, Asker::Client(None))
+    }
+
     /// Makes its line, at this moment.
-    pub fn end(&mut self, at: u64) {
-        self.at = at;
-        self.text.truncate(self.begin);
-        if !self.is_logged() {
-            self.text.push(b'}');
-            return;
+    pub fn end(&mut self, moment: &Moment) {
+        let is_logged = self.is_logged();
+        let Content { text, begin, asker, at, .. } = &mut *self.0;
+        *at = moment.at();
+        text.truncate(*begin);
+        match asker {
+            _ if !is_logged => text.push(b'}'),
+            Asker::Keyed(key, _) => moment.end_line(text, Some(key)),
+            _ => moment.end_line(text, None),
         }
-        let key = match &self.asker {
-            Asker::Keyed(key, _) => Some(key.as_ref()),
-            _ => None,
-        };
-        end_line(&mut self.text, at, key);
     }
 
     /// What is said of it on standard error: its operation and the beginning of its line.
@@ -133,7 +169,7 @@ mod tests {
     fn a_line_is_made_again_at_a_later_moment() {
         let mut poll = call(r#"{"op":"poll_workflow_task","task_queue":"main","wait":7}"#, Some("k"));
         for at in [17, 5_000_000] {
-            poll.end(at);
+            poll.end(&Moment::of(at));
             let wanted = r#"{"op":"poll_workflow_task","task_queue":"main","wait":7,"call":"k","at":"#;
             assert_eq!(String::from_utf8_lossy(&poll.text), format!("{wanted}{at}}}"));
         }
@@ -143,7 +179,7 @@ mod tests {
     #[test]
     fn a_read_has_no_moment() {
         let mut read = call(r#"{"op":"describe","at":9,"workflow_id":"w"}"#, None);
-        read.end(17);
+        read.end(&Moment::of(17));
         assert_eq!((read.text.as_slice(), read.is_logged()), (&br#"{"op":"describe","workflow_id":"w"}"#[..], false));
     }
 }

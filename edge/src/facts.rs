@@ -138,8 +138,10 @@ impl Facts {
     }
 
     fn note_durations(&mut self, members: &Object<'_>) {
-        let named = members.0.iter().filter(|member| DURATIONS.contains(&member.0.as_ref()));
-        self.durations.extend(named.filter_map(|member| member.1.whole()).filter(|duration| *duration > 0));
+        // Few members are numbers.
+        let numbers = members.0.iter().filter_map(|member| Some((member.0.as_ref(), member.1.whole()?)));
+        let named = numbers.filter(|(key, number)| *number > 0 && DURATIONS.contains(key));
+        self.durations.extend(named.map(|(_, duration)| duration));
     }
 }
 

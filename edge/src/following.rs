@@ -5,7 +5,9 @@ use crate::fault::Fault;
 use crate::line_log::{Lines, Place};
 use crate::log_fault::LogFault;
 use crate::program::Program;
+use crate::system;
 use std::io::Write;
+use std::process::ChildStdin;
 
 /// So many lines, and so many bytes of them, are read at once.
 const MOST_LINES: u64 = 1_024;
@@ -54,24 +56,14 @@ fn gone(path: &str) -> LogFault {
 }
 
 /// Gives a program lines, of which the first has this number, and hands on each with its reply.
-pub fn serve<L: AsRef<[u8]> + Sync, E: From<Fault>>(
+pub fn serve<L: AsRef<[u8]>, E: From<Fault>>(
     program: &mut Program,
     lines: &[L],
     first: u64,
     mut observe: impl FnMut(&[u8], &[u8]) -> Result<(), E>,
 ) -> Result<(), E> {
-    let mut input = program.take_input();
-    let result = std::thread::scope(|scope| {
-        let given = &mut input;
-        scope.spawn(move || {
-            let mut text = Vec::new();
-            for line in lines.iter().map(AsRef::as_ref) {
-                text.extend_from_slice(for_replay(line).as_deref().unwrap_or(line));
-                text.push(b'\n');
-            }
-            // That the program has ended shows where its replies are read.
-            given.as_mut().map(|input| input.write_all(&text))
-        });
+    let (mut input, text) = (program.take_input(), text_of(lines));
+    let mut take = |program: &mut Program| {
         let result = (first..).zip(lines).try_for_each(|(number, line)| match program.output.reply(number) {
             Some(reply) => observe(line.as_ref(), &reply?),
             None => Err(program.ended(number).into()),
@@ -80,9 +72,32 @@ pub fn serve<L: AsRef<[u8]> + Sync, E: From<Fault>>(
             program.kill();
         }
         result
-    });
+    };
+    // That the program has ended shows where its replies are read.
+    let give = |input: &mut Option<ChildStdin>| input.as_mut().map(|input| input.write_all(&text));
+    // All lines before these were answered, so its pipe is empty.
+    let result = if input.as_ref().map_or(true, |input| text.len() <= system::pipe_size(input)) {
+        give(&mut input);
+        take(program)
+    } else {
+        std::thread::scope(|scope| {
+            let given = &mut input;
+            scope.spawn(move || give(given));
+            take(program)
+        })
+    };
     program.give_input(input);
     result
+}
+
+/// What a program is given for these lines.
+fn text_of<L: AsRef<[u8]>>(lines: &[L]) -> Vec<u8> {
+    let mut text = Vec::with_capacity(lines.iter().map(|line| line.as_ref().len() + 1).sum());
+    for line in lines.iter().map(AsRef::as_ref) {
+        text.extend_from_slice(for_replay(line).as_deref().unwrap_or(line));
+        text.push(b'\n');
+    }
+    text
 }
 
 #[cfg(test)]

@@ -53,6 +53,16 @@ impl Guard {
         }
     }
 
+    /// Whether a call is let in that asks for this name, and bears this authorization, where it has one. One that isn't may be
+    /// by what else it bears.
+    pub fn lets_in(&self, host: &str, authorization: Option<&str>) -> bool {
+        let is_known = |token: &String| {
+            let given = authorization.and_then(bearer_in);
+            given.map_or(false, |given| is_same(given.as_bytes(), token.as_bytes()))
+        };
+        self.is_named(host) && self.token.as_ref().map_or(true, is_known)
+    }
+
     fn is_named(&self, host: &str) -> bool {
         let hosts = match &self.hosts {
             Some(hosts) => hosts,
@@ -74,14 +84,20 @@ fn host_of<'a>(uri: &Uri, headers: &'a HeaderMap) -> Option<&'a str> {
 /// The token that a request bears, in its header or its cookie.
 fn given_token<'a>(headers: &'a HeaderMap, host: &str) -> Option<&'a str> {
     let authorization = headers.get(AUTHORIZATION).and_then(|value| value.to_str().ok()).unwrap_or("");
-    let (scheme, said) = authorization.split_once(' ').unwrap_or((authorization, ""));
-    if scheme.eq_ignore_ascii_case("bearer") {
-        return Some(said);
+    let bearer = bearer_in(authorization);
+    if bearer.is_some() {
+        return bearer;
     }
     let name = cookie_name(host);
     let cookies = headers.get_all(COOKIE).iter().filter_map(|value| value.to_str().ok());
     let mut pairs = cookies.flat_map(|cookie| cookie.split(';')).filter_map(|pair| pair.trim().split_once('='));
     pairs.find(|pair| pair.0 == name).map(|pair| pair.1.trim_matches('"'))
+}
+
+/// The token that an authorization has.
+fn bearer_in(authorization: &str) -> Option<&str> {
+    let (scheme, said) = authorization.split_once(' ').unwrap_or((authorization, ""));
+    scheme.eq_ignore_ascii_case("bearer").then_some(said)
 }
 
 /// The name of the token's cookie. A browser gives cookies to all ports of a host, so each server has its own.

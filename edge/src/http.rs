@@ -2,7 +2,7 @@
 
 use crate::blob_paths;
 use crate::blobs::Store;
-use crate::body::{asked, asked_of_fields, call_key};
+use crate::body::{asked, asked_of_fields, call_key, Asked};
 use crate::core::Core;
 use crate::ends;
 use crate::fault::Fault;
@@ -25,7 +25,7 @@ pub const HEAD_LIMIT: usize = 16_384;
 /// The rest of a body that has at most so many bytes is read before its request is refused: the connection goes on then.
 const SHORT_BODY: u64 = 1 << 16;
 /// After so many seconds a call that was not taken may be made again.
-const RETRY_SECONDS: u16 = 1;
+pub const RETRY_SECONDS: u16 = 1;
 pub const JSON: &str = "application/json; charset=utf-8";
 
 /// What answers requests.
@@ -53,6 +53,11 @@ impl Refusal {
     pub fn new(status: u16, name: &'static str, said: impl Into<String>) -> Refusal {
         Refusal { status, name, said: said.into() }
     }
+
+    /// The text of its answer.
+    pub fn text(&self) -> String {
+        fault_text(self.name, &self.said)
+    }
 }
 
 impl From<Fault> for Refusal {
@@ -77,11 +82,11 @@ pub fn fault_text(name: &str, said: &str) -> String {
 }
 
 fn refused(refusal: &Refusal) -> Response<Body> {
-    with_retry(answer(refusal.status, JSON, fault_text(refusal.name, &refusal.said)))
+    with_retry(answer(refusal.status, JSON, refusal.text()))
 }
 
 /// Says when to call again, where nothing took effect now.
-fn with_retry(mut response: Response<Body>) -> Response<Body> {
+pub fn with_retry(mut response: Response<Body>) -> Response<Body> {
     if response.status() == StatusCode::SERVICE_UNAVAILABLE {
         response.headers_mut().insert(RETRY_AFTER, RETRY_SECONDS.into());
     }
@@ -197,14 +202,24 @@ impl Front {
             Some(value) => Some(call_key(value.to_str().unwrap_or("")).map_err(Refusal::from)?),
         };
         let body = self.body_of(request).await?;
-        let shards = self.core.shards();
-        let asked = named.map_or_else(|| asked(&body, shards), |op| asked_of_fields(op, &body, shards))?;
-        let reply = match ends::waits(&asked) {
-            true => ends::until_closed(&self.core, asked).await?,
-            false => self.core.reply_to(asked, key).await?,
-        };
+        let asked = self.asked(named, &body)?;
+        let reply = self.reply_to(asked, key).await?;
         let status = named.map_or(200, |_| status_of(&reply));
         Ok(with_retry(answer(status, JSON, reply)))
+    }
+
+    /// Reads the body of a call whose operation its path may name.
+    pub fn asked(&self, named: Option<&str>, body: &[u8]) -> Result<Asked, Fault> {
+        let shards = self.core.shards();
+        named.map_or_else(|| asked(body, shards), |op| asked_of_fields(op, body, shards))
+    }
+
+    /// The reply to a call, once it is there, or once a run has closed where that is waited for.
+    pub async fn reply_to(&self, asked: Asked, key: Option<Box<str>>) -> Result<Bytes, Fault> {
+        match ends::waits(&asked) {
+            true => ends::until_closed(&self.core, asked).await,
+            false => self.core.reply_to(asked, key).await,
+        }
     }
 
     /// Compacts the log while it is served, with room for so many tasks in its queues. Calls wait meanwhile.

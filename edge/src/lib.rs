@@ -1,6 +1,6 @@
 //! `wfedge`: an edge of a workflow service. Many clients over sockets, one program over its pipes, one synced log.
 //!
-//! A call's way: `http` or `lines` take a body; `json` reads it, and `plain` most of them; `body` makes the beginning of
+//! A call's way: `calls`, `http` or `lines` take a body; `json` reads it, and `plain` most of them; `body` makes the beginning of
 //! a line of it, and `facts` what it may cause; `core` puts it into the one order, writes it to the `log` and to the
 //! `program`, and answers it once both are done. A log is a file (`line_log`) or a `table` of a database (`table_log`),
 //! with `blobs` beside it. Around that stand the `ledger` of turns, `deadlines` and `moments`, `polls` that wait,
@@ -14,6 +14,7 @@ mod blob_paths;
 pub mod blobs;
 mod body;
 mod call;
+mod calls;
 mod changes;
 mod compaction;
 mod core;
@@ -45,6 +46,7 @@ mod operations;
 mod options;
 mod page;
 mod plain;
+mod plain_http;
 mod polls;
 mod program;
 mod replies;

@@ -83,10 +83,17 @@ struct Talk<'a> {
 async fn talk(socket: UnixStream, core: Arc<Core>, connections: &Connections) {
     let (mut input, mut output) = socket.into_split();
     let mut talk = Talk::new(&core);
-    let mut told = connections.told_to_stop();
-    let stop = told.changed();
+    let told = connections.told_to_stop();
+    let mut stopped = told.clone();
+    let stop = stopped.changed();
     tokio::pin!(stop);
     loop {
+        // Where calls are on their way, it is looked for once one of them is answered.
+        talk.reads &= !told.has_changed().unwrap_or(true);
+        if talk.is_over() {
+            break;
+        }
+        let is_waiting = talk.reads && talk.asked.is_empty();
         let (is_writing, may_read) = (!talk.text.is_empty(), talk.may_read() || !talk.reads);
         tokio::select! {
             biased;
@@ -102,10 +109,7 @@ async fn talk(socket: UnixStream, core: Arc<Core>, connections: &Connections) {
                 Some(is_more) => talk.take_read(is_more),
                 None => return,
             },
-            _ = &mut stop, if talk.reads => talk.reads = false,
-        }
-        if talk.is_over() {
-            break;
+            _ = &mut stop, if is_waiting => talk.reads = false,
         }
     }
     if talk.is_unread && output.shutdown().await.is_ok() {
@@ -116,7 +120,7 @@ async fn talk(socket: UnixStream, core: Arc<Core>, connections: &Connections) {
 /// Takes the outcome of the first of these calls, once it is there.
 async fn first(asked: &mut VecDeque<Asked>) -> Result<Bytes, Fault> {
     let outcome = match asked.front_mut() {
-        Some(Ok(outcome)) => outcome.await.unwrap_or(Err(Fault::Draining)),
+        Some(Ok(outcome)) => outcome.await.map_or(Err(Fault::Draining), |told| told.outcome),
         Some(Err(fault)) => Err(fault.clone()),
         None => Err(Fault::Draining),
     };

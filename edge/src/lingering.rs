@@ -21,6 +21,9 @@ const DROPPED_AT_ONCE: usize = 1 << 14;
 /// A socket of a connection on which this is going on.
 pub struct Lingering<S> {
     socket: S,
+    /// What was read of it before, of which the first bytes were handed on.
+    before: Vec<u8>,
+    handed: usize,
     activity: Arc<Activity>,
     /// For how long it may linger, and until when it does once its own half has ended.
     most: Duration,
@@ -31,8 +34,8 @@ pub struct Lingering<S> {
 }
 
 impl<S> Lingering<S> {
-    pub fn new(socket: S, activity: Arc<Activity>, most: Duration) -> Lingering<S> {
-        Lingering { socket, activity, most, late: None, dropped: 0, is_ended: false }
+    pub fn new(socket: S, before: Vec<u8>, activity: Arc<Activity>, most: Duration) -> Lingering<S> {
+        Lingering { socket, before, handed: 0, activity, most, late: None, dropped: 0, is_ended: false }
     }
 }
 
@@ -57,6 +60,12 @@ impl<S: AsyncRead + Unpin> Lingering<S> {
 
 impl<S: AsyncRead + Unpin> AsyncRead for Lingering<S> {
     fn poll_read(mut self: Pin<&mut Self>, context: &mut Context<'_>, into: &mut ReadBuf<'_>) -> Poll<Result<()>> {
+        if self.handed < self.before.len() {
+            let count = into.remaining().min(self.before.len() - self.handed);
+            into.put_slice(&self.before[self.handed..self.handed + count]);
+            self.handed += count;
+            return Poll::Ready(Ok(()));
+        }
         let before = into.filled().len();
         let read = Pin::new(&mut self.socket).poll_read(context, into);
         self.is_ended |= matches!(read, Poll::Ready(_)) && into.filled().len() == before && into.capacity() > before;
@@ -111,7 +120,7 @@ mod tests {
     /// The client's end of a connection that is closed by the other end, which has written its answer.
     async fn closed(activity: Activity, most: Duration) -> (DuplexStream, JoinHandle<()>) {
         let (client, server) = duplex(1 << 10);
-        let mut server = Lingering::new(server, Arc::new(activity), most);
+        let mut server = Lingering::new(server, Vec::new(), Arc::new(activity), most);
         let closing = tokio::spawn(async move {
             server.write_all(b"answer").await.unwrap();
             server.shutdown().await.unwrap();

@@ -1,5 +1,6 @@
 //! The edge's sockets: HTTP over TCP, and over a private socket for the page.
 
+use crate::calls;
 use crate::http::{is_last, Front, HEAD_LIMIT};
 use crate::lingering::Lingering;
 use hyper::server::conn::Http;
@@ -16,9 +17,9 @@ use tokio::sync::watch;
 const HEAD_BUFFER: usize = 2 * HEAD_LIMIT;
 const MOST_CONNECTIONS: usize = 10_000;
 /// A connection on which nothing is asked is closed after so long.
-const IDLE: Duration = Duration::from_secs(75);
+pub const IDLE: Duration = Duration::from_secs(75);
 /// Where no connection can be taken, as many files are open, it is tried again after so long.
-const PAUSE: Duration = Duration::from_millis(50);
+pub const PAUSE: Duration = Duration::from_millis(50);
 
 /// How many connections there are, and whether they have to end.
 pub struct Connections {
@@ -27,7 +28,7 @@ pub struct Connections {
 }
 
 /// Counts a connection while it is there.
-pub struct Counted(Arc<Connections>);
+pub struct Counted(pub Arc<Connections>);
 
 impl Drop for Counted {
     fn drop(&mut self) {
@@ -50,6 +51,11 @@ impl Connections {
     /// Told once the connections have to end.
     pub fn told_to_stop(&self) -> watch::Receiver<bool> {
         self.stop.subscribe()
+    }
+
+    /// Whether they have to.
+    pub fn is_stopped(&self) -> bool {
+        *self.stop.borrow()
     }
 
     /// Has all connections end once what they were asked is answered, and waits for that so long.
@@ -131,7 +137,7 @@ pub async fn serve_tcp(listener: TcpListener, front: Arc<Front>, connections: Ar
             Ok((socket, _)) => {
                 let _ = socket.set_nodelay(true);
                 if let Some(counted) = connections.counted() {
-                    tokio::spawn(serve_http(socket, front.clone(), counted));
+                    tokio::spawn(calls::serve(socket, front.clone(), counted));
                 }
             }
             Err(_) => tokio::time::sleep(PAUSE).await,
@@ -145,7 +151,7 @@ pub async fn serve_private(listener: UnixListener, front: Arc<Front>, connection
         match listener.accept().await {
             Ok((socket, _)) => {
                 if let Some(counted) = connections.counted() {
-                    tokio::spawn(serve_http(socket, front.clone(), counted));
+                    tokio::spawn(serve_http(socket, Before::default(), front.clone(), counted));
                 }
             }
             Err(_) => tokio::time::sleep(PAUSE).await,
@@ -153,13 +159,25 @@ pub async fn serve_private(listener: UnixListener, front: Arc<Front>, connection
     }
 }
 
+/// What was done on a connection before hyper serves it.
+#[derive(Default)]
+pub struct Before {
+    /// Bytes that were read and are no request yet.
+    pub read: Vec<u8>,
+    /// Whether there was a request, and whether the edge was told to stop.
+    pub was_asked: bool,
+    pub is_stopped: bool,
+}
+
 /// Serves one connection.
-async fn serve_http<S>(socket: S, front: Arc<Front>, counted: Counted)
+pub async fn serve_http<S>(socket: S, before: Before, front: Arc<Front>, counted: Counted)
 where
     S: AsyncRead + AsyncWrite + Unpin + Send + 'static,
 {
+    let Before { read, was_asked, is_stopped } = before;
     let mut stop = counted.0.told_to_stop();
     let (activity, read_timeout) = (Arc::new(Activity::new()), front.read_timeout);
+    activity.was_asked.store(was_asked, SeqCst);
     let noted = activity.clone();
     let service = service_fn(move |request| {
         let (front, activity) = (front.clone(), noted.clone());
@@ -175,9 +193,13 @@ where
     });
     let mut http = Http::new();
     http.http1_only(true).max_buf_size(HEAD_BUFFER).http1_header_read_timeout(read_timeout);
-    let socket = Lingering::new(socket, activity.clone(), read_timeout);
+    let socket = Lingering::new(socket, read, activity.clone(), read_timeout);
     let connection = http.serve_connection(socket, service);
     tokio::pin!(connection);
+    if is_stopped {
+        activity.stop();
+        connection.as_mut().graceful_shutdown();
+    }
     loop {
         let rest = match activity.rest(read_timeout) {
             Some(rest) => rest,

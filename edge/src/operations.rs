@@ -25,6 +25,15 @@ pub enum Op {
     Unknown,
 }
 
+/// The keys of an operation.
+pub struct Keys([&'static [&'static str]; 2]);
+
+impl Keys {
+    pub fn has(&self, key: &str) -> bool {
+        self.0.iter().any(|keys| keys.contains(&key))
+    }
+}
+
 const START: &[&str] = &[
     "workflow_id",
     "workflow_type",
@@ -70,10 +79,11 @@ impl Op {
         TABLE.iter().find(|row| row.0 == self).map_or("unknown", |row| row.1)
     }
 
-    /// Whether a line of this operation may have such a key, beside `op`.
-    pub fn has_key(self, key: &str) -> bool {
+    /// The keys that a line of this operation may have, beside `op`.
+    pub fn keys(self) -> Keys {
         let is_start = matches!(self, Op::Start | Op::SignalWithStart);
-        (is_start && START.contains(&key)) || TABLE.iter().any(|row| row.0 == self && row.2.contains(&key))
+        let own = TABLE.iter().find(|row| row.0 == self).map_or(&[][..], |row| row.2);
+        Keys([own, if is_start { START } else { &[] }])
     }
 
     /// Whether it changes nothing, so that it is no line of the log.
@@ -134,11 +144,15 @@ mod tests {
             let op = Op::of(&name);
             assert_eq!(op.name(), name);
             for field in fields.iter().filter(|_| op != Op::SignalWithStart) {
-                assert!(op.has_key(field), "{name}: {field}");
+                assert!(op.keys().has(field), "{name}: {field}");
             }
         }
-        assert!(Op::SignalWithStart.has_key("signal_input") && Op::SignalWithStart.has_key("run_timeout"));
-        assert!(!Op::SignalWithStart.has_key("conflict") && !Op::Signal.has_key("at") && !Op::Unknown.has_key("op"));
+        assert!(Op::SignalWithStart.keys().has("signal_input") && Op::SignalWithStart.keys().has("run_timeout"));
+        assert!(
+            !Op::SignalWithStart.keys().has("conflict")
+                && !Op::Signal.keys().has("at")
+                && !Op::Unknown.keys().has("op")
+        );
     }
 
     #[test]

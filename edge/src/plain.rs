@@ -44,6 +44,13 @@ impl<'a> Reader<'a> {
 
     /// The next byte that is no blank. It is not passed.
     fn next(&mut self) -> Option<u8> {
+        match self.text.as_bytes().get(self.place) {
+            Some(byte) if *byte > b' ' => Some(*byte),
+            _ => self.next_behind_blanks(),
+        }
+    }
+
+    fn next_behind_blanks(&mut self) -> Option<u8> {
         while let Some(byte) = self.text.as_bytes().get(self.place) {
             if !matches!(byte, b' ' | b'\t' | b'\r' | b'\n') {
                 return Some(*byte);

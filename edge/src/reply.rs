@@ -28,10 +28,21 @@ pub struct Reply<'a> {
 impl<'a> Reply<'a> {
     /// Reads a reply's text; None where it is no object.
     pub fn of(text: &'a [u8]) -> Option<Reply<'a>> {
-        Reply::of_short(text).or_else(|| serde_json::from_slice(text).ok())
+        Reply::of_word(text).or_else(|| Reply::of_short(text)).or_else(|| serde_json::from_slice(text).ok())
     }
 
-    /// Reads a short reply, as most are. None where it is left to the other reader.
+    /// Reads a reply that has its line's number and one word, as most have.
+    fn of_word(text: &'a [u8]) -> Option<Reply<'a>> {
+        let rest = text.strip_prefix(BEGIN)?;
+        let digits = digits_in(rest);
+        let is_number = digits == 1 || (digits > 1 && rest[0] != b'0');
+        let word = rest[digits..].strip_prefix(b",\"ok\":\"")?.strip_suffix(b"\"}")?;
+        let is_word = word.iter().all(|byte| byte.is_ascii_lowercase() || *byte == b'_');
+        let word = std::str::from_utf8(word).ok().filter(|_| is_word && is_number && digits <= MOST_DIGITS)?;
+        Some(Reply { ok: Some(Cow::Borrowed(word)), ..Reply::default() })
+    }
+
+    /// Reads a short reply. None where it is left to the other reader.
     fn of_short(text: &'a [u8]) -> Option<Reply<'a>> {
         let mut reply = Reply::default();
         if text.len() > SHORT {
@@ -61,16 +72,24 @@ impl<'a> Reply<'a> {
 }
 
 const LINE: &[u8] = b"\"line\":";
+/// How most replies begin: their keys are in order. A number of so many digits has room in 64 bits.
+const BEGIN: &[u8] = b"{\"line\":";
+const MOST_DIGITS: usize = 18;
 /// A reply of more bytes has a history, of which only a few members are looked at.
 const SHORT: usize = 512;
 
 /// Where a reply has the number of its line. A text has its quotes escaped, so only a key looks so; and no event has
 /// such a key.
 fn line_in(text: &[u8]) -> Option<(usize, usize)> {
-    let found = place_of(LINE, text)? + LINE.len();
+    let found = if text.starts_with(BEGIN) { BEGIN.len() } else { place_of(LINE, text)? + LINE.len() };
     let begin = found + usize::from(text.get(found) == Some(&b' '));
-    let digits = text[begin..].iter().take_while(|byte| byte.is_ascii_digit()).count();
+    let digits = digits_in(&text[begin..]);
     (digits > 0).then(|| (begin, begin + digits))
+}
+
+/// How many digits a text begins with.
+fn digits_in(text: &[u8]) -> usize {
+    text.iter().take_while(|byte| byte.is_ascii_digit()).count()
 }
 
 /// A reply's text with its line's number in the log, in the place of the number that the program gave it. None where
@@ -114,6 +133,14 @@ mod tests {
         let reply = Reply::of(br#"{"class": "run_timeout", "line": 3, "ok": "fired", "events": [{"a": 1}]}"#).unwrap();
         assert!(reply.is("fired") && reply.class.as_deref() == Some("run_timeout") && reply.error.is_none());
         assert!(Reply::of(b"[1]").is_none() && Reply::of(b"{").is_none() && Reply::of(br#"{"ok":1}"#).is_none());
+        let plain = Reply::of(br#"{"line":18,"ok":"task_queued"}"#).unwrap();
+        assert!(plain.is("task_queued") && plain.error.is_none() && plain.ready.is_none());
+        for text in
+            [r#"{"line":01,"ok":"a"}"#, r#"{"line":,"ok":"a"}"#, r#"{"line":1,"ok":"a}"#, r#"{"line":1,"ok":"a"b"}"#]
+        {
+            assert!(Reply::of(text.as_bytes()).is_none(), "{text}");
+        }
+        assert!(Reply::of(br#"{"line":1,"ok":"a\u0062"}"#).unwrap().is("ab"));
         assert!(Reply::of(br#"{"ok":"a","ok":"b"}"#).is_none() && Reply::of(br#"{"ok":null,"ready":null}"#).is_some());
     }
 }

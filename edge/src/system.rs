@@ -54,6 +54,12 @@ pub fn widen_pipe(pipe: &impl AsRawFd, bytes: i32) {
     let _ = unsafe { libc::fcntl(pipe.as_raw_fd(), libc::F_SETPIPE_SZ, bytes) };
 }
 
+/// How many bytes a pipe takes while it is empty; 0 where that isn't known.
+pub fn pipe_size(pipe: &impl AsRawFd) -> usize {
+    // SAFETY: the pipe is open while it is borrowed, and is only asked for its size.
+    usize::try_from(unsafe { libc::fcntl(pipe.as_raw_fd(), libc::F_GETPIPE_SZ) }).unwrap_or(0)
+}
+
 /// Has a write beyond a limit on the sizes of files fail, as on a full disk, in the place of ending the process.
 pub fn outlive_file_limits() {
     // SAFETY: no handler of ours is run: the signal is ignored.

@@ -1,8 +1,10 @@
 """The tests of the Python server, against the compiled edge: both speak alike."""
 
 import json
+import re
 import socket
 import sys
+import time
 import unittest
 
 from the_edge import needs_edge
@@ -139,6 +141,22 @@ class Sockets(test_server_replies.Sockets):
                 connection.sendall(head + lengths + b"\r\n\r\n" + body)
                 self.assertIn(self.answered(connection)[0], (0, 400))
         self.assertEqual((self.log.read_bytes().count(b'"name"'), self.log.read_bytes().count(b"smuggled")), (3, 0))
+
+
+    def test_a_call_in_two_pieces_is_answered_as_a_whole_one(self):
+        """Whether the second piece comes at once, or so late that hyper waits for it."""
+        server, heads = self.serve(program=self.double()), set()
+        for pause in (0, 0.2):
+            with socket.create_connection((server.host, server.port), timeout=60) as connection:
+                for number, cut in enumerate((1, 30, -5, 1_000)):
+                    request, answer = self.request(f"piece {number}", f"k{number}-{pause}"), b""
+                    connection.sendall(request[:cut])
+                    time.sleep(pause)
+                    connection.sendall(request[cut:])
+                    while not answer.endswith(b"}"):
+                        answer += connection.recv(4_096)
+                    heads.add(re.sub(rb"(length|date): [^\r]*", rb"\1", answer.partition(b"\r\n\r\n")[0]))
+        self.assertEqual((len(heads), self.log.read_bytes().count(b'"piece ')), (1, 8), heads)
 
 
 @needs_edge

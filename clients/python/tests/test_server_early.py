@@ -5,6 +5,7 @@ import json
 import select
 import socket
 import unittest
+from unittest import mock
 
 from support.programs import needs_server
 from support.served import answer_to
@@ -156,6 +157,12 @@ class Cut(unittest.TestCase):
                 there.sendall(b"HTTP/1.1 413 Too Long\r\nContent-Length: 2\r\nConnection: close\r\n\r\n{}")
             answer = answer_to(connection, "POST", "/calls", b"x" * LONG, {})
             self.assertEqual((answer.status, answer.read()), (413, b"{}"))
+
+    def test_a_connection_that_is_cut_off_while_it_is_made_is_lost(self):
+        connection = http.client.HTTPConnection("127.0.0.1", 9)
+        with mock.patch.object(connection, "connect", side_effect=ConnectionResetError):
+            with self.assertRaises(ConnectionResetError):
+                answer_to(connection, "POST", "/calls", b"{}", {})
 
     def test_where_there_is_none_it_is_said_what_sending_met(self):
         with socket.create_server(("127.0.0.1", 0)) as server:

@@ -12,7 +12,9 @@ from support.programs import needs_program, needs_server
 from wfserve.durable import Settings
 from wfserve.durable.log import LineLog
 from wfserve.operations import KEYS, POLLS
-from wfserve.server.calls import BadCall, Observers, is_deeper, request_of
+from wfserve.server.attempts import Attempts
+from wfserve.server.backlog import LastPolls
+from wfserve.server.calls import BadCall, Observers, call_of, is_deeper, request_of
 from wfserve.server.listing import Workflows
 from wfserve.server.turns import Deadlines
 from test_server import WithAServer
@@ -71,6 +73,29 @@ class Read(unittest.TestCase):
         with self.assertRaisesRegex(BadCall, "20 deep"):
             request_of(f'{{"op":"signal","name":{DEEP}}}'.encode())
         self.assertEqual(request_of(f'{{"op":"signal","x":{DEEP}}}'.encode()), {"op": "signal"})
+
+    def test_blanks_around_a_body_are_no_part_of_it(self):
+        for before, after in (("", "\n"), (" \r\n\t", ""), ("\n", " \t")):
+            request, begin = call_of(f'{before}{{"op":"signal","name":"a"}}{after}'.encode())
+            self.assertEqual((request, begin.strip()), ({"op": "signal", "name": "a"}, b'{"op":"signal","name":"a"'))
+        for body in ('{"op":"signal"}{}', '{"op":"signal"} x', '{"op":"signal"}\u00a0', '\u000b{"op":"signal"}', " ", ""):
+            with self.assertRaisesRegex(BadCall, "no JSON"):
+                request_of(body.encode())
+
+    def test_who_names_operations_is_told_of_these_alone(self):
+        class Listener:
+            def __init__(self, *ops):
+                self.ops, self.told = frozenset(ops) or None, []
+
+            def observe(self, request, reply):
+                self.told.append(request["op"])
+
+        some, every = Listener("signal", "start"), Listener()
+        observers = Observers(some, every)
+        for op in ("signal", "query", None, "start", "heartbeat"):
+            observers.observe({"op": op}, {"ok": "none"})
+        self.assertEqual((some.told, every.told), (["signal", "start"], ["signal", "query", None, "start", "heartbeat"]))
+        self.assertTrue(Attempts.ops <= KEYS.keys() and LastPolls.ops == set(POLLS))
 
     def test_an_observer_that_is_at_fault_is_said_and_stops_nobody(self):
         class Faulty:

@@ -22,7 +22,7 @@ mod successor;
 mod tests;
 
 use crate::body::Asked;
-use crate::call::{asker_of, Call, Receiver};
+use crate::call::{asker_of, Call, Receiver, Told};
 use crate::changes::Changes;
 use crate::fault::Fault;
 use crate::generation::Files;
@@ -45,8 +45,8 @@ use std::thread::{Builder, JoinHandle};
 use std::time::{Duration, Instant};
 use tokio::sync::{oneshot, Notify};
 
-/// What becomes of a call: the reply's text, or why there is none.
-pub type Outcome = oneshot::Receiver<Result<Bytes, Fault>>;
+/// What becomes of a call, once it is there.
+pub type Outcome = oneshot::Receiver<Told>;
 
 /// The program's input, and which of the programs that were started it is of.
 struct Input {
@@ -261,7 +261,8 @@ impl Core {
 
     /// The reply to a call, once it is there.
     pub async fn reply_to(&self, asked: Asked, key: Option<Box<str>>) -> Result<Bytes, Fault> {
-        self.submit(asked, key)?.await.unwrap_or_else(|_| Err(Fault::Ended("the call was dropped".to_string())))
+        let told = self.submit(asked, key)?.await;
+        told.map_or_else(|_| Err(Fault::Ended("the call was dropped".to_string())), |told| told.outcome)
     }
 
     /// How many calls may wait, and as many polls, and descriptions.
@@ -402,7 +403,7 @@ impl Core {
 
 /// Tells who waits.
 fn tell(answers: Answers) {
-    for (receiver, outcome) in answers {
-        let _ = Receiver::send(receiver, outcome);
+    for (receiver, told) in answers {
+        let _ = Receiver::send(receiver, told);
     }
 }

@@ -4,6 +4,7 @@ use super::compacting::Exchange;
 use super::endings::Endings;
 use super::state::{LogState, State};
 use super::Core;
+use crate::body::Moment;
 use crate::call::Call;
 use crate::fault::Fault;
 use crate::kept::Origin;
@@ -86,9 +87,9 @@ impl Core {
 
     /// Serves a batch.
     fn serve(&self, mut calls: Vec<Call>, log: &mut Log, piped: &mut Vec<u8>) {
-        let at = self.now();
+        let moment = Moment::of(self.now());
         for call in &mut calls {
-            call.end(at);
+            call.end(&moment);
         }
         let before = log.len();
         let logged = calls.iter().filter(|call| call.is_logged()).map(|call| call.text.as_slice());

@@ -1,6 +1,6 @@
 //! What the core's threads share: calls by where they are on their way, and all that is known of them.
 
-use crate::call::{Asker, Call, Receiver};
+use crate::call::{Asker, Call, Receiver, Told};
 use crate::changes::Changes;
 use crate::core::compacting::{Exchange, Limits, Window};
 use crate::core::endings::Endings;
@@ -33,7 +33,7 @@ const WORTH_IT: u64 = 16;
 const FOREVER: Duration = Duration::from_secs(3_155_760_000);
 
 /// Who is told what, once the lock is given back.
-pub type Answers = Vec<(Receiver, Result<Bytes, Fault>)>;
+pub type Answers = Vec<(Receiver, Told)>;
 
 /// Those who wait for the call of a key.
 struct UnderWay {
@@ -304,7 +304,7 @@ impl State {
         if let Asker::Keyed(key, mark) = &call.asker {
             if let Some(reply) = self.replies.get(key, *mark)? {
                 self.metrics.again += 1;
-                self.answers.push((receiver, Ok(reply)));
+                self.answers.push((receiver, Told::new(Ok(reply), None)));
                 return Ok(None);
             }
             if let Some(one) = self.under_way.get_mut(key) {
@@ -323,7 +323,7 @@ impl State {
             None => Ok(Some(receiver)),
             Some(task) => {
                 self.remember(call, &task);
-                self.answers.push((receiver, Ok(task)));
+                self.answers.push((receiver, Told::new(Ok(task), None)));
                 Ok(None)
             }
         }
@@ -389,13 +389,14 @@ impl State {
     }
 
     /// Tells all who wait for a call, once the lock is given back.
-    fn answer(&mut self, call: Call, outcome: Result<Bytes, Fault>) {
-        match call.asker {
+    fn answer(&mut self, mut call: Call, outcome: Result<Bytes, Fault>) {
+        match call.take_asker() {
             Asker::Edge(_) | Asker::Client(None) => {}
-            Asker::Client(Some(receiver)) => self.answers.push((receiver, outcome)),
+            Asker::Client(Some(receiver)) => self.answers.push((receiver, Told::new(outcome, Some(call)))),
             Asker::Keyed(key, _) => {
                 let receivers = self.under_way.remove(&key).map(|one| one.receivers).unwrap_or_default();
-                self.answers.extend(receivers.into_iter().map(|receiver| (receiver, outcome.clone())));
+                let told = |receiver| (receiver, Told::new(outcome.clone(), None));
+                self.answers.extend(receivers.into_iter().map(told));
             }
         }
     }

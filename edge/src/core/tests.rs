@@ -105,7 +105,7 @@ impl Served {
 
 fn wait(outcome: Outcome) -> Result<Bytes, Fault> {
     let runtime = tokio::runtime::Builder::new_current_thread().enable_all().build().unwrap();
-    runtime.block_on(async { tokio::time::timeout(SECONDS, outcome).await }).unwrap().unwrap()
+    runtime.block_on(async { tokio::time::timeout(SECONDS, outcome).await }).unwrap().unwrap().outcome
 }
 
 fn is_signaled(reply: &Bytes) -> bool {
@@ -183,7 +183,7 @@ fn calls_of(core: &Arc<Core>, body: &'static str, stop: &Arc<AtomicBool>) -> Joi
         while !stop.load(SeqCst) {
             let key = format!("{}-{}", &body[7..11], replies.len());
             let outcome = core.submit(asked(body.as_bytes(), 1).unwrap(), Some(key.into())).unwrap();
-            replies.push(outcome.blocking_recv().unwrap().unwrap());
+            replies.push(outcome.blocking_recv().unwrap().outcome.unwrap());
         }
         replies
     })
@@ -494,9 +494,9 @@ fn a_read_is_not_answered_once_another_edge_leads() {
     let connect = table_in(&shared);
     let served = Served::by(9, |program, _| Opened::of_table(program, &connect, &Named::default(), true));
     let read = || served.submit(r#"{"op":"describe","workflow_id":"w"}"#, None);
-    assert!(read().unwrap().blocking_recv().unwrap().is_ok());
+    assert!(read().unwrap().blocking_recv().unwrap().outcome.is_ok());
     shared.lock().unwrap().epoch += 1;
-    let refused = read().map(|outcome| outcome.blocking_recv().unwrap());
+    let refused = read().map(|outcome| outcome.blocking_recv().unwrap().outcome);
     assert!(matches!(refused, Err(Fault::LogBroken(_)) | Ok(Err(Fault::LogBroken(_)))), "{refused:?}");
     served.core.close();
     assert!(served.threads.join(SECONDS), "{:?}", served.threads.left());

@@ -64,6 +64,9 @@ def answer_to(
     try:
         connection.request(method, path, body, headers)
     except (BrokenPipeError, ConnectionResetError) as cut:
+        if connection.sock is None:
+            # It was cut off while it was connected, as by a server that is killed just then.
+            raise
         try:
             return connection.getresponse()
         except (OSError, http.client.HTTPException):

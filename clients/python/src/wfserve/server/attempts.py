@@ -43,6 +43,8 @@ Key = Tuple[int, int, int]
 class Attempts:
     """Told each request and its reply, it knows the attempts of the activities that are pending."""
 
+    ops = frozenset({"poll_activity_task", "fail_activity", "heartbeat", *ENDS})
+
     def __init__(self) -> None:
         self._found: "OrderedDict[Key, Attempt]" = OrderedDict()
         self._told: Dict[str, Any] = {

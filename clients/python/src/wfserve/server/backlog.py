@@ -48,6 +48,8 @@ class Row:
 class LastPolls:
     """Told each request and its reply, it knows when each queue was polled last."""
 
+    ops = frozenset(POLLS)
+
     def __init__(self) -> None:
         self._last: Dict[Tuple[str, str], int] = {}
 

@@ -20,6 +20,7 @@ LOG = logging.getLogger("wfserve.calls")
 MOST_WAIT = 60_000
 # A completion's commands are four deep at most.
 DEEPEST = 20
+BLANKS = " \t\r\n"
 LINE_ENDS = bytes.maketrans(b"\r\n", b"  ")
 # The keys by which a reply is had again: what can stand in a header and in a line without escapes.
 CALL_KEY = re.compile(r"[!#-\[\]-~]{1,200}")
@@ -58,11 +59,21 @@ def no_number(text: str) -> None:
 DECODER = json.JSONDecoder(object_pairs_hook=without_repeats, parse_constant=no_number)
 
 
+def decoded(decoder: json.JSONDecoder, text: str) -> Any:
+    """What a text says. Most have no blank around their value, and are not looked through for one."""
+    try:
+        value, end = decoder.raw_decode(text)
+    except json.JSONDecodeError:
+        return decoder.decode(text)
+    is_whole = end == len(text) or not text[end:].strip(BLANKS)
+    return value if is_whole else decoder.decode(text)
+
+
 def call_of(body: bytes) -> Tuple[Json, bytes]:
     """The request of a body, and its text without the last brace."""
     try:
         text = body.decode()
-        request = DECODER.decode(text)
+        request = decoded(DECODER, text)
     except (ValueError, RecursionError):
         raise BadCall("the body is no JSON") from None
     if not isinstance(request, dict):
@@ -122,13 +133,20 @@ def members(value: Any) -> List[Any]:
 
 
 class Observers:
-    """Those who are told each request and its reply. One that is at fault is said, and stops nothing."""
+    """Those who are told each request and its reply: all of them, or those of the operations that one names as its `ops`.
+    One that is at fault is said, and stops nothing."""
 
     def __init__(self, *observers: Any):
         self._observers = observers
+        self._told = {op: self._told_of(op) for op in KEYS}
+
+    def _told_of(self, op: Any) -> List[Any]:
+        """Who is told of an operation."""
+        return [it for it in self._observers if getattr(it, "ops", None) is None or op in it.ops]
 
     def observe(self, request: Request, reply: Reply) -> None:
-        for observer in self._observers:
+        op = request.get("op")
+        for observer in self._told[op] if op in KEYS else self._told_of(op):
             try:
                 observer.observe(request, reply)
             except Exception as fault:

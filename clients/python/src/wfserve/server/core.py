@@ -23,7 +23,7 @@ from wfserve.errors import Ended, LogFault
 from wfserve.operations import READS
 from wfserve.types import Json, Request
 
-from .calls import Busy, Draining, KeyReused, wait_of
+from .calls import Busy, Draining, KeyReused, decoded, wait_of
 from .endings import Endings
 from .ledger import TURNS, Ledger, Needed, Turn
 from .lines import Call, Receiver, own_call
@@ -282,7 +282,7 @@ class Core:
             call = self._sent.popleft()
             try:
                 text = numbered(text, self._pipes.next_reply(), call.number)
-                call.take(text, REPLIES.decode(text.decode()) if call.is_logged else {})
+                call.take(text, decoded(REPLIES, text.decode()) if call.is_logged else {})
             except (Ended, ValueError) as wrong:
                 self._sent.appendleft(call)
                 self._end(Ended(f"line {call.number}: {wrong}"))

@@ -41,7 +41,7 @@ REASONS = {
     507: b"Insufficient Storage",
 }
 HEAD = (
-    b"HTTP/1.1 %d %s\r\nContent-Type: application/json; charset=utf-8\r\nContent-Length: %d\r\nDate: %s\r\n%s\r\n"
+    b"HTTP/1.1 %d %s\r\nContent-Type: application/json; charset=utf-8\r\nContent-Length: %d\r\nDate: %s\r\n%s\r\n%s"
 )
 # Headers that a call may have without being handed on, beside those that say nothing here.
 KNOWN = {b"host", b"content-type", b"content-length", b"authorization", b"idempotency-key"}
@@ -84,7 +84,8 @@ class Request(Receiver):
         self._connection.write(self, status, json.dumps({"error": name, "said": said}).encode())
 
     def is_gone(self) -> bool:
-        return self._connection.is_gone()
+        transport = self._connection.transport
+        return transport is None or transport.is_closing()
 
 
 class Front:
@@ -127,7 +128,7 @@ class Connection(asyncio.Protocol):
 
     def __init__(self, front: Front):
         self._front = front
-        self._transport: Optional[asyncio.Transport] = None
+        self.transport: Optional[asyncio.Transport] = None
         self._parser = httptools.HttpRequestParser(self)
         self._reading: Optional[Request] = None
         self._raw = b""
@@ -145,31 +146,31 @@ class Connection(asyncio.Protocol):
 
     def connection_made(self, transport: asyncio.BaseTransport) -> None:
         # A socket's, whatever loop made it.
-        self._transport = cast(asyncio.Transport, transport)
+        self.transport = cast(asyncio.Transport, transport)
         if len(self._front.connections) >= MOST_CONNECTIONS:
-            self._transport.abort()
+            self.transport.abort()
             return
         self._front.connections.add(self)
 
     def connection_lost(self, fault: Optional[Exception]) -> None:
         self._front.connections.discard(self)
-        self._transport = None
+        self.transport = None
 
     def is_gone(self) -> bool:
         """Whether the client has hung up."""
-        return self._transport is None or self._transport.is_closing()
+        return self.transport is None or self.transport.is_closing()
 
     def eof_received(self) -> bool:
         return False
 
     def close(self) -> None:
         """Closes it once what was written is sent."""
-        if self._transport is not None:
-            self._transport.close()
+        if self.transport is not None:
+            self.transport.close()
 
     def _end(self) -> None:
         """Closes it once the client has read what was written, and dropped is what it still sends."""
-        transport, self._transport = self._transport, None
+        transport, self.transport = self.transport, None
         self._front.connections.discard(self)
         if transport is not None:
             linger(transport, self._front.read_seconds)
@@ -177,14 +178,14 @@ class Connection(asyncio.Protocol):
     def look(self, now: float, read_seconds: float) -> None:
         """Closes it where a request doesn't come, or none any more."""
         waited = now - self._since
-        if self._serving is not None or self._transport is None:
+        if self._serving is not None or self.transport is None:
             return
         if self._reading is not None and self._is_whole and waited > read_seconds:
             said = f"the body did not come within {read_seconds:g} seconds"
             self._reading.keeps = False
             self.write(self._reading, 408, json.dumps({"error": "SlowBody", "said": said}).encode())
         elif waited > (IDLE_SECONDS if self._was_asked and self._reading is None else read_seconds):
-            self._transport.abort()
+            self.transport.abort()
 
     # Requests.
 
@@ -205,8 +206,8 @@ class Connection(asyncio.Protocol):
                 raise HandOn
         except (HandOn, httptools.HttpParserError, httptools.HttpParserUpgrade):
             self._hand_on()
-        if self._asked and self._transport is not None:
-            self._transport.pause_reading()
+        if self._asked and self.transport is not None:
+            self.transport.pause_reading()
 
     def _serve_known(self, head: Head, data: bytes) -> None:
         """Serves a request whose head was let in before. The parser is between two requests, and learns nothing of it."""
@@ -286,13 +287,13 @@ class Connection(asyncio.Protocol):
 
     def _hand_on(self) -> None:
         """Gives the connection to aiohttp, from this request on."""
-        transport, raw = self._transport, self._raw
+        transport, raw = self.transport, self._raw
         if transport is None or self._serving is not None or not raw:
             # A request behind one that is not answered: nobody sends these but to see what happens.
             self.close()
             return
         self._front.connections.discard(self)
-        self._transport = None
+        self.transport = None
         protocol = self._front.hand_on()
         transport.set_protocol(protocol)
         protocol.connection_made(transport)
@@ -302,11 +303,13 @@ class Connection(asyncio.Protocol):
 
     def write(self, request: Request, status: int, text: bytes) -> None:
         """Answers a request, and goes on with the next one."""
-        if self._transport is None or self.is_gone():
+        transport = self.transport
+        if transport is None or transport.is_closing():
             return
         more = b"" if request.keeps else b"Connection: close\r\n"
-        more += b"Retry-After: %d\r\n" % RETRY_SECONDS if status == 503 else b""
-        self._transport.write(HEAD % (status, REASONS[status], len(text), self._front.date, more) + text)
+        if status == 503:
+            more += b"Retry-After: %d\r\n" % RETRY_SECONDS
+        transport.write(HEAD % (status, REASONS[status], len(text), self._front.date, more, text))
         self._serving, self._since = None, time.monotonic()
         if not request.keeps:
             self._end()
@@ -315,8 +318,8 @@ class Connection(asyncio.Protocol):
 
     def _serve_next(self) -> None:
         """Serves what came while another call was on its way."""
-        if self._transport is not None and self._serving is None and self._asked and not self.is_gone():
+        if self.transport is not None and self._serving is None and self._asked and not self.is_gone():
             request = self._asked.popleft()
             if not self._asked:
-                self._transport.resume_reading()
+                self.transport.resume_reading()
             self._serve(request)

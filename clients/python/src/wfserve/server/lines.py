@@ -96,10 +96,12 @@ class Call:
 
     def answer(self) -> bool:
         """Gives the reply to all who wait for it. False where nobody did."""
-        left = [receiver for receiver in self.receivers if not receiver.is_gone()]
-        for receiver in left:
-            receiver.answer(self.text)
-        return bool(left)
+        is_taken = False
+        for receiver in self.receivers:
+            if not receiver.is_gone():
+                receiver.answer(self.text)
+                is_taken = True
+        return is_taken
 
     def fail(self, fault: Exception) -> None:
         """Tells all who wait for it that there is no reply."""

@@ -121,8 +121,10 @@ class Workflows:
         run = run_of_token(str(request["token"]), self._service) if "token" in request else None
         if op == "complete_workflow_task":
             self._observe_commands(request, run)
-        for changed in (reply.get("run"), run):
-            self._change(self.find_run(changed))
+        if "run" in reply:
+            self._change(self.find_run(reply["run"]))
+        if run is not None:
+            self._change(self.find_run(run))
         workflow_id = request.get("workflow_id")
         if isinstance(workflow_id, str):
             for entry in self._by_workflow.get(workflow_id, ()):
