@@ -13,12 +13,16 @@ from support.programs import BUILT, needs_program
 from wfserve.durable import Settings
 from wfserve.durable.compaction import remove_folder
 from wfserve.durable.due import Due, Limits
+from wfserve.durable.heard import Heard, heard_in, write_heard
 from wfserve.durable.log import LineLog, Tail, begun_beside
 from wfserve.durable.told import Told, add_told, is_had_again, keyed, lasting_mark, read_told, told_in, told_line
 from wfserve.durable.window import MOST_HELD, Window, is_by_queues
 from wfserve.errors import LogDamaged, LogInUse
+from wfserve.ids import run_id
+from wfserve.server.attempts import Attempts
 from wfserve.server.calls import KeyReused
 from wfserve.server.replies import Replies, ended_line
+from wfserve.snapshots import accepted_from
 
 
 class Dues(unittest.TestCase):
@@ -206,7 +210,8 @@ class Beside(WithAFolder):
 
     def test_a_server_takes_them_and_tells_its_own_line_from_a_later_one(self):
         replies, begin = Replies(), b'{"op":"signal","name":"n"'
-        replies.told([(lasting_mark(begin), "k", b"told")])
+        add_told(self.folder, told_line(lasting_mark(begin), "k", b"told"))
+        replies.open(self.folder)
         self.assertEqual(replies.get("k", begin), b"told")
         replies.replayed(1, {"op": "signal"}, ended_line(begin, 5, "k"), b"at another line")
         self.assertEqual(replies.get("k", begin), b"told")
@@ -221,6 +226,56 @@ class Beside(WithAFolder):
         self.assertFalse(is_had_again({"op": "poll_workflow_task"}, b'{"ok":"empty"}'))
         self.assertTrue(is_had_again({"op": "poll_workflow_task"}, b'{"line":1,"ok":"task"}'))
         self.assertTrue(is_had_again({"op": "signal"}, b'{"error":"NotFound"}'))
+
+    def test_what_was_told_of_attempts_is_told_again(self):
+        heard, seen, tokens = Heard(), Attempts(), [
+            "AQIAAAAAAAAAAAABAAAAAAAAAAUAAAAB", "AQIAAAAAAAAAAAABAAAAAAAAAAUAAAAC", "AQIAAAAAAAAAAAABAAAAAAAAAAYAAAAB"]
+        task = {"op": "poll_activity_task", "task_queue": "main", "at": 1}
+        for request, reply in (
+            (task, {"ok": "task", "token": tokens[0], "attempt": 1, "input": "long"}),
+            ({"op": "heartbeat", "token": tokens[0], "details": "half", "at": 2}, {"ok": "heartbeat"}),
+            ({"op": "fail_activity", "token": tokens[0], "message": "no", "error_type": "E", "at": 3},
+             {"ok": "retrying", "attempt": 2, "ready": 9}),
+            ({"op": "fail_activity", "token": tokens[0], "at": 3}, {"error": "NotFound"}),
+            ({**task, "at": 9}, {"ok": "task", "token": tokens[1], "attempt": 2}),
+            (task, {"ok": "task", "token": tokens[2], "attempt": 1}),
+            ({"op": "complete_activity", "token": tokens[2], "at": 4}, {"ok": "completed"}),
+            (task, {"ok": "empty"}), ({"op": "heartbeat", "token": "no token"}, {"ok": "heartbeat"}),
+        ):
+            heard.observe(request, reply)
+            seen.observe(request, reply)
+        self.assertEqual(heard.text().count(b"\n"), 3)
+        write_heard(self.folder, heard.text() + b"what is none\n[1,2]\n")
+        again, once_more = Attempts(), Heard()
+        for request, reply in heard_in(self.folder):
+            again.observe(request, reply)
+            once_more.observe(request, reply)
+        run = run_id(1, 0, 1)
+        self.assertEqual(again.of(run, 5), seen.of(run, 5))
+        self.assertEqual((again.of(run, 5)["attempt"], again.of(run, 5)["last_failure"], again.of(run, 6)), (2, "no", {}))
+        self.assertEqual(once_more.text(), heard.text())
+
+    def test_only_so_many_attempts_are_kept(self):
+        heard = Heard(most=1)
+        for token in ("AQIAAAAAAAAAAAABAAAAAAAAAAUAAAAB", "AQIAAAAAAAAAAAABAAAAAAAAAAYAAAAB"):
+            heard.observe({"op": "heartbeat", "token": token}, {"ok": "heartbeat"})
+        self.assertEqual((heard.text().count(b"\n"), b"AAAAYAAAAB" in heard.text()), (1, True))
+        self.assertEqual(list(heard_in(self.folder)), [])
+        write_heard(self.folder, b"")
+        self.assertEqual(os.listdir(self.folder), [])
+
+    def test_a_snapshot_says_from_where_transfers_were_accepted(self):
+        path = os.path.join(self.folder, "shard-00.snap")
+        for counted, found in (
+            ('{"counted":{"dispatched":2,"transfers":[{"accepted":0},{"accepted":"2"}]}}', [1]), ('{"other":1}', None), ("", None),
+        ):
+            with open(path, "w") as file:
+                file.write(f'{{"head":{{}}}}\n{counted}\n')
+            if found is not None:
+                self.assertEqual(accepted_from(path), found)
+            else:
+                with self.assertRaises(LogDamaged):
+                    accepted_from(path)
 
     def test_a_folder_in_which_files_are_made_still_is_removed(self):
         made = os.path.join(self.folder, "made")

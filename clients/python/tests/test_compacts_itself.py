@@ -37,6 +37,7 @@ from wfserve.errors import Ended, NotCompacted
 SEED = int(os.environ.get("WFSERVE_SEED", random.randrange(1 << 32)))
 KILLS = int(os.environ.get("WFSERVE_COMPACT_KILLS", 60))
 CLIENTS, MORE_CALLS = 4, 40
+HOUR = 3_600_000
 # So long a call may take in seconds, on a machine that has much else to do. A compaction of these logs takes some tenths.
 LONG = 20
 
@@ -436,6 +437,40 @@ class Served(WithAServer):
 
     def compactions(self, server):
         return server.gauge("compactions_total")
+
+    def test_attempts_are_shown_after_compactions_and_restarts(self):
+        server = self.serve("--compact-bytes", "0")
+        client = server.client(wait=20_000)
+        run = client.start("w", "T", task_timeout=HOUR)
+        charge = {"type": "ScheduleActivityTask", "activity_id": "charge", "activity_type": "Charge", "task_queue": "main",
+                  "start_to_close": HOUR, "retry": {"initial": HOUR, "coefficient": 100, "attempts": 3}}
+        client.call("complete_workflow_task", token=client.poll_workflow_task().token, commands=[charge])
+        token = client.call("poll_activity_task", task_queue="main", wait=20_000)["token"]
+        client.call("heartbeat", token=token, details="half of it")
+        client.call("fail_activity", token=token, message="no answer", error_type="OSError")
+        told = server.read(f"/api/workflows/w/{run}")["pending"]
+        self.assertEqual((told[0]["attempt"], told[0]["last_failure"], told[0]["heartbeat"]), (2, "no answer", "half of it"))
+        for _ in range(2):
+            self.assertEqual(server.asked("POST", "/compact", b"{}")[0], 200)
+            server.kill()
+            server.start()
+            self.assertEqual(server.read(f"/api/workflows/w/{run}")["pending"], told)
+
+    def test_the_end_of_a_run_is_told_on_another_shard_after_a_compaction(self):
+        """Which shards had to do with each other the snapshots say."""
+        server = self.serve("--shards", "4", "--compact-bytes", "0")
+        client = server.client(wait=20_000)
+        client.start("p", "T", task_timeout=HOUR)
+        child = {"type": "StartChildWorkflowExecution", "workflow_type": "T", "task_queue": "main"}
+        commands = [{**child, "workflow_id": f"c{number}"} for number in range(6)]
+        client.call("complete_workflow_task", token=client.poll_workflow_task().token, commands=commands)
+        until(lambda: len(server.read("/api/workflows")["workflows"]) == 7)
+        self.assertEqual(server.asked("POST", "/compact", b"{}")[0], 200)
+        server.kill()
+        server.start()
+        client = server.client()
+        client.terminate("p")
+        until(lambda: all(client.describe(f"c{number}")["status"] == "Terminated" for number in range(6)))
 
     def test_a_server_is_told_when_to_compact(self):
         for words in (["--compact-bytes", "-1"], ["--compact-seconds", "1.5"], ["--compact-bytes", ""]):

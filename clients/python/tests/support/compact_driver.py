@@ -79,7 +79,7 @@ class Driver:
     def __init__(self, program, log, seed, calls, size):
         self.seed, self.calls = seed, int(calls)
         self.replies = Replies()
-        self.kept = KeptProgram([program], log, SETTINGS, self.replies.replayed, self.replies.told)
+        self.kept = KeptProgram([program], log, SETTINGS, self.replies.replayed, self.replies.open)
         self.size = int(size)
 
     def observe(self, request, reply):

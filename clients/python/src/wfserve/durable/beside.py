@@ -6,6 +6,7 @@ of its own does the rest. Calls go on meanwhile; in the exchange they wait for t
 
 from __future__ import annotations
 
+import logging
 from typing import Protocol
 
 from wfserve.errors import LogFault, NotCompacted
@@ -14,6 +15,7 @@ from .compaction import remove_leftovers
 from .successor import Differs, Origin, Successor, not_compacted
 from .window import Window
 
+LOG = logging.getLogger("wfserve.log")
 # Fewer lines than a batch may have: batches rest for no longer than one of them takes.
 NEAR = 512
 # So often what was written meanwhile is given before batches have to wait for it.
@@ -86,8 +88,14 @@ class Beside:
         finally:
             self._served.end_window()
             successor.close()
-            origin = self._served.origin()
+            self._remove_leftovers()
+
+    def _remove_leftovers(self) -> None:
+        origin = self._served.origin()
+        try:
             remove_leftovers(origin.log, origin.generation)
+        except OSError as fault:
+            LOG.warning("%s: %s: it is removed at the next compaction", fault.filename, fault.strerror)
 
     def _come_behind(self, successor: Successor, window: Window) -> None:
         """Has snapshots written, and a program opened from them."""

@@ -15,6 +15,7 @@ from typing import Callable, Iterable, Iterator, List, Optional, Sequence, Tuple
 
 from wfserve.errors import NotOpened, RefusedSettings
 from wfserve.operations import READS
+from wfserve.snapshots import accepted_from
 from wfserve.types import Request
 
 from .compaction import folder_of, is_snapshot, keep_private, last_moment_in, open_program, record_files, remove_leftovers
@@ -23,7 +24,6 @@ from .program import Program
 from .replaying import feeding, for_read, for_replay, request_in
 from .settings import Settings, check_settings, read_header
 from .successor import Origin, Successor, not_compacted
-from .told import read_told, told_in, told_path
 
 
 LOG = logging.getLogger("wfserve.log")
@@ -31,8 +31,8 @@ LOG = logging.getLogger("wfserve.log")
 MOMENTS = 1 << 64
 # Told each line of the log as it is served again: its number, its request and text, and the text of its reply.
 Replayed = Callable[[int, Request, bytes, bytes], None]
-# Told before the first line what calls of earlier generations were told: marks, keys and replies.
-Before = Callable[[Iterable[Tuple[int, str, bytes]]], None]
+# Told before the first line the folder that the log goes on from.
+Before = Callable[[str], None]
 
 
 class KeptProgram:
@@ -54,8 +54,7 @@ class KeptProgram:
             raise
         try:
             if before is not None and self.generation:
-                folder = folder_of(self.log.path, self.generation)
-                before(told_in(read_told(folder), told_path(folder)))
+                before(folder_of(self.log.path, self.generation))
             self._replay(self.program, self._lines(), replayed or (lambda *_: None))
             self._grow(wanted)
         except BaseException:
@@ -92,6 +91,12 @@ class KeptProgram:
     def snapshots_size(self) -> int:
         """How many bytes the snapshots have that the log goes on from; 0 where these are records, which only grow."""
         return sum(os.path.getsize(path) for path in self.record_files() if is_snapshot(path))
+
+    def pairs(self) -> Iterator[Tuple[int, int]]:
+        """Between which shards transfers were accepted before the log was compacted. Records don't say."""
+        for to, path in enumerate(self.record_files()):
+            for source in accepted_from(path) if is_snapshot(path) else ():
+                yield source, to
 
     def record_files(self) -> List[str]:
         """The files of the snapshots or records that the log goes on from, by their shards."""
@@ -216,13 +221,12 @@ class KeptProgram:
             successor.write_snapshots(self.lines)
             successor.open()
             successor.make_ready()
-            former = self.take_up(successor)
+            self.end(self.take_up(successor))
         except OSError as fault:
             raise not_compacted(fault) from fault
         finally:
             successor.close()
             remove_leftovers(self.log.path, self.generation)
-        self.end(former)
 
     def take_up(self, successor: Successor) -> Program:
         """Goes on with the log and the program of the next generation, which has served all lines of this one. The former
@@ -237,10 +241,9 @@ class KeptProgram:
         return former
 
     def end(self, former: Program) -> None:
-        """Ends the program of the generation before, and removes what is older."""
+        """Ends the program of the generation before."""
         former.end_input()
         former.wait()
-        remove_leftovers(self.log.path, self.generation)
 
     def close(self) -> int:
         """Ends the program, which has answered all that it was asked, and gives up the log. The program's status."""

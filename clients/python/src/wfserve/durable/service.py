@@ -48,13 +48,14 @@ from wfserve.types import Reply, Request
 
 from .background import Compaction
 from .by_itself import LogCompactor
+from .compaction import record_files
 from .due import Due
 from .journaled import JournaledProgram
 from .kept import KeptProgram, Replayed
 from .log import open_lines
 from .program import Program
 from .replaying import for_read
-from .settings import Settings
+from .settings import Settings, read_header
 from .successor import Origin, Successor
 from .sweeping import sweep
 from .window import MOST_HELD, Window, is_by_queues
@@ -101,6 +102,17 @@ def opened(
     if replayed is not None:
         raise ValueError("a journal has no replies to tell again")
     return JournaledProgram(command, path, settings, compaction)
+
+
+def requests_in(log: str) -> Iterator[bytes]:
+    """The lines of what a log goes on from, and then its own. It may be compacted meanwhile: what its first line names stays
+    until the next compaction."""
+    lines = open_lines(log)
+    _, generation = read_header(next(lines), log)
+    for path in record_files(log, generation):
+        with open(path, "rb") as record:
+            yield from record
+    yield from lines
 
 
 def fail(calls: Iterable[Waiting], fault: Exception) -> None:
@@ -195,12 +207,11 @@ class DurableService(Calls):
         """The lines of its snapshots or records, and those that its log has since, each a request; of a journal its
         snapshots and steps. What is asked meanwhile may be there or not."""
         kept = self._kept
+        if isinstance(kept, KeptProgram):
+            yield from requests_in(kept.log.path)
+            return
         for record in kept.record_lines():
             yield from record
-        if isinstance(kept, KeptProgram):
-            lines = open_lines(kept.log.path)
-            next(lines, None)
-            yield from lines
 
     def sweep_blobs(self, now: Optional[float] = None) -> int:
         """Deletes the long texts beside the log or the journal that no history names any more. How many these were.

@@ -3,8 +3,8 @@
     python3 -m wfserve.durable.snapshotting PARENT LOG FORMER FOLDER PROGRAM WORD..
 
 Its input says up to which line of LOG, one number after the other, and at last `end`; it says how far that is, as its
-lines, bytes and checksum, once the program was given these lines. Then the program writes its snapshots into FOLDER, and beside them lie the replies by keys:
-those of the folder FORMER, and those that the program gave. So who serves the log has neither to read it nor to wait.
+lines, bytes and checksum, once the program was given these lines. Then the program writes its snapshots into FOLDER, and beside them lie the replies by keys
+and what was told of attempts: those of the folder FORMER, and those that the program gave. So who serves the log has neither to read it nor to wait.
 
 It ends with the process PARENT, and its program with it: a program that was left would write later into a folder that is
 another one's by then.
@@ -13,17 +13,19 @@ another one's by then.
 from __future__ import annotations
 
 import ctypes
+import json
 import os
 import signal
 import subprocess
 import sys
 import threading
 from collections import deque
-from typing import Deque, List, Tuple
+from typing import Deque, List, Optional, Tuple
 
 from wfserve.errors import WfserveError
 from wfserve.types import Request
 
+from .heard import Heard, heard_in, tells, write_heard
 from .log import Place, Tail, sync_file, sync_folder
 from .program import numbered
 from .replaying import for_replay, request_in
@@ -50,8 +52,11 @@ class Maker:
         self._told = Told()
         for mark, key, reply in told_in(read_told(former) if former else b"", told_path(former)):
             self._told.add(mark, key, reply)
-        # The lines with a key whose replies are on their way: their numbers, and what is to be known of them.
-        self._expected: Deque[Tuple[int, str, int, Request]] = deque()
+        self._heard = Heard()
+        for request, said in heard_in(former) if former else ():
+            self._heard.observe(request, said)
+        # The lines whose replies are kept and on their way: their numbers, their requests, and the keys and marks of calls.
+        self._expected: Deque[Tuple[int, Request, Optional[Tuple[str, int]]]] = deque()
         self._wrong = ""
         self._program = subprocess.Popen(
             [*command, "--snapshot", folder], stdin=subprocess.PIPE, stdout=subprocess.PIPE, preexec_fn=end_with_parent,
@@ -60,18 +65,21 @@ class Maker:
         self._listener.start()
 
     def _listen(self) -> None:
-        """Keeps the replies to the calls that have a key."""
+        """Keeps what replies tell."""
         assert self._program.stdout is not None
         for number, text in enumerate(self._program.stdout, 1):
             if self._expected and self._expected[0][0] == number:
-                _, key, mark, request = self._expected.popleft()
+                _, request, called = self._expected.popleft()
                 try:
-                    reply = numbered(text.rstrip(b"\n"), number, number)
-                except WfserveError as wrong:
+                    self._take(request, called, numbered(text.rstrip(b"\n"), number, number))
+                except (WfserveError, ValueError) as wrong:
                     self._wrong = str(wrong)
-                    continue
-                if is_had_again(request, reply):
-                    self._told.add(mark, key, reply)
+
+    def _take(self, request: Request, called: Optional[Tuple[str, int]], reply: bytes) -> None:
+        self._heard.observe(request, json.loads(reply))
+        if called is not None and is_had_again(request, reply):
+            key, mark = called
+            self._told.add(mark, key, reply)
 
     def give(self, number: int) -> Place:
         """Gives the program the lines up to this one: how far that is. That the program has ended shows by its status."""
@@ -80,8 +88,9 @@ class Maker:
             lines = self._tail.next(number)
             for at, line in enumerate(lines, self._tail.lines - len(lines) + 1):
                 found = keyed(line)
-                if found is not None:
-                    self._expected.append((at, found[0], lasting_mark(found[1]), request_in(line)))
+                if found is not None or tells(line):
+                    called = None if found is None else (found[0], lasting_mark(found[1]))
+                    self._expected.append((at, request_in(line), called))
             try:
                 self._program.stdin.write(b"".join(for_replay(line) + b"\n" for line in lines))
                 self._program.stdin.flush()
@@ -106,6 +115,7 @@ class Maker:
             print(self._wrong, file=sys.stderr)
             return 2
         add_told(self._folder, self._told.text())
+        write_heard(self._folder, self._heard.text())
         for name in os.listdir(self._folder):
             os.chmod(os.path.join(self._folder, name), 0o600)
             sync_file(os.path.join(self._folder, name))

@@ -39,6 +39,7 @@ from wfserve.blobs import store_beside
 from wfserve.counts import counted
 from wfserve.durable import DurableService, Settings, read_header
 from wfserve.durable.due import Limits
+from wfserve.durable.heard import heard_in
 from wfserve.durable.kept import KeptProgram
 from wfserve.durable.log import first_line
 from wfserve.errors import Ended, LogFault
@@ -93,12 +94,20 @@ class Opened:
         self.attempts, self.blobs, self.last_polls = Attempts(), store_beside(log), LastPolls()
         self.ledger, self.replies = Ledger(settings.shards), Replies()
         self.observe = Observers(self.workflows, self.deadlines, self.attempts, self.last_polls).observe
-        self.kept = KeptProgram([said.program], log, settings, self._replayed, self.replies.told)
+        self.kept = KeptProgram([said.program], log, settings, self._replayed, self._go_on_from)
         try:
+            for source, to in self.kept.pairs():
+                self.ledger.met(source, to)
             Recorded(self.kept, self.workflows).add_all()
         except BaseException:
             self.kept.close()
             raise
+
+    def _go_on_from(self, folder: str) -> None:
+        """Takes what lies beside the snapshots."""
+        self.replies.open(folder)
+        for request, reply in heard_in(folder):
+            self.attempts.observe(request, reply)
 
     def _replayed(self, number: int, request: Request, line: bytes, reply: bytes) -> None:
         said = json.loads(reply)

@@ -11,9 +11,11 @@ from __future__ import annotations
 import hashlib
 import json
 from collections import OrderedDict
-from typing import Iterable, Optional, Tuple, Union
+from typing import Optional, Tuple, Union
 
-from wfserve.durable.told import MOST_BYTES, MOST_REPLIES, is_had_again, keyed, lasting_mark
+from wfserve.durable.told import (
+    MOST_BYTES, MOST_REPLIES, is_had_again, keyed, lasting_mark, read_told, told_in, told_path,
+)
 from wfserve.types import Request
 
 from .calls import KeyReused
@@ -64,9 +66,9 @@ class Replies:
         """Keeps a reply in the place of the oldest ones."""
         self._keep(key, mark_of(begin), reply)
 
-    def told(self, replies: Iterable[Tuple[int, str, bytes]]) -> None:
-        """Takes those that lay beside snapshots."""
-        for mark, key, reply in replies:
+    def open(self, folder: str) -> None:
+        """Takes those that lie in a folder of snapshots."""
+        for mark, key, reply in told_in(read_told(folder), told_path(folder)):
             self._keep(key, mark, reply)
 
     def _keep(self, key: str, mark: Mark, reply: bytes) -> None:
