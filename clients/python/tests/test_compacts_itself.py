@@ -302,9 +302,14 @@ class Run:
             [*command, str(CLIENTS), str(calls), "2500", stage, *map(str, self.answered())],
             stdout=subprocess.PIPE, start_new_session=True, text=True,
         )
-        done = self.listen(driver, late)
-        status = driver.wait()
-        driver.stdout.close()
+        try:
+            done = self.listen(driver, late)
+        except AssertionError:
+            driver.kill()
+            raise
+        finally:
+            status = driver.wait()
+            driver.stdout.close()
         if left and status == -signal.SIGKILL:
             self.killed["any moment" if stage == "-" else stage.rpartition(":")[0]] += 1
         elif left or status or not done:
