@@ -182,7 +182,7 @@ class Compacted(Durable):
             data = self.log.read_bytes()
             # The program is not there when it is to save.
             service._kept.command = [str(self.log.parent / "nobody")]
-            with self.assertRaises(OSError):
+            with self.assertRaisesRegex(NotCompacted, "nobody"):
                 service.compact()
             self.assertEqual(self.log.read_bytes(), data)
             self.assertEqual(service.history("w0"), before)
@@ -193,8 +193,9 @@ class Compacted(Durable):
             with mock.patch("os.link", side_effect=OSError(1, "Operation not permitted")):
                 with self.assertRaisesRegex(NotCompacted, "Operation not permitted"):
                     service.compact()
-            with mock.patch("os.rename", side_effect=OSError(5, "Input/output error")), self.assertRaises(OSError):
-                service.compact()
+            with mock.patch("os.rename", side_effect=OSError(5, "Input/output error")):
+                with self.assertRaisesRegex(NotCompacted, "Input/output error"):
+                    service.compact()
             self.assertEqual((self.log.read_bytes(), self.names()), (data, ["a.log"]))
             service.signal("w0", "go")
         self.assertEqual(len(self.open().history("w0")), 3)

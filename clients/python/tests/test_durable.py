@@ -18,7 +18,7 @@ from support.programs import BUILT, COUNTING, needs_program
 from support.survived import killed_and_paid_once
 from wfserve.calls import Clock
 from wfserve.durable import DurableService, Settings, read_header
-from wfserve.durable.kept import for_replay
+from wfserve.durable.replaying import for_replay
 from wfserve.durable.log import LineLog
 from wfserve.errors import Ended, LogDamaged, LogFull, LogInUse, OtherSettings, Refused, RefusedSettings
 

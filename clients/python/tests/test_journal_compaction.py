@@ -18,6 +18,7 @@ from test_durable_journal import IDS, TWO, Journaled
 from wfserve.calls import Clock
 from wfserve.checkpoint import read_checkpoint
 from wfserve.durable import Compaction, DurableService, Settings
+from wfserve.durable.background import JOURNAL_SECONDS, JOURNAL_SIZE
 from wfserve.durable.background import bytes_since
 from wfserve.errors import CheckpointDamaged, Ended, NotCompacted, OtherJournal
 from wfserve.journal import Journal, framed
@@ -198,7 +199,7 @@ class ByItself(Compacted):
         with self.open(compaction=None) as service:
             service.start("a", "w")
             self.assertIsNone(service._kept.compactor._watching)
-        self.assertEqual(Compaction(), Compaction(64 << 20, 86_400.0))
+        self.assertEqual((JOURNAL_SIZE, JOURNAL_SECONDS), (64 << 20, 86_400.0))
 
     def test_what_goes_wrong_is_told_and_it_is_tried_again(self):
         self.begin()

@@ -232,8 +232,7 @@ class ServeHttp(Serve):
 
     def test_what_the_compiled_edge_alone_can_do_is_refused_without_it(self):
         for words, option in (
-            (["--log", "a log", "--standby", "yes"], "--standby"), (["--compact-bytes=0"], "--compact-bytes"),
-            (["--compact-seconds", "5"], "--compact-seconds"), (["--socket", "s"], "--socket"), (["--silence=9"], "--silence"),
+            (["--log", "a log", "--standby", "yes"], "--standby"), (["--socket", "s"], "--socket"), (["--silence=9"], "--silence"),
         ):
             ran = self.serve(*words)
             self.assertEqual((ran.returncode, ran.stdout), (2, ""))
@@ -242,6 +241,8 @@ class ServeHttp(Serve):
             ran = self.serve(*words)
             self.assertEqual((ran.returncode, ran.stdout), (2, ""))
             self.assertIn("edge/setup.sh postgres builds it", ran.stderr)
+        words = ["--compact-bytes", "0", "--compact-seconds=5"]
+        self.assertEqual(self.serve(*words, program="p").stdout, f"server --program p {' '.join(words)}\n")
         # They are words like others where another option has them.
         self.assertEqual(self.serve("--queues", "a--standby", program="p").stdout, "server --program p --queues a--standby\n")
         self.assertFalse(self.program.exists())

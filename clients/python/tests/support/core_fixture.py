@@ -35,7 +35,7 @@ class Served:
     def __init__(self, command, log, settings=None, limit=1_000, moments=None):
         self.told = []
         self.replies = Replies()
-        self.kept = KeptProgram(command, str(log), settings, self.replies.replayed)
+        self.kept = KeptProgram(command, str(log), settings, self.replies.replayed, self.replies.open)
         self.ledger = Ledger(self.kept.settings.shards)
         self._limit = limit
         self._moments = moments

@@ -13,18 +13,20 @@ An earlier client put records there, shard-00.rec and so on: all steps, where sn
 from either, and has snapshots after its next compaction.
 
 A log takes the place of the one before by one renaming, and only after a program that was opened from
-the new snapshots has answered. A crash leaves the one log or the other, with what it goes on from. The generation
+the new snapshots has answered (successor.py). A crash leaves the one log or the other, with what it goes on from. The generation
 before stays until the next compaction: renamed to a.log, it goes on where it was.
 """
 
 from __future__ import annotations
 
 import dataclasses
+import errno
 import os
 import re
 import shutil
 import subprocess
-from typing import Iterable, Iterator, List, Sequence, Tuple
+import time
+from typing import Callable, Iterable, Iterator, List, Sequence, Tuple
 
 from wfserve.errors import Ended, NotCompacted, NotOpened
 from wfserve.snapshots import last_moment_of
@@ -37,6 +39,8 @@ from .settings import MOST_CAPACITY, Settings
 MORE_THAN_QUEUES_HOLD = "more tasks wait in the records than their queues hold"
 # How much more room the queues get at once. Each opening reads all records.
 GROWTH = 4
+# So long a folder is tried to be removed in which a file is made meanwhile, and between two tries.
+PATIENCE, REST = 3.0, 0.01
 MOMENT = re.compile(rb'"at":([0-9]+)')
 
 
@@ -70,7 +74,22 @@ def remove_leftovers(log: str, generation: int) -> None:
         if found == f"{name}.new" or lines not in (-1, generation - 1):
             os.remove(path)
         elif records not in (-1, generation, generation - 1):
+            remove_folder(path)
+
+
+def remove_folder(path: str) -> None:
+    """Removes a folder. A program that was killed with its service may just be making a last file in it."""
+    late = time.monotonic() + PATIENCE
+    while True:
+        try:
             shutil.rmtree(path)
+            return
+        except OSError as fault:
+            if fault.errno == errno.ENOENT and not os.path.exists(path):
+                return
+            if fault.errno not in (errno.ENOENT, errno.ENOTEMPTY) or time.monotonic() > late:
+                raise
+        time.sleep(REST)
 
 
 def keep_private(folder: str) -> None:
@@ -104,14 +123,18 @@ def _save(command: Sequence[str], lines: Iterable[bytes], folder: str) -> None:
     sync_folder(folder)
 
 
-def open_program(command: Sequence[str], settings: Settings, log: str, generation: int) -> Tuple[Program, Settings]:
-    """A program that was opened from the snapshots or records and has answered, and the settings that it has.
+def open_program(
+    command: Sequence[str], settings: Settings, log: str, generation: int, started: Callable[[Program], None] = lambda _: None,
+) -> Tuple[Program, Settings]:
+    """A program that was opened from the snapshots or records and has answered, and the settings that it has. `started` is
+    told of each one that is started, before it has answered.
 
     Where more tasks wait in records than the queues hold, they get more room. Snapshots are opened whatever waits.
     """
     while True:
         words = [*command, *settings.options(), *load_options(log, generation)]
         program = Program(words, unsaid=[MORE_THAN_QUEUES_HOLD])
+        started(program)
         try:
             program.check_answers()
             return program, settings

@@ -8,64 +8,31 @@ writes each line to the log before the program reads it.
 
 from __future__ import annotations
 
-import dataclasses
-import json
 import logging
 import os
 import subprocess
-import threading
 from typing import Callable, Iterable, Iterator, List, Optional, Sequence, Tuple
 
-from wfserve.calls import text_of
 from wfserve.errors import NotOpened, RefusedSettings
 from wfserve.operations import READS
+from wfserve.snapshots import accepted_from
 from wfserve.types import Request
 
-from .compaction import (
-    folder_of, keep_log, keep_private, last_moment_in, load_options, open_program, record_files, remove_leftovers,
-    save_snapshots,
-)
+from .compaction import folder_of, is_snapshot, keep_private, last_moment_in, open_program, record_files, remove_leftovers
 from .log import LineLog
 from .program import Program
+from .replaying import feeding, for_read, for_replay, request_in
 from .settings import Settings, check_settings, read_header
+from .successor import Origin, Successor, not_compacted
 
 
 LOG = logging.getLogger("wfserve.log")
 # The program refuses a line of a later moment.
 MOMENTS = 1 << 64
-# So many lines are written to the program at once.
-LINES_AT_ONCE = 1_000
 # Told each line of the log as it is served again: its number, its request and text, and the text of its reply.
 Replayed = Callable[[int, Request, bytes, bytes], None]
-
-
-def request_in(line: bytes) -> Request:
-    """The request that a line of the log has. One that can't be read was refused when it was made."""
-    try:
-        request: Request = json.loads(line)
-        return request
-    except (ValueError, RecursionError):
-        return {}
-
-
-def for_replay(line: bytes) -> bytes:
-    """What the program is given for a line of the log when it is served again.
-
-    A log of an earlier time has reads, and a history is long. A description sets the same moment on the same
-    shard, and changes as little.
-    """
-    if b'"history"' not in line:
-        return line
-    request = request_in(line)
-    if request.get("op") != "history":
-        return line
-    named = {name: request[name] for name in ("workflow_id", "run") if isinstance(request.get(name), str)}
-    return text_of({"op": "describe", "at": request.get("at", 0), **named}).encode()
-
-
-def for_read(request: Request) -> bytes:
-    """The line of a read. It is asked at no moment, so that it sets none."""
-    return text_of({name: value for name, value in request.items() if name != "at"}).encode()
+# Told before the first line the folder that the log goes on from.
+Before = Callable[[str], None]
 
 
 class KeptProgram:
@@ -73,6 +40,7 @@ class KeptProgram:
 
     def __init__(
         self, command: Sequence[str], log: str, wanted: Optional[Settings], replayed: Optional[Replayed] = None,
+        before: Optional[Before] = None,
     ):
         self.command = list(command)
         self.last_moment = 0
@@ -85,6 +53,8 @@ class KeptProgram:
             self.log.close()
             raise
         try:
+            if before is not None and self.generation:
+                before(folder_of(self.log.path, self.generation))
             self._replay(self.program, self._lines(), replayed or (lambda *_: None))
             self._grow(wanted)
         except BaseException:
@@ -116,6 +86,17 @@ class KeptProgram:
     def records_size(self) -> int:
         """How many bytes the snapshots or records have that the log goes on from."""
         return sum(os.path.getsize(path) for path in self.record_files())
+
+    @property
+    def snapshots_size(self) -> int:
+        """How many bytes the snapshots have that the log goes on from; 0 where these are records, which only grow."""
+        return sum(os.path.getsize(path) for path in self.record_files() if is_snapshot(path))
+
+    def pairs(self) -> Iterator[Tuple[int, int]]:
+        """Between which shards transfers were accepted before the log was compacted. Records don't say."""
+        for to, path in enumerate(self.record_files()):
+            for source in accepted_from(path) if is_snapshot(path) else ():
+                yield source, to
 
     def record_files(self) -> List[str]:
         """The files of the snapshots or records that the log goes on from, by their shards."""
@@ -156,7 +137,7 @@ class KeptProgram:
             # With other queues these lines may be answered otherwise than they were.
             program.kill()
             raise NotOpened(f"{log}: more tasks wait in its records than its queues hold, and it has lines after them")
-        self.log = self.log.replaced([settings.header(generation)])
+        self.log = self.log.replaced(settings.header(generation))
         self._tell_growth(settings)
         return program
 
@@ -199,7 +180,7 @@ class KeptProgram:
         if wanted is None or wanted.capacity == self.settings.capacity:
             return
         if wanted.capacity > self.settings.capacity:
-            self.end(self.next_generation(wanted.capacity))
+            self.compact(wanted.capacity)
         else:
             LOG.warning(
                 "%s: the queues keep their room for %d tasks: it never falls, so %d is not taken",
@@ -225,43 +206,44 @@ class KeptProgram:
 
     # Compaction.
 
-    def next_generation(self, capacity: int) -> Program:
-        """Puts snapshots of the shards in the place of the log's lines, and opens a program from them.
+    def origin(self) -> Origin:
+        """What a program is started with to serve the log."""
+        return Origin(self.command, self.log.path, self.settings, self.generation)
 
-        Nothing may be asked meanwhile. The former program, which has still to be ended. NotCompacted or
-        NotOpened where it can't be done: all is as it was then.
+    def compact(self, capacity: int) -> None:
+        """Puts snapshots of the shards in the place of the log's lines, with that much room in the queues.
+
+        Nothing may be asked meanwhile. NotCompacted or NotOpened where it can't be done: all is as it was then.
         """
-        log, generation = self.log.path, self.generation + 1
-        words = [*self.command, *self.settings.options(), *load_options(log, self.generation)]
-        save_snapshots(words, [for_replay(line) for line in self._lines()], folder_of(log, generation))
+        successor = Successor(self.origin(), capacity)
         try:
-            program, settings = self._opened_from(generation, max(capacity, self.settings.capacity))
-        except BaseException:
-            remove_leftovers(log, self.generation)
-            raise
-        if settings != self.settings:
-            self._tell_growth(settings)
-        former, self.program, self.generation = self.program, program, generation
+            successor.begin()
+            successor.write_snapshots(self.lines)
+            successor.open()
+            successor.make_ready()
+            self.end(self.take_up(successor))
+        except OSError as fault:
+            raise not_compacted(fault) from fault
+        finally:
+            successor.close()
+            remove_leftovers(self.log.path, self.generation)
+
+    def take_up(self, successor: Successor) -> Program:
+        """Goes on with the log and the program of the next generation, which has served all lines of this one. The former
+        program, which has still to be ended. Nothing may be asked meanwhile, and all was answered."""
+        program, log = successor.ready()
+        self.log.give_way(log)
+        successor.was_taken()
+        if successor.settings != self.settings:
+            self._tell_growth(successor.settings)
+        former, self.program, self.log = self.program, program, log
+        self.generation += 1
         return former
 
-    def _opened_from(self, generation: int, capacity: int) -> Tuple[Program, Settings]:
-        """A program that was opened from these snapshots, and its settings, once the log begins with them."""
-        log = self.log.path
-        wanted = dataclasses.replace(self.settings, capacity=capacity)
-        program, settings = open_program(self.command, wanted, log, generation)
-        try:
-            keep_log(log, self.generation)
-            self.log = self.log.replaced([settings.header(generation)])
-        except BaseException:
-            program.kill()
-            raise
-        return program, settings
-
     def end(self, former: Program) -> None:
-        """Ends the program of the generation before, and removes what is older."""
+        """Ends the program of the generation before."""
         former.end_input()
         former.wait()
-        remove_leftovers(self.log.path, self.generation)
 
     def close(self) -> int:
         """Ends the program, which has answered all that it was asked, and gives up the log. The program's status."""
@@ -269,14 +251,3 @@ class KeptProgram:
         status = self.program.wait()
         self.log.close()
         return status
-
-
-def feeding(program: Program, lines: List[bytes]) -> threading.Thread:
-    """A thread that gives the program these lines, while somebody takes its replies."""
-    def feed() -> None:
-        for begin in range(0, len(lines), LINES_AT_ONCE):
-            program.write(lines[begin:begin + LINES_AT_ONCE])
-
-    feeder = threading.Thread(target=feed, daemon=True)
-    feeder.start()
-    return feeder

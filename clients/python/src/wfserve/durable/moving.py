@@ -19,7 +19,7 @@ from wfserve.journal import Journal, journal_in, write_folder, write_journal, wr
 
 from .compaction import folder_of, is_snapshot, load_options, record_files, save_records, save_snapshots
 from .journaled import JournaledProgram, journal_settings, settings_from
-from .kept import for_replay
+from .replaying import for_replay
 from .log import LineLog, sync_folder
 from .settings import Settings, read_header
 

@@ -122,6 +122,10 @@ class Program:
         except BrokenPipeError:
             pass
 
+    def strike(self) -> None:
+        """Has it end at once, also where another thread waits for its replies."""
+        self._process.kill()
+
     def kill(self) -> None:
         """Ends it at once."""
         self._process.kill()

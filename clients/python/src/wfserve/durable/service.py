@@ -13,8 +13,8 @@ A call returns once its line was synced and the program has answered. Threads ma
 sync serves all lines that wait for it. A call that was not answered may have taken effect or not;
 one with a request id can be made again, and takes effect once. Reads change nothing, and are no lines.
 
-A log grows by every line. `compact()` puts snapshots of the shards in the place of its lines: a
-service is opened from them in the place of serving each line again.
+A log grows by every line. A compaction puts snapshots of the shards in the place of its lines: a
+service is opened from them in the place of serving each line again. It comes by itself, and calls go on meanwhile.
 
 Where a folder is named in the place of a log, the program keeps itself by the journal in it (journaled.py),
 which is quicker and proved, and there is no log. What a call promises is the same; these differ:
@@ -22,7 +22,7 @@ which is quicker and proved, and there is no log. What a call promises is the sa
 - a read is a step of the journal too, and waits for a sync;
 - a disk that is full ends the program: calls are answered by Ended, and the service has to be opened again;
 - a reply's line counts from the opening, and `replayed` is refused, since a journal has no replies;
-- it is compacted from time to time by itself, in another process, and calls go on meanwhile.
+- it is compacted by another process alone, and its program goes on.
 
 Texts of over 4,096 bytes, up to 2 MB, lie in a folder beside the log, or beside the journal's folder: orders.log.blobs.
 A client and a worker put them there by themselves (`blobs`), and each is synced before a line names it.
@@ -47,12 +47,18 @@ from wfserve.operations import READS
 from wfserve.types import Reply, Request
 
 from .background import Compaction
+from .by_itself import LogCompactor
+from .compaction import record_files
+from .due import Due
 from .journaled import JournaledProgram
-from .kept import KeptProgram, Replayed, for_read
+from .kept import KeptProgram, Replayed
 from .log import open_lines
 from .program import Program
-from .settings import Settings
+from .replaying import for_read
+from .settings import Settings, read_header
+from .successor import Origin, Successor
 from .sweeping import sweep
+from .window import MOST_HELD, Window, is_by_queues
 
 
 # Told a request and its reply.
@@ -65,6 +71,8 @@ class Waiting:
 
     line: bytes
     logged: bool = True
+    # Whether its reply depends on the order of tasks in the queues.
+    by_queues: bool = False
     number: int = 0
     reply: "Future[Reply]" = field(default_factory=Future)
 
@@ -72,7 +80,7 @@ class Waiting:
 def waiting_for(request: Request) -> Waiting:
     """A call that waits for its turn. A read is asked at no moment, so that it sets none."""
     if request.get("op") not in READS:
-        return Waiting(text_of(request).encode())
+        return Waiting(text_of(request).encode(), by_queues=is_by_queues(request))
     return Waiting(for_read(request), logged=False)
 
 
@@ -96,6 +104,17 @@ def opened(
     return JournaledProgram(command, path, settings, compaction)
 
 
+def requests_in(log: str) -> Iterator[bytes]:
+    """The lines of what a log goes on from, and then its own. It may be compacted meanwhile: what its first line names stays
+    until the next compaction."""
+    lines = open_lines(log)
+    _, generation = read_header(next(lines), log)
+    for path in record_files(log, generation):
+        with open(path, "rb") as record:
+            yield from record
+    yield from lines
+
+
 def fail(calls: Iterable[Waiting], fault: Exception) -> None:
     for call in calls:
         call.reply.set_exception(fault)
@@ -108,8 +127,8 @@ class DurableService(Calls):
     own, or the defaults. `most_a_sync` is how many lines one sync of a log serves at most. `replayed`
     is called with each request of the log and its reply, before the first call; what was done before
     the log was compacted last is no line of it. `blobs` keeps long texts: `sweep_blobs` deletes there, and a server
-    that serves the same log with a retention. `compaction` says when a journal is compacted by itself; with None it is
-    compacted by `compact` alone, as a log is in any case.
+    that serves the same log with a retention. `compaction` says when a log or a journal is compacted by itself; with None
+    it is compacted by `compact` alone.
     """
 
     def __init__(
@@ -138,9 +157,18 @@ class DurableService(Calls):
         self._paused = False
         self._kept = opened(command, log, settings, replayed, compaction)
         self.last_moment = self._kept.last_moment
+        # What the replies since the snapshots of a compaction are, and the calls that it holds back.
+        self._window: Optional[Window] = None
+        self._held: List[Waiting] = []
+        # The number of the last line that was answered.
+        self._answered = self._kept.lines
+        self._compactor: Optional[LogCompactor] = None
         self._writer = threading.Thread(target=self._write_calls, daemon=True)
         self._writer.start()
         self._read_on()
+        if isinstance(self._kept, KeptProgram):
+            due = Due(compaction.limits(), self._kept.snapshots_size) if compaction is not None else None
+            self._compactor = LogCompactor(ServedLog(self, self._kept), self._kept, due)
 
     def __enter__(self) -> "DurableService":
         return self
@@ -179,12 +207,11 @@ class DurableService(Calls):
         """The lines of its snapshots or records, and those that its log has since, each a request; of a journal its
         snapshots and steps. What is asked meanwhile may be there or not."""
         kept = self._kept
+        if isinstance(kept, KeptProgram):
+            yield from requests_in(kept.log.path)
+            return
         for record in kept.record_lines():
             yield from record
-        if isinstance(kept, KeptProgram):
-            lines = open_lines(kept.log.path)
-            next(lines, None)
-            yield from lines
 
     def sweep_blobs(self, now: Optional[float] = None) -> int:
         """Deletes the long texts beside the log or the journal that no history names any more. How many these were.
@@ -231,6 +258,8 @@ class DurableService(Calls):
             with self._changed:
                 self._writing = False
                 self._changed.notify_all()
+            if self._compactor is not None:
+                self._compactor.grown()
 
     def _logged(self, calls: List[Waiting]) -> List[Waiting]:
         """Logs the calls, and gives them their numbers. Where that can't be done, only the reads are left."""
@@ -259,11 +288,25 @@ class DurableService(Calls):
     def _next_calls(self) -> List[Waiting]:
         """The calls that wait for the next sync, or none where nothing more is asked."""
         with self._changed:
-            while self._paused or (not self._asked and self._closed is None):
-                self._changed.wait()
+            while not self._may_write():
+                self._changed.wait(None if self._window is None else MOST_HELD / 4)
             count = min(len(self._asked), self._most)
             self._writing = count > 0
             return [self._asked.popleft() for _ in range(count)]
+
+    def _may_write(self) -> bool:
+        """Whether there are calls for a sync, which may be written, or nothing more is asked."""
+        window = self._window
+        if window is not None and window.is_holding:
+            self._held += [call for call in self._asked if call.by_queues]
+            self._asked = deque(call for call in self._asked if not call.by_queues)
+        if self._paused or (not self._asked and self._closed is None):
+            return False
+        if window is None or not window.is_far_ahead(self.lines):
+            if window is not None and window.is_given_up and self._compactor is not None:
+                self._compactor.give_up()
+            return True
+        return False
 
     def _read_on(self) -> None:
         """Begins to read the program's replies."""
@@ -279,9 +322,13 @@ class DurableService(Calls):
         """Gives each call its reply. One thread does this for each program."""
         try:
             while True:
-                reply = program.reply(self._next_number())
+                text = program.reply_text(self._next_number())
+                reply = json.loads(text)
                 with self._changed:
                     call = self._sent.popleft()
+                    if self._window is not None and call.logged:
+                        self._window.note(call.number, text)
+                    self._answered = call.number
                     self._changed.notify_all()
                 call.reply.set_result({**reply, "line": call.number})
         except Exception as fault:
@@ -295,8 +342,9 @@ class DurableService(Calls):
         with self._changed:
             self._over = fault
             self._closed = self._closed or fault
-            left = [*self._sent, *self._asked]
+            left = [*self._sent, *self._held, *self._asked]
             self._sent.clear()
+            self._held.clear()
             self._asked.clear()
             self._changed.notify_all()
         fail(left, fault)
@@ -304,6 +352,8 @@ class DurableService(Calls):
     def close(self) -> int:
         """Answers what was asked, ends the program and gives up the log. The program's status."""
         if self._status is None:
+            if self._compactor is not None:
+                self._compactor.close()
             with self._changed:
                 self._closed = self._closed or Ended("the service was closed")
                 self._changed.notify_all()
@@ -315,41 +365,106 @@ class DurableService(Calls):
     # Compaction.
 
     def compact(self, capacity: int = 0) -> None:
-        """Puts snapshots of the shards in the place of the log's lines, and goes on from them.
+        """Puts snapshots of the shards in the place of the log's lines, and goes on from them. It comes by itself too.
 
-        Calls wait meanwhile. The log gives way only after a program that was opened from the snapshots has
-        answered, and it stays beside the new one until the next compaction. The queues get room for
-        `capacity` tasks; they keep what they have where that is more. Each task that was dispatched and
-        waits has its hint in its queue again, so a worker may be handed `stale` for one that it was handed
-        before. NotCompacted or NotOpened where it can't be done: the service then goes on as it was.
+        Calls go on meanwhile, but for those of about one batch. The log gives way only after a program that was opened from
+        the snapshots has given the same replies to all lines since, and it stays beside the new one until the next
+        compaction. The queues get room for `capacity` tasks; they keep what they have where that is more. Each task that
+        was dispatched and waits has its hint in its queue again, so a worker may be handed `stale` for one that it was
+        handed before. Where such hints would change what was answered since the snapshots, and where queues get more room,
+        polls and dispatch turns wait for the end of the compaction. NotCompacted or NotOpened where it can't be done: the
+        service then goes on as it was.
 
-        With a journal, calls go on meanwhile, and the program with its queues stays: a capacity has no effect.
+        With a journal the program with its queues stays: a capacity has no effect.
         """
         kept = self._kept
         if isinstance(kept, JournaledProgram):
             kept.compactor.compact()
-            return
-        self._pause()
-        try:
-            former = kept.next_generation(capacity)
-            former.end_input()
-            self._reader.join()
-            kept.end(former)
-            self._read_on()
-        finally:
-            with self._changed:
-                self._paused = False
-                self._changed.notify_all()
+        elif self._compactor is not None:
+            self._compactor.compact(capacity)
 
-    def _pause(self) -> None:
-        """Waits until every call that was logged is answered; none is logged from then on."""
+    def _pause(self, is_all_answered: bool) -> None:
+        """Has no line logged from then on, and waits until every call that was logged is handed over, or even answered."""
         with self._changed:
-            while self._paused:
-                self._changed.wait()
             self._paused = True
-            while self._closed is None and (self._writing or self._sent):
+            while self._closed is None and (self._writing or (is_all_answered and self._sent)):
                 self._changed.wait()
             if self._closed is not None:
-                self._paused = False
-                self._changed.notify_all()
+                self._go_on()
                 raise self._closed
+
+    def _go_on(self) -> None:
+        """Has lines logged again."""
+        with self._changed:
+            self._paused = False
+            self._changed.notify_all()
+
+
+class ServedLog:
+    """How a DurableService goes on while its log is compacted. The thread that compacts calls this."""
+
+    def __init__(self, service: DurableService, kept: KeptProgram):
+        self._service, self._kept = service, kept
+
+    def origin(self) -> Origin:
+        """What the program is started with."""
+        return self._kept.origin()
+
+    def look(self) -> int:
+        """The number of the last line that was answered. A fault where the compaction has to stop."""
+        service = self._service
+        with service._changed:
+            if service._closed is not None:
+                raise service._closed
+            if service._compactor is not None and service._compactor.is_closed:
+                raise Ended("the service was closed")
+            return service._answered
+
+    def lines(self) -> int:
+        """How many lines the log has."""
+        return self._kept.lines
+
+    def begin_window(self, window: Window) -> int:
+        """From now on replies are noted in this window. The number of the log's last line, behind which they are."""
+        service = self._service
+        service._pause(is_all_answered=False)
+        with service._changed:
+            service._window = window
+            window.begin(self._kept.lines)
+            service._go_on()
+            return self._kept.lines
+
+    def end_window(self) -> None:
+        """Notes no more, and has asked what was held back."""
+        service = self._service
+        with service._changed:
+            service._window = None
+            service._asked.extendleft(reversed(service._held))
+            service._held.clear()
+            service._changed.notify_all()
+
+    def wake(self) -> None:
+        """Has batches looked at that wait for the program beside."""
+        with self._service._changed:
+            self._service._changed.notify_all()
+
+    def take_part(self, successor: Successor) -> None:
+        """Told what may be killed where the compaction has to stop."""
+        if self._service._compactor is not None:
+            self._service._compactor.take_part(successor)
+
+    def exchange(self, successor: Successor, window: Window) -> None:
+        """Lets all be answered, has the successor finished, and goes on with it."""
+        service, kept = self._service, self._kept
+        service._pause(is_all_answered=True)
+        try:
+            successor.finish(kept.lines, window)
+            former, reader = kept.take_up(successor), service._reader
+            service._answered = kept.lines
+            self.end_window()
+            service._read_on()
+        finally:
+            service._go_on()
+        former.end_input()
+        reader.join()
+        kept.end(former)

@@ -10,7 +10,7 @@
     GET  /api/workflows ?search=TEXT&status=STATUS&type=TYPE&from=MS&until=MS&skip=N: the list as JSON, at most 200
                         rows, the latest first
     GET  /api/queues    the task queues: what waits in each, what workers have, and who polls
-    POST /compact       compacts the log; calls wait meanwhile. Queues get room for `capacity` tasks, where that is more.
+    POST /compact       compacts the log, as it comes by itself too. Queues get room for `capacity` tasks, where that is more.
     GET  /health/live   answers while the server runs
     GET  /health/ready  200 where calls are taken, else 503 and why
     GET  /metrics       counts and times, as text for Prometheus
@@ -38,6 +38,8 @@ from aiohttp import web
 from wfserve.blobs import store_beside
 from wfserve.counts import counted
 from wfserve.durable import DurableService, Settings, read_header
+from wfserve.durable.due import Limits
+from wfserve.durable.heard import heard_in
 from wfserve.durable.kept import KeptProgram
 from wfserve.durable.log import first_line
 from wfserve.errors import Ended, LogFault
@@ -75,7 +77,7 @@ BODY_LIMIT = 1_048_576
 LOCAL = "127.0.0.1"
 OF_THE_EDGE = (
     "The compiled edge, which ./serve-http takes where it is built, has these options but for --compact, and besides --socket, "
-    "--silence, --compact-bytes, --compact-seconds and --standby: edge/target/release/wfedge --help says what they mean."
+    "--silence and --standby: edge/target/release/wfedge --help says what they mean."
 )
 SHORTEST_TOKEN = 16
 SHUTDOWN_SECONDS = 2.0
@@ -92,12 +94,20 @@ class Opened:
         self.attempts, self.blobs, self.last_polls = Attempts(), store_beside(log), LastPolls()
         self.ledger, self.replies = Ledger(settings.shards), Replies()
         self.observe = Observers(self.workflows, self.deadlines, self.attempts, self.last_polls).observe
-        self.kept = KeptProgram([said.program], log, settings, self._replayed)
+        self.kept = KeptProgram([said.program], log, settings, self._replayed, self._go_on_from)
         try:
+            for source, to in self.kept.pairs():
+                self.ledger.met(source, to)
             Recorded(self.kept, self.workflows).add_all()
         except BaseException:
             self.kept.close()
             raise
+
+    def _go_on_from(self, folder: str) -> None:
+        """Takes what lies beside the snapshots."""
+        self.replies.open(folder)
+        for request, reply in heard_in(folder):
+            self.attempts.observe(request, reply)
 
     def _replayed(self, number: int, request: Request, line: bytes, reply: bytes) -> None:
         said = json.loads(reply)
@@ -169,6 +179,7 @@ async def serve(said: argparse.Namespace, opened: Opened) -> int:
     """Serves until it is told to stop, or the program ends for good. The status to end with."""
     core = Core(
         opened.kept, said.queue_limit, opened.observe, Moments(opened.kept.last_moment), opened.ledger, opened.replies,
+        Limits(said.compact_bytes, said.compact_seconds),
     )
     # Known before anybody is told that it serves.
     told_to_stop = stop_signals()
@@ -177,6 +188,7 @@ async def serve(said: argparse.Namespace, opened: Opened) -> int:
     turns = asyncio.create_task(Turns(core, opened.deadlines).run())
     sweeper = Sweeper(core, opened.workflows, opened.blobs, opened.kept.settings.retention)
     sweeping = asyncio.create_task(sweeper.run())
+    compacting = asyncio.create_task(core.compactor.run())
     try:
         stopping = asyncio.create_task(told_to_stop.wait())
         ends: Set["asyncio.Future[Any]"] = {turns, core.over, stopping}
@@ -190,6 +202,8 @@ async def serve(said: argparse.Namespace, opened: Opened) -> int:
         core.closing = True
         turns.cancel()
         sweeping.cancel()
+        compacting.cancel()
+        await core.compactor.close()
         await listening.stop()
         core.close()
 
@@ -222,6 +236,13 @@ def port(text: str) -> int:
     return number
 
 
+def whole(text: str) -> int:
+    """The number that a text is."""
+    if not (text.isascii() and text.isdigit()):
+        raise argparse.ArgumentTypeError(f"{text} is no whole number")
+    return int(text)
+
+
 def words_of(words: List[str]) -> argparse.Namespace:
     parser = argparse.ArgumentParser(
         prog="serve-http", description="A server of workflows, and a page that shows them.", epilog=OF_THE_EDGE,
@@ -238,6 +259,12 @@ def words_of(words: List[str]) -> argparse.Namespace:
     add("--queues", help="the names of a new log's task queues, with commas between them, main by default")
     add("--capacity", type=int, help="how many tasks wait in a queue at most, 1,024 by default; a log's may grow")
     add("--retention", type=int, help="for how many milliseconds a new log's service keeps what has closed, for ever by default")
+    limits = Limits()
+    add("--compact-bytes", type=whole, default=limits.size,
+        help="at how many bytes a log is compacted while it is served, 16,777,216 by default, or at twice as many as its "
+        "snapshots have where that is more; 0 for never")
+    add("--compact-seconds", type=whole, default=int(limits.seconds),
+        help="after how many seconds it is where a sixteenth of that was written, 3,600 by default; 0 for never")
     add("--compact", action="store_true", help="puts snapshots in the place of the log's lines, and ends")
     return parser.parse_args(words)
 
@@ -254,7 +281,7 @@ def settings_of(said: argparse.Namespace, log: str) -> Settings:
 
 def compact(said: argparse.Namespace, log: str) -> int:
     """Compacts a log that is not served."""
-    with DurableService([said.program], log, settings_of(said, log)) as service:
+    with DurableService([said.program], log, settings_of(said, log), compaction=None) as service:
         lines, size = service.lines, service.size
         service.compact()
         now = counted(service.records_size, "byte")

@@ -1,23 +1,21 @@
 """What the server saw of activities' attempts: the history has none of it before an activity ends.
 
 An attempt that is tried again writes no event. The server sees each line and its reply, so it knows the attempt, how
-the last one failed, when the next one is ready and what was told by a heartbeat. What was done before the log's last
-compaction it knows no more. What is asked for here is shown, and decides nothing.
+the last one failed, when the next one is ready and what was told by a heartbeat. A compaction keeps that beside the
+snapshots (../durable/heard.py). What is asked for here is shown, and decides nothing.
 """
 
 from __future__ import annotations
 
 from collections import OrderedDict
 from dataclasses import asdict, dataclass
-from typing import Any, Dict, Optional, Tuple
+from typing import Any, Dict, Optional
 
-from wfserve.ids import TaskKind, numbers_of, token_of
+from wfserve.durable.heard import ENDS, MOST_KEPT, Activity, activity_of
+from wfserve.ids import numbers_of
 from wfserve.types import Json, Reply, Request
 
-# So many activities are remembered. The one of which nothing was heard for the longest time is forgotten first.
-MOST_KEPT = 10_000
 WAITS, STARTED = "waits for a worker", "a worker has it"
-ENDS = ("complete_activity", "cancel_activity")
 
 
 @dataclass
@@ -36,17 +34,13 @@ class Attempt:
     heartbeat_at: Optional[int] = None
 
 
-# The shard, the run's number there, and the event that scheduled the activity.
-Key = Tuple[int, int, int]
-
-
 class Attempts:
     """Told each request and its reply, it knows the attempts of the activities that are pending."""
 
     ops = frozenset({"poll_activity_task", "fail_activity", "heartbeat", *ENDS})
 
     def __init__(self) -> None:
-        self._found: "OrderedDict[Key, Attempt]" = OrderedDict()
+        self._found: "OrderedDict[Activity, Attempt]" = OrderedDict()
         self._told: Dict[str, Any] = {
             "fail_activity": self._failed, "heartbeat": self._beat, **dict.fromkeys(ENDS, self._ended),
         }
@@ -57,7 +51,7 @@ class Attempts:
         if op == "poll_activity_task" and reply.get("ok") == "task":
             self._taken(request, reply)
         elif op in self._told and "ok" in reply:
-            key = key_of(str(request.get("token", "")))
+            key = activity_of(str(request.get("token", "")))
             if key is not None:
                 self._told[op](key, request, reply)
 
@@ -68,13 +62,13 @@ class Attempts:
         return {name: value for name, value in asdict(found).items() if value is not None} if found else {}
 
     def _taken(self, request: Request, reply: Reply) -> None:
-        key = key_of(reply["token"])
+        key = activity_of(reply["token"])
         if key is not None:
             found = self._kept(key)
             found.attempt, found.state, found.since = reply["attempt"], STARTED, request.get("at", 0)
             found.next_try = None
 
-    def _failed(self, key: Key, request: Request, reply: Reply) -> None:
+    def _failed(self, key: Activity, request: Request, reply: Reply) -> None:
         if reply["ok"] != "retrying":
             self._ended(key, request, reply)
             return
@@ -83,24 +77,16 @@ class Attempts:
         found.next_try = reply["ready"]
         found.last_failure, found.last_failure_type = request.get("message"), request.get("error_type")
 
-    def _beat(self, key: Key, request: Request, reply: Reply) -> None:
+    def _beat(self, key: Activity, request: Request, reply: Reply) -> None:
         found = self._kept(key)
         found.heartbeat, found.heartbeat_at = request.get("details"), request.get("at", 0)
 
-    def _ended(self, key: Key, request: Request, reply: Reply) -> None:
+    def _ended(self, key: Activity, request: Request, reply: Reply) -> None:
         self._found.pop(key, None)
 
-    def _kept(self, key: Key) -> Attempt:
+    def _kept(self, key: Activity) -> Attempt:
         found = self._found.setdefault(key, Attempt())
         self._found.move_to_end(key)
         if len(self._found) > MOST_KEPT:
             self._found.popitem(last=False)
         return found
-
-
-def key_of(text: str) -> Optional[Key]:
-    """The activity that a token names; None where it is no activity's."""
-    token = token_of(text)
-    if token is None or token.kind != TaskKind.ACTIVITY:
-        return None
-    return token.shard, token.run, token.event

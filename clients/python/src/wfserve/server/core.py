@@ -17,13 +17,16 @@ import time
 from collections import deque
 from typing import TYPE_CHECKING, Any, Callable, Deque, Dict, Iterable, List, Optional, Set
 
+from wfserve.durable.due import Limits
 from wfserve.durable.kept import KeptProgram
 from wfserve.durable.program import numbered
+from wfserve.durable.window import MOST_HELD, Window, is_by_queues
 from wfserve.errors import Ended, LogFault
 from wfserve.operations import READS
 from wfserve.types import Json, Request
 
 from .calls import Busy, Draining, KeyReused, decoded, wait_of
+from .compacting import Compacted, Compactor
 from .endings import Endings
 from .ledger import TURNS, Ledger, Needed, Turn
 from .lines import Call, Receiver, own_call
@@ -59,7 +62,7 @@ class Core:
 
     def __init__(
         self, kept: KeptProgram, limit: int, observe: Callable[[Json, Json], None], moments: Moments, ledger: Ledger,
-        replies: Replies,
+        replies: Replies, limits: Optional[Limits] = None,
     ):
         self.kept = kept
         self.moments = moments
@@ -85,9 +88,13 @@ class Core:
         self._sent: Deque[Call] = deque()
         self._unsynced: Deque[Call] = deque()
         self._count, self._bytes = 0, 0
+        # While the log is compacted: what the replies since the snapshots are, and the calls that are held back.
+        self.window: Optional[Window] = None
+        self._held: List[Call] = []
+        self._looks = False
         # The number of the last line that was answered, and of the last one that a sync covers.
         self._answered = self._synced = kept.lines
-        # Why no batch is written now: a sync is under way; a compaction, or a program that is started.
+        # Why no batch is written now: a sync is under way; an exchange of the log, or a program that is started.
         self._is_syncing = False
         self._held_by: Set[str] = set()
         self._planned = False
@@ -98,6 +105,7 @@ class Core:
         self._ticks: Set[int] = set()
         self._loop = asyncio.get_running_loop()
         self._syncer = Syncer(self._loop, self._was_synced)
+        self.compactor = Compactor(self, limits)
         self._speak()
 
     # What is asked.
@@ -114,8 +122,13 @@ class Core:
 
     @property
     def compacting(self) -> bool:
-        """Whether calls wait until the log is compacted."""
-        return "compacting" in self._held_by
+        """Whether the log is being compacted."""
+        return self.compactor.is_running
+
+    @property
+    def answered(self) -> int:
+        """The number of the last line that the program has answered."""
+        return self._answered
 
     @property
     def waiting(self) -> int:
@@ -187,6 +200,11 @@ class Core:
         self._planned = False
         if self._held_by or self._is_syncing or self.over.done():
             return
+        if self.window is not None and self.window.is_holding:
+            self._asked = deque(self._without_held(self._asked))
+            self._own = list(self._without_held(self._own))
+        if (self._asked or self._own) and self._waits_for_successor():
+            return
         calls = self._next_calls()
         if calls:
             self._hand_over(self._logged(calls))
@@ -219,6 +237,7 @@ class Core:
             self._pipes.feed(b"\n".join([*[call.line for call in calls], b""]))
         written = self.kept.lines - self._synced
         if written:
+            self.compactor.grown()
             self._is_syncing = True
             self.metrics.batches.add(written)
             self._syncer.sync(self.kept.log, self.kept.lines)
@@ -234,7 +253,7 @@ class Core:
             self.ledger.note(call.request, needed)
         turns = self.ledger.turns(needed)
         self.called = self.called or bool(turns)
-        return calls + [own_call(turn) for turn in turns]
+        return calls + list(self._without_held([own_call(turn) for turn in turns]))
 
     def _line_of(self, call: Call, at: int) -> bytes:
         if not call.is_logged:
@@ -287,6 +306,8 @@ class Core:
                 self._sent.appendleft(call)
                 self._end(Ended(f"line {call.number}: {wrong}"))
                 return
+            if self.window is not None and call.is_logged:
+                self.window.note(call.number, text)
             self._answered = call.number
             handed += self._go_on(call)
         if handed:
@@ -453,8 +474,8 @@ class Core:
         if not self.over.done():
             self.over.set_result(fault)
         self._pipes.close()
-        left = [*self._sent, *self._unsynced, *self._asked, *self._own]
-        for queue in (self._sent, self._unsynced, self._asked, self._own):
+        left = [*self._sent, *self._unsynced, *self._asked, *self._own, *self._held]
+        for queue in (self._sent, self._unsynced, self._asked, self._own, self._held):
             queue.clear()
         for call in left:
             self._fail(call, fault)
@@ -463,37 +484,76 @@ class Core:
 
     # Compaction, and the end.
 
-    async def compact(self, capacity: int) -> None:
-        """Puts snapshots in the place of the log's lines, with that much room in the queues. Calls wait meanwhile."""
-        await self._quiet()
-        self._pipes.close()
-        try:
-            former = await self._loop.run_in_executor(None, self.kept.next_generation, capacity)
-            await self._loop.run_in_executor(None, self.kept.end, former)
-            self._answered = self._synced = self.kept.lines
-            self._endings.answered()
-        finally:
-            self._speak()
-            self._held_by.discard("compacting")
-            self.called = True
-            # Each task that was dispatched and waits is in its queue again, and full queues may have more room now.
-            self.ask_turns(self.ledger.made_room())
-            self._wake(self.polls.wake_all())
+    async def compact(self, capacity: int) -> Compacted:
+        """Puts snapshots in the place of the log's lines, with that much room in the queues. Calls go on meanwhile."""
+        return await self.compactor.compact(capacity)
 
-    async def _quiet(self) -> None:
-        """Has nothing more written, and waits until all that was is synced and answered."""
-        while "compacting" in self._held_by:
-            await asyncio.sleep(0.001)
-        self._held_by.add("compacting")
+    def begin_window(self, window: Window) -> int:
+        """From now on replies are noted in this window. The number of the log's last line, behind which they are."""
+        self.window = window
+        window.begin(self.kept.lines)
+        return self.kept.lines
+
+    def end_window(self) -> None:
+        """Notes no more, and has asked what was held back."""
+        self.window = None
+        self._asked.extendleft(reversed([call for call in self._held if call.turn is None]))
+        self._own += [call for call in self._held if call.turn is not None]
+        self._held.clear()
+        self.plan()
+
+    def _without_held(self, calls: Iterable[Call]) -> Iterable[Call]:
+        """The calls but for those that are held back."""
+        if self.window is None or not self.window.is_holding:
+            return calls
+        found = list(calls)
+        self._held += [call for call in found if is_by_queues(call.request)]
+        return [call for call in found if not is_by_queues(call.request)]
+
+    def _waits_for_successor(self) -> bool:
+        """Whether the next batch waits for a compaction to come nearer. Once it doesn't for a time, it is given up."""
+        window = self.window
+        if window is None or not window.is_far_ahead(self.kept.lines):
+            if window is not None and window.is_given_up:
+                self.compactor.give_up()
+            return False
+        if not self._looks:
+            self._looks = True
+            self._loop.call_later(MOST_HELD / 4, self._look_again)
+        return True
+
+    def _look_again(self) -> None:
+        self._looks = False
+        self.plan()
+
+    async def rest(self) -> None:
+        """Has nothing more written, and waits until all that was is synced and answered. Then the program may be exchanged."""
+        self._held_by.add("exchanging")
         while self._is_syncing or self._sent or "restarting" in self._held_by:
             if self.over.done():
-                self._held_by.discard("compacting")
+                self._held_by.discard("exchanging")
                 raise self.over.result()
             await asyncio.sleep(0.001)
+        self._pipes.close()
+
+    def go_on(self, is_exchanged: bool) -> None:
+        """Serves calls again, by the program that is kept now."""
+        if is_exchanged:
+            self._answered = self._synced = self.kept.lines
+            self._endings.answered()
+            self.metrics.compactions += 1
+        self._speak()
+        self._held_by.discard("exchanging")
+        self.end_window()
+        self.called = True
+        # Each task that was dispatched and waits is in its queue again, and full queues may have more room now.
+        self.ask_turns(self.ledger.made_room())
+        self._wake(self.polls.wake_all())
 
     async def drain(self, seconds: float = DRAIN_SECONDS) -> None:
         """Takes no more calls, ends the polls that wait, and lets those on their way and a compaction be answered."""
         self.closing = True
+        self.compactor.leave_own()
         self.end_polls()
         for waiting in list(self.ends):
             waiting.end()

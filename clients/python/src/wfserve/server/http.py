@@ -203,14 +203,13 @@ class Calls:
         return await waiter.future
 
     async def compact(self, request: web.Request) -> web.Response:
-        """Compacts the log while it is served, with room for so many tasks in its queues. Calls wait meanwhile."""
+        """Compacts the log while it is served, with room for so many tasks in its queues. Calls go on."""
         capacity = capacity_of(await body_of(request, self._read_seconds))
         core, kept = self._core, self._core.kept
         if core.compacting or core.closing:
             return fault(503, "Busy", "the log is being compacted, or the server is told to stop")
-        lines, size = kept.lines, kept.log.size
-        await core.compact(capacity)
-        said = {"lines": lines, "bytes": size, "records": kept.records_size, "capacity": kept.settings.capacity}
+        done = await core.compact(capacity)
+        said = {"lines": done.lines, "bytes": done.size, "records": kept.records_size, "capacity": kept.settings.capacity}
         return web.json_response({"ok": "compacted", **said})
 
 

@@ -58,6 +58,7 @@ class Metrics:
         self.refused: "Counter[str]" = Counter()
         self.again = 0
         self.restarts = 0
+        self.compactions = 0
         self.latency = Histogram(LATENCIES)
         self.syncs = Histogram(SYNCS)
         self.batches = Histogram(BATCHES)
@@ -71,6 +72,7 @@ class Metrics:
         self._count(lines, "refused", "Calls that were not taken, by reason.", ("reason",), refused)
         self._count(lines, "replies_again", "Replies that were given again, by their keys.", (), {(): self.again})
         self._count(lines, "program_restarts", "How often the program was started again.", (), {(): self.restarts})
+        self._count(lines, "compactions", "How often the log was compacted.", (), {(): self.compactions})
         for name, said, histogram in (
             ("call_seconds", "From the arrival of a call that is no poll to its answer.", self.latency),
             ("sync_seconds", "What a sync of the log took.", self.syncs),
