@@ -60,8 +60,11 @@ def cited_in(text: str) -> Iterator[Cited]:
 def places_of(cited: Cited, name: str, crate: str, top: Path) -> list[Path]:
     """The files and folders of a crate, or of any, that this name can mean."""
     folder, end = f"crates/{crate or '*'}/{cited.folder}", FOLDERS[cited.folder]
-    return [path for pattern in (f"{folder}/{name}", f"{folder}/{name}{end}", f"{folder}/**/{name}{end}")
-            for path in top.glob(pattern)]
+    patterns = [f"{folder}/{name}", f"{folder}/{name}{end}", f"{folder}/**/{name}{end}"]
+    if cited.folder == "must-fail":
+        # A wrong body that no run of the whole gate tries.
+        patterns.append(f"{folder}/{name}.md")
+    return [path for pattern in patterns for path in top.glob(pattern)]
 
 
 def faults_of(cited: Cited, context: str, top: Path) -> list[str]:

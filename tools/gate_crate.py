@@ -1,7 +1,8 @@
 """The gate of single crates, for a toolchain whose `rt ci` takes no names.
 
 It makes the same of them on a copy in out/crates: a verdict, which proves a crate, its tests and all below it from
-nothing; then its tests; then its wrong bodies. `rt ci` also runs programs outside the repository, and compares what
+nothing; then its tests; then its wrong bodies, also those that no run of the whole gate tries (`must-fail/*.md`).
+`rt ci` also runs programs outside the repository, and compares what
 two compilers make of them: that is left to it.
 """
 from __future__ import annotations
@@ -35,6 +36,8 @@ def copy(names: list[str]) -> None:
     shutil.rmtree(COPY, ignore_errors=True)
     for name in listed:
         shutil.copytree(TOP / "crates" / name, COPY / "crates" / name, ignore=shutil.ignore_patterns("out"))
+        for seldom in (COPY / "crates" / name / "must-fail").glob("*.md"):
+            seldom.rename(seldom.with_suffix(".edit"))
     (COPY / "crates.txt").write_text("".join(f"{lines[name]}\n" for name in listed), encoding="utf-8")
     shutil.copy(TOP / "HANDLES", COPY / "HANDLES")
 
