@@ -24,6 +24,7 @@ FILES = {
     "crates/high/src/lib.rt": "#[test]\nfn t() {}\n",
     "crates/high/must-fail/a.edit": "new: 1\n",
     "crates/wide/src/lib.rt": "fn g() {}\n",
+    "crates/wide/must-fail/dear.md": "new: 2\n",
 }
 
 
@@ -58,6 +59,20 @@ class Crates(Scratch):
         status, asked, last = self.verdicts("high", "low", fails="verdict")
         self.assertEqual((status, len(asked), last), (1, 4, "gate: FAILED: high (verdict), low (verdict)"))
         self.assertEqual(self.verdicts("high", fails="must-fail")[::2], (1, "gate: FAILED: high (wrong bodies)"))
+
+    def test_wrong_bodies_that_the_whole_gate_leaves_out_are_tried(self):
+        self.assertEqual(self.verdicts("wide")[:2], (0, ["wide: verdict", "crates: must-fail wide"]))
+        self.assertEqual([path.name for path in (self.top / "out/crates/crates/wide/must-fail").iterdir()], ["dear.edit"])
+        self.assertEqual(gate_crate.seldom_tried(["low", "high", "wide"]), ["wide"])
+
+    def test_they_alone_are_tried_where_rt_ci_takes_names(self):
+        asked = self.top / "asked"
+        for fails, status in (("", 0), ("must-fail", 1)):
+            asked.write_text("")
+            with self.with_toolchain(ASKED=str(asked), FAILS=fails), contextlib.redirect_stdout(io.StringIO()):
+                self.assertEqual(gate_crate.wrong_bodies(["wide"]), status)
+                self.assertEqual(gate_crate.wrong_bodies([]), 0)
+            self.assertEqual(asked.read_text().splitlines(), ["crates: must-fail wide"])
 
 
 if __name__ == "__main__":
