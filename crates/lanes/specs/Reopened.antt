@@ -130,12 +130,6 @@ HaltedOver Opened K trace unread held unread' held' = ((unread' ≡ unread) × (
 abbrev pub RanFrom : Settings → Bool → List (List Entry) → (unread held unread' held' : Option (List ℕ)) → Bool → List (List Entry) → Type 0
 RanFrom K trace R = RanOver (IsOpenedFrom K R) (λ x passes opened. opened.held.held) K trace R
 
-abbrev pub HaltedBehind : Settings → List (List Entry) → (unread held unread' held' : Option (List ℕ)) → Type 0
-HaltedBehind K R = BrokeOver (IsOpenedFrom K R) K
-
-abbrev pub HaltedInTrace : Settings → Bool → List (List Entry) → (unread held unread' held' : Option (List ℕ)) → Type 0
-HaltedInTrace K trace R = BrokeInTraceOver (IsOpenedFrom K R) K trace
-
 abbrev pub HaltedFrom : Settings → Bool → List (List Entry) → (unread held unread' held' : Option (List ℕ)) → Type 0
 HaltedFrom K trace R = HaltedOver (IsOpenedFrom K R) K trace
 
