@@ -2,6 +2,7 @@ pub mod AlongLemmas
 pub mod AnswerLemmas
 pub mod BegunLemmas
 pub mod CallLemmas
+pub mod ClosingLemmas
 pub mod CourseLemmas
 pub mod FoundLemmas
 pub mod JournaledLemmas

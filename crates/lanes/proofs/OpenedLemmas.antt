@@ -132,8 +132,11 @@ module _ (Opened : Opening) (x : Service) (ps : List Pass) (opened : Opened x ps
     reached-so : (y : Service) (qs : List Pass) (lines : List Line) (replies : List (Option Reply)) (logs : List (List Entry)) → Reached K R y qs lines replies logs → Reached K S y qs lines replies logs
     reached-so y qs lines replies logs h = record { ends = h.ends; served = h.served; records = records-so h.ends logs h.records; one = h.one }
 
-    pub batches-so : (r r' : Option (List ℕ)) (refused : Bool) → RanInBatches (Exactly x ps) K R r r' refused → RanInBatches Opened K S r r' refused
-    batches-so r r' refused h = record {
+    pub batches-so : (held_by : HintsHeld Opened) (r r' : Option (List ℕ)) (refused : Bool)
+        → ((y : Service) (qs : List Pass) (o : Opened y qs) (slot : ℕ) → slot < 2 * length K.queues → matching.held_at (matching.held_of y.queues) slot ≡ matching.held_at (held_by y qs o) slot)
+        → RanInBatches (Exactly x ps) (hints_of (Exactly x ps)) K R r r' refused → RanInBatches Opened held_by K S r r' refused
+    unfolding reached-so
+    batches-so held_by r r' refused held h = record {
       service = h.service;
       passes = h.passes;
       opened = so h.service h.passes h.opened;
@@ -143,13 +146,15 @@ module _ (Opened : Opening) (x : Service) (ps : List Pass) (opened : Opened x ps
       replies = h.replies;
       logs = h.logs;
       reached = reached-so h.service h.passes _ h.replies h.logs h.reached;
+      queues = λ slot below. subst (λ hints. of_queue.IsEnd hints K.passes (parts_at h.reached.ends slot)) (held h.service h.passes (so h.service h.passes h.opened) slot below) (h.queues slot below);
       refused_is = h.refused_is;
     }
 
-    pub committed-so : {D : Type 0} (tells : D → Type 0) (seen : D → List ℕ) (may_leave : D → List ℕ → List ℕ → Type 0) (r r' : Option (List ℕ)) (told : List ℕ) (journal : Journal D) (refused : Bool)
-        → CommittedInBatches (Exactly x ps) tells seen may_leave K R r r' told journal refused → CommittedInBatches Opened tells seen may_leave K S r r' told journal refused
+    pub committed-so : {D : Type 0} (held_by : HintsHeld Opened) (tells : D → Type 0) (seen : D → List ℕ) (may_leave : D → List ℕ → List ℕ → Type 0) (r r' : Option (List ℕ)) (told : List ℕ) (journal : Journal D) (refused : Bool)
+        → ((y : Service) (qs : List Pass) (o : Opened y qs) (slot : ℕ) → slot < 2 * length K.queues → matching.held_at (matching.held_of y.queues) slot ≡ matching.held_at (held_by y qs o) slot)
+        → CommittedInBatches (Exactly x ps) (hints_of (Exactly x ps)) tells seen may_leave K R r r' told journal refused → CommittedInBatches Opened held_by tells seen may_leave K S r r' told journal refused
     unfolding batches-so
-    committed-so tells seen may_leave r r' told journal refused h = record { ran = batches-so r r' refused h.ran; batches = h.batches; at = h.at; records = h.records }
+    committed-so held_by tells seen may_leave r r' told journal refused held h = record { ran = batches-so held_by r r' refused held h.ran; batches = h.batches; at = h.at; records = h.records }
 
   pub survive-so : {D : Type 0} (moment : D → ℕ) (left_since : D → ℕ → List ℕ → List ℕ → Type 0) (K : Settings) (R S : List (List Entry)) (r r' : Option (List ℕ)) (told : List ℕ) (old new : D) → R ≡ S
       → AllSurviveOver (Exactly x ps) moment left_since K R r r' told old new → AllSurviveOver Opened moment left_since K S r r' told old new
@@ -164,6 +169,9 @@ module _ (Opened : Opening) (x : Service) (ps : List Pass) (opened : Opened x ps
 
 pub held-opened : (K : Settings) (R : List (List Entry)) (x : Service) (passes : List Pass) (o : IsOpenedFrom K R x passes) → 0 < K.passes → (slot : ℕ) → slot < 2 * length K.queues → matching.held_at (matching.held_of x.queues) slot ≡ matching.held_at o.held.held slot
 held-opened K R x passes o some = held-first K o.held.held x passes o.settings (omega (arith, some, o.count)) o.own o.held.fresh
+
+pub held-opens : (source : Source) (K : Settings) (R : List (List Entry)) (x : Service) (passes : List Pass) (h : OpensFrom source K R x passes) (slot : ℕ) → slot < 2 * length K.queues → matching.held_at (matching.held_of x.queues) slot ≡ matching.held_at h.held.held slot
+held-opens source K R x passes h = held-first K h.held.held x passes h.settings (omega (arith, (in-range K h.range).some_pass, h.count)) h.own h.held.fresh
 
 pub held-resumed : (source : Source) (K : Settings) (starts : List Start) (x : Service) (passes : List Pass) (h : Resumes source K starts x passes) (slot : ℕ) → slot < 2 * length K.queues → matching.held_at (matching.held_of x.queues) slot ≡ matching.held_at h.held.held slot
 held-resumed source K starts x passes h = held-first K h.held.held x passes h.settings (omega (arith, (in-range K h.range).some_pass, h.count)) h.own h.held.fresh

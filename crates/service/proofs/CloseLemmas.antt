@@ -1,13 +1,18 @@
 -- how a service is closed
-use Rattle.std.proofs.Common.{◌≡◌, ℕ, ◌<◌, List, Some, subst}
+use Rattle.std.proofs.Common.{◌≡◌, ℕ, ◌*◌, ◌<◌, List, Some, map, length, ap, sym, ◌∙◌, subst, arith}
 use Rattle.std.specs.Prelude.{slice_get}
 use Rattle.service_model.specs.Service.{Entry, after}
 use Rattle.gate.specs.AtClose.{IsEnd, HasDone, IsHistory}
 use Rattle.gate.specs.Passes.{number}
 use Rattle.gate.specs.Records.{grounds_by}
 use Rattle.shard_gate.specs.Grounding.{grounds}
+use Rattle.matching.specs.AtClose as of_queue
+use Rattle.matching.specs.Named as matching
+use Rattle.matching.specs.declared.queues.Queues.{Queues}
+use Rattle.matching.specs.declared.queues.QueuesPass.{QueuesPass}
+use Rattle.service_model.proofs.ListLemmas.{get-map}
 use Rattle.shard_gate.specs.GateViews as gates
-use Rattle.service.specs.AtClose.{base_of}
+use Rattle.service.specs.AtClose.{base_of, held_at, parts_at}
 use Rattle.service.specs.Services.{known_by, IsOpened, IsPassOf}
 use Rattle.service.specs.ServiceViews.{Pass, Service}
 
@@ -30,3 +35,20 @@ pub history-as : (x : Service) (g : gates.GateView) → g ≡ x.gate → IsOpene
 history-as x g same opened logs tickets h =
     let own = subst (λ (y : gates.GateView). gates.IsHistoryOf y logs tickets) same h in
     subst (λ (n : ℕ). IsHistory (grounds_by grounds after (gates.starts_of x.gate)) (base_of x) n logs tickets) opened.slots own
+
+-- ---- the task queues
+
+-- the parts of the service's passes at its queues are passes of these
+pub hints-own : (passes : List Pass) (x : Service) (queues : Queues) → queues ≡ x.queues → ((k : ℕ) (p : Pass) → slice_get passes k ≡ Some p → IsPassOf p x)
+    → (hints : List QueuesPass) → hints ≡ map (λ (p : Pass). p.hints) passes → (k : ℕ) (i : QueuesPass) → slice_get hints k ≡ Some i → matching.IsPassOf i queues
+hints-own passes x queues same own hints are k i there =
+    let (p, place, is) = get-map (λ (p : Pass). p.hints) passes k i (ap (λ t. slice_get t k) (sym are) ∙ there) in
+    subst (λ (q : Queues). matching.IsPassOf i q) (sym same) (subst (λ (q : QueuesPass). matching.IsPassOf q x.queues) (sym is) (own k p place).hints)
+
+-- what came of the queues came of the service's
+pub queues-ended : (passes : List Pass) (x : Service) (queues : Queues) → queues ≡ x.queues → (hints : List QueuesPass) → hints ≡ map (λ (p : Pass). p.hints) passes → IsOpened x
+    → ((slot : ℕ) → slot < 2 * length (matching.names_of queues) → of_queue.IsEnd (matching.held_at (matching.held_of queues) slot) (matching.given_of queues) (matching.parts_at hints slot))
+    → (slot : ℕ) → slot < 2 * length x.settings.queues → of_queue.IsEnd (held_at x slot) x.settings.passes (parts_at passes slot)
+queues-ended passes x queues same hints are opened ended slot below =
+    let all = rw (same, are) at ended in
+    subst (λ (n : ℕ). of_queue.IsEnd (held_at x slot) n (parts_at passes slot)) opened.hint_passes (all slot (omega (arith, below, ap length opened.names)))

@@ -10,7 +10,7 @@ ghost use Rattle.service.specs.ServiceViews.{Pass as PassView};
 use crate::service::{Pass, Service};
 use matching::QueuesPass;
 use service_model_types::limits::MOST_PASSES;
-use shard_gate::{Closed, KeepsShard, ShardObject, ShardPass};
+use shard_gate::{Closed, KeepsShard, ShardGate, ShardObject, ShardPass};
 use std::alloc::{AllocError, Global};
 
 /// Room for all passes on the shards and at the queues.
@@ -49,6 +49,40 @@ fn handed_down<S: ShardObject>(
         all_hints.push_reserved(hints);
     }
     (all, all_hints)
+}
+
+/// The shards of a service whose task queues are closed, with the passes on them: no call reaches them
+/// any more. A process that ends need not drop them.
+#[derive(Drop)]
+pub struct ShardsLeft<S: ShardObject> {
+    gate: ShardGate<S>,
+    passes: Vec<ShardPass<S>>,
+}
+
+impl<S: ShardObject> Service<S> {
+    ghost use Rattle.service.specs.Services.{IsPassOf, known_by, settings_of};
+    ghost use Rattle.service.specs.AtClose.{held_at, parts_at};
+
+    /// Closes the task queues, and leaves the shards as they are. The passes are all that were given.
+    /// Of each task queue there is one list of all hints that were pushed and one of all that were
+    /// popped, in which those of each pass are its own, in order. It takes no memory.
+    pub fn close_queues(self, passes: Vec<Pass<S>>) -> ShardsLeft<S>
+        requires own { (k : ℕ) (p : PassView)
+            → slice_get passes.items k ≡ Some p
+            → IsPassOf p self }
+        requires count { length passes.items ≡ (settings_of self).passes }
+        requires all { (n : ℕ) → n < (settings_of self).passes
+            → (k : ℕ) × (p : PassView) × (slice_get passes.items k ≡ Some p)
+            × (number (known_by p) ≡ n) }
+        ensures queues { (slot : ℕ) → slot < 2 * length (settings_of self).queues
+            → IsEndOfQueue (held_at self slot) (settings_of self).passes
+            (parts_at passes.items slot) }
+    {
+        let (gate, queues, room) = self.into_parts();
+        let (passes, hints) = handed_down(passes, room.into_inner());
+        queues.close(hints);
+        ShardsLeft { gate, passes }
+    }
 }
 
 impl<S: KeepsShard> Service<S> {

@@ -31,6 +31,7 @@ mod transfer_turns;
 mod turns;
 mod workflows;
 
+pub use close::ShardsLeft;
 pub use gate::Refused;
 pub use held::Held;
 pub use laws::{histories_are_in_order, journals_are_opened};

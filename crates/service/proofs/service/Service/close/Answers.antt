@@ -1,12 +1,9 @@
-use Rattle.std.proofs.Common.{ℕ, ap, sym, ◌∙◌, subst, arith}
+use Rattle.std.proofs.Common.{ap, sym, ◌∙◌, subst, arith}
 use Rattle.std.proofs.lemmas.List.{length-map}
 use Rattle.std.specs.Prelude.{slice_get, length}
-use Rattle.matching.specs.Named as matching
-use Rattle.matching.specs.AtClose as of_queue
 use Rattle.shard_gate.specs.GateViews as gates
-use Rattle.service.specs.AtClose.{held_at, parts_at}
 use Rattle.service.specs.ServiceViews.{Pass}
-use Rattle.service.proofs.CloseLemmas.{ends-with, has-done, history-as, opened-by}
+use Rattle.service.proofs.CloseLemmas.{ends-with, has-done, hints-own, history-as, opened-by, queues-ended}
 use Rattle.service_model.proofs.ListLemmas.{get-map, map-get}
 use Rattle.service.proofs.service.Service.close.Goals as goal
 
@@ -36,11 +33,7 @@ close-closed-requires-clause-all g c = λ n below.
 
 pub close-requires : goal.close-requires
 close-requires g c = record {
-  own = λ k i there.
-      let (p, place, is) = get-map (λ (p : Pass). p.hints) c.args.passes.items k i (ap (λ t. slice_get t k) (sym c.handed_down-passes.ensures.hints) ∙ there) in
-      let P : _ → Type 0 = λ q. matching.IsPassOf q c.args.self.queues in
-      let G : _ → Type 0 = λ x. matching.IsPassOf i x in
-      subst G (sym c.into_parts-gate.ensures.queues) (subst P (sym is) (c.requires.own k p place).hints);
+  own = hints-own c.args.passes.items c.args.self _ c.into_parts-gate.ensures.queues c.requires.own _ c.handed_down-passes.ensures.hints;
 }
 
 pub returns-clause-kept : goal.returns-clause-kept
@@ -74,10 +67,6 @@ returns-clause-history g c =
     history-as c.args.self _ c.into_parts-gate.ensures.gate opened _ _ c.close-closed.ensures.history
 
 pub returns-clause-queues : goal.returns-clause-queues
-returns-clause-queues g c = λ slot below.
+returns-clause-queues g c =
     let opened = opened-by c.args.passes.items c.args.self c.into_parts-gate.ensures.some_pass c.requires.own c.requires.all in
-    let x = c.args.self in
-    let count = ap length opened.names in
-    let N : ℕ → Type 0 = λ n. of_queue.IsEnd (held_at x slot) n (parts_at c.args.passes.items slot) in
-    let ended = rw (c.into_parts-gate.ensures.queues, c.handed_down-passes.ensures.hints) at c.close.ensures.ended in
-    subst N opened.hint_passes (ended slot (omega (arith, below, count)))
+    queues-ended c.args.passes.items c.args.self _ c.into_parts-gate.ensures.queues _ c.handed_down-passes.ensures.hints opened c.close.ensures.ended
