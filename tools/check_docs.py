@@ -7,7 +7,8 @@ A name in back quotes, of a document or of a comment in a source of a crate, is 
 files that are no documents, without such comments. A file or a lemma is looked up in its crate (docs_paths.py).
 Names of the toolchain, of its libraries and of Temporal's SDK are listed in tools/known_names.txt. Each file of definitions says in its
 first line whether it is meaning or proof. docs/ARCHITECTURE.md lists the former, and has the table that
-lines_to_believe.py prints: on how many lines each promise rests.
+lines_to_believe.py prints: on how many lines each promise rests. docs/CHANGING.md has the table of places.py: in how
+many files something stands that was added.
 
 docs/rules.ini says where each rule of docs/PROFILE.md stands, and docs/TRACE.md is written from it (docs_rules.py).
 Each of these places has to be there. So have the rules that the head of a source file names. What else the documents
@@ -29,6 +30,7 @@ import docs_claims
 import docs_paths
 import docs_rules
 import lines_to_believe
+import places
 import plain_words
 import readability
 from docs_claims import QUOTED
@@ -157,7 +159,8 @@ def wrong_markers(files: list[Path]) -> list[str]:
     architecture = (TOP / "docs/ARCHITECTURE.md").read_text()
     names = [str(file.relative_to(TOP / "crates").with_suffix("")) for file in meaning]
     unsaid = docs_claims.not_to_be_believed(architecture, names) + lines_to_believe.faults(architecture)
-    return wrong + [f"docs/ARCHITECTURE.md: {fault}" for fault in unsaid]
+    uncounted = places.faults((TOP / "docs/CHANGING.md").read_text())
+    return wrong + [f"docs/ARCHITECTURE.md: {fault}" for fault in unsaid] + [f"docs/CHANGING.md: {fault}" for fault in uncounted]
 
 
 def hard_to_read(document: Path) -> list[str]:
