@@ -1,9 +1,9 @@
-"""The gate of single crates, for a toolchain whose `rt ci` takes no names, and their wrong bodies for any.
+"""The gate of single crates, on a copy in out/crates in which those of their wrong bodies that no run of the whole gate
+tries (`must-fail/*.md`) are as all others.
 
-It makes the same of them on a copy in out/crates: a verdict, which proves a crate, its tests and all below it from
-nothing; then its tests; then its wrong bodies. `rt ci` also runs programs outside the repository, and compares what
-two compilers make of them: that is left to it. In the copy the wrong bodies that no run of the whole gate tries
-(`must-fail/*.md`) are as all others.
+`rt ci NAME..` makes it there. For a toolchain whose `rt ci` takes no names it is made of other commands: a verdict, which
+proves a crate, its tests and all below it from nothing; then its tests; then its wrong bodies. `rt ci` also runs programs
+outside the repository, and compares what two compilers make of them: that is left to it.
 """
 from __future__ import annotations
 
@@ -36,6 +36,7 @@ def copy(names: list[str]) -> None:
     shutil.rmtree(COPY, ignore_errors=True)
     for name in listed:
         shutil.copytree(TOP / "crates" / name, COPY / "crates" / name, ignore=shutil.ignore_patterns("out"))
+    for name in names:
         for seldom in (COPY / "crates" / name / "must-fail").glob("*.md"):
             seldom.rename(seldom.with_suffix(".edit"))
     (COPY / "crates.txt").write_text("".join(f"{lines[name]}\n" for name in listed), encoding="utf-8")
@@ -51,25 +52,6 @@ def steps_of(name: str) -> list[tuple[str, list[str], Path]]:
     if any((folder / "must-fail").glob("*.edit")):
         steps.append(("wrong bodies", ["rt", "must-fail", name], COPY))
     return steps
-
-
-def seldom_tried(names: list[str]) -> list[str]:
-    """Those of these crates that have wrong bodies which no run of the whole gate tries."""
-    return [name for name in names if any((TOP / "crates" / name / "must-fail").glob("*.md"))]
-
-
-def wrong_bodies(names: list[str]) -> int:
-    """Tries all wrong bodies of these crates on a copy. 0 where each was refused, and else 1."""
-    if not names:
-        return 0
-    copy(names)
-    failed = []
-    for name in names:
-        print(f"== {name}: wrong bodies", flush=True)
-        if subprocess.run(["rt", "must-fail", name], cwd=COPY, stdin=subprocess.DEVNULL).returncode:
-            failed.append(name)
-    print(f"gate: NOT REFUSED: wrong bodies of {', '.join(failed)}" if failed else "gate: all wrong bodies refused")
-    return 1 if failed else 0
 
 
 def verdicts(names: list[str]) -> int:

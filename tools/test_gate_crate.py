@@ -63,16 +63,12 @@ class Crates(Scratch):
     def test_wrong_bodies_that_the_whole_gate_leaves_out_are_tried(self):
         self.assertEqual(self.verdicts("wide")[:2], (0, ["wide: verdict", "crates: must-fail wide"]))
         self.assertEqual([path.name for path in (self.top / "out/crates/crates/wide/must-fail").iterdir()], ["dear.edit"])
-        self.assertEqual(gate_crate.seldom_tried(["low", "high", "wide"]), ["wide"])
 
-    def test_they_alone_are_tried_where_rt_ci_takes_names(self):
-        asked = self.top / "asked"
-        for fails, status in (("", 0), ("must-fail", 1)):
-            asked.write_text("")
-            with self.with_toolchain(ASKED=str(asked), FAILS=fails), contextlib.redirect_stdout(io.StringIO()):
-                self.assertEqual(gate_crate.wrong_bodies(["wide"]), status)
-                self.assertEqual(gate_crate.wrong_bodies([]), 0)
-            self.assertEqual(asked.read_text().splitlines(), ["crates: must-fail wide"])
+    def test_those_of_crates_below_are_left_out(self):
+        (self.top / "crates/high/must-fail/dear.md").write_text("new: 3\n")
+        self.verdicts("wide")
+        copied = self.top / "out/crates/crates"
+        self.assertEqual(sorted(path.name for path in copied.glob("*/must-fail/*")), ["a.edit", "dear.edit", "dear.md"])
 
 
 if __name__ == "__main__":
