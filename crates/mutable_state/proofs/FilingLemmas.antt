@@ -1,6 +1,7 @@
 -- what is in use and its first deadlines, as one thing of it changes, goes or comes
-use Rattle.std.proofs.Common.{◌≡◌, ℕ, ◌<◌, Bool, true, false, List, [], ◌∷◌, ◌++◌, filter, slice_index_or, slice_set, slice_get, refl, sym, ap, ◌∙◌, subst}
-use Rattle.std.specs.Prelude.{Option, None, Some, is_some, option_map, option_and_then}
+use Rattle.std.proofs.Common.{◌≡◌, ℕ, ◌<◌, Box, Global, Bool, true, false, List, [], ◌∷◌, ◌++◌, filter, slice_index_or, slice_set, slice_get, refl, sym, ap, ◌∙◌, subst}
+use Rattle.std.specs.Prelude.{Option, None, Some, IfSome, is_some, option_map, option_and_then}
+use Rattle.std.specs.Option.{option_map_or}
 use Rattle.std.specs.FinMap.{FinMap, empty}
 use Rattle.std.specs.List.{AllByRecursion, cons_option}
 use Rattle.std.specs.Ordering.{nat_cmp}
@@ -12,10 +13,12 @@ use Rattle.timeouts.specs.declared.due.Due.{Due}
 use Rattle.timeouts.specs.declared.deadlines.DueId.{DueId}
 use Rattle.timeouts.specs.Places.{known_by}
 use Rattle.timeouts.specs.Slots.{run_due}
+use Rattle.mutable_state.specs.declared.in_use.Lists.{Lists}
 use Rattle.mutable_state.specs.declared.open.Open.{Open}
 use Rattle.mutable_state.specs.declared.rows.Row.{Row}
 use Rattle.mutable_state.specs.Dues.{first_in}
-use Rattle.mutable_state.specs.Opens.{is_unmarked, activity_of, without, marked, unmarked, added, asked_in, noted_in, new_open}
+use Rattle.mutable_state.specs.Listed.{in_lists, AreInOrder}
+use Rattle.mutable_state.specs.Opens.{OpenRows, no_rows, is_unmarked, activity_of, without, marked, unmarked, added, asked_in, noted_in, new_open}
 use Rattle.mutable_state.specs.Rows.{keys, living, AreRising, AreKept, IsNamed, IsRowAt, passes, is_unmarked_at, marked_in, asked_one, noted_one}
 use Rattle.mutable_state.specs.Filed.{AreFiled, HasId, without_id, IsAdded, IsOfEvent}
 use Rattle.mutable_state.proofs.FiledLemmas.{RowDueBy, AreDue, to-rows, refiled, due-set, same-filed, filter-filed, due-filter, more-filed, due-snoc, has-id, empty-filed}
@@ -198,6 +201,12 @@ unmarked-becomes m rs rs' last b is kept =
     let row = kept-filtered is_unmarked_at rs last b false kept.0 (λ none. subst (AllByRecursion (λ (o : Open). o.is_settled ≡ false)) (sym (living-kept is_unmarked rs)) (unmarked-all (living rs))) in
     subst (λ l. Becomes m m rs l last false (unmarked (living rs))) (sym is) (record { kept = (row, files.filed); rows = living-kept is_unmarked rs; dues = files.dues })
 
+-- a row is removed, and then those that are dead
+pub swept-becomes : (m m' : FinMap nat_cmp Due) (rs rs' rs'' : List Row) (last : ℕ) (b : Bool) (os : List Open) → Becomes m m' rs rs' last b os → rs'' ≡ filter is_alive rs' → Becomes m m' rs rs'' last b os
+swept-becomes m m' rs rs' rs'' last b os first is =
+    let then = alive-becomes m' rs' rs'' last b is first.kept in
+    record { kept = then.kept; rows = then.rows ∙ first.rows; dues = λ es h. then.dues es (first.dues es h) }
+
 -- nothing is in use
 pub none-becomes : (m m' : FinMap nat_cmp Due) (rs rs' : List Row) (last : ℕ) → m' ≡ empty → rs' ≡ [] → Becomes m m' rs rs' last false []
 none-becomes m m' rs rs' last none nil = record {
@@ -205,3 +214,10 @@ none-becomes m m' rs rs' last none nil = record {
   rows = ap living nil;
   dues = λ es h. subst (AreDue m' es) (sym nil) refl;
 }
+
+-- the lists that were looked into, where something is in use
+pub lists-are : {o : Option (Box Lists Global)} {b : Box Lists Global} {l : Lists} {v : OpenRows} → Some b ≡ o → l ≡ b.value → option_map_or (λ b. in_lists b.value) o no_rows ≡ v → IfSome o (λ b. AreInOrder b.value) → AreInOrder l × (in_lists l ≡ v)
+lists-are there is view kept = (
+  subst AreInOrder (sym is) (subst (λ o. IfSome o (λ b. AreInOrder b.value)) (sym there) kept),
+  ap in_lists is ∙ ap (λ o. option_map_or (λ b. in_lists b.value) o no_rows) there ∙ view,
+)

@@ -1,5 +1,5 @@
 -- PROOF: the activities of a run as they are asked for
-use Rattle.std.specs.Prelude.{◌≡◌, ℕ, Bool, false, List, [], filter_map, map, Option, option_map}
+use Rattle.std.specs.Prelude.{◌≡◌, ℕ, Bool, false, List, [], map, Option, option_map}
 use Rattle.wf_event.specs.declared.event.Event.{Event}
 use Rattle.service_model.specs.Completion.{is_running_phase}
 use Rattle.service_model.specs.RunState.{RunState, ActivityRow, is_open}
@@ -27,9 +27,6 @@ noted_activities s = map noted_activity s.activities
 -- what is noted of a thing that is kept, where it is an activity
 abbrev pub activity_at : List Event → Open → Option NotedActivity
 activity_at es o = option_map noted_activity (row_at es o)
-
-abbrev pub noted_among : List Event → List Open → List NotedActivity
-noted_among es os = filter_map (activity_at es) os
 
 -- a run that has closed has no activity
 abbrev pub HasNoActivityClosed : RunState → Type 0

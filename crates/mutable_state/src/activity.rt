@@ -1,16 +1,14 @@
 //! The activities of a run, as they are asked for.
 
 ghost use Rattle.std.specs.Prelude.{◌≡◌, filter_map, IfOk};
-ghost use Rattle.mutable_state.specs.Activities.{noted_activity, noted_activities, noted_among, activity_at};
+ghost use Rattle.mutable_state.specs.Activities.{noted_activity, noted_activities, activity_at};
 ghost use Rattle.mutable_state.specs.Noted.{kept_row};
 ghost use Rattle.mutable_state.specs.Rows.{activity_in};
 
-use crate::in_use::InUse;
 use crate::notes::Notes;
 use crate::open::Open;
 use crate::rows::Row;
 use crate::run::Run;
-use crate::table::Table;
 use buffered::History;
 use std::alloc::{AllocError, Global};
 use wf_event::{Class, Event};
@@ -58,40 +56,7 @@ impl Run {
     pub fn noted_activities(&self, alloc: Global) -> Result<Vec<NotedActivity>, AllocError>
         ensures { IfOk result (λ noted. noted.items ≡ noted_activities self.now.state) }
     {
-        self.in_use.noted(alloc, &self.history)
-    }
-}
-
-impl Table {
-    /// What is noted of those things in use that are activities, in the order in which they were
-    /// scheduled.
-    pub(crate) fn noted(
-        &self,
-        alloc: Global,
-        history: &History,
-    ) -> Result<Vec<NotedActivity>, AllocError>
-        ensures { IfOk result (λ noted.
-            noted.items ≡ noted_among history.now.lists.events self.now.rows) }
-    {
-        noted_among(alloc, self.rows.as_slice(), history)
-    }
-}
-
-impl InUse {
-    /// What is noted of those things in use that are activities, in the order in which they were
-    /// scheduled.
-    pub(crate) fn noted(
-        &self,
-        alloc: Global,
-        history: &History,
-    ) -> Result<Vec<NotedActivity>, AllocError>
-        ensures { IfOk result (λ noted.
-            noted.items ≡ noted_among history.now.lists.events self.now.rows) }
-    {
-        match &self.table {
-            Some(table) => table.noted(alloc, history),
-            None => Ok(Vec::new(alloc)),
-        }
+        noted_among(alloc, self.in_use.rows(), &self.history)
     }
 }
 

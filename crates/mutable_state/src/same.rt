@@ -11,7 +11,6 @@ use crate::open::Open;
 use crate::requests::Requests;
 use crate::rows::Row;
 use crate::run::Run;
-use crate::table::Table;
 use service_model_types::journal::CancelRequest;
 use service_model_types::phase::{ActivityPhase, TaskPhase};
 use std::alloc::{AllocError, Global};
@@ -54,33 +53,14 @@ impl Requests {
     }
 }
 
-impl Table {
-    /// What is in use.
-    fn opens(&self, alloc: Global) -> Result<Vec<&Open>, AllocError>
-        ensures { IfOk result (λ opens. copied opens.items ≡ self.now.rows) }
-    {
-        opens_in(alloc, self.rows.as_slice())
-    }
-}
-
 impl InUse {
     /// Whether the same is in use in two runs.
     fn is_same(&self, alloc: Global, other: &InUse) -> Result<bool, AllocError>
         ensures { IfOk result (λ same. IsTrue same → self.now.rows ≡ other.now.rows) }
     {
-        let ours = self.opens(alloc)?;
-        let theirs = other.opens(alloc)?;
+        let ours = opens_in(alloc, self.rows())?;
+        let theirs = opens_in(alloc, other.rows())?;
         Ok(are_same(ours.as_slice(), theirs.as_slice()))
-    }
-
-    /// What is in use.
-    fn opens(&self, alloc: Global) -> Result<Vec<&Open>, AllocError>
-        ensures { IfOk result (λ opens. copied opens.items ≡ self.now.rows) }
-    {
-        match &self.table {
-            Some(table) => table.opens(alloc),
-            None => Ok(Vec::new(alloc)),
-        }
     }
 }
 

@@ -2,16 +2,14 @@
 
 ghost use Rattle.std.specs.Prelude.{◌≡◌, filter_map, map, option_map, IfOk};
 ghost use Rattle.mutable_state.specs.Activities.{row_said};
-ghost use Rattle.mutable_state.specs.Opens.{row_at, rows_in};
+ghost use Rattle.mutable_state.specs.Opens.{row_at};
 ghost use Rattle.mutable_state.specs.RunView.{texts};
 ghost use Rattle.mutable_state.specs.Whole.{activity_row_in};
 
 use crate::activity::Activity;
-use crate::in_use::InUse;
 use crate::open::Open;
 use crate::rows::Row;
 use crate::run::Run;
-use crate::table::Table;
 use buffered::History;
 use std::alloc::{AllocError, Global};
 use wf_event::Class;
@@ -32,38 +30,7 @@ impl Run {
     pub fn activities(&self, alloc: Global) -> Result<Vec<Activity>, AllocError>
         ensures { IfOk result (λ found. map row_said found.items ≡ self.now.state.activities) }
     {
-        self.in_use.activities(alloc, &self.history)
-    }
-}
-
-impl Table {
-    /// Copies of those things in use that are activities, in the order in which they were scheduled.
-    pub(crate) fn activities(
-        &self,
-        alloc: Global,
-        history: &History,
-    ) -> Result<Vec<Activity>, AllocError>
-        ensures { IfOk result (λ found.
-            map row_said found.items ≡ rows_in self.now.rows history.now.lists.events) }
-    {
-        activities_among(alloc, self.rows.as_slice(), history)
-    }
-}
-
-impl InUse {
-    /// Copies of those things in use that are activities, in the order in which they were scheduled.
-    pub(crate) fn activities(
-        &self,
-        alloc: Global,
-        history: &History,
-    ) -> Result<Vec<Activity>, AllocError>
-        ensures { IfOk result (λ found.
-            map row_said found.items ≡ rows_in self.now.rows history.now.lists.events) }
-    {
-        match &self.table {
-            Some(table) => table.activities(alloc, history),
-            None => Ok(Vec::new(alloc)),
-        }
+        activities_among(alloc, self.in_use.rows(), &self.history)
     }
 }
 

@@ -12,7 +12,7 @@ close-requires g c = record {
   own = hints-own c.args.passes.items c.args.self _ c.into_parts-gate.ensures.queues c.requires.own _ c.handed_down-passes.ensures.hints;
 }
 
-pub returns-clause-queues : goal.returns-clause-queues
-returns-clause-queues g c =
+pub returns : goal.returns
+returns g c =
     let opened = opened-by c.args.passes.items c.args.self c.into_parts-gate.ensures.some_pass c.requires.own c.requires.all in
-    queues-ended c.args.passes.items c.args.self _ c.into_parts-gate.ensures.queues _ c.handed_down-passes.ensures.hints opened c.close.ensures.ended
+    record { queues = queues-ended c.args.passes.items c.args.self _ c.into_parts-gate.ensures.queues _ c.handed_down-passes.ensures.hints opened c.close.ensures.ended }

@@ -1,0 +1,51 @@
+use Rattle.std.proofs.Common.{◌∙◌, sym, ap, subst}
+use Rattle.std.specs.Prelude.{Some, None}
+use Rattle.std.specs.List.{AllByRecursion}
+use Rattle.mutable_state.specs.Filed.{KeepsDues}
+use Rattle.mutable_state.specs.Opens.{OpenRows, asked_in}
+use Rattle.mutable_state.specs.Rows.{keys, AreRising, IsNamed, HasRow, IsRowAt}
+use Rattle.mutable_state.proofs.FilingLemmas.{lists-are, ask-becomes}
+use Rattle.mutable_state.proofs.RowLemmas.{asked-none}
+use Rattle.mutable_state.proofs.in_use.InUse.ask.Goals as goal
+
+pub place_at-requires-clause-rising : goal.place_at-requires-clause-rising
+place_at-requires-clause-rising c =
+    let l = c.as_mut-lists.result.now in
+    let at = lists-are c.in-Some.ensures.value c.as_mut-lists.ensures.value c.self.view_is c.self.invariant in
+    subst (λ rs. AreRising (keys rs)) (sym c.as_slice.ensures.value) at.0.0.rising
+
+pub place_at-requires-clause-named : goal.place_at-requires-clause-named
+place_at-requires-clause-named c =
+    let l = c.as_mut-lists.result.now in
+    let at = lists-are c.in-Some.ensures.value c.as_mut-lists.ensures.value c.self.view_is c.self.invariant in
+    subst (λ rs. AllByRecursion IsNamed rs) (sym c.as_slice.ensures.value) at.0.0.named
+
+pub returns-in_default-place_at-clause-rows : goal.returns-in_default-place_at-clause-rows
+returns-in_default-place_at-clause-rows c =
+    let l = c.as_mut-lists.result.now in
+    let at = lists-are c.in-Some.ensures.value c.as_mut-lists.ensures.value c.self.view_is c.self.invariant in
+    let none = subst (λ k. HasRow k l.rows.items None) c.activity_of.ensures (subst (λ rs. HasRow c.activity_of.result rs None) c.as_slice.ensures.value c.in_default-place_at.ensures) in
+    asked-none c.in-Some-asked.activity l.rows.items none ∙ ap (λ (v : OpenRows). asked_in (Some c.in-Some-asked.activity) v.rows) at.1
+    ∙ ap (λ o. asked_in o c.args.self.now.rows) (sym c.in-Some-asked.is)
+
+pub invariant_of-self-2 : goal.invariant_of-self-2
+invariant_of-self-2 c =
+    let l = c.as_mut-lists.result.now in
+    let at = lists-are c.in-Some.ensures.value c.as_mut-lists.ensures.value c.self.view_is c.self.invariant in
+    let h = subst (λ rs. IsRowAt c.activity_of.result rs c.in-Some-place_at.place) c.as_slice.ensures.value c.in-Some-place_at.ensures in
+    (ask-becomes l.deadlines.members c.in-Some-asked.activity c.activity_of.result l.rows.items l.last l.has_marked c.in-Some-place_at.place c.index_mut.result.now c.ask.new.self at.0 c.activity_of.ensures h c.index_mut.ensures.value c.ask.ensures).kept
+
+pub returns-clause-rows : goal.returns-clause-rows
+returns-clause-rows c =
+    let l = c.as_mut-lists.result.now in
+    let at = lists-are c.in-Some.ensures.value c.as_mut-lists.ensures.value c.self.view_is c.self.invariant in
+    let h = subst (λ rs. IsRowAt c.activity_of.result rs c.in-Some-place_at.place) c.as_slice.ensures.value c.in-Some-place_at.ensures in
+    (ask-becomes l.deadlines.members c.in-Some-asked.activity c.activity_of.result l.rows.items l.last l.has_marked c.in-Some-place_at.place c.index_mut.result.now c.ask.new.self at.0 c.activity_of.ensures h c.index_mut.ensures.value c.ask.ensures).rows
+    ∙ ap (λ (v : OpenRows). asked_in (Some c.in-Some-asked.activity) v.rows) at.1 ∙ ap (λ o. asked_in o c.args.self.now.rows) (sym c.in-Some-asked.is)
+
+pub returns-clause-dues : goal.returns-clause-dues
+returns-clause-dues c = λ es keeps.
+    let l = c.as_mut-lists.result.now in
+    let at = lists-are c.in-Some.ensures.value c.as_mut-lists.ensures.value c.self.view_is c.self.invariant in
+    let h = subst (λ rs. IsRowAt c.activity_of.result rs c.in-Some-place_at.place) c.as_slice.ensures.value c.in-Some-place_at.ensures in
+    (ask-becomes l.deadlines.members c.in-Some-asked.activity c.activity_of.result l.rows.items l.last l.has_marked c.in-Some-place_at.place c.index_mut.result.now c.ask.new.self at.0 c.activity_of.ensures h c.index_mut.ensures.value c.ask.ensures).dues es (subst (KeepsDues es) (sym at.1) keeps)
