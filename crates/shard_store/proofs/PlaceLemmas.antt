@@ -1,6 +1,6 @@
 -- what is known of no run
 use Rattle.std.proofs.Common.{◌≡◌, ◌≢◌, ℕ, true, false, List, [], ◌∷◌, ◌++◌, refl, sym, ap, ◌∙◌, subst, Option, Some, None, zero, suc}
-use Rattle.std.specs.Prelude.{drop, filter_map}
+use Rattle.std.specs.Prelude.{drop, filter_map, is_some}
 use Rattle.std.specs.Option.{option_map_or}
 use Rattle.wf_event.specs.declared.event.Event.{Event}
 use Rattle.wf_event_values.specs.Run.{Run}
@@ -48,6 +48,11 @@ is-empty f o v is none = sym is ∙ ap (λ x. option_map_or f x empty_place) non
 
 pub is-full : {A : Type 0} (f : A → RunView) (o : Option A) (v : RunView) (x : A) → option_map_or f o empty_place ≡ v → o ≡ Some x → f x ≡ v
 is-full f o v x is some = sym (ap (λ y. option_map_or f y empty_place) some) ∙ is
+
+-- where a place isn't empty a run is
+pub full-some : {A : Type 0} (f : A → RunView) (o : Option A) (v : RunView) → option_map_or f o empty_place ≡ v → v ≢ empty_place → is_some o ≡ true
+full-some f None v is full = absurd (full (sym is))
+full-some f (Some x) v is full = refl
 
 pub none-there : is_there no_run ≡ false
 none-there = ap is_there none-known

@@ -19,9 +19,9 @@ use mutable_state::{PlannedFacts, StepFacts};
 use mutable_state_keeper::KeepsRun;
 use service_model_types::journal::Fact;
 use std::alloc::AllocError;
-use task_completion::Completion;
+use task_completion::{Completion, plan_completion, plan_failure};
 use wf_command::Command;
-use wf_event_values::{Items, Moment, Text};
+use wf_event_values::{Cause, Items, Moment, Text};
 
 impl<T: KeepsRun> Store<T> {
     /// Makes room for a step's facts in the run at a place.
@@ -36,7 +36,8 @@ impl<T: KeepsRun> Store<T> {
     {
         self.catch_up()?;
         let place = self.runs.place_mut(index);
-        place.prepare(more)
+        let run = place.get_mut();
+        run.prepare(more)
     }
 
     /// The history of the run at a place, of which others may have a share.
@@ -46,7 +47,8 @@ impl<T: KeepsRun> Store<T> {
         ensures events { IfOk result (λ events. events ≡ (run_in self.old index).shown) }
     {
         let place = self.runs.place_mut(index);
-        place.share_events(self.alloc)
+        let run = place.get_mut();
+        run.share_events(self.alloc)
     }
 
     /// What a step's facts add to the run at a place, with room for them.
@@ -83,7 +85,8 @@ impl<T: KeepsRun> Store<T> {
         self.catch_up()?;
         let next = self.run_id(self.runs.len());
         let place = self.runs.place_mut(index);
-        place.complete(self.alloc, &self.setup, next, commands, moment)
+        let run = place.get_mut();
+        plan_completion(self.alloc, run, &self.setup, next, commands, moment)
     }
 
     /// Plans the failure of the started task of the run at a place.
@@ -103,7 +106,9 @@ impl<T: KeepsRun> Store<T> {
             WorkflowWorkerUnhandledFailure message) plan) }
     {
         self.catch_up()?;
+        let cause = Cause::WorkflowWorkerUnhandledFailure;
         let place = self.runs.place_mut(index);
-        place.fail(self.alloc, message, moment)
+        let run = place.get_mut();
+        plan_failure(self.alloc, run, cause, message, moment)
     }
 }

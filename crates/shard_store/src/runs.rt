@@ -145,6 +145,7 @@ impl<T: KeepsRun> Runs<T> {
         requires { slice_index_or self.old.items index empty_place ≢ empty_place }
         ensures* writes_back { sem 𝓛 (lends_run T.row T.KeepsRun self.entry index result) }
         ensures value { result.now ≡ slice_index_or self.old.items index result.now }
+        ensures full { result.now ≢ empty_place }
     {
         let slot = self.slots.get(index);
         &mut self.kept[slot]

@@ -8,6 +8,7 @@ use crate::runs::Runs;
 use crate::store::Store;
 use mutable_state_keeper::KeepsRun;
 use service_model_types::content::{Dispatch, Setup};
+use shard_issued::waiting_tasks;
 use std::alloc::{AllocError, Global};
 
 impl<T: KeepsRun> Store<T> {
@@ -44,7 +45,10 @@ fn waiting_in<T: KeepsRun>(
     let mut waiting = Vec::new(alloc);
     for index in 0..runs.len() {
         let place = &runs[index];
-        let mut found = place.waiting(alloc, setup, index as u64 + 1)?;
+        let Some(run) = place.run() else {
+            continue;
+        };
+        let mut found = waiting_tasks(alloc, setup, run, index as u64 + 1)?;
         waiting.append(&mut found)?;
     }
     Ok(waiting)

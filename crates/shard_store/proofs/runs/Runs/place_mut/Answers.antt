@@ -50,5 +50,5 @@ returns g c =
             let one = ap (λ s. map (in_slot (slice_set t.kept.items s w)) t.slots.items) a.is ∙ items-written t.slots.items t.places.items t.kept.items k w c.self.invariant a.low a.some ∙ ap (λ l. slice_set l k w) items in
             λ i. record { items = one i; room = ap (λ (v : RunsView). v.room) c.self.view_is i },
       ),
-      record { writes_back = tt; value = sym read ∙ get_or_default c.args.self.now.items k empty_place c.index_mut.result.now within },
+      record { writes_back = tt; value = sym read ∙ get_or_default c.args.self.now.items k empty_place c.index_mut.result.now within; full = λ none. c.requires (read ∙ none) },
     )

@@ -1,5 +1,6 @@
 use Rattle.std.proofs.Common.{◌<◌, ◌∙◌, length, length-set, ap, sym}
 use Rattle.service_model.specs.RunState.{RunState}
+use Rattle.mutable_state.specs.RunView.{RunView}
 use Rattle.shard_issued.specs.Issuing.{all_waiting}
 use Rattle.shard_issued.specs.Sending.{all_outgoing}
 use Rattle.shard_issued.proofs.EachLemmas.{each-same}
@@ -15,17 +16,17 @@ invariant_of-self g c =
     let there : c.args.index < length c.self.inside.runs.items = rw (ap (λ v. v.runs) c.self.view_is ∙ c.in_ok-catch_up.ensures.runs) c.requires.there in
     let was = c.place_mut-place.ensures.value in (
       c.self.invariant.0,
-      indexed-same _ c.self.inside.runs.items c.args.index _ c.complete.new.self there was c.complete.ensures.same c.self.invariant.1,
+      indexed-same _ c.self.inside.runs.items c.args.index _ c.plan_completion.new.run there was (c.plan_completion.ensures.same ∙ ap (λ (v : RunView). v.state) c.get_mut-run.ensures.value) c.self.invariant.1,
       rw length-set c.self.invariant.2,
-      each-same _ _ _ _ (states-same c.self.inside.runs.items c.args.index _ c.complete.new.self there was c.complete.ensures.same) c.self.invariant.3,
-      each-same _ _ _ _ (states-same c.self.inside.runs.items c.args.index _ c.complete.new.self there was c.complete.ensures.same) c.self.invariant.4,
+      each-same _ _ _ _ (states-same c.self.inside.runs.items c.args.index _ c.plan_completion.new.run there was (c.plan_completion.ensures.same ∙ ap (λ (v : RunView). v.state) c.get_mut-run.ensures.value)) c.self.invariant.3,
+      each-same _ _ _ _ (states-same c.self.inside.runs.items c.args.index _ c.plan_completion.new.run there was (c.plan_completion.ensures.same ∙ ap (λ (v : RunView). v.state) c.get_mut-run.ensures.value)) c.self.invariant.4,
       rw length-set c.self.invariant.5,
     )
 
 pub returns-clause-same : goal.returns-clause-same
 returns-clause-same g c =
     let there : c.args.index < length c.self.inside.runs.items = rw (ap (λ v. v.runs) c.self.view_is ∙ c.in_ok-catch_up.ensures.runs) c.requires.there in
-    rw (← c.in_ok-catch_up.ensures.same, ← c.self.view_is) (ap (λ t. record { setup = c.self.inside.setup; runs = t; last = c.self.inside.last; waiting = all_waiting c.self.inside.setup c.self.inside.dispatches c.self.inside.changed t; outgoing = all_outgoing c.self.inside.setup c.self.inside.transfers t; accepted = c.self.inside.transfers.accepted }) (states-same c.self.inside.runs.items c.args.index _ c.complete.new.self there c.place_mut-place.ensures.value c.complete.ensures.same))
+    rw (← c.in_ok-catch_up.ensures.same, ← c.self.view_is) (ap (λ t. record { setup = c.self.inside.setup; runs = t; last = c.self.inside.last; waiting = all_waiting c.self.inside.setup c.self.inside.dispatches c.self.inside.changed t; outgoing = all_outgoing c.self.inside.setup c.self.inside.transfers t; accepted = c.self.inside.transfers.accepted }) (states-same c.self.inside.runs.items c.args.index _ c.plan_completion.new.run there c.place_mut-place.ensures.value (c.plan_completion.ensures.same ∙ ap (λ (v : RunView). v.state) c.get_mut-run.ensures.value)))
 
 pub place_mut-place-requires : goal.place_mut-place-requires
 place_mut-place-requires g c =

@@ -20,17 +20,17 @@ invariant_of-self g c =
     let there : c.args.index < length c.self.inside.runs.items = run-within c.args.self.now c.self.inside.runs.items c.args.index (ap (λ v. v.runs) c.self.view_is ∙ c.in_ok-catch_up.ensures.runs) c.requires in
     let was = c.place_mut-place.ensures.value in (
       c.self.invariant.0,
-      indexed-same _ c.self.inside.runs.items c.args.index _ c.prepare.new.self there was c.prepare.ensures.same c.self.invariant.1,
+      indexed-same _ c.self.inside.runs.items c.args.index _ c.prepare.new.self there was (c.prepare.ensures.same ∙ ap (λ (v : RunView). v.state) c.get_mut-run.ensures.value) c.self.invariant.1,
       rw length-set c.self.invariant.2,
-      each-same _ _ _ _ (states-same c.self.inside.runs.items c.args.index _ c.prepare.new.self there was c.prepare.ensures.same) c.self.invariant.3,
-      each-same _ _ _ _ (states-same c.self.inside.runs.items c.args.index _ c.prepare.new.self there was c.prepare.ensures.same) c.self.invariant.4,
+      each-same _ _ _ _ (states-same c.self.inside.runs.items c.args.index _ c.prepare.new.self there was (c.prepare.ensures.same ∙ ap (λ (v : RunView). v.state) c.get_mut-run.ensures.value)) c.self.invariant.3,
+      each-same _ _ _ _ (states-same c.self.inside.runs.items c.args.index _ c.prepare.new.self there was (c.prepare.ensures.same ∙ ap (λ (v : RunView). v.state) c.get_mut-run.ensures.value)) c.self.invariant.4,
       rw length-set c.self.invariant.5,
     )
 
 pub returns-clause-same : goal.returns-clause-same
 returns-clause-same g c =
     let there : c.args.index < length c.self.inside.runs.items = run-within c.args.self.now c.self.inside.runs.items c.args.index (ap (λ v. v.runs) c.self.view_is ∙ c.in_ok-catch_up.ensures.runs) c.requires in
-    rw (← c.in_ok-catch_up.ensures.same, ← c.self.view_is) (ap (λ t. record { setup = c.self.inside.setup; runs = t; last = c.self.inside.last; waiting = all_waiting c.self.inside.setup c.self.inside.dispatches c.self.inside.changed t; outgoing = all_outgoing c.self.inside.setup c.self.inside.transfers t; accepted = c.self.inside.transfers.accepted }) (states-same c.self.inside.runs.items c.args.index _ c.prepare.new.self there c.place_mut-place.ensures.value c.prepare.ensures.same))
+    rw (← c.in_ok-catch_up.ensures.same, ← c.self.view_is) (ap (λ t. record { setup = c.self.inside.setup; runs = t; last = c.self.inside.last; waiting = all_waiting c.self.inside.setup c.self.inside.dispatches c.self.inside.changed t; outgoing = all_outgoing c.self.inside.setup c.self.inside.transfers t; accepted = c.self.inside.transfers.accepted }) (states-same c.self.inside.runs.items c.args.index _ c.prepare.new.self there c.place_mut-place.ensures.value (c.prepare.ensures.same ∙ ap (λ (v : RunView). v.state) c.get_mut-run.ensures.value)))
 
 pub returns-in_err-catch_up-clause-there : goal.returns-in_err-catch_up-clause-there
 returns-in_err-catch_up-clause-there g c = run-within c.args.self.now c.catch_up.new.self.runs c.args.index c.in_err-catch_up.ensures.runs c.requires
@@ -40,13 +40,6 @@ place_mut-place-requires g c =
     let runs = c.self.inside.runs.items in
     let is = ap (λ (v : ShardView). v.runs) c.self.view_is ∙ c.in_ok-catch_up.ensures.runs in
     there-full _ (ap is_there (run-at c.args.self.now runs c.args.index empty_place is (run-within c.args.self.now runs c.args.index is c.requires)) ∙ c.requires)
-
-pub prepare-requires : goal.prepare-requires
-prepare-requires g c =
-    let runs = c.self.inside.runs.items in
-    let is = ap (λ (v : ShardView). v.runs) c.self.view_is ∙ c.in_ok-catch_up.ensures.runs in
-    let low = run-within c.args.self.now runs c.args.index is c.requires in
-    ap (λ (v : RunView). is_there v.state) c.place_mut-place.ensures.value ∙ ap is_there (run-at c.args.self.now runs c.args.index c.place_mut-place.result.now is low) ∙ c.requires
 
 pub returns-clause-there : goal.returns-clause-there
 returns-clause-there g c =
