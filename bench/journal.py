@@ -3,7 +3,7 @@
 
 Usage: bench/journal.py [--program PROGRAM] [--folder DIR] [--scale S] [--rounds N] [PART..]
 
-    lanes      lines of a file, read 1 MiB at a time: with a journal, and without one
+    lanes      lines of a file, read 512 KiB at a time: with a journal, and without one
     batches    the same lines by a pipe, so that one read gives 64 KiB at most
     caller     a caller who waits for each reply, beside one of a C program that writes as many bytes over zeros and
                syncs each, and beside that program when nobody calls it
