@@ -7,6 +7,7 @@
 //! `run_resumed` from shards that are given. All give the record of each shard.
 #![tactic(auto)]
 
+mod batch;
 mod fault;
 mod journaled;
 pub mod laws;
