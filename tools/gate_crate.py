@@ -37,14 +37,15 @@ def copied(names: list[str]) -> Iterator[Path]:
 
 
 def copy(names: list[str], to: Path) -> None:
-    """Makes the copy in this folder."""
+    """Makes the copy in this folder. Crates that they stand on have no wrong bodies there."""
     lines, below = build_program.lines_of_crates()
     listed: list[str] = []
     for name in names:
         if name not in listed:
             build_program.needed(name, below, listed)
     for name in listed:
-        shutil.copytree(TOP / "crates" / name, to / "crates" / name, ignore=shutil.ignore_patterns("out"))
+        left_out = ("out",) if name in names else ("out", "must-fail")
+        shutil.copytree(TOP / "crates" / name, to / "crates" / name, ignore=shutil.ignore_patterns(*left_out))
     for name in names:
         for seldom in (to / "crates" / name / "must-fail").glob("*.md"):
             seldom.rename(seldom.with_suffix(".edit"))

@@ -83,7 +83,7 @@ class Crates(Scratch):
         (self.top / "crates/high/must-fail/dear.md").write_text("new: 3\n")
         self.verdicts("wide")
         copied = self.top / "copy/crates"
-        self.assertEqual(sorted(path.name for path in copied.glob("*/must-fail/*")), ["a.edit", "dear.edit", "dear.md"])
+        self.assertEqual(sorted(path.name for path in copied.glob("*/must-fail/*")), ["dear.edit"])
 
 
 if __name__ == "__main__":
