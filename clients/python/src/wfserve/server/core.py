@@ -15,12 +15,13 @@ import json
 import logging
 import time
 from collections import deque
-from typing import TYPE_CHECKING, Any, Callable, Deque, Dict, Iterable, List, Optional, Set
+from typing import TYPE_CHECKING, AbstractSet, Any, Callable, Deque, Dict, Iterable, List, Optional, Set
 
 from wfserve.durable.due import Limits
 from wfserve.durable.kept import KeptProgram
 from wfserve.durable.program import numbered
-from wfserve.durable.window import MOST_HELD, Window, is_by_queues
+from wfserve.durable.queues import DISPATCH_TURN, Asked, QueueLengths, asked_of
+from wfserve.durable.window import MOST_HELD, Window
 from wfserve.errors import Ended, LogFault
 from wfserve.operations import READS
 from wfserve.types import Json, Request
@@ -91,6 +92,7 @@ class Core:
         # While the log is compacted: what the replies since the snapshots are, and the calls that are held back.
         self.window: Optional[Window] = None
         self._held: List[Call] = []
+        self._lengths = QueueLengths(kept.is_new)
         self._looks = False
         # The number of the last line that was answered, and of the last one that a sync covers.
         self._answered = self._synced = kept.lines
@@ -200,9 +202,9 @@ class Core:
         self._planned = False
         if self._held_by or self._is_syncing or self.over.done():
             return
-        if self.window is not None and self.window.is_holding:
+        if self.window is not None and self.window.held:
             self._asked = deque(self._without_held(self._asked))
-            self._own = list(self._without_held(self._own))
+            self._own = self._without_held(self._own)
         if (self._asked or self._own) and self._waits_for_successor():
             return
         calls = self._next_calls()
@@ -253,7 +255,7 @@ class Core:
             self.ledger.note(call.request, needed)
         turns = self.ledger.turns(needed)
         self.called = self.called or bool(turns)
-        return calls + list(self._without_held([own_call(turn) for turn in turns]))
+        return calls + self._without_held([own_call(turn) for turn in turns])
 
     def _line_of(self, call: Call, at: int) -> bytes:
         if not call.is_logged:
@@ -320,6 +322,8 @@ class Core:
         request, reply, handed = call.request, call.reply, 0
         if call.is_logged:
             self._observe(request, reply)
+        if call.is_poll or request.get("op") == DISPATCH_TURN:
+            self._note_queues(call)
         if request.get("op") in TURNS:
             turns = self.ledger.follow(request, reply, call.turn)
             self._own += [own_call(turn) for turn in turns]
@@ -488,11 +492,16 @@ class Core:
         """Puts snapshots in the place of the log's lines, with that much room in the queues. Calls go on meanwhile."""
         return await self.compactor.compact(capacity)
 
-    def begin_window(self, window: Window) -> int:
-        """From now on replies are noted in this window. The number of the log's last line, behind which they are."""
+    def begin_window(self, window: Window) -> None:
+        """Has replies noted in this window, from a line on at which it may begin."""
         self.window = window
-        window.begin(self.kept.lines)
-        return self.kept.lines
+        window.begin_where_it_may(self._lengths, self._answered, self.kept.lines)
+
+    def hold(self, window: Window, held: AbstractSet[Asked]) -> None:
+        """Has this window begin now, where it has not, and what is asked of these queues held back."""
+        if window.base is None:
+            window.hold(held)
+            self.begin_window(window)
 
     def end_window(self) -> None:
         """Notes no more, and has asked what was held back."""
@@ -502,13 +511,22 @@ class Core:
         self._held.clear()
         self.plan()
 
-    def _without_held(self, calls: Iterable[Call]) -> Iterable[Call]:
+    def _note_queues(self, call: Call) -> None:
+        """Notes what a poll or a dispatch turn tells of the queues. A window may begin behind it."""
+        asked = asked_of(call.request)
+        if asked is not None:
+            self._lengths.note(asked, call.reply.get("ok"))
+            if self.window is not None:
+                self.window.look(self._lengths, call.number, asked)
+
+    def _without_held(self, calls: Iterable[Call]) -> List[Call]:
         """The calls but for those that are held back."""
-        if self.window is None or not self.window.is_holding:
-            return calls
-        found = list(calls)
-        self._held += [call for call in found if is_by_queues(call.request)]
-        return [call for call in found if not is_by_queues(call.request)]
+        if self.window is None or not self.window.held:
+            return list(calls)
+        left: List[Call] = []
+        for call in calls:
+            (self._held if asked_of(call.request) in self.window.held else left).append(call)
+        return left
 
     def _waits_for_successor(self) -> bool:
         """Whether the next batch waits for a compaction to come nearer. Once it doesn't for a time, it is given up."""
