@@ -28,6 +28,9 @@ LINE = re.compile(rb'"line": ?([0-9]+)')
 
 def numbered(text: bytes, expected: int, line: int) -> bytes:
     """A reply's text with its line's number in the log, in the place of the number that the program expects."""
+    begin = b'{"line":%d,' % expected
+    if text.startswith(begin):
+        return text if line == expected else b'{"line":%d,%s' % (line, text[len(begin):])
     found = LINE.search(text)
     if found is None or int(found[1]) != expected:
         raise Ended(f"the reply to line {line} is to another line: {text[:200]!r}")

@@ -23,7 +23,6 @@ from wfserve.durable.program import numbered
 from wfserve.durable.queues import DISPATCH_TURN, Asked, QueueLengths, asked_of
 from wfserve.durable.window import MOST_HELD, Window
 from wfserve.errors import Ended, LogFault
-from wfserve.operations import READS
 from wfserve.types import Json, Request
 
 from .calls import Busy, Draining, KeyReused, decoded, wait_of
@@ -143,11 +142,10 @@ class Core:
             raise self.over.result()
         if self.closing:
             raise Draining("the server is told to stop")
-        call = Call(request, begin, None if request.get("op") in READS else key)
-        call.receivers.append(receiver)
+        call = Call(request, begin, [receiver], key)
         if call.is_poll:
             call.late = call.since + wait_of(request) / 1_000
-        if not self._is_had_again(call, receiver):
+        if (call.key is None and not call.is_poll) or not self._is_had_again(call, receiver):
             self._take_in(call)
 
     def _is_had_again(self, call: Call, receiver: Receiver) -> bool:
@@ -182,7 +180,8 @@ class Core:
         if call.key is not None:
             self._by_key[call.key] = call
         self._asked.append(call)
-        self.plan()
+        if not self._is_syncing:
+            self.plan()
 
     def ask_turns(self, turns: Iterable[Turn]) -> None:
         """Asks turns of the server's own."""
@@ -213,9 +212,7 @@ class Core:
 
     def _logged(self, calls: List[Call]) -> List[Call]:
         """Writes the lines of a batch to the log. Where that can't be done, only the reads are left."""
-        at = self.moments.now()
-        for call in calls:
-            call.line = self._line_of(call, at)
+        self._end_lines(calls, self.moments.now())
         logged, number = [call for call in calls if call.is_logged], self.kept.lines
         try:
             if logged:
@@ -246,22 +243,26 @@ class Core:
 
     def _next_calls(self) -> List[Call]:
         """The calls of the next batch, and after them the turns that they make necessary."""
-        calls, needed, size = self._own, Needed(), 0
+        calls, needed, size, note = self._own, Needed(), 0, self.ledger.note
         self._own = []
         while self._asked and len(calls) < MOST_LINES and size < MOST_BYTES:
             call = self._asked.popleft()
             calls.append(call)
             size += len(call.begin)
-            self.ledger.note(call.request, needed)
+            note(call.request, needed)
         turns = self.ledger.turns(needed)
         self.called = self.called or bool(turns)
         return calls + self._without_held([own_call(turn) for turn in turns])
 
-    def _line_of(self, call: Call, at: int) -> bytes:
-        if not call.is_logged:
-            return call.begin + b"}"
-        call.request["at"] = at
-        return ended_line(call.begin, at, call.key)
+    def _end_lines(self, calls: List[Call], at: int) -> None:
+        """Makes the lines of calls, at this moment."""
+        end = ended_line(b"", at, None)
+        for call in calls:
+            if not call.is_logged:
+                call.line = call.begin + b"}"
+                continue
+            call.request["at"] = at
+            call.line = call.begin + end if call.key is None else ended_line(call.begin, at, call.key)
 
     def _refuse(self, calls: List[Call], fault: LogFault) -> None:
         """Fails calls that could not be logged. Turns rest meanwhile, and are made up for by a sweep."""
@@ -294,7 +295,7 @@ class Core:
 
     def _take(self, replies: List[bytes]) -> None:
         """Goes through replies in their order: what follows is asked, and calls are answered."""
-        handed = 0
+        handed, observe = 0, self._observe
         self._endings.answered()
         for text in replies:
             if not self._sent:
@@ -303,7 +304,7 @@ class Core:
             call = self._sent.popleft()
             try:
                 text = numbered(text, self._pipes.next_reply(), call.number)
-                call.take(text, decoded(REPLIES, text.decode()) if call.is_logged else {})
+                call.text, call.reply = text, decoded(REPLIES, text.decode()) if call.is_logged else {}
             except (Ended, ValueError) as wrong:
                 self._sent.appendleft(call)
                 self._end(Ended(f"line {call.number}: {wrong}"))
@@ -311,36 +312,36 @@ class Core:
             if self.window is not None and call.is_logged:
                 self.window.note(call.number, text)
             self._answered = call.number
-            handed += self._go_on(call)
+            if call.is_logged:
+                observe(call.request, call.reply)
+            if call.op in TURNS:
+                handed += self._follow(call)
+            elif call.is_poll and self._is_asked_again(call):
+                continue
+            if call.turn is None:
+                if call.number <= self._synced:
+                    self._let_go(call)
+                else:
+                    self._unsynced.append(call)
         if handed:
             self._wake(self.polls.wake(handed))
         if self._own or self._asked:
             self.plan()
 
-    def _go_on(self, call: Call) -> int:
-        """Takes one reply. How many tasks it says were handed over."""
-        request, reply, handed = call.request, call.reply, 0
-        if call.is_logged:
-            self._observe(request, reply)
-        if call.is_poll or request.get("op") == DISPATCH_TURN:
-            self._note_queues(call)
-        if request.get("op") in TURNS:
-            turns = self.ledger.follow(request, reply, call.turn)
-            self._own += [own_call(turn) for turn in turns]
-            handed = int(request["op"] == "dispatch_turn" and reply.get("ok") in ("dispatched", "pushed"))
-            if call.turn is not None:
-                self.metrics.turns[request["op"], "something" if turns or handed else "nothing"] += 1
-        elif call.is_poll and self._is_asked_again(call):
-            return 0
-        if call.turn is None:
-            if call.number <= self._synced:
-                self._let_go(call)
-            else:
-                self._unsynced.append(call)
+    def _follow(self, call: Call) -> int:
+        """Asks the turns that follow a turn. How many tasks it says were handed over."""
+        op, reply = call.op, call.reply
+        self._note_queues(call)
+        turns = self.ledger.follow(call.request, reply, call.turn)
+        self._own += [own_call(turn) for turn in turns]
+        handed = int(op == DISPATCH_TURN and reply.get("ok") in ("dispatched", "pushed"))
+        if call.turn is not None:
+            self.metrics.turns[op, "something" if turns or handed else "nothing"] += 1
         return handed
 
     def _is_asked_again(self, call: Call) -> bool:
         """Whether a poll goes on: after a hint of what is over by now, or where it waits for a task."""
+        self._note_queues(call)
         said = call.reply.get("ok")
         if said in ("task", "stale"):
             self._own += [own_call(turn) for turn in self.ledger.made_room()]
@@ -372,8 +373,11 @@ class Core:
 
     def _let_go(self, call: Call) -> None:
         """Answers a call whose line is on the disk."""
-        self._forget(call)
-        self._remember(call)
+        self._count -= 1
+        self._bytes -= len(call.begin)
+        if call.key is not None:
+            self._forget_key(call)
+            self._remember(call)
         self._note(call)
         if call.answer() or call.key is not None or not call.has_task:
             return
@@ -397,18 +401,15 @@ class Core:
         if not call.is_poll:
             self.metrics.latency.add(time.monotonic() - call.since)
 
-    def _forget(self, call: Call) -> None:
-        self._count -= 1
-        self._bytes -= len(call.begin)
-        self._forget_key(call)
-
     def _forget_key(self, call: Call) -> None:
         if call.key is not None and self._by_key.get(call.key) is call:
             del self._by_key[call.key]
 
     def _fail(self, call: Call, fault: Exception) -> None:
         if call.turn is None:
-            self._forget(call)
+            self._count -= 1
+            self._bytes -= len(call.begin)
+            self._forget_key(call)
             self.metrics.refused[type(fault).__name__] += 1
             call.fail(fault)
 
