@@ -25,6 +25,8 @@ use std::time::{Duration, Instant};
 /// So many bytes are read at once, and of so many connections.
 const READ_AT_ONCE: usize = 1 << 14;
 const EVENTS_AT_ONCE: usize = 256;
+/// So often one connection is read and written before others have their turn.
+const TURNS_AT_ONCE: u32 = 8;
 const PAUSE: Duration = Duration::from_millis(50);
 /// Of what a client sends behind a line that is too long so much is dropped, for so long.
 const DROPPED: usize = 16 << 20;
@@ -64,6 +66,7 @@ impl Lines {
             talks: Vec::new(),
             free: Vec::new(),
             touched: Vec::new(),
+            unfinished: Vec::new(),
             lingering: Vec::new(),
             asking: Vec::new(),
             room: vec![0; READ_AT_ONCE],
@@ -112,15 +115,25 @@ impl Connection {
         if self.lingers.is_some() {
             return self.drop_rest(room);
         }
-        if !self.write(asking) {
-            return false;
+        // What was refused at once is answered at once, and then more may be read.
+        for _ in 0..TURNS_AT_ONCE {
+            self.read(room, asking);
+            if !self.write(asking) {
+                return false;
+            }
+            if !self.has_more() {
+                break;
+            }
         }
-        self.read(room, asking);
-        // What was refused at once is answered, and so is what was read meanwhile.
-        if !self.write(asking) || (self.is_closed && !self.talk.reads()) {
+        if self.is_closed && !self.talk.reads() {
             return false;
         }
         !self.talk.is_over() || (self.talk.is_unread() && self.begin_to_linger(room))
+    }
+
+    /// Whether something may be read of it that nobody tells of again.
+    fn has_more(&self) -> bool {
+        self.may_read && self.talk.may_read()
     }
 
     /// Writes the answers that are there, as far as the socket takes them. False where it takes none any more.
@@ -141,7 +154,7 @@ impl Connection {
     }
 
     fn read(&mut self, room: &mut [u8], asking: &mut Asking) {
-        while self.may_read && self.talk.may_read() {
+        while self.has_more() {
             match self.socket.read(room) {
                 Ok(count) if count > 0 => {
                     // Where it was not filled all is read, and more is told of.
@@ -190,7 +203,8 @@ struct Serving {
     free: Vec<usize>,
     /// The places of those that are looked at next.
     touched: Vec<usize>,
-    /// Those of connections that drop what their clients send: their time may be over.
+    /// Those of connections of which more is to be read, and of those that drop what their clients send, whose time may be over.
+    unfinished: Vec<usize>,
     lingering: Vec<usize>,
     asking: Asking,
     room: Vec<u8>,
@@ -212,8 +226,7 @@ impl Serving {
             if self.listener.is_none() && self.talks.iter().all(Option::is_none) {
                 return;
             }
-            let rest = if accepts && self.lingering.is_empty() { None } else { Some(PAUSE) };
-            match self.poll.poll(&mut events, rest) {
+            match self.poll.poll(&mut events, self.rest(accepts)) {
                 Err(fault) if fault.kind() != ErrorKind::Interrupted => return say!("lines: {fault}"),
                 _ => {}
             }
@@ -221,6 +234,14 @@ impl Serving {
             accepts = self.take_events(&events, accepts);
             self.go_on();
         }
+    }
+
+    /// For how long the system is asked what is new of sockets; None where it takes as long as it takes.
+    fn rest(&self, accepts: bool) -> Option<Duration> {
+        if !self.unfinished.is_empty() {
+            return Some(Duration::ZERO);
+        }
+        (!accepts || !self.lingering.is_empty()).then_some(PAUSE)
     }
 
     fn settle(&mut self, answers: &mut Answers) {
@@ -249,7 +270,7 @@ impl Serving {
                 _ => is_called |= event.token() == LISTENER,
             }
         }
-        for place in self.lingering.drain(..) {
+        for place in self.lingering.drain(..).chain(self.unfinished.drain(..)) {
             if let Some(Some(connection)) = self.talks.get_mut(place) {
                 touch(connection, place, &mut self.touched);
             }
@@ -259,7 +280,7 @@ impl Serving {
 
     /// Looks at the connections of which something is new, and asks what was read of them.
     fn go_on(&mut self) {
-        let Serving { talks, touched, lingering, room, asking, free, .. } = self;
+        let Serving { talks, touched, unfinished, lingering, room, asking, free, .. } = self;
         for place in touched.drain(..) {
             if let Some(connection) = &mut talks[place] {
                 connection.is_touched = false;
@@ -268,6 +289,8 @@ impl Serving {
                     free.push(place);
                 } else if connection.lingers.is_some() {
                     lingering.push(place);
+                } else if connection.has_more() {
+                    unfinished.push(place);
                 }
             }
         }
