@@ -4,6 +4,7 @@ use crate::body::Moment;
 use crate::facts::Facts;
 use crate::fault::Fault;
 use crate::ledger::Turn;
+use crate::mail::Ticket;
 use crate::operations::Op;
 use crate::replies::{mark_of, Mark};
 use hyper::body::Bytes;
@@ -12,7 +13,22 @@ use std::time::{Duration, Instant};
 use tokio::sync::oneshot;
 
 /// Who waits for a reply: it is told what becomes of its call.
-pub type Receiver = oneshot::Sender<Told>;
+pub enum Receiver {
+    /// A task.
+    Task(oneshot::Sender<Told>),
+    /// A connection for lines.
+    Line(Ticket),
+}
+
+impl Receiver {
+    /// Whether nobody waits any longer.
+    pub fn is_closed(&self) -> bool {
+        match self {
+            Receiver::Task(task) => task.is_closed(),
+            Receiver::Line(ticket) => ticket.connection.is_gone(),
+        }
+    }
+}
 
 /// What becomes of a call: the reply's text, or why there is none. The call itself comes along where one waits for it, and is
 /// dropped by the thread that made it, which has its memory at hand.

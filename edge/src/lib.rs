@@ -1,12 +1,13 @@
 //! `wfedge`: an edge of a workflow service. Many clients over sockets, one program over its pipes, one synced log.
 //!
-//! A call's way: `calls`, `http` or `lines` take a body; `json` reads it, and `plain` most of them; `body` makes the beginning of
-//! a line of it, and `facts` what it may cause; `core` puts it into the one order, writes it to the `log` and to the
-//! `program`, and answers it once both are done. A log is a file (`line_log`) or a `table` of a database (`table_log`),
-//! with `blobs` beside it. Around that stand the `ledger` of turns, `deadlines` and `moments`, `polls` that wait,
-//! `replies` that can be had again, and `changes` for the `page`. `kept`, `opening` and `compaction` open a log and
-//! exchange it, `generation` has what it goes on from, and `following` a program that is given its lines behind. Those of
-//! a table are read by `table_tail`, and what it goes on from lies there as `table_records`.
+//! A call's way: `calls`, `http` or `lines` take a body (of lines `line_talk` has a connection, and `mail` its
+//! answers); `json` reads it, and `plain` most of them; `body` makes the beginning of a line of it, and `facts` what it
+//! may cause; `core` puts it into the one order, writes it to the `log` and to the `program`, and answers it once both
+//! are done. A log is a file (`line_log`) or a `table` of a database (`table_log`), with `blobs` beside it. Around that
+//! stand the `ledger` of turns, `deadlines` and `moments`, `polls` that wait, `replies` that can be had again, and
+//! `changes` for the `page`. `kept`, `opening` and `compaction` open a log and exchange it, `generation` has what it
+//! goes on from, and `following` a program that is given its lines behind. Those of a table are read by `table_tail`,
+//! and what it goes on from lies there as `table_records`.
 #![deny(unsafe_code)]
 
 mod attempts;
@@ -30,12 +31,14 @@ mod json;
 mod kept;
 mod ledger;
 mod line_log;
+mod line_talk;
 mod lines;
 mod lingering;
 mod listen;
 mod local;
 mod log;
 pub mod log_fault;
+mod mail;
 #[cfg(test)]
 mod memory_table;
 mod metrics;

@@ -2,253 +2,365 @@
 //!
 //! A line may bear its key as the member `call`. A call that isn't served is answered by its fault with a `status`,
 //! which no reply of the service has: the one that HTTP would have.
+//!
+//! A thread of its own serves all connections of a socket, without a task for each. It reads what is there on all of them,
+//! asks that under one lock, and writes all answers that it is told by one word.
 
-use crate::body::asked_by_line;
-use crate::core::{Core, Outcome};
-use crate::fault::Fault;
-use crate::json::quoted;
-use crate::listen::Connections;
-use crate::scan::place_of_byte;
+use crate::core::Core;
+use crate::line_talk::{Asking, Talk};
+use crate::listen::{Connections, Counted};
+use crate::mail::{Answers, Mail, Presence};
+use crate::say::say;
 use crate::system::privately;
-use hyper::body::Bytes;
-use std::collections::VecDeque;
+use mio::event::Event;
+use mio::net::{UnixListener, UnixStream};
+use mio::{Events, Interest, Poll, Token, Waker};
+use std::io::{ErrorKind, Read, Write};
+use std::net::Shutdown;
 use std::os::unix::fs::FileTypeExt;
 use std::sync::Arc;
-use std::time::Duration;
-use tokio::io::{AsyncReadExt, AsyncWriteExt, Interest};
-use tokio::net::unix::{OwnedReadHalf, OwnedWriteHalf};
-use tokio::net::{UnixListener, UnixStream};
+use std::thread::Builder;
+use std::time::{Duration, Instant};
 
-const LINE_LIMIT: usize = 1_048_576;
-/// So many calls of a connection are on their way at most: then its socket is not read.
-const ON_THEIR_WAY: usize = 128;
-/// So many bytes are read at once, and so many of answers are written.
+/// So many bytes are read at once, and of so many connections.
 const READ_AT_ONCE: usize = 1 << 14;
-const WRITTEN_AT_ONCE: usize = 1 << 16;
+const EVENTS_AT_ONCE: usize = 256;
+/// So often one connection is read and written before others have their turn.
+const TURNS_AT_ONCE: u32 = 8;
 const PAUSE: Duration = Duration::from_millis(50);
 /// Of what a client sends behind a line that is too long so much is dropped, for so long.
 const DROPPED: usize = 16 << 20;
 const LINGERS: Duration = Duration::from_secs(5);
+const LISTENER: Token = Token(usize::MAX);
+const WAKER: Token = Token(usize::MAX - 1);
 
-/// What becomes of a line: its outcome is waited for, or it was refused.
-type Asked = Result<Outcome, Fault>;
-
-/// Makes a socket that its owner alone can use, in the place of one that nobody serves any more.
-pub fn bind(path: &str) -> std::io::Result<UnixListener> {
+/// Makes room for a socket where nobody serves the one that is there, and has it made so that its owner alone can
+/// use it.
+pub fn bind<T>(path: &str, make: impl FnOnce(&str) -> std::io::Result<T>) -> std::io::Result<T> {
     let found = std::fs::symlink_metadata(path);
     let is_socket = found.map_or(false, |found| found.file_type().is_socket());
     if is_socket && std::os::unix::net::UnixStream::connect(path).is_err() {
         std::fs::remove_file(path)?;
     }
-    privately(|| UnixListener::bind(path))
+    privately(|| make(path))
 }
 
-/// Serves lines to whoever connects, until this is dropped.
-pub async fn serve(listener: UnixListener, core: Arc<Core>, connections: Arc<Connections>) {
-    loop {
-        match listener.accept().await {
-            Ok((socket, _)) => {
-                if let Some(counted) = connections.counted() {
-                    let (core, connections) = (core.clone(), connections.clone());
-                    tokio::spawn(async move {
-                        talk(socket, core, &connections).await;
-                        drop(counted);
-                    });
+/// A socket that is served by a thread.
+pub struct Lines {
+    mail: Arc<Mail>,
+}
+
+impl Lines {
+    /// Serves lines to whoever connects to the socket of this path.
+    pub fn start(path: &str, core: Arc<Core>, connections: Arc<Connections>) -> std::io::Result<Lines> {
+        let mut listener = bind(path, |path| UnixListener::bind(path))?;
+        let poll = Poll::new()?;
+        poll.registry().register(&mut listener, LISTENER, Interest::READABLE)?;
+        let mail = Mail::new(Waker::new(poll.registry(), WAKER)?);
+        let serving = Serving {
+            poll,
+            listener: Some(listener),
+            mail: mail.clone(),
+            core,
+            connections,
+            talks: Vec::new(),
+            free: Vec::new(),
+            touched: Vec::new(),
+            unfinished: Vec::new(),
+            lingering: Vec::new(),
+            asking: Vec::new(),
+            room: vec![0; READ_AT_ONCE],
+        };
+        Builder::new().name("lines".to_string()).spawn(move || serving.run())?;
+        Ok(Lines { mail })
+    }
+
+    /// Takes no more connections and calls. The thread ends once all calls are answered.
+    pub fn stop(&self) {
+        self.mail.stop();
+    }
+}
+
+/// A connection, and how its socket is as far as that is known.
+struct Connection {
+    socket: UnixStream,
+    talk: Talk,
+    may_read: bool,
+    may_write: bool,
+    /// Whether its client sends no more, and whether it is gone.
+    has_ended: bool,
+    is_closed: bool,
+    /// Whether it is among those that are looked at next.
+    is_touched: bool,
+    lingers: Option<Lingers>,
+    _counted: Counted,
+}
+
+/// What a client still sends is dropped: it reads its answers then, and no reset.
+struct Lingers {
+    until: Instant,
+    left: usize,
+}
+
+impl Connection {
+    fn note(&mut self, event: &Event) {
+        self.may_read |= event.is_readable() || event.is_read_closed() || event.is_error();
+        self.may_write |= event.is_writable() || event.is_error();
+        self.has_ended |= event.is_read_closed() || event.is_error();
+        self.is_closed |= event.is_write_closed() || event.is_error();
+    }
+
+    /// Writes and reads what may be by now. False once nothing is to be done any more.
+    fn go_on(&mut self, room: &mut [u8], asking: &mut Asking) -> bool {
+        if self.lingers.is_some() {
+            return self.drop_rest(room);
+        }
+        // What was refused at once is answered at once, and then more may be read.
+        for _ in 0..TURNS_AT_ONCE {
+            self.read(room, asking);
+            if !self.write(asking) {
+                return false;
+            }
+            if !self.has_more() {
+                break;
+            }
+        }
+        if self.is_closed && !self.talk.reads() {
+            return false;
+        }
+        !self.talk.is_over() || (self.talk.is_unread() && self.begin_to_linger(room))
+    }
+
+    /// Whether something may be read of it that nobody tells of again.
+    fn has_more(&self) -> bool {
+        self.may_read && self.talk.may_read()
+    }
+
+    /// Writes the answers that are there, as far as the socket takes them. False where it takes none any more.
+    fn write(&mut self, asking: &mut Asking) -> bool {
+        while self.may_write {
+            let text = self.talk.text(asking);
+            if text.is_empty() {
+                return true;
+            }
+            match self.socket.write(text) {
+                Ok(count) if count > 0 => self.talk.was_written(count),
+                Err(fault) if fault.kind() == ErrorKind::WouldBlock => self.may_write = false,
+                Err(fault) if fault.kind() == ErrorKind::Interrupted => {}
+                _ => return false,
+            }
+        }
+        true
+    }
+
+    fn read(&mut self, room: &mut [u8], asking: &mut Asking) {
+        while self.has_more() {
+            match self.socket.read(room) {
+                Ok(count) if count > 0 => {
+                    // Where it was not filled all is read, and more is told of.
+                    self.may_read = count == room.len() || self.has_ended;
+                    self.talk.take_read(&room[..count], asking);
+                }
+                Err(fault) if fault.kind() == ErrorKind::WouldBlock => self.may_read = false,
+                Err(fault) if fault.kind() == ErrorKind::Interrupted => {}
+                _ => self.talk.end_reading(),
+            }
+        }
+    }
+
+    /// Whether its client may still send something.
+    fn begin_to_linger(&mut self, room: &mut [u8]) -> bool {
+        self.lingers = Some(Lingers { until: Instant::now() + LINGERS, left: DROPPED });
+        self.may_read = true;
+        self.socket.shutdown(Shutdown::Write).is_ok() && self.drop_rest(room)
+    }
+
+    /// Drops what its client still sends. False once that is enough.
+    fn drop_rest(&mut self, room: &mut [u8]) -> bool {
+        let Connection { socket, lingers, may_read, .. } = self;
+        while let (Some(lingers), true) = (lingers.as_mut(), *may_read) {
+            match socket.read(room) {
+                Ok(count) if count > 0 && count < lingers.left => lingers.left -= count,
+                Err(fault) if fault.kind() == ErrorKind::WouldBlock => *may_read = false,
+                Err(fault) if fault.kind() == ErrorKind::Interrupted => {}
+                _ => return false,
+            }
+        }
+        lingers.as_ref().map_or(false, |lingers| Instant::now() < lingers.until)
+    }
+}
+
+/// What the thread of a socket has.
+struct Serving {
+    poll: Poll,
+    /// None once no more connections are taken.
+    listener: Option<UnixListener>,
+    mail: Arc<Mail>,
+    core: Arc<Core>,
+    connections: Arc<Connections>,
+    /// The connections by their places, and the places that are free.
+    talks: Vec<Option<Connection>>,
+    free: Vec<usize>,
+    /// The places of those that are looked at next.
+    touched: Vec<usize>,
+    /// Those of connections of which more is to be read, and of those that drop what their clients send, whose time may be over.
+    unfinished: Vec<usize>,
+    lingering: Vec<usize>,
+    asking: Asking,
+    room: Vec<u8>,
+}
+
+impl Serving {
+    /// Serves until it is told to stop and all is answered.
+    fn run(mut self) {
+        let (mut events, mut answers) = (Events::with_capacity(EVENTS_AT_ONCE), Vec::new());
+        let mut accepts = true;
+        loop {
+            while self.mail.take(&mut answers) {
+                self.settle(&mut answers);
+                self.go_on();
+            }
+            if self.listener.is_some() && self.mail.is_stopped() {
+                self.stop();
+            }
+            if self.listener.is_none() && self.talks.iter().all(Option::is_none) {
+                return;
+            }
+            match self.poll.poll(&mut events, self.rest(accepts)) {
+                Err(fault) if fault.kind() != ErrorKind::Interrupted => return say!("lines: {fault}"),
+                _ => {}
+            }
+            self.mail.awake();
+            accepts = self.take_events(&events, accepts);
+            self.go_on();
+        }
+    }
+
+    /// For how long the system is asked what is new of sockets; None where it takes as long as it takes.
+    fn rest(&self, accepts: bool) -> Option<Duration> {
+        if !self.unfinished.is_empty() {
+            return Some(Duration::ZERO);
+        }
+        (!accepts || !self.lingering.is_empty()).then_some(PAUSE)
+    }
+
+    fn settle(&mut self, answers: &mut Answers) {
+        for (ticket, told) in answers.drain(..) {
+            if ticket.connection.is_gone() {
+                continue;
+            }
+            let place = ticket.connection.place;
+            if let Some(Some(connection)) = self.talks.get_mut(place) {
+                connection.talk.settle(ticket.number, told.outcome);
+                touch(connection, place, &mut self.touched);
+            }
+        }
+    }
+
+    /// Notes what is known of sockets. Whether more connections are told of: else they are looked for after a pause.
+    fn take_events(&mut self, events: &Events, accepts: bool) -> bool {
+        let mut is_called = !accepts;
+        for event in events {
+            let place = event.token().0;
+            match self.talks.get_mut(place) {
+                Some(Some(connection)) => {
+                    connection.note(event);
+                    touch(connection, place, &mut self.touched);
+                }
+                _ => is_called |= event.token() == LISTENER,
+            }
+        }
+        for place in self.lingering.drain(..).chain(self.unfinished.drain(..)) {
+            if let Some(Some(connection)) = self.talks.get_mut(place) {
+                touch(connection, place, &mut self.touched);
+            }
+        }
+        !is_called || self.accept()
+    }
+
+    /// Looks at the connections of which something is new, and asks what was read of them.
+    fn go_on(&mut self) {
+        let Serving { talks, touched, unfinished, lingering, room, asking, free, .. } = self;
+        for place in touched.drain(..) {
+            if let Some(connection) = &mut talks[place] {
+                connection.is_touched = false;
+                if !connection.go_on(room, asking) {
+                    talks[place] = None;
+                    free.push(place);
+                } else if connection.lingers.is_some() {
+                    lingering.push(place);
+                } else if connection.has_more() {
+                    unfinished.push(place);
                 }
             }
-            Err(_) => tokio::time::sleep(PAUSE).await,
         }
-    }
-}
-
-/// What a connection's client sent and was not answered yet.
-struct Talk<'a> {
-    core: &'a Core,
-    /// Bytes that were read, of which those from `begin` on are no call yet.
-    read: Vec<u8>,
-    begin: usize,
-    /// The calls on their way, in their order.
-    asked: VecDeque<Asked>,
-    /// Answers that were not written yet.
-    text: Vec<u8>,
-    /// Whether more calls are read, and whether they ended with a line that is too long, of which the rest is unread.
-    reads: bool,
-    is_unread: bool,
-}
-
-/// Serves one connection, until all that it asked is answered or its client has hung up.
-///
-/// One loop does all of it: an answer is taken before others are written, and these before more is read, so that what
-/// is there at once is written at once.
-async fn talk(socket: UnixStream, core: Arc<Core>, connections: &Connections) {
-    let (mut input, mut output) = socket.into_split();
-    let mut talk = Talk::new(&core);
-    let told = connections.told_to_stop();
-    let mut stopped = told.clone();
-    let stop = stopped.changed();
-    tokio::pin!(stop);
-    loop {
-        // Where calls are on their way, it is looked for once one of them is answered.
-        talk.reads &= !told.has_changed().unwrap_or(true);
-        if talk.is_over() {
-            break;
-        }
-        let is_waiting = talk.reads && talk.asked.is_empty();
-        let (is_writing, may_read) = (!talk.text.is_empty(), talk.may_read() || !talk.reads);
-        tokio::select! {
-            biased;
-            outcome = first(&mut talk.asked), if talk.may_take() => {
-                talk.take(outcome);
-                talk.write_last(&output);
-            }
-            written = output.write(&talk.text), if is_writing => match written {
-                Ok(count) if count > 0 => drop(talk.text.drain(..count)),
-                _ => return,
-            },
-            read = read_more(&mut input, &mut talk.read, talk.reads), if may_read => match read {
-                Some(is_more) => talk.take_read(is_more),
-                None => return,
-            },
-            _ = &mut stop, if is_waiting => talk.reads = false,
-        }
-    }
-    if talk.is_unread && output.shutdown().await.is_ok() {
-        let _ = tokio::time::timeout(LINGERS, drop_rest(&mut input)).await;
-    }
-}
-
-/// Takes the outcome of the first of these calls, once it is there.
-async fn first(asked: &mut VecDeque<Asked>) -> Result<Bytes, Fault> {
-    let outcome = match asked.front_mut() {
-        Some(Ok(outcome)) => outcome.await.map_or(Err(Fault::Draining), |told| told.outcome),
-        Some(Err(fault)) => Err(fault.clone()),
-        None => Err(Fault::Draining),
-    };
-    asked.pop_front();
-    outcome
-}
-
-impl<'a> Talk<'a> {
-    fn new(core: &'a Core) -> Talk<'a> {
-        let (read, text) = (Vec::with_capacity(READ_AT_ONCE), Vec::new());
-        Talk { core, read, begin: 0, asked: VecDeque::new(), text, reads: true, is_unread: false }
-    }
-
-    /// Whether the next answer is waited for.
-    fn may_take(&self) -> bool {
-        !self.asked.is_empty() && self.text.len() < WRITTEN_AT_ONCE
-    }
-
-    fn may_read(&self) -> bool {
-        self.reads && self.asked.len() < ON_THEIR_WAY
-    }
-
-    /// Whether all is answered, and no more is asked.
-    fn is_over(&self) -> bool {
-        !self.reads && self.asked.is_empty() && self.text.is_empty()
-    }
-
-    /// Takes the outcome of the first call. Where as many were on their way as may be, the next one may have been read.
-    fn take(&mut self, outcome: Result<Bytes, Fault>) {
-        put(&mut self.text, outcome);
-        if self.reads && self.asked.len() + 1 == ON_THEIR_WAY {
-            self.ask_read();
+        if !self.asking.is_empty() {
+            self.core.submit_all(&mut self.asking);
         }
     }
 
-    /// Writes what no other answer is waited for with, as far as the socket takes it now. Its faults show at the next write.
-    fn write_last(&mut self, output: &OwnedWriteHalf) {
-        if self.asked.is_empty() {
-            let count = output.try_write(&self.text).unwrap_or(0);
-            self.text.drain(..count);
-        }
-    }
-
-    /// Asks what was read, where there was something to read.
-    fn take_read(&mut self, is_more: bool) {
-        self.reads = is_more;
-        if is_more {
-            self.ask_read();
-        }
-    }
-
-    /// Asks the whole lines that were read, up to so many.
-    fn ask_read(&mut self) {
-        while self.asked.len() < ON_THEIR_WAY {
-            let length = match place_of_byte(b'\n', &self.read[self.begin..]) {
-                Some(length) => length,
-                None => return self.end_read(),
+    /// Takes the connections that wait. False where that is to be tried again, as where as many files are open as may be.
+    fn accept(&mut self) -> bool {
+        loop {
+            let accepted = match &self.listener {
+                Some(listener) => listener.accept(),
+                None => return true,
             };
-            let line = &self.read[self.begin..self.begin + length];
-            self.asked.push_back(asked(self.core, line));
-            self.begin += length + 1;
+            match accepted {
+                Ok((socket, _)) => self.add(socket),
+                Err(fault) if fault.kind() == ErrorKind::WouldBlock => return true,
+                Err(fault) if fault.kind() == ErrorKind::Interrupted => {}
+                Err(_) => return false,
+            }
         }
     }
 
-    /// All whole lines that were read are asked.
-    fn end_read(&mut self) {
-        self.read.drain(..self.begin);
-        self.begin = 0;
-        if self.read.len() > LINE_LIMIT {
-            let fault = Fault::BadCall(format!("a line has at most {LINE_LIMIT} bytes"));
-            self.asked.push_back(Err(fault));
-            self.reads = false;
-            self.is_unread = true;
+    fn add(&mut self, mut socket: UnixStream) {
+        let counted = match self.connections.counted() {
+            Some(counted) => counted,
+            None => return,
+        };
+        let place = self.free.pop().unwrap_or(self.talks.len());
+        if place == self.talks.len() {
+            self.talks.push(None);
         }
-    }
-}
-
-/// Drops what a client still sends, up to some bytes: it reads its answers then, and no reset.
-async fn drop_rest(input: &mut OwnedReadHalf) {
-    let (mut dropped, mut data) = (0, [0; 1 << 14]);
-    while dropped < DROPPED {
-        match input.read(&mut data).await {
-            Ok(count) if count > 0 => dropped += count,
-            _ => return,
+        let interest = Interest::READABLE | Interest::WRITABLE;
+        if self.poll.registry().register(&mut socket, Token(place), interest).is_err() {
+            self.free.push(place);
+            return;
         }
+        let talk = Talk::new(Presence::new(place, self.mail.clone()), self.core.shards());
+        self.talks[place] = Some(Connection {
+            socket,
+            talk,
+            may_read: true,
+            may_write: true,
+            has_ended: false,
+            is_closed: false,
+            is_touched: true,
+            lingers: None,
+            _counted: counted,
+        });
+        self.touched.push(place);
     }
-}
 
-/// Reads more of a client's calls: whether there was any. Where no more is read it returns None, once the client has
-/// closed its socket: one that has only ended its calls waits for their answers.
-async fn read_more(input: &mut OwnedReadHalf, data: &mut Vec<u8>, reads: bool) -> Option<bool> {
-    if reads {
-        return Some(matches!(input.read_buf(data).await, Ok(count) if count > 0));
-    }
-    while !input.ready(Interest::WRITABLE).await.map_or(true, |ready| ready.is_write_closed()) {
-        tokio::time::sleep(PAUSE).await;
-    }
-    None
-}
-
-fn asked(core: &Core, line: &[u8]) -> Asked {
-    let (asked, key) = asked_by_line(line, core.shards())?;
-    core.submit(asked, key)
-}
-
-/// Adds an answer's line.
-fn put(text: &mut Vec<u8>, outcome: Result<Bytes, Fault>) {
-    match outcome {
-        Ok(reply) => text.extend_from_slice(&reply),
-        Err(fault) => {
-            let (name, said) = (quoted(fault.name()), quoted(&fault.to_string()));
-            let line = format!("{{\"error\":{name},\"said\":{said},\"status\":{}}}", fault.status());
-            text.extend_from_slice(line.as_bytes());
+    /// Takes no more connections and calls.
+    fn stop(&mut self) {
+        self.listener = None;
+        let Serving { talks, touched, .. } = self;
+        for (place, connection) in talks.iter_mut().enumerate() {
+            if let Some(connection) = connection {
+                connection.talk.end_reading();
+                touch(connection, place, touched);
+            }
         }
+        self.go_on();
     }
-    text.push(b'\n');
 }
 
-#[cfg(test)]
-mod tests {
-    use super::*;
-
-    #[test]
-    fn a_fault_has_a_status_and_a_reply_has_none() {
-        let mut text = Vec::new();
-        put(&mut text, Ok(Bytes::from_static(b"{\"line\":1}")));
-        put(&mut text, Err(Fault::Draining));
-        let wanted = "{\"line\":1}\n{\"error\":\"Draining\",\"said\":\"the server is told to stop\",\"status\":503}\n";
-        assert_eq!(String::from_utf8(text).unwrap(), wanted);
+/// Notes that something is new of a connection.
+fn touch(connection: &mut Connection, place: usize, touched: &mut Vec<usize>) {
+    if !std::mem::replace(&mut connection.is_touched, true) {
+        touched.push(place);
     }
 }

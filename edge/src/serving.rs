@@ -4,7 +4,7 @@ use crate::blobs::{Folder as BlobFolder, Store};
 use crate::core::{Core, Threads};
 use crate::guard::Guard;
 use crate::http::Front;
-use crate::lines;
+use crate::lines::{self, Lines};
 use crate::listen::{self, Connections};
 use crate::moments::{MachineClocks, Moments};
 use crate::opening::Opened;
@@ -19,7 +19,7 @@ use std::os::unix::fs::DirBuilderExt;
 use std::path::PathBuf;
 use std::sync::Arc;
 use std::time::Duration;
-use tokio::net::TcpListener;
+use tokio::net::{TcpListener, UnixListener};
 use tokio::runtime::Builder;
 use tokio::signal::unix::{signal, SignalKind};
 use tokio::task::JoinHandle;
@@ -71,6 +71,21 @@ impl Place {
             None => Arc::new(BlobFolder::new(&format!("{log}.blobs"))),
         };
         Place { folder, blobs, has_sweeps: opened.kept.origin.settings.retention > 0 }
+    }
+}
+
+/// What takes connections.
+#[derive(Default)]
+struct Served {
+    tasks: Vec<JoinHandle<()>>,
+    lines: Vec<Lines>,
+}
+
+impl Served {
+    /// Takes no more, and no more calls by lines.
+    fn stop(&self) {
+        self.tasks.iter().for_each(JoinHandle::abort);
+        self.lines.iter().for_each(Lines::stop);
     }
 }
 
@@ -158,24 +173,22 @@ async fn serve(options: &Options, guard: Guard, core: Arc<Core>, place: &Place) 
     let connections = Connections::new();
     let teller = core.clone();
     tokio::spawn(async move { teller.tell_answers().await });
-    let mut tasks = Vec::new();
+    let mut served = Served::default();
     let page = match options.page.is_empty() {
         true => None,
-        false => Some(serve_page(options, &core, place, &connections, &mut tasks).map_err(text)?),
+        false => Some(serve_page(options, &core, place, &connections, &mut served).map_err(text)?),
     };
     let front = front_of(options, guard, core.clone(), page, place);
     let address = (options.host.as_str(), options.port);
     let listener = TcpListener::bind(address).await.map_err(|fault| format!("{}:{}: {fault}", address.0, address.1))?;
     let port = listener.local_addr().map_err(text)?.port();
-    tasks.push(tokio::spawn(listen::serve_tcp(listener, front, connections.clone())));
+    served.tasks.push(tokio::spawn(listen::serve_tcp(listener, front, connections.clone())));
     if let Some(path) = &options.socket {
-        let listener = lines::bind(path).map_err(|fault| format!("{path}: {fault}"))?;
-        tasks.push(tokio::spawn(lines::serve(listener, core.clone(), connections.clone())));
+        let lines = Lines::start(path, core.clone(), connections.clone());
+        served.lines.push(lines.map_err(|fault| format!("{path}: {fault}"))?);
     }
     let result = wait(&core, &options.host, port).await;
-    for task in &tasks {
-        task.abort();
-    }
+    served.stop();
     connections.stop(SHUTDOWN).await;
     if let Some(path) = &options.socket {
         let _ = fs::remove_file(path);
@@ -189,7 +202,7 @@ fn serve_page(
     core: &Arc<Core>,
     place: &Place,
     connections: &Arc<Connections>,
-    tasks: &mut Vec<JoinHandle<()>>,
+    served: &mut Served,
 ) -> std::io::Result<Arc<Page>> {
     let (edge, asked) = (place.folder.path("edge"), place.folder.path("lines"));
     let page = Arc::new(Page::new(&options.page, place.folder.path("page"), &edge, &asked, place.has_sweeps));
@@ -197,9 +210,10 @@ fn serve_page(
         page.want_sweeps();
     }
     let front = front_of(options, Guard::default(), core.clone(), None, place);
-    tasks.push(tokio::spawn(listen::serve_private(lines::bind(&edge)?, front, connections.clone())));
-    tasks.push(tokio::spawn(lines::serve(lines::bind(&asked)?, core.clone(), connections.clone())));
-    tasks.push(tokio::spawn(page.clone().run()));
+    let listener = lines::bind(&edge, |path| UnixListener::bind(path))?;
+    served.tasks.push(tokio::spawn(listen::serve_private(listener, front, connections.clone())));
+    served.lines.push(Lines::start(&asked, core.clone(), connections.clone())?);
+    served.tasks.push(tokio::spawn(page.clone().run()));
     Ok(page)
 }
 

@@ -3,10 +3,12 @@
 import json
 import os
 import pathlib
+import signal as signals
 import socket
 import stat
 import time
 import unittest
+from concurrent.futures import ThreadPoolExecutor
 
 from the_edge import needs_edge
 
@@ -73,6 +75,22 @@ class Lines(WithASocket):
         replies += wrong
         self.assertEqual([reply["status"] for reply in replies], [400] * 3)
         self.assertIn("comes twice", replies[0]["said"])
+
+    def test_lines_that_are_refused_at_once_are_all_answered(self):
+        """None of them is answered later, so nothing else has the rest of them read."""
+        server = self.served()
+        for count, length in ((140, 1_000), (150, 1_000), (50_000, 0)):
+            connection = self.connected()
+            with ThreadPoolExecutor(1) as pool:
+                # All that its socket holds is there before any of it is read.
+                server.process.send_signal(signals.SIGSTOP)
+                sending = pool.submit(connection.sendall, (b"[" + b" " * length + b"]\n") * count)
+                time.sleep(0.2)
+                server.process.send_signal(signals.SIGCONT)
+                replies = connection.makefile("rb")
+                self.assertEqual({json.loads(replies.readline())["status"] for _ in range(count)}, {400})
+                sending.result()
+        self.assertEqual(self.asked(signal("after them"))[0]["ok"], "signaled")
 
     def test_a_line_that_is_too_long_ends_its_connection(self):
         self.served()

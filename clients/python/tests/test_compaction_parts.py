@@ -16,13 +16,17 @@ from wfserve.durable.due import Due, Limits
 from wfserve.durable.heard import Heard, heard_in, write_heard
 from wfserve.durable.log import LineLog, Tail, begun_beside
 from wfserve.durable.told import Told, add_told, is_had_again, keyed, lasting_mark, read_told, told_in, told_line
-from wfserve.durable.window import MOST_HELD, Window, is_by_queues
+from wfserve.durable.queues import DISPATCHES, QueueLengths, asked_of
+from wfserve.durable.window import MOST_HELD, Window
 from wfserve.errors import LogDamaged, LogInUse
 from wfserve.ids import run_id
 from wfserve.server.attempts import Attempts
 from wfserve.server.calls import KeyReused
 from wfserve.server.replies import Replies, ended_line
 from wfserve.snapshots import accepted_from
+
+
+TASKS, ACTIVITIES = ("poll_workflow_task", "main"), ("poll_activity_task", "main")
 
 
 class Dues(unittest.TestCase):
@@ -100,9 +104,56 @@ class Windows(unittest.TestCase):
             self.assertEqual((window.is_far_ahead(9), window.is_given_up), (False, True))
 
     def test_what_queues_decide_is_known(self):
-        for op, is_so in (("poll_workflow_task", True), ("dispatch_turn", True), ("timer_turn", False), ("signal", False)):
-            self.assertEqual(is_by_queues({"op": op}), is_so, op)
-        self.assertFalse(is_by_queues({}))
+        for op, asked in (
+            ("poll_workflow_task", ("poll_workflow_task", "main")), ("dispatch_turn", DISPATCHES), ("timer_turn", None),
+            ("signal", None),
+        ):
+            self.assertEqual(asked_of({"op": op, "task_queue": "main", "shard": 1}), asked, op)
+        self.assertIsNone(asked_of({}))
+
+    def test_a_window_begins_where_its_queues_are_empty(self):
+        lengths, window = QueueLengths(False), Window({TASKS})
+        window.begin_where_it_may(lengths, 4, 6)
+        self.assertIsNone(window.base)
+        for line, asked, said in ((5, TASKS, "task"), (6, ACTIVITIES, "empty"), (7, DISPATCHES, "none"), (8, TASKS, "empty")):
+            self.assertIsNone(window.base, line)
+            window.note(line, b"before")
+            lengths.note(asked, said)
+            window.look(lengths, line, asked)
+        self.assertEqual((window.base, window.asked, window.held), (8, {TASKS, ACTIVITIES, DISPATCHES}, set()))
+        window.note(9, b"behind")
+        self.assertTrue(window.is_as_told(b"behind"))
+        again = Window({TASKS})
+        again.begin_where_it_may(lengths, 9, 11)
+        self.assertEqual(again.base, 9)
+
+    def test_what_is_held_back_is_in_no_line_behind_the_last_one(self):
+        window = Window({TASKS, ACTIVITIES}, {DISPATCHES})
+        window.hold({TASKS})
+        window.begin_where_it_may(QueueLengths(False), 4, 6)
+        self.assertEqual((window.base, window.held), (6, {TASKS, DISPATCHES}))
+
+
+class Lengths(unittest.TestCase):
+    def test_a_queue_is_empty_once_a_poll_found_nothing_until_something_may_be_in_it(self):
+        lengths = QueueLengths(False)
+        for asked, said, are_empty in (
+            (TASKS, "task", set()), (TASKS, "empty", {TASKS}), (ACTIVITIES, "stale", {TASKS}),
+            (ACTIVITIES, "empty", {TASKS, ACTIVITIES}), (DISPATCHES, "none", {TASKS, ACTIVITIES}),
+            (DISPATCHES, "taken", {TASKS, ACTIVITIES}), (DISPATCHES, None, {TASKS, ACTIVITIES}),
+            (DISPATCHES, "dispatched", set()), (DISPATCHES, "pushed", set()), (TASKS, "task", set()),
+            (TASKS, None, set()), (TASKS, "stale", {TASKS}), (ACTIVITIES, "empty", {TASKS, ACTIVITIES}),
+        ):
+            lengths.note(asked, said)
+            self.assertEqual({it for it in (TASKS, ACTIVITIES) if lengths.is_empty(it)}, are_empty, (asked, said))
+
+    def test_those_of_a_new_log_are_empty_at_first(self):
+        lengths = QueueLengths(True)
+        self.assertTrue(lengths.is_empty(TASKS))
+        lengths.note(DISPATCHES, "dispatched")
+        self.assertFalse(lengths.is_empty(TASKS))
+        lengths.note(TASKS, "task")
+        self.assertTrue(lengths.is_empty(TASKS))
 
 
 class WithAFolder(unittest.TestCase):

@@ -29,6 +29,7 @@ from test_server import WithAServer
 from wfserve.durable import Compaction, DurableService
 from wfserve.durable.due import Limits
 from wfserve.durable.kept import KeptProgram
+from wfserve.durable.log import LineLog
 from wfserve.durable.successor import Successor
 from wfserve.durable.told import read_told
 from wfserve.durable.window import Window
@@ -89,6 +90,53 @@ def polled(service, stop):
         if task is not None:
             service.call("complete_workflow_task", token=task.token, commands=[])
         time.sleep(0.002)
+
+
+class OpensOncePolled:
+    """Has each program beside opened only once a poll was answered since its snapshots were written. So a compaction for whose
+    whole time polls wait never ends. `polls` counts those that were answered."""
+
+    def __init__(self):
+        self.polls, self.opened = 0, 0
+
+    def __enter__(self):
+        whole = Successor.open
+
+        def opens(successor):
+            before = self.polls
+            until(lambda: self.polls > before)
+            self.opened += 1
+            return whole(successor)
+
+        self._patch = mock.patch.object(Successor, "open", opens)
+        self._patch.start()
+        return self
+
+    def __exit__(self, *_):
+        self._patch.stop()
+
+
+# Calls after which two tasks wait in another order than that in which a program finds them that is opened from snapshots:
+# that is by their runs.
+def begun(workflow_id):
+    return {"op": "signal_with_start", "workflow_id": workflow_id, "workflow_type": "T", "task_queue": "main", "name": "n"}
+
+
+OTHER_ORDER = ("a", "b"), ("b", "a")
+
+
+def noted(whole, calls):
+    """A method that notes each call of it."""
+    def called(*given):
+        calls.append(given)
+        return whole(*given)
+
+    return called
+
+
+def has_begun(window):
+    """Whether replies are noted of a compaction."""
+    return window is not None and window.base is not None
 
 
 @needs_program
@@ -174,6 +222,84 @@ class Services(unittest.TestCase):
         self.assertEqual(service._kept.generation, 0)
         self.assertEqual(os.listdir(os.path.dirname(self.log)), ["a.log"])
 
+    def in_another_order(self):
+        """A service in which tasks wait in another order than that of their runs."""
+        service = self.open(compaction=None)
+        for order in OTHER_ORDER:
+            for workflow_id in order:
+                service.call(**begun(workflow_id))
+                service.call("dispatch_turn", shard=0)
+            if order is not OTHER_ORDER[-1]:
+                for _ in order:
+                    self.complete(service, service.poll_workflow_task())
+        return service
+
+    def complete(self, service, task):
+        service.call("complete_workflow_task", token=task.token, commands=[])
+
+    def test_a_poll_never_waits_for_a_compaction(self):
+        service = self.in_another_order()
+        with OpensOncePolled() as opens, ThreadPoolExecutor(1) as pool:
+            compacting, taken = pool.submit(service.compact), []
+            until(lambda: has_begun(service._window))
+            while not compacting.done():
+                task = service.poll_workflow_task()
+                opens.polls += 1
+                if task is not None:
+                    taken.append(task.workflow_id)
+                    self.complete(service, task)
+                time.sleep(0.01)
+            compacting.result()
+        # The order was seen in a reply, and the compaction made once more.
+        self.assertEqual((service._kept.generation, opens.opened, taken), (1, 2, ["b", "a"]))
+        service.close()
+        with self.open(compaction=None) as again:
+            self.assertIsNone(again.poll_workflow_task())
+
+    def test_a_compaction_is_made_once_where_replies_come_while_lines_are_synced(self):
+        whole, begun = LineLog.sync, []
+
+        def slow(log):
+            time.sleep(0.005)
+            whole(log)
+
+        with mock.patch.object(LineLog, "sync", slow), mock.patch.object(Successor, "begin", noted(Successor.begin, begun)):
+            service = self.open(compaction=None)
+            with Calling(service, CLIENTS) as calling:
+                until(lambda: min(calling.counts) > 5)
+                service.compact()
+        self.assertEqual((service._kept.generation, len(begun)), (1, 1))
+        self.look(service, calling.counts)
+
+    def test_polls_of_a_queue_that_is_never_empty_are_held_back_at_last(self):
+        service = self.in_another_order()
+        for number in range(200):
+            service.call(**begun(f"w{number}"))
+            service.call("dispatch_turn", shard=0)
+        taken, stop = [], threading.Event()
+
+        def take():
+            while not stop.is_set():
+                task = service.poll_workflow_task()
+                taken.append(task.workflow_id)
+                self.complete(service, task)
+                time.sleep(0.05)
+
+        with mock.patch("wfserve.durable.beside.PATIENCE", 0.1), ThreadPoolExecutor(2) as pool:
+            compacting = pool.submit(service.compact)
+            until(lambda: has_begun(service._window))
+            taking = pool.submit(take)
+            compacting.result()
+            self.assertIsNone(service.poll_activity_task())
+            stop.set()
+            taking.result()
+        self.assertEqual((service._kept.generation, taken[0]), (1, "b"))
+        self.assertEqual(len(taken), len(set(taken)))
+        histories = {workflow_id: service.history(workflow_id) for workflow_id in taken}
+        service.close()
+        with self.open(compaction=None) as again:
+            self.assertEqual({workflow_id: again.history(workflow_id) for workflow_id in taken}, histories)
+
     def test_a_service_that_is_closed_gives_a_compaction_up(self):
         begun = threading.Event()
 
@@ -240,6 +366,36 @@ class Cores(OverALog):
                 self.assertEqual(served.kept.generation, 1)
 
         asyncio.run(compacted())
+
+    def test_a_poll_never_waits_for_a_compaction(self):
+        async def compacted():
+            async with self.served() as served:
+                for order in OTHER_ORDER:
+                    for workflow_id in order:
+                        await served.call(**begun(workflow_id))
+                    if order is not OTHER_ORDER[-1]:
+                        for _ in order:
+                            await self.take(served)
+                with OpensOncePolled() as opens:
+                    compacting, taken = asyncio.ensure_future(served.core.compact(0)), []
+                    while not has_begun(served.core.window):
+                        await asyncio.sleep(0.001)
+                    while not compacting.done():
+                        taken += await self.take(served)
+                        opens.polls += 1
+                        await asyncio.sleep(0.01)
+                    await compacting
+                self.assertEqual((served.kept.generation, opens.opened, taken), (1, 2, ["b", "a"]))
+
+        asyncio.run(compacted())
+
+    async def take(self, served):
+        """Takes a task and completes it. Its workflow, where there was a task."""
+        task = await served.call(op="poll_workflow_task", task_queue="main")
+        if task["ok"] != "task":
+            return []
+        await served.call(op="complete_workflow_task", token=task["token"], commands=[])
+        return [task["workflow_id"]]
 
     def test_replies_by_keys_outlive_compactions_and_restarts(self):
         had = {}

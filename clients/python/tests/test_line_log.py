@@ -102,7 +102,7 @@ class Faults(InAFolder):
         whole = os.pwrite
         log = self.open()
         line = b"a line for which there is no room"
-        framed_size = len(line_log.framed(line, 0)[0])
+        framed_size = len(line_log.framed([line], 0)[0])
         for room in range(framed_size):
             with mock.patch("os.pwrite", self.until(ends[-1] + room, whole)):
                 with self.assertRaisesRegex(LogFull, "No space left"):

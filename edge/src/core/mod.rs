@@ -28,7 +28,9 @@ use crate::fault::Fault;
 use crate::generation::Files;
 use crate::json::quoted;
 use crate::kept::{Kept, Origin};
+use crate::line_talk::Asking;
 use crate::log::Log;
+use crate::mail;
 use crate::metrics::{resident_bytes, Gauge};
 use crate::moments::Moments;
 use crate::opening::Opened;
@@ -37,7 +39,7 @@ use crate::shards::Shard;
 use crate::system;
 pub use compacting::Limits;
 use hyper::body::Bytes;
-use state::{Answers, State};
+use state::{Answers, State, TaskAnswers};
 use std::process::ChildStdin;
 use std::sync::atomic::{AtomicBool, AtomicUsize, Ordering::SeqCst};
 use std::sync::{Arc, Condvar, Mutex, MutexGuard, PoisonError};
@@ -74,30 +76,32 @@ pub struct Core {
     pub ends: AtomicUsize,
 }
 
-/// Answers that were not told yet, where a task tells them.
+/// Answers for tasks that were not told yet, where one of them tells the others.
 #[derive(Default)]
 struct Untold {
-    answers: Mutex<Answers>,
+    answers: Mutex<TaskAnswers>,
     /// Told where there are some.
     wake: Notify,
     has_teller: AtomicBool,
 }
 
 impl Untold {
-    fn lock(&self) -> MutexGuard<'_, Answers> {
+    fn lock(&self) -> MutexGuard<'_, TaskAnswers> {
         self.answers.lock().unwrap_or_else(PoisonError::into_inner)
     }
 
     /// Has who waits told of answers.
-    fn tell(&self, mut answers: Answers) {
-        if answers.is_empty() {
+    fn tell(&self, answers: Answers) {
+        let Answers { mut tasks, lines } = answers;
+        mail::deliver(lines);
+        if tasks.is_empty() {
             return;
         }
         if self.has_teller.load(SeqCst) {
-            self.lock().append(&mut answers);
+            self.lock().append(&mut tasks);
             self.wake.notify_one();
         } else {
-            tell(answers);
+            tell(tasks);
         }
     }
 }
@@ -251,12 +255,24 @@ impl Core {
         let asker = asker_of(key.filter(|_| !facts.op.is_read()), &begin);
         let call = Call::of(begin, facts, wait, asker);
         let mut state = self.lock();
-        let taken = state.take_in(call, receiver, self.limit);
+        let taken = state.take_in(call, Receiver::Task(receiver), self.limit);
         if let Err(fault) = &taken {
             state.metrics.note_refused(fault.name());
         }
         self.release(state);
         taken.map(|()| outcome)
+    }
+
+    /// Asks calls of connections for lines, in their order. What becomes of them is told to these.
+    pub fn submit_all(&self, calls: &mut Asking) {
+        let mut state = self.lock();
+        for (call, ticket) in calls.drain(..) {
+            if let Err(fault) = state.take_in(call, Receiver::Line(ticket.clone()), self.limit) {
+                state.metrics.note_refused(fault.name());
+                state.answers.add(Receiver::Line(ticket), Told::new(Err(fault), None));
+            }
+        }
+        self.release(state);
     }
 
     /// The reply to a call, once it is there.
@@ -402,8 +418,8 @@ impl Core {
 }
 
 /// Tells who waits.
-fn tell(answers: Answers) {
-    for (receiver, told) in answers {
-        let _ = Receiver::send(receiver, told);
+fn tell(answers: TaskAnswers) {
+    for (task, told) in answers {
+        let _ = task.send(told);
     }
 }

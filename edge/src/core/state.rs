@@ -10,6 +10,7 @@ use crate::fault::Fault;
 use crate::kept::Origin;
 use crate::ledger::{Ledger, Turn};
 use crate::log::Log;
+use crate::mail;
 use crate::metrics::Metrics;
 use crate::opening::Observed;
 use crate::polls::{Polls, Queue, Waiting, Woken};
@@ -20,6 +21,7 @@ use crate::system;
 use hyper::body::Bytes;
 use std::collections::{HashMap, VecDeque};
 use std::time::{Duration, Instant};
+use tokio::sync::oneshot;
 
 /// So many bytes of calls may wait.
 const MOST_WAITING_BYTES: usize = 64 << 20;
@@ -32,8 +34,26 @@ const WORTH_IT: u64 = 16;
 /// A hundred years.
 const FOREVER: Duration = Duration::from_secs(3_155_760_000);
 
+/// Tasks, and what they are told.
+pub type TaskAnswers = Vec<(oneshot::Sender<Told>, Told)>;
+
 /// Who is told what, once the lock is given back.
-pub type Answers = Vec<(Receiver, Told)>;
+#[derive(Default)]
+pub struct Answers {
+    pub tasks: TaskAnswers,
+    /// Calls of connections for lines.
+    pub lines: mail::Answers,
+}
+
+impl Answers {
+    /// Adds what a receiver is told.
+    pub fn add(&mut self, receiver: Receiver, told: Told) {
+        match receiver {
+            Receiver::Task(task) => self.tasks.push((task, told)),
+            Receiver::Line(ticket) => self.lines.push((ticket, told)),
+        }
+    }
+}
 
 /// Those who wait for the call of a key.
 struct UnderWay {
@@ -202,7 +222,7 @@ impl State {
             resting: Instant::now(),
             look: false,
             next_late: None,
-            answers: Vec::new(),
+            answers: Answers::default(),
         };
         state.was_compacted(snapshots, true);
         state
@@ -304,7 +324,7 @@ impl State {
         if let Asker::Keyed(key, mark) = &call.asker {
             if let Some(reply) = self.replies.get(key, *mark)? {
                 self.metrics.again += 1;
-                self.answers.push((receiver, Told::new(Ok(reply), None)));
+                self.answers.add(receiver, Told::new(Ok(reply), None));
                 return Ok(None);
             }
             if let Some(one) = self.under_way.get_mut(key) {
@@ -323,7 +343,7 @@ impl State {
             None => Ok(Some(receiver)),
             Some(task) => {
                 self.remember(call, &task);
-                self.answers.push((receiver, Told::new(Ok(task), None)));
+                self.answers.add(receiver, Told::new(Ok(task), None));
                 Ok(None)
             }
         }
@@ -392,11 +412,10 @@ impl State {
     fn answer(&mut self, mut call: Call, outcome: Result<Bytes, Fault>) {
         match call.take_asker() {
             Asker::Edge(_) | Asker::Client(None) => {}
-            Asker::Client(Some(receiver)) => self.answers.push((receiver, Told::new(outcome, Some(call)))),
+            Asker::Client(Some(receiver)) => self.answers.add(receiver, Told::new(outcome, Some(call))),
             Asker::Keyed(key, _) => {
                 let receivers = self.under_way.remove(&key).map(|one| one.receivers).unwrap_or_default();
-                let told = |receiver| (receiver, Told::new(outcome.clone(), None));
-                self.answers.extend(receivers.into_iter().map(told));
+                receivers.into_iter().for_each(|one| self.answers.add(one, Told::new(outcome.clone(), None)));
             }
         }
     }

@@ -20,7 +20,7 @@ import signal
 import sys
 import time
 
-from wfserve.durable import Settings, due
+from wfserve.durable import Settings, beside, due
 from wfserve.durable.due import Limits
 from wfserve.durable.kept import KeptProgram
 from wfserve.durable.log import LineLog
@@ -130,6 +130,8 @@ class Driver:
 
 def main():
     due.TIMES_SNAPSHOTS = 0
+    # Its queue is hardly ever empty, and so compactions that hold polls back are tried too.
+    beside.PATIENCE = 0.1
     program, log, seed, clients, calls, size, stage = sys.argv[1:8]
     if stage != "-":
         strike(stage)

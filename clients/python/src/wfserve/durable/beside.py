@@ -7,11 +7,13 @@ of its own does the rest. Calls go on meanwhile; in the exchange they wait for t
 from __future__ import annotations
 
 import logging
-from typing import Protocol
+import time
+from typing import AbstractSet, Optional, Protocol, Set
 
 from wfserve.errors import LogFault, NotCompacted
 
 from .compaction import remove_leftovers
+from .queues import DISPATCHES, Asked
 from .successor import Differs, Origin, Successor, not_compacted
 from .window import Window
 
@@ -20,6 +22,8 @@ LOG = logging.getLogger("wfserve.log")
 NEAR = 512
 # So often what was written meanwhile is given before batches have to wait for it.
 FREE_ROUNDS = 4
+# So many seconds a compaction waits for its queues to be empty at once, and between two looks.
+PATIENCE, LOOK = 10.0, 0.02
 
 
 class Served(Protocol):
@@ -34,8 +38,11 @@ class Served(Protocol):
     def lines(self) -> int:
         """How many lines the log has."""
 
-    def begin_window(self, window: Window) -> int:
-        """From now on replies are noted in this window. The number of the log's last line, behind which they are."""
+    def begin_window(self, window: Window) -> None:
+        """Has replies noted in this window, from a line on at which it may begin."""
+
+    def hold(self, window: Window, held: AbstractSet[Asked]) -> None:
+        """Has this window begin now, and what is asked of these queues held back."""
 
     def end_window(self) -> None:
         """Notes no more, and has asked what was held back."""
@@ -51,33 +58,59 @@ class Served(Protocol):
 
 
 class Beside:
-    """One compaction of a log that is served. A fault of it leaves all as it was."""
+    """One compaction of a log that is served. A fault of it leaves all as it was.
+
+    It is made again where a poll was answered in another way by the order of its queue (window.py).
+    """
 
     def __init__(self, served: Served, capacity: int):
         self._served = served
         self._capacity = capacity
+        # The queues that have to be empty where the snapshots are made, and those whose order was seen in a reply.
+        self._empty: Set[Asked] = set()
+        self._differed: Set[Asked] = set()
+        self._held: Set[Asked] = set()
+        # Until when queues are waited for.
+        self._late: Optional[float] = None
 
     def run(self) -> None:
         """Compacts the log. NotCompacted, NotOpened, or another LogFault where it can't be done."""
-        # More room in the queues is told by replies of dispatch turns.
-        holds = self._capacity > self._served.origin().settings.capacity
+        if self._capacity > self._served.origin().settings.capacity:
+            # More room in the queues is told by replies of dispatch turns.
+            self._held.add(DISPATCHES)
         try:
-            try:
-                self._try(holds)
-            except Differs:
-                if holds:
-                    raise
-                self._try(True)
+            while not self._is_done():
+                pass
         except (LogFault, OSError) as fault:
             # Who was told to stop says so.
             self._served.look()
             raise not_compacted(fault) from fault
 
-    def _try(self, holds: bool) -> None:
-        """Compacts the log. Where it `holds`, polls and dispatch turns wait from the snapshots on."""
-        successor, window = Successor(self._served.origin(), self._capacity), Window()
+    def _is_done(self) -> bool:
+        """Compacts the log. False where that has to be done once more, since a reply differed by the order of a queue."""
+        window = Window(self._empty, self._held)
+        try:
+            self._try(window)
+        except Differs as fault:
+            if fault.asked is None or fault.asked in window.held:
+                raise
+            self._learn(fault.asked, window)
+            return False
+        return True
+
+    def _learn(self, differed: Asked, window: Window) -> None:
+        """Notes the queue by whose order a reply differed in a window."""
+        if differed == DISPATCHES:
+            # A queue was full, so that its polls have tasks meanwhile.
+            self._held.add(differed)
+            return
+        self._differed.add(differed)
+        self._empty |= {differed, *window.asked} - {DISPATCHES}
+        self._late = self._late or time.monotonic() + PATIENCE
+
+    def _try(self, window: Window) -> None:
+        successor = Successor(self._served.origin(), self._capacity)
         self._served.take_part(successor)
-        window.is_holding = holds
         try:
             self._come_behind(successor, window)
             self._come_near(successor, window)
@@ -101,9 +134,23 @@ class Beside:
         """Has snapshots written, and a program opened from them."""
         successor.begin()
         successor.give(self._served.look())
-        successor.write_snapshots(self._served.begin_window(window))
+        self._served.begin_window(window)
+        successor.write_snapshots(self._base(successor, window))
         self._served.look()
         successor.open()
+
+    def _base(self, successor: Successor, window: Window) -> int:
+        """The line up to which the snapshots go, once there is one. Their program is given lines meanwhile."""
+        while True:
+            # In this order: a window that has not begun begins behind a line that was not answered yet.
+            answered = self._served.look()
+            if window.base is not None:
+                return window.base
+            successor.give(answered)
+            if self._late is not None and time.monotonic() >= self._late:
+                self._served.hold(window, self._differed)
+            else:
+                time.sleep(LOOK)
 
     def _come_near(self, successor: Successor, window: Window) -> None:
         """Gives the program beside lines until hardly any are left."""

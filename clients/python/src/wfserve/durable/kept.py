@@ -68,6 +68,11 @@ class KeptProgram:
         return len(self.log) - 1
 
     @property
+    def is_new(self) -> bool:
+        """Whether nothing was asked yet."""
+        return not self.generation and not self.lines
+
+    @property
     def size(self) -> int:
         """How many bytes the log has."""
         return self.log.size

@@ -8,7 +8,7 @@ import re
 import subprocess
 import threading
 from collections import deque
-from typing import Deque, Sequence, Tuple
+from typing import Callable, Deque, Sequence, Tuple
 
 from wfserve.errors import Ended
 from wfserve.types import Reply
@@ -28,6 +28,9 @@ LINE = re.compile(rb'"line": ?([0-9]+)')
 
 def numbered(text: bytes, expected: int, line: int) -> bytes:
     """A reply's text with its line's number in the log, in the place of the number that the program expects."""
+    begin = b'{"line":%d,' % expected
+    if text.startswith(begin):
+        return text if line == expected else b'{"line":%d,%s' % (line, text[len(begin):])
     found = LINE.search(text)
     if found is None or int(found[1]) != expected:
         raise Ended(f"the reply to line {line} is to another line: {text[:200]!r}")
@@ -85,11 +88,15 @@ class Program:
 
     def reply_text(self, line: int) -> bytes:
         """The next reply's text, under the number that its line has in the log."""
+        return self.reply_text_by(lambda: line)
+
+    def reply_text_by(self, line: Callable[[], int]) -> bytes:
+        """The next reply's text, under the number of its line, which is asked for once the reply is there."""
         text = self._output.readline()
         if not text.endswith(b"\n"):
-            raise self.ended(line)
+            raise self.ended(line())
         self.replies += 1
-        return numbered(text[:-1], self.replies, line)
+        return numbered(text[:-1], self.replies, line())
 
     def ended(self, line: int) -> Ended:
         """How it ended, which it has to have done; this line was not answered."""

@@ -38,7 +38,7 @@ from collections import deque
 from concurrent.futures import Future
 from dataclasses import dataclass, field
 from types import TracebackType
-from typing import Any, Callable, Deque, Iterable, Iterator, List, Optional, Sequence, Type, Union
+from typing import AbstractSet, Any, Callable, Deque, Iterable, Iterator, List, Optional, Sequence, Type, Union
 
 from wfserve.blobs import store_beside
 from wfserve.calls import Calls, Clock, HasMoment, answered, request_of, text_of
@@ -54,11 +54,12 @@ from .journaled import JournaledProgram
 from .kept import KeptProgram, Replayed
 from .log import open_lines
 from .program import Program
+from .queues import Asked, QueueLengths, asked_of
 from .replaying import for_read
 from .settings import Settings, read_header
 from .successor import Origin, Successor
 from .sweeping import sweep
-from .window import MOST_HELD, Window, is_by_queues
+from .window import MOST_HELD, Window
 
 
 # Told a request and its reply.
@@ -71,8 +72,8 @@ class Waiting:
 
     line: bytes
     logged: bool = True
-    # Whether its reply depends on the order of tasks in the queues.
-    by_queues: bool = False
+    # What of the queues decides its reply.
+    asked: Optional[Asked] = None
     number: int = 0
     reply: "Future[Reply]" = field(default_factory=Future)
 
@@ -80,7 +81,7 @@ class Waiting:
 def waiting_for(request: Request) -> Waiting:
     """A call that waits for its turn. A read is asked at no moment, so that it sets none."""
     if request.get("op") not in READS:
-        return Waiting(text_of(request).encode(), by_queues=is_by_queues(request))
+        return Waiting(text_of(request).encode(), asked=asked_of(request))
     return Waiting(for_read(request), logged=False)
 
 
@@ -160,6 +161,7 @@ class DurableService(Calls):
         # What the replies since the snapshots of a compaction are, and the calls that it holds back.
         self._window: Optional[Window] = None
         self._held: List[Waiting] = []
+        self._lengths = QueueLengths(isinstance(self._kept, KeptProgram) and self._kept.is_new)
         # The number of the last line that was answered.
         self._answered = self._kept.lines
         self._compactor: Optional[LogCompactor] = None
@@ -297,9 +299,9 @@ class DurableService(Calls):
     def _may_write(self) -> bool:
         """Whether there are calls for a sync, which may be written, or nothing more is asked."""
         window = self._window
-        if window is not None and window.is_holding:
-            self._held += [call for call in self._asked if call.by_queues]
-            self._asked = deque(call for call in self._asked if not call.by_queues)
+        if window is not None and window.held:
+            self._held += [call for call in self._asked if call.asked in window.held]
+            self._asked = deque(call for call in self._asked if call.asked not in window.held)
         if self._paused or (not self._asked and self._closed is None):
             return False
         if window is None or not window.is_far_ahead(self.lines):
@@ -322,13 +324,16 @@ class DurableService(Calls):
         """Gives each call its reply. One thread does this for each program."""
         try:
             while True:
-                text = program.reply_text(self._next_number())
+                # Sooner nobody knows: what is written to the log is handed over a little later.
+                text = program.reply_text_by(self._next_number)
                 reply = json.loads(text)
                 with self._changed:
                     call = self._sent.popleft()
                     if self._window is not None and call.logged:
                         self._window.note(call.number, text)
                     self._answered = call.number
+                    if call.asked is not None:
+                        self._note_queues(call.number, call.asked, reply)
                     self._changed.notify_all()
                 call.reply.set_result({**reply, "line": call.number})
         except Exception as fault:
@@ -336,6 +341,12 @@ class DurableService(Calls):
                 replaced = self._kept.program is not program
             if not replaced:
                 self._end(fault)
+
+    def _note_queues(self, number: int, asked: Asked, reply: Reply) -> None:
+        """Notes what the reply to a poll or a dispatch turn tells of the queues. A window may begin behind it."""
+        self._lengths.note(asked, reply.get("ok"))
+        if self._window is not None:
+            self._window.look(self._lengths, number, asked)
 
     def _end(self, fault: Exception) -> None:
         """The program has ended: nobody waits for it any longer."""
@@ -371,8 +382,9 @@ class DurableService(Calls):
         the snapshots has given the same replies to all lines since, and it stays beside the new one until the next
         compaction. The queues get room for `capacity` tasks; they keep what they have where that is more. Each task that
         was dispatched and waits has its hint in its queue again, so a worker may be handed `stale` for one that it was
-        handed before. Where such hints would change what was answered since the snapshots, and where queues get more room,
-        polls and dispatch turns wait for the end of the compaction. NotCompacted or NotOpened where it can't be done: the
+        handed before. Where such hints would change what was answered since the snapshots, it is made once more from a moment
+        at which the queue that was polled is empty. Only where that isn't so for ten seconds do polls of that queue wait for
+        the end of the compaction. Dispatch turns do where queues are full, or get more room. NotCompacted or NotOpened where it can't be done: the
         service then goes on as it was.
 
         With a journal the program with its queues stays: a capacity has no effect.
@@ -424,15 +436,24 @@ class ServedLog:
         """How many lines the log has."""
         return self._kept.lines
 
-    def begin_window(self, window: Window) -> int:
-        """From now on replies are noted in this window. The number of the log's last line, behind which they are."""
+    def begin_window(self, window: Window) -> None:
+        """Has replies noted in this window, from a line on at which it may begin."""
         service = self._service
         service._pause(is_all_answered=False)
         with service._changed:
             service._window = window
-            window.begin(self._kept.lines)
+            window.begin_where_it_may(service._lengths, service._answered, self._kept.lines)
             service._go_on()
-            return self._kept.lines
+
+    def hold(self, window: Window, held: AbstractSet[Asked]) -> None:
+        """Has this window begin now, where it has not, and what is asked of these queues held back."""
+        service = self._service
+        service._pause(is_all_answered=False)
+        with service._changed:
+            if window.base is None:
+                window.hold(held)
+                window.begin(self._kept.lines)
+            service._go_on()
 
     def end_window(self) -> None:
         """Notes no more, and has asked what was held back."""

@@ -26,6 +26,7 @@ from wfserve.errors import Ended, LogFault, NotCompacted
 from .compaction import folder_of, keep_log, keep_private, load_options, open_program
 from .log import LineLog, Place, Tail, begun_beside, sync_file, sync_folder
 from .program import Program
+from .queues import Asked, asked_of
 from .replaying import feeding, for_replay, request_in
 from .settings import Settings
 from .told import add_told, is_had_again, keyed, lasting_mark, told_line, told_path
@@ -36,7 +37,11 @@ MOST_EXCHANGE = 10.0
 
 
 class Differs(NotCompacted):
-    """A reply of the program beside is another one than the one that was given."""
+    """A reply of the program beside is another one than the one that was given, to a request that asked this of the queues."""
+
+    def __init__(self, line: int, asked: Optional[Asked]):
+        super().__init__(f"line {line} was answered in another way")
+        self.asked = asked
 
 
 def with_package() -> Dict[str, str]:
@@ -183,7 +188,7 @@ class Successor:
     def _take(self, number: int, line: bytes, reply: bytes, window: Window, told: List[bytes]) -> None:
         """Takes the reply of the program to a line, which has to be the one that was given."""
         if not window.is_as_told(reply):
-            raise Differs(f"line {number} was answered in another way")
+            raise Differs(number, asked_of(request_in(line)))
         found = keyed(line)
         if found is not None and is_had_again(request_in(line), reply):
             told.append(told_line(lasting_mark(found[1]), found[0], reply))

@@ -10,7 +10,7 @@ from __future__ import annotations
 import json
 import logging
 import re
-from typing import Any, List, Optional, Tuple
+from typing import Any, Callable, List, Optional, Tuple
 
 from wfserve.errors import WfserveError
 from wfserve.operations import KEYS, POLLS
@@ -56,14 +56,31 @@ def no_number(text: str) -> None:
     raise BadCall(f"{text} is no JSON")
 
 
-DECODER = json.JSONDecoder(object_pairs_hook=without_repeats, parse_constant=no_number)
+# Of both the types leave out `scan_once`.
+DECODER: Any = json.JSONDecoder(object_pairs_hook=without_repeats, parse_constant=no_number)
+PLAIN: Any = json.JSONDecoder(parse_constant=no_number)
 
 
-def decoded(decoder: json.JSONDecoder, text: str) -> Any:
+def plain_object(text: str) -> Optional[Json]:
+    """The object that a text is, where it has no other one in it and no text of it has a colon, as of most calls.
+
+    With a colon for each key no key comes twice. So they needn't be looked at one by one.
+    """
+    if not text.startswith("{") or text.find("{", 1) >= 0:
+        return None
+    try:
+        value, end = PLAIN.scan_once(text, 0)
+    except (StopIteration, ValueError, BadCall):
+        # The other reader says what is wrong.
+        return None
+    return value if end == len(text) and text.count(":") == len(value) else None
+
+
+def decoded(decoder: Any, text: str) -> Any:
     """What a text says. Most have no blank around their value, and are not looked through for one."""
     try:
-        value, end = decoder.raw_decode(text)
-    except json.JSONDecodeError:
+        value, end = decoder.scan_once(text, 0)
+    except (StopIteration, json.JSONDecodeError):
         return decoder.decode(text)
     is_whole = end == len(text) or not text[end:].strip(BLANKS)
     return value if is_whole else decoder.decode(text)
@@ -73,13 +90,14 @@ def call_of(body: bytes) -> Tuple[Json, bytes]:
     """The request of a body, and its text without the last brace."""
     try:
         text = body.decode()
-        request = decoded(DECODER, text)
+        plain = plain_object(text)
+        request = decoded(DECODER, text) if plain is None else plain
     except (ValueError, RecursionError):
         raise BadCall("the body is no JSON") from None
     if not isinstance(request, dict):
         raise BadCall("the body is no object")
     kept = kept_of(request)
-    if text.count("[") + text.count("{") > DEEPEST and is_deeper(kept, DEEPEST):
+    if (plain is None or "[" in text) and text.count("[") + text.count("{") > DEEPEST and is_deeper(kept, DEEPEST):
         raise BadCall(f"its values lie more than {DEEPEST} deep")
     if len(kept) < len(request) or not kept["op"]:
         return kept, json.dumps(kept, separators=(",", ":")).encode()[:-1]
@@ -89,11 +107,12 @@ def call_of(body: bytes) -> Tuple[Json, bytes]:
 def kept_of(request: Request) -> Request:
     """The request with its operation's keys alone: its moment is the server's, and there is one lane."""
     op = request.get("op")
-    if not isinstance(op, str) or op not in KEYS:
+    allowed = ALLOWED.get(op) if isinstance(op, str) else None
+    if allowed is None:
         return {"op": op if isinstance(op, str) else None}
-    if request.keys() <= ALLOWED[op]:
+    if request.keys() <= allowed:
         return request
-    return {name: value for name, value in request.items() if name in ALLOWED[op]}
+    return {name: value for name, value in request.items() if name in allowed}
 
 
 DESCRIBE = "describe"
@@ -140,17 +159,18 @@ class Observers:
         self._observers = observers
         self._told = {op: self._told_of(op) for op in KEYS}
 
-    def _told_of(self, op: Any) -> List[Any]:
-        """Who is told of an operation."""
-        return [it for it in self._observers if getattr(it, "ops", None) is None or op in it.ops]
+    def _told_of(self, op: Any) -> List[Callable[[Request, Reply], None]]:
+        """How those are told who are told of an operation."""
+        return [it.observe for it in self._observers if getattr(it, "ops", None) is None or op in it.ops]
 
     def observe(self, request: Request, reply: Reply) -> None:
         op = request.get("op")
-        for observer in self._told[op] if op in KEYS else self._told_of(op):
+        told = self._told.get(str(op))
+        for observe in self._told_of(op) if told is None else told:
             try:
-                observer.observe(request, reply)
+                observe(request, reply)
             except Exception as fault:
                 LOG.exception(
-                    "%s can't take in line %s (%s): %s: %s", type(observer).__name__, reply.get("line"),
-                    request.get("op"), type(fault).__name__, fault,
+                    "%s can't take in line %s (%s): %s: %s", type(getattr(observe, "__self__", observe)).__name__,
+                    reply.get("line"), request.get("op"), type(fault).__name__, fault,
                 )

@@ -9,10 +9,11 @@ from __future__ import annotations
 import asyncio
 import logging
 from dataclasses import dataclass
-from typing import TYPE_CHECKING, Any, Callable, Coroutine, Optional, TypeVar
+from typing import TYPE_CHECKING, AbstractSet, Any, Callable, Coroutine, Optional, TypeVar
 
 from wfserve.durable.beside import Beside
 from wfserve.durable.due import Due, Limits
+from wfserve.durable.queues import Asked
 from wfserve.durable.successor import Origin, Successor
 from wfserve.durable.window import Window
 from wfserve.errors import Ended, LogFault
@@ -72,9 +73,13 @@ class ServedCore:
         """How many lines the log has."""
         return self._core.kept.lines
 
-    def begin_window(self, window: Window) -> int:
-        """From now on replies are noted in this window. The number of the log's last line, behind which they are."""
-        return self._called(lambda: self._core.begin_window(window))
+    def begin_window(self, window: Window) -> None:
+        """Has replies noted in this window, from a line on at which it may begin."""
+        self._called(lambda: self._core.begin_window(window))
+
+    def hold(self, window: Window, held: AbstractSet[Asked]) -> None:
+        """Has this window begin now, and what is asked of these queues held back."""
+        self._called(lambda: self._core.hold(window, held))
 
     def end_window(self) -> None:
         """Notes no more, and has asked what was held back."""

@@ -15,14 +15,14 @@ import json
 import logging
 import time
 from collections import deque
-from typing import TYPE_CHECKING, Any, Callable, Deque, Dict, Iterable, List, Optional, Set
+from typing import TYPE_CHECKING, AbstractSet, Any, Callable, Deque, Dict, Iterable, List, Optional, Set
 
 from wfserve.durable.due import Limits
 from wfserve.durable.kept import KeptProgram
 from wfserve.durable.program import numbered
-from wfserve.durable.window import MOST_HELD, Window, is_by_queues
+from wfserve.durable.queues import DISPATCH_TURN, Asked, QueueLengths, asked_of
+from wfserve.durable.window import MOST_HELD, Window
 from wfserve.errors import Ended, LogFault
-from wfserve.operations import READS
 from wfserve.types import Json, Request
 
 from .calls import Busy, Draining, KeyReused, decoded, wait_of
@@ -91,6 +91,7 @@ class Core:
         # While the log is compacted: what the replies since the snapshots are, and the calls that are held back.
         self.window: Optional[Window] = None
         self._held: List[Call] = []
+        self._lengths = QueueLengths(kept.is_new)
         self._looks = False
         # The number of the last line that was answered, and of the last one that a sync covers.
         self._answered = self._synced = kept.lines
@@ -141,11 +142,10 @@ class Core:
             raise self.over.result()
         if self.closing:
             raise Draining("the server is told to stop")
-        call = Call(request, begin, None if request.get("op") in READS else key)
-        call.receivers.append(receiver)
+        call = Call(request, begin, [receiver], key)
         if call.is_poll:
             call.late = call.since + wait_of(request) / 1_000
-        if not self._is_had_again(call, receiver):
+        if (call.key is None and not call.is_poll) or not self._is_had_again(call, receiver):
             self._take_in(call)
 
     def _is_had_again(self, call: Call, receiver: Receiver) -> bool:
@@ -180,7 +180,8 @@ class Core:
         if call.key is not None:
             self._by_key[call.key] = call
         self._asked.append(call)
-        self.plan()
+        if not self._is_syncing:
+            self.plan()
 
     def ask_turns(self, turns: Iterable[Turn]) -> None:
         """Asks turns of the server's own."""
@@ -200,9 +201,9 @@ class Core:
         self._planned = False
         if self._held_by or self._is_syncing or self.over.done():
             return
-        if self.window is not None and self.window.is_holding:
+        if self.window is not None and self.window.held:
             self._asked = deque(self._without_held(self._asked))
-            self._own = list(self._without_held(self._own))
+            self._own = self._without_held(self._own)
         if (self._asked or self._own) and self._waits_for_successor():
             return
         calls = self._next_calls()
@@ -211,9 +212,7 @@ class Core:
 
     def _logged(self, calls: List[Call]) -> List[Call]:
         """Writes the lines of a batch to the log. Where that can't be done, only the reads are left."""
-        at = self.moments.now()
-        for call in calls:
-            call.line = self._line_of(call, at)
+        self._end_lines(calls, self.moments.now())
         logged, number = [call for call in calls if call.is_logged], self.kept.lines
         try:
             if logged:
@@ -244,22 +243,26 @@ class Core:
 
     def _next_calls(self) -> List[Call]:
         """The calls of the next batch, and after them the turns that they make necessary."""
-        calls, needed, size = self._own, Needed(), 0
+        calls, needed, size, note = self._own, Needed(), 0, self.ledger.note
         self._own = []
         while self._asked and len(calls) < MOST_LINES and size < MOST_BYTES:
             call = self._asked.popleft()
             calls.append(call)
             size += len(call.begin)
-            self.ledger.note(call.request, needed)
+            note(call.request, needed)
         turns = self.ledger.turns(needed)
         self.called = self.called or bool(turns)
-        return calls + list(self._without_held([own_call(turn) for turn in turns]))
+        return calls + self._without_held([own_call(turn) for turn in turns])
 
-    def _line_of(self, call: Call, at: int) -> bytes:
-        if not call.is_logged:
-            return call.begin + b"}"
-        call.request["at"] = at
-        return ended_line(call.begin, at, call.key)
+    def _end_lines(self, calls: List[Call], at: int) -> None:
+        """Makes the lines of calls, at this moment."""
+        end = ended_line(b"", at, None)
+        for call in calls:
+            if not call.is_logged:
+                call.line = call.begin + b"}"
+                continue
+            call.request["at"] = at
+            call.line = call.begin + end if call.key is None else ended_line(call.begin, at, call.key)
 
     def _refuse(self, calls: List[Call], fault: LogFault) -> None:
         """Fails calls that could not be logged. Turns rest meanwhile, and are made up for by a sweep."""
@@ -292,7 +295,7 @@ class Core:
 
     def _take(self, replies: List[bytes]) -> None:
         """Goes through replies in their order: what follows is asked, and calls are answered."""
-        handed = 0
+        handed, observe = 0, self._observe
         self._endings.answered()
         for text in replies:
             if not self._sent:
@@ -301,7 +304,7 @@ class Core:
             call = self._sent.popleft()
             try:
                 text = numbered(text, self._pipes.next_reply(), call.number)
-                call.take(text, decoded(REPLIES, text.decode()) if call.is_logged else {})
+                call.text, call.reply = text, decoded(REPLIES, text.decode()) if call.is_logged else {}
             except (Ended, ValueError) as wrong:
                 self._sent.appendleft(call)
                 self._end(Ended(f"line {call.number}: {wrong}"))
@@ -309,34 +312,36 @@ class Core:
             if self.window is not None and call.is_logged:
                 self.window.note(call.number, text)
             self._answered = call.number
-            handed += self._go_on(call)
+            if call.is_logged:
+                observe(call.request, call.reply)
+            if call.op in TURNS:
+                handed += self._follow(call)
+            elif call.is_poll and self._is_asked_again(call):
+                continue
+            if call.turn is None:
+                if call.number <= self._synced:
+                    self._let_go(call)
+                else:
+                    self._unsynced.append(call)
         if handed:
             self._wake(self.polls.wake(handed))
         if self._own or self._asked:
             self.plan()
 
-    def _go_on(self, call: Call) -> int:
-        """Takes one reply. How many tasks it says were handed over."""
-        request, reply, handed = call.request, call.reply, 0
-        if call.is_logged:
-            self._observe(request, reply)
-        if request.get("op") in TURNS:
-            turns = self.ledger.follow(request, reply, call.turn)
-            self._own += [own_call(turn) for turn in turns]
-            handed = int(request["op"] == "dispatch_turn" and reply.get("ok") in ("dispatched", "pushed"))
-            if call.turn is not None:
-                self.metrics.turns[request["op"], "something" if turns or handed else "nothing"] += 1
-        elif call.is_poll and self._is_asked_again(call):
-            return 0
-        if call.turn is None:
-            if call.number <= self._synced:
-                self._let_go(call)
-            else:
-                self._unsynced.append(call)
+    def _follow(self, call: Call) -> int:
+        """Asks the turns that follow a turn. How many tasks it says were handed over."""
+        op, reply = call.op, call.reply
+        self._note_queues(call)
+        turns = self.ledger.follow(call.request, reply, call.turn)
+        self._own += [own_call(turn) for turn in turns]
+        handed = int(op == DISPATCH_TURN and reply.get("ok") in ("dispatched", "pushed"))
+        if call.turn is not None:
+            self.metrics.turns[op, "something" if turns or handed else "nothing"] += 1
         return handed
 
     def _is_asked_again(self, call: Call) -> bool:
         """Whether a poll goes on: after a hint of what is over by now, or where it waits for a task."""
+        self._note_queues(call)
         said = call.reply.get("ok")
         if said in ("task", "stale"):
             self._own += [own_call(turn) for turn in self.ledger.made_room()]
@@ -368,8 +373,11 @@ class Core:
 
     def _let_go(self, call: Call) -> None:
         """Answers a call whose line is on the disk."""
-        self._forget(call)
-        self._remember(call)
+        self._count -= 1
+        self._bytes -= len(call.begin)
+        if call.key is not None:
+            self._forget_key(call)
+            self._remember(call)
         self._note(call)
         if call.answer() or call.key is not None or not call.has_task:
             return
@@ -393,18 +401,15 @@ class Core:
         if not call.is_poll:
             self.metrics.latency.add(time.monotonic() - call.since)
 
-    def _forget(self, call: Call) -> None:
-        self._count -= 1
-        self._bytes -= len(call.begin)
-        self._forget_key(call)
-
     def _forget_key(self, call: Call) -> None:
         if call.key is not None and self._by_key.get(call.key) is call:
             del self._by_key[call.key]
 
     def _fail(self, call: Call, fault: Exception) -> None:
         if call.turn is None:
-            self._forget(call)
+            self._count -= 1
+            self._bytes -= len(call.begin)
+            self._forget_key(call)
             self.metrics.refused[type(fault).__name__] += 1
             call.fail(fault)
 
@@ -488,11 +493,16 @@ class Core:
         """Puts snapshots in the place of the log's lines, with that much room in the queues. Calls go on meanwhile."""
         return await self.compactor.compact(capacity)
 
-    def begin_window(self, window: Window) -> int:
-        """From now on replies are noted in this window. The number of the log's last line, behind which they are."""
+    def begin_window(self, window: Window) -> None:
+        """Has replies noted in this window, from a line on at which it may begin."""
         self.window = window
-        window.begin(self.kept.lines)
-        return self.kept.lines
+        window.begin_where_it_may(self._lengths, self._answered, self.kept.lines)
+
+    def hold(self, window: Window, held: AbstractSet[Asked]) -> None:
+        """Has this window begin now, where it has not, and what is asked of these queues held back."""
+        if window.base is None:
+            window.hold(held)
+            self.begin_window(window)
 
     def end_window(self) -> None:
         """Notes no more, and has asked what was held back."""
@@ -502,13 +512,22 @@ class Core:
         self._held.clear()
         self.plan()
 
-    def _without_held(self, calls: Iterable[Call]) -> Iterable[Call]:
+    def _note_queues(self, call: Call) -> None:
+        """Notes what a poll or a dispatch turn tells of the queues. A window may begin behind it."""
+        asked = asked_of(call.request)
+        if asked is not None:
+            self._lengths.note(asked, call.reply.get("ok"))
+            if self.window is not None:
+                self.window.look(self._lengths, call.number, asked)
+
+    def _without_held(self, calls: Iterable[Call]) -> List[Call]:
         """The calls but for those that are held back."""
-        if self.window is None or not self.window.is_holding:
-            return calls
-        found = list(calls)
-        self._held += [call for call in found if is_by_queues(call.request)]
-        return [call for call in found if not is_by_queues(call.request)]
+        if self.window is None or not self.window.held:
+            return list(calls)
+        left: List[Call] = []
+        for call in calls:
+            (self._held if asked_of(call.request) in self.window.held else left).append(call)
+        return left
 
     def _waits_for_successor(self) -> bool:
         """Whether the next batch waits for a compaction to come nearer. Once it doesn't for a time, it is given up."""

@@ -17,12 +17,10 @@ from typing import Callable, Deque, Dict, Optional, Set, Tuple, cast
 import httptools
 
 from wfserve.errors import WfserveError
-from wfserve.types import Json
-
 from .calls import call_of, key_of
 from .core import Core
 from .ends import submit
-from .heads import Head, Heads
+from .heads import Heads
 from .http import RETRY_SECONDS, Guard, fault_of
 from .lines import Receiver
 from .lingering import linger
@@ -40,9 +38,7 @@ REASONS = {
     422: b"Unprocessable Entity", 500: b"Internal Server Error", 503: b"Service Unavailable",
     507: b"Insufficient Storage",
 }
-HEAD = (
-    b"HTTP/1.1 %d %s\r\nContent-Type: application/json; charset=utf-8\r\nContent-Length: %d\r\nDate: %s\r\n%s\r\n%s"
-)
+HEAD = b"HTTP/1.1 %d %s\r\nContent-Type: application/json; charset=utf-8\r\nContent-Length: %d\r\nDate: %s\r\n%s\r\n"
 # Headers that a call may have without being handed on, beside those that say nothing here.
 KNOWN = {b"host", b"content-type", b"content-length", b"authorization", b"idempotency-key"}
 HANDED_ON = {b"transfer-encoding", b"expect", b"upgrade", b"content-encoding", b"cookie"}
@@ -57,17 +53,13 @@ class Request(Receiver):
 
     __slots__ = ("_connection", "headers", "body", "keeps", "op")
 
-    def __init__(self, connection: "Connection"):
+    def __init__(self, connection: "Connection", headers: Dict[bytes, bytes], op: str = "", body: bytes = b""):
         self._connection = connection
-        self.headers: Dict[bytes, bytes] = {}
-        self.body = b""
+        self.headers = headers
+        self.body = body
         self.keeps = True
         # The operation that the path names; empty for /calls, where the body does.
-        self.op = ""
-
-    def call(self) -> Tuple[Json, bytes]:
-        """The call, and the beginning of its line."""
-        return named_call_of(self.op, self.body) if self.op else call_of(self.body)
+        self.op = op
 
     def header(self, name: bytes) -> Optional[str]:
         """A header's text."""
@@ -95,14 +87,26 @@ class Front:
         self.core = core
         self.guard = guard
         self.hand_on = hand_on
-        self.date = b""
+        # The heads of answers as most are, by the lengths of their bodies, until the date is another one.
+        self.plain: Dict[int, bytes] = {}
+        self._date = b""
         self.heads = Heads()
         self.connections: Set[Connection] = set()
         self.read_seconds = read_seconds
         self._tell_date()
 
     def _tell_date(self) -> None:
-        self.date = email.utils.formatdate(usegmt=True).encode()
+        self._date = email.utils.formatdate(usegmt=True).encode()
+        self.plain.clear()
+
+    def head(self, status: int, length: int, more: bytes = b"") -> bytes:
+        """The head of an answer whose body has this length, with more lines of headers."""
+        return HEAD % (status, REASONS[status], length, self._date, more)
+
+    def plain_head(self, length: int) -> bytes:
+        """The head of an answer with status 200, after which the connection goes on."""
+        head = self.plain[length] = self.head(200, length)
+        return head
 
     def connect(self) -> asyncio.Protocol:
         """The protocol of a connection that comes in."""
@@ -195,7 +199,9 @@ class Connection(asyncio.Protocol):
             if self._serving is None and not self._asked:
                 head = self._front.heads.find(data)
                 if head is not None:
-                    self._serve_known(head, data)
+                    # The parser is between two requests, and learns nothing of this one.
+                    self._was_asked = True
+                    self._serve(Request(self, head.headers, head.op, data[len(data) - head.length:]))
                     return
                 self._piece = data
         if not self._is_whole:
@@ -209,17 +215,10 @@ class Connection(asyncio.Protocol):
         if self._asked and self.transport is not None:
             self.transport.pause_reading()
 
-    def _serve_known(self, head: Head, data: bytes) -> None:
-        """Serves a request whose head was let in before. The parser is between two requests, and learns nothing of it."""
-        request = Request(self)
-        request.headers, request.op, request.body = head.headers, head.op, data[len(data) - head.length:]
-        self._was_asked = True
-        self._serve(request)
-
     def on_message_begin(self) -> None:
         if self._reading is not None or self._asked or self._serving is not None:
             self._raw = b""
-        self._reading, self._is_whole = Request(self), False
+        self._reading, self._is_whole = Request(self, {}), False
 
     def _now_read(self) -> Request:
         """The request whose parts come in."""
@@ -279,9 +278,12 @@ class Connection(asyncio.Protocol):
     def _serve(self, request: Request) -> None:
         self._serving = request
         try:
-            call, begin = request.call()
-            key = key_of(request.header(b"idempotency-key"))
-            submit(self._front.core, call, begin, request, key)
+            call, begin = named_call_of(request.op, request.body) if request.op else call_of(request.body)
+            key = key_of(request.header(b"idempotency-key")) if b"idempotency-key" in request.headers else None
+            if "wait" in call:
+                submit(self._front.core, call, begin, request, key)
+            else:
+                self._front.core.submit(call, begin, request, key)
         except Exception as fault:
             request.fail(fault)
 
@@ -306,10 +308,15 @@ class Connection(asyncio.Protocol):
         transport = self.transport
         if transport is None or transport.is_closing():
             return
-        more = b"" if request.keeps else b"Connection: close\r\n"
-        if status == 503:
-            more += b"Retry-After: %d\r\n" % RETRY_SECONDS
-        transport.write(HEAD % (status, REASONS[status], len(text), self._front.date, more, text))
+        front, length = self._front, len(text)
+        if status == 200 and request.keeps:
+            head = front.plain.get(length) or front.plain_head(length)
+        else:
+            more = b"" if request.keeps else b"Connection: close\r\n"
+            if status == 503:
+                more += b"Retry-After: %d\r\n" % RETRY_SECONDS
+            head = front.head(status, length, more)
+        transport.write(head + text)
         self._serving, self._since = None, time.monotonic()
         if not request.keeps:
             self._end()

@@ -17,6 +17,8 @@ from wfserve.types import Reply, Request
 # Calls that issue no task, send nothing to another shard and close no run.
 QUIET = (*POLLS, *READS, "heartbeat")
 TURNS = ("timer_turn", "dispatch_turn", "transfer_turn")
+# Those that may make turns necessary.
+NOTED = KEYS.keys() - {*QUIET, *TURNS}
 # So many dispatch turns of a shard are made at once, at most.
 MOST_AT_ONCE = 64
 # These commands issue one task each; these begin something on the shard of the workflow that they name.
@@ -31,9 +33,9 @@ CLOSING_CLASSES = {"execution_timeout", "run_timeout"}
 
 def shard_of_request(request: Request, shards: int) -> Optional[int]:
     """The shard that a call may change, by the workflow ID or the token that it bears."""
-    workflow_id, token = request.get("workflow_id"), request.get("token")
     if shards == 1:
         return 0
+    workflow_id, token = request.get("workflow_id"), request.get("token")
     if isinstance(workflow_id, str):
         return shard_of(workflow_id, shards)
     return shard_of_token(token, shards) if isinstance(token, str) else None
@@ -90,9 +92,9 @@ class Ledger:
     def note(self, request: Request, needed: Needed) -> None:
         """Adds what a call makes necessary."""
         op = request.get("op")
-        if op not in KEYS or op in QUIET or op in TURNS:
+        if op not in NOTED:
             return
-        shard = shard_of_request(request, self.shards)
+        shard = 0 if self.shards == 1 else shard_of_request(request, self.shards)
         if shard is None:
             return
         if op == "start" and "conflict" not in request and "reuse" not in request:

@@ -50,20 +50,25 @@ class Call:
     """A line that the log and the program get, or one that the program alone gets, as a read."""
 
     __slots__ = (
-        "request", "begin", "key", "receivers", "turn", "number", "late", "was_woken", "is_poll", "is_logged",
+        "request", "op", "begin", "key", "receivers", "turn", "number", "late", "was_woken", "is_poll", "is_logged",
         "since", "line", "text", "reply",
     )
 
-    def __init__(self, request: Request, begin: bytes, key: Optional[str] = None, turn: Optional[Turn] = None):
+    def __init__(
+        self, request: Request, begin: bytes, receivers: List[Receiver], key: Optional[str] = None,
+        turn: Optional[Turn] = None,
+    ):
         op = request.get("op")
         self.request = request
+        # Its operation, by a name that is known.
+        self.op: str = op if op in KEYS else "unknown"
         # The line's text without its last brace, its moment and its key.
         self.begin = begin
-        self.key = key
-        self.receivers: List[Receiver] = []
+        self.receivers = receivers
         self.turn = turn
         self.is_poll = op in POLLS
         self.is_logged = op not in READS
+        self.key = key if self.is_logged else None
         # Of a line its number in the log, and of a read that of the last line before it.
         self.number = 0
         self.line = b""
@@ -82,12 +87,6 @@ class Call:
     def take(self, text: bytes, reply: Reply) -> None:
         """Takes the program's reply."""
         self.text, self.reply = text, reply
-
-    @property
-    def op(self) -> str:
-        """Its operation, by a name that is known."""
-        op = self.request.get("op")
-        return str(op) if op in KEYS else "unknown"
 
     @property
     def has_task(self) -> bool:
@@ -119,4 +118,4 @@ class Call:
 
 def own_call(turn: Turn) -> Call:
     """The call of a turn of the server's own."""
-    return Call(turn.request, json.dumps(turn.request, separators=(",", ":")).encode()[:-1], turn=turn)
+    return Call(turn.request, json.dumps(turn.request, separators=(",", ":")).encode()[:-1], [], turn=turn)

@@ -8,7 +8,7 @@ since may have changed it.
 from __future__ import annotations
 
 from dataclasses import dataclass, field
-from typing import Callable, Dict, Iterable, List, Optional, Tuple
+from typing import Any, Callable, Dict, Iterable, List, Optional, Tuple
 
 from wfserve.events import NOTHING_WRONG, Open, open_tasks, status_of
 from wfserve.ids import run_of_token, service_of
@@ -19,6 +19,8 @@ from wfserve.types import Event, Json, Reply, Request
 # What the list calls a run that is open, and whose code or worker fails again and again.
 STUCK = "Stuck"
 BEGINS_RUNS = {"StartChildWorkflowExecution", "ContinueAsNewWorkflowExecution"}
+# What may begin a run, take one away, or change others than the one that it names.
+TELLS_RUNS = {"start", "signal_with_start", "transfer_turn", "timer_turn"}
 # So often a run that was begun elsewhere is looked for.
 MOST_LOOKS = 100
 MOST_BEGUN = 100_000
@@ -112,23 +114,28 @@ class Workflows:
         op = request.get("op")
         if "error" in reply or op in READS:
             return
+        if op in TELLS_RUNS:
+            self._observe_runs(op, request, reply)
+        if "token" in request:
+            run = run_of_token(str(request["token"]), self._service)
+            if op == "complete_workflow_task":
+                self._observe_commands(request, run)
+            self._change(run)
+        if "run" in reply:
+            self._change(reply["run"])
+        workflow_id = request.get("workflow_id")
+        if isinstance(workflow_id, str):
+            for entry in self._by_workflow.get(workflow_id, ()):
+                entry.changed = True
+
+    def _observe_runs(self, op: Any, request: Request, reply: Reply) -> None:
+        """Notes what begins runs, takes them away, or may change others."""
         if op in ("start", "signal_with_start") and reply.get("ok") == "started":
             self.add(request["workflow_id"], reply["run"], request["workflow_type"], request.get("at", 0))
         if op == "transfer_turn" and reply.get("ok") == "accepted":
             self._transfers += 1
         if op == "timer_turn" and reply.get("class") == "retention":
             self.remove(reply["run"])
-        run = run_of_token(str(request["token"]), self._service) if "token" in request else None
-        if op == "complete_workflow_task":
-            self._observe_commands(request, run)
-        if "run" in reply:
-            self._change(self.find_run(reply["run"]))
-        if run is not None:
-            self._change(self.find_run(run))
-        workflow_id = request.get("workflow_id")
-        if isinstance(workflow_id, str):
-            for entry in self._by_workflow.get(workflow_id, ()):
-                self._change(entry)
 
     def _observe_commands(self, request: Request, run: Optional[str]) -> None:
         """Remembers which workflows the commands begin a run of."""
@@ -200,7 +207,8 @@ class Workflows:
 
     # What changed.
 
-    def _change(self, entry: Optional[Entry]) -> None:
+    def _change(self, run: Optional[str]) -> None:
+        entry = None if run is None else self._by_run.get(run)
         if entry is not None:
             entry.changed = True
 

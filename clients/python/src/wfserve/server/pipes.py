@@ -16,6 +16,8 @@ from wfserve.errors import LogFault
 
 # How many bytes a pipe holds: Linux gives 64 KiB without being asked.
 SET_PIPE_SIZE = 1031
+# So many bytes are read at once. For more of them the memory would be had of the system, and given back, each time.
+READ_AT_ONCE = 1 << 16
 
 
 class Pipes:
@@ -72,7 +74,7 @@ class Pipes:
 
     def _read(self) -> None:
         try:
-            data = os.read(self._out, PIPE_BYTES)
+            data = os.read(self._out, READ_AT_ONCE)
         except BlockingIOError:
             return
         if not data:

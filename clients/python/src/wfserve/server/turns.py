@@ -12,6 +12,7 @@ import heapq
 import time
 from typing import Callable, List, Optional, Set, Tuple
 
+from wfserve.operations import KEYS
 from wfserve.types import Json, Reply, Request
 
 from .core import Core
@@ -29,6 +30,9 @@ DURATIONS = {
 
 class Deadlines:
     """Moments at which something may be due on a shard, as far as the lines tell."""
+
+    # All that have durations or commands, and what a retry is answered.
+    ops = frozenset({op for op, keys in KEYS.items() if keys & {*DURATIONS, "commands"}} | {"fail_activity"})
 
     def __init__(self, shards: int = 1):
         self._shards = shards
