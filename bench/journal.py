@@ -3,17 +3,18 @@
 
 Usage: bench/journal.py [--program PROGRAM] [--folder DIR] [--scale S] [--rounds N] [PART..]
 
-    lanes      lines of a file, read 512 KiB at a time: with a journal, and without one
+    lines      lines of a file, read 512 KiB at a time: with a journal, and without one
     batches    the same lines by a pipe, so that one read gives 64 KiB at most
+    lanes      the same lines of a file over 16 shards in eight lanes, read 1 MiB at a time
     caller     a caller who waits for each reply, beside one of a C program that writes as many bytes over zeros and
-               syncs each, and beside that program when nobody calls it
+               syncs each; and what of it is the journal's: both again where nothing is written
     opening    how many entries a second a journal is opened at, and the memory that this takes
     memory     the memory after the first tenth of some steps and after all, with a retention and a journal
 
 Without PART all are made. S makes all counts that many times as large (1: 200,000 lines, 10,000,000 steps in `memory`).
 The journal lies in a folder of its own in DIR, which should be on the disk that is meant. Of each pair N rounds are
-made by turns, and all are printed: of times the shortest counts, since other work only adds to them. The status is 1
-where an aim is missed.
+made by turns, and all are printed: of times the shortest counts, since other work only adds to them. Under each row
+stands its share, the aim, and whether that is met. The status is 1 where an aim is missed.
 """
 from __future__ import annotations
 
@@ -34,7 +35,9 @@ import first_path
 ROOT = pathlib.Path(__file__).resolve().parent.parent
 LINES, CALLS, ENTRIES, STEPS = 200_000, 5_000, 1_000_000, 10_000_000
 # What is aimed at.
-SHARE, OPENED, GROWTH = 0.85, 300_000, 1.2
+SHARE, LANES_SHARE, CALLED_SHARE, OPENED, GROWTH = 0.85, 0.8, 1.0, 300_000, 1.2
+# The rows of several lanes.
+LANES, SHARDS = 8, 16
 # How many runs are kept at most after they closed. Of fewer runs it is fewer.
 KEPT = 1_000
 # Lines of a run that comes and goes, and its steps: a dispatch turn makes two.
@@ -46,20 +49,21 @@ def text_of(line: dict[str, Any]) -> bytes:
     return json.dumps(line, separators=(",", ":")).encode() + b"\n"
 
 
-def orders(count: int) -> Iterator[bytes]:
-    """Starts, and nine signals for each."""
+def orders(count: int, lanes: int = 1) -> Iterator[bytes]:
+    """Starts, and nine signals for each: all of an order in one lane."""
     for number in range(count // 10):
         name = f"order-{number}"
-        yield text_of({**first_path.start(name), "at": number})
+        lane = {"lane": number % lanes} if lanes > 1 else {}
+        yield text_of({**first_path.start(name), "at": number, **lane})
         for signal in range(9):
             own = {"at": number, "request_id": f"paid-{signal}", "workflow_id": name}
-            yield text_of({"name": "paid", "op": "signal", **own})
+            yield text_of({"name": "paid", "op": "signal", **own, **lane})
 
 
 def aim(title: str, reached: float, wanted: float) -> None:
-    """Says whether an aim is reached, which is at least so much."""
+    """Says whether an aim is met, which is at least so much."""
     good = reached >= wanted
-    print(f"  {title}: {reached:,.2f}, aimed at {wanted:,.2f}{'' if good else ': MISSED'}", flush=True)
+    print(f"  {title}: {reached:,.2f}, aimed at {wanted:,.2f}: {'met' if good else 'MISSED'}", flush=True)
     if not good:
         missed.append(title)
 
@@ -82,13 +86,10 @@ class Bench:
         with tempfile.TemporaryDirectory(dir=self.folder) as folder:
             return work(folder)
 
-    def by_turns(self, one: Callable[[], float], other: Callable[[], float]) -> tuple[list[float], list[float]]:
-        """Seconds of two kinds of work, each round both."""
-        first, second = [], []
-        for _ in range(self.rounds):
-            first.append(one())
-            second.append(other())
-        return first, second
+    def by_turns(self, *works: Callable[[], float]) -> list[list[float]]:
+        """Seconds of each kind of work, all kinds each round."""
+        rounds = [[work() for work in works] for _ in range(self.rounds)]
+        return [list(spent) for spent in zip(*rounds)]
 
     # Many lines.
 
@@ -106,23 +107,27 @@ class Bench:
             sys.exit(f"journal: the program ended with status {done.returncode}")
         return spent
 
-    def many(self, title: str, piped: bool) -> None:
+    def many(self, title: str, wanted: float, *more: str, piped: bool = False, lanes: int = 1) -> None:
         count = self.count(LINES)
         with tempfile.TemporaryDirectory() as made:
             lines = pathlib.Path(made, "lines")
-            lines.write_bytes(b"".join(orders(count)))
+            lines.write_bytes(b"".join(orders(count, lanes)))
             kept, plain = self.by_turns(
-                lambda: self.in_folder(lambda folder: self.served(lines, "--journal", folder, piped=piped)),
-                lambda: self.served(lines, piped=piped))
+                lambda: self.in_folder(lambda folder: self.served(lines, *more, "--journal", folder, piped=piped)),
+                lambda: self.served(lines, *more, piped=piped))
         print(f"{title}: {count:,} lines; lines a second with a journal {rates(count, kept)}, "
               f"without {rates(count, plain)}")
-        aim("share of the speed without", min(plain) / min(kept), SHARE)
+        aim("share of the speed without", min(plain) / min(kept), wanted)
 
-    def lanes(self) -> None:
-        self.many("one lane, lines of a file", piped=False)
+    def lines(self) -> None:
+        self.many("one lane, lines of a file", SHARE)
 
     def batches(self) -> None:
-        self.many("one lane, lines of a pipe", piped=True)
+        self.many("one lane, lines of a pipe", SHARE, piped=True)
+
+    def lanes(self) -> None:
+        words = ["--shards", str(SHARDS), "--passes", str(LANES)]
+        self.many(f"{LANES} lanes over {SHARDS} shards, lines of a file", LANES_SHARE, *words, lanes=LANES)
 
     # One line at a time.
 
@@ -151,17 +156,25 @@ class Bench:
             def written(folder: str) -> float:
                 words = [writer, f"{folder}/file", str(count), str(size)]
                 return float(subprocess.run(words, capture_output=True, text=True, check=True).stdout)
-            def called_c(folder: str) -> float:
+
+            def c_called(size: int) -> float:
                 # The first call is not timed.
-                return self.called([writer, f"{folder}/file", str(count + 1), str(size), "called"], count)
-            calls, by_c = self.by_turns(
+                return self.in_folder(lambda folder: self.called(
+                    [writer, f"{folder}/file", str(count + 1), str(size), "called"], count))
+
+            calls, by_c, unkept, unwritten = self.by_turns(
                 lambda: self.in_folder(lambda folder: self.called(self.words("--journal", folder), count)),
-                lambda: self.in_folder(called_c))
+                lambda: c_called(size),
+                lambda: self.called(self.words(), count),
+                lambda: c_called(0))
             writes = [self.in_folder(written) for _ in range(self.rounds)]
         print(f"a caller who waits for each reply: {count:,} calls of {size} bytes in the file; a second "
               f"{rates(count, calls)}; of a C program {rates(count, by_c)}; its writes and syncs with no caller "
               f"{rates(count, writes)}")
-        aim("share of the speed of C", min(by_c) / min(calls), 1.0)
+        kept, c_kept, plain, c_plain = (min(spent) / count * 1e6 for spent in (calls, by_c, unkept, unwritten))
+        print(f"  a call takes {kept:.1f} µs, and {plain:.1f} without a journal; of C {c_kept:.1f}, and {c_plain:.1f} "
+              f"where nothing is written: so {kept - plain:.1f} for the journal, of C {c_kept - c_plain:.1f}")
+        aim("share of the speed of C", min(by_c) / min(calls), CALLED_SHARE)
 
     # Opening.
 
@@ -255,7 +268,7 @@ def rates(count: int, spent: list[float]) -> str:
 
 
 def main() -> int:
-    parts = ["lanes", "batches", "caller", "opening", "memory"]
+    parts = ["lines", "batches", "lanes", "caller", "opening", "memory"]
     options = argparse.ArgumentParser(description=__doc__, formatter_class=argparse.RawDescriptionHelpFormatter)
     options.add_argument("--program", type=pathlib.Path, default=first_path.PROGRAM)
     options.add_argument("--folder", type=pathlib.Path, default=tempfile.gettempdir())
