@@ -61,19 +61,24 @@ DECODER: Any = json.JSONDecoder(object_pairs_hook=without_repeats, parse_constan
 PLAIN: Any = json.JSONDecoder(parse_constant=no_number)
 
 
-def plain_object(text: str) -> Optional[Json]:
-    """The object that a text is, where it has no other one in it and no text of it has a colon, as of most calls.
+def plain_call(text: str) -> Optional[Json]:
+    """The request that a text is, where it is an object without lists and objects in it, none of its texts has a colon, and all
+    of its keys are its operation's: as most calls.
 
     With a colon for each key no key comes twice. So they needn't be looked at one by one.
     """
-    if not text.startswith("{") or text.find("{", 1) >= 0:
+    if not text.startswith("{") or text.find("{", 1) >= 0 or "[" in text:
         return None
     try:
         value, end = PLAIN.scan_once(text, 0)
     except (StopIteration, ValueError, BadCall):
         # The other reader says what is wrong.
         return None
-    return value if end == len(text) and text.count(":") == len(value) else None
+    if end != len(text) or text.count(":") != len(value):
+        return None
+    op = value.get("op")
+    allowed = ALLOWED.get(op) if isinstance(op, str) else None
+    return value if allowed is not None and allowed.issuperset(value) else None
 
 
 def decoded(decoder: Any, text: str) -> Any:
@@ -90,14 +95,16 @@ def call_of(body: bytes) -> Tuple[Json, bytes]:
     """The request of a body, and its text without the last brace."""
     try:
         text = body.decode()
-        plain = plain_object(text)
-        request = decoded(DECODER, text) if plain is None else plain
+        plain = plain_call(text)
+        if plain is not None:
+            return plain, body[:-1].translate(LINE_ENDS)
+        request = decoded(DECODER, text)
     except (ValueError, RecursionError):
         raise BadCall("the body is no JSON") from None
     if not isinstance(request, dict):
         raise BadCall("the body is no object")
     kept = kept_of(request)
-    if (plain is None or "[" in text) and text.count("[") + text.count("{") > DEEPEST and is_deeper(kept, DEEPEST):
+    if text.count("[") + text.count("{") > DEEPEST and is_deeper(kept, DEEPEST):
         raise BadCall(f"its values lie more than {DEEPEST} deep")
     if len(kept) < len(request) or not kept["op"]:
         return kept, json.dumps(kept, separators=(",", ":")).encode()[:-1]

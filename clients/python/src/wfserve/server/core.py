@@ -42,6 +42,12 @@ if TYPE_CHECKING:
 
 LOG = logging.getLogger("wfserve.server")
 REPLIES = json.JSONDecoder()
+# Replies that say a word and nothing more, as most do, by what follows their number.
+WORDS = (
+    "accepted", "already", "cancel_requested", "canceled", "completed", "dispatched", "empty", "failed", "heartbeat", "none",
+    "pushed", "repeated", "signaled", "stale", "task_failed", "terminated",
+)
+PLAIN_REPLIES = {b',"ok":"%s"}' % word.encode(): {"ok": word} for word in WORDS}
 MOST_LINES, MOST_BYTES = 4_096, 1 << 20
 # So many bytes of calls may wait.
 MOST_WAITING_BYTES = 64 << 20
@@ -145,8 +151,18 @@ class Core:
         call = Call(request, begin, [receiver], key)
         if call.is_poll:
             call.late = call.since + wait_of(request) / 1_000
-        if (call.key is None and not call.is_poll) or not self._is_had_again(call, receiver):
-            self._take_in(call)
+        if (call.key is not None or call.is_poll) and self._is_had_again(call, receiver):
+            return
+        if self._count >= self.limit or self._bytes >= MOST_WAITING_BYTES:
+            self.metrics.refused["Busy"] += 1
+            raise Busy(f"{self._count} calls wait already")
+        self._count += 1
+        self._bytes += len(begin)
+        if call.key is not None:
+            self._by_key[call.key] = call
+        self._asked.append(call)
+        if not (self._is_syncing or self._planned):
+            self.plan()
 
     def _is_had_again(self, call: Call, receiver: Receiver) -> bool:
         """Whether the call was made before, with the same key: then its reply is given again, or waited for."""
@@ -170,18 +186,6 @@ class Core:
             self._remember(call)
             receiver.answer(call.text)
         return left is not None
-
-    def _take_in(self, call: Call) -> None:
-        if self._count >= self.limit or self._bytes >= MOST_WAITING_BYTES:
-            self.metrics.refused["Busy"] += 1
-            raise Busy(f"{self._count} calls wait already")
-        self._count += 1
-        self._bytes += len(call.begin)
-        if call.key is not None:
-            self._by_key[call.key] = call
-        self._asked.append(call)
-        if not self._is_syncing:
-            self.plan()
 
     def ask_turns(self, turns: Iterable[Turn]) -> None:
         """Asks turns of the server's own."""
@@ -212,17 +216,17 @@ class Core:
 
     def _logged(self, calls: List[Call]) -> List[Call]:
         """Writes the lines of a batch to the log. Where that can't be done, only the reads are left."""
-        self._end_lines(calls, self.moments.now())
-        logged, number = [call for call in calls if call.is_logged], self.kept.lines
+        before = self.kept.lines
+        lines = self._end_lines(calls, self.moments.now(), before)
         try:
-            if logged:
-                self.kept.log.write([call.line for call in logged])
+            if lines:
+                self.kept.log.write(lines)
         except LogFault as fault:
+            refused = [call for call in calls if call.is_logged]
             calls = [call for call in calls if not call.is_logged]
-            self._refuse(logged, fault)
-        for call in calls:
-            number += call.is_logged
-            call.number = number
+            for call in calls:
+                call.number = before
+            self._refuse(refused, fault)
         return calls
 
     def _hand_over(self, calls: List[Call]) -> None:
@@ -243,26 +247,40 @@ class Core:
 
     def _next_calls(self) -> List[Call]:
         """The calls of the next batch, and after them the turns that they make necessary."""
-        calls, needed, size, note = self._own, Needed(), 0, self.ledger.note
-        self._own = []
-        while self._asked and len(calls) < MOST_LINES and size < MOST_BYTES:
+        own, self._own = self._own, []
+        asked, needed = self._next_asked(MOST_LINES - len(own)), Needed()
+        self.ledger.note_all([call.request for call in asked], needed)
+        turns = self.ledger.turns(needed)
+        self.called = self.called or bool(turns)
+        return own + asked + self._without_held([own_call(turn) for turn in turns])
+
+    def _next_asked(self, most: int) -> List[Call]:
+        """The next calls of clients, so many at most."""
+        if len(self._asked) <= most and self._bytes <= MOST_BYTES:
+            calls = list(self._asked)
+            self._asked.clear()
+            return calls
+        calls, size = [], 0
+        while self._asked and len(calls) < most and size < MOST_BYTES:
             call = self._asked.popleft()
             calls.append(call)
             size += len(call.begin)
-            note(call.request, needed)
-        turns = self.ledger.turns(needed)
-        self.called = self.called or bool(turns)
-        return calls + self._without_held([own_call(turn) for turn in turns])
+        return calls
 
-    def _end_lines(self, calls: List[Call], at: int) -> None:
-        """Makes the lines of calls, at this moment."""
+    def _end_lines(self, calls: List[Call], at: int, number: int) -> List[bytes]:
+        """Makes the lines of calls, at this moment and behind the line of this number. Those that the log gets."""
+        lines: List[bytes] = []
         end = ended_line(b"", at, None)
         for call in calls:
-            if not call.is_logged:
+            if call.is_logged:
+                number += 1
+                call.request["at"] = at
+                call.line = line = call.begin + end if call.key is None else ended_line(call.begin, at, call.key)
+                lines.append(line)
+            else:
                 call.line = call.begin + b"}"
-                continue
-            call.request["at"] = at
-            call.line = call.begin + end if call.key is None else ended_line(call.begin, at, call.key)
+            call.number = number
+        return lines
 
     def _refuse(self, calls: List[Call], fault: LogFault) -> None:
         """Fails calls that could not be logged. Turns rest meanwhile, and are made up for by a sweep."""
@@ -283,50 +301,63 @@ class Core:
             return
         self.metrics.syncs.add(seconds)
         self._is_syncing, self._synced = False, number
+        synced: List[Call] = []
         while self._unsynced and self._unsynced[0].number <= number:
-            self._let_go(self._unsynced.popleft())
+            synced.append(self._unsynced.popleft())
+        self._let_all_go(synced)
         if self._missed:
             self._missed = False
             self._wake(self.polls.wake_all())
         if self._asked or self._own:
-            self._write()
+            # With what has come meanwhile and is not read yet: so batches grow with the load.
+            self.plan()
 
     # Replies.
 
-    def _take(self, replies: List[bytes]) -> None:
+    def _take(self, replies: List[bytes], before: int) -> None:
         """Goes through replies in their order: what follows is asked, and calls are answered."""
-        handed, observe = 0, self._observe
+        handed, sent, synced = 0, self._sent, self._synced
+        done: List[Call] = []
         self._endings.answered()
-        for text in replies:
-            if not self._sent:
-                self._end(Ended(f"the program gave a reply to no line: {text[:200]!r}"))
+        for expected, text in enumerate(replies, before + 1):
+            fault = self._read(sent[0], text, expected) if sent else f"the program gave a reply to no line: {text[:200]!r}"
+            if fault:
+                self._let_all_go(done)
+                self._end(Ended(fault))
                 return
-            call = self._sent.popleft()
-            try:
-                text = numbered(text, self._pipes.next_reply(), call.number)
-                call.text, call.reply = text, decoded(REPLIES, text.decode()) if call.is_logged else {}
-            except (Ended, ValueError) as wrong:
-                self._sent.appendleft(call)
-                self._end(Ended(f"line {call.number}: {wrong}"))
-                return
-            if self.window is not None and call.is_logged:
-                self.window.note(call.number, text)
-            self._answered = call.number
-            if call.is_logged:
-                observe(call.request, call.reply)
+            call = sent.popleft()
             if call.op in TURNS:
                 handed += self._follow(call)
             elif call.is_poll and self._is_asked_again(call):
                 continue
             if call.turn is None:
-                if call.number <= self._synced:
-                    self._let_go(call)
-                else:
-                    self._unsynced.append(call)
+                (done if call.number <= synced else self._unsynced).append(call)
+        self._let_all_go(done)
         if handed:
             self._wake(self.polls.wake(handed))
         if self._own or self._asked:
             self.plan()
+
+    def _read(self, call: Call, text: bytes, expected: int) -> str:
+        """Takes a call's reply, which the program gave this number. What is wrong with it, where something is."""
+        try:
+            begin = b'{"line":%d' % expected
+            reply = PLAIN_REPLIES.get(text[len(begin):]) if call.is_logged and text.startswith(begin) else None
+            if reply is not None:
+                # Nothing of it has to be read but its number.
+                text = text if expected == call.number else b'{"line":%d%s' % (call.number, text[len(begin):])
+                reply = {"line": call.number, **reply}
+            else:
+                text = numbered(text, expected, call.number)
+                reply = decoded(REPLIES, text.decode()) if call.is_logged else {}
+        except (Ended, ValueError) as wrong:
+            return f"line {call.number}: {wrong}"
+        call.text, call.reply, self._answered = text, reply, call.number
+        if call.is_logged:
+            if self.window is not None:
+                self.window.note(call.number, text)
+            self._observe(call.request, reply)
+        return ""
 
     def _follow(self, call: Call) -> int:
         """Asks the turns that follow a turn. How many tasks it says were handed over."""
@@ -371,14 +402,18 @@ class Core:
             self._asked.append(call)
         self.plan()
 
+    def _let_all_go(self, calls: List[Call]) -> None:
+        """Answers calls whose lines are on the disk."""
+        self._note(calls)
+        for call in calls:
+            self._let_go(call)
+
     def _let_go(self, call: Call) -> None:
-        """Answers a call whose line is on the disk."""
         self._count -= 1
         self._bytes -= len(call.begin)
         if call.key is not None:
             self._forget_key(call)
             self._remember(call)
-        self._note(call)
         if call.answer() or call.key is not None or not call.has_task:
             return
         # A task that was taken for a client that is gone is another one's, and needn't time out.
@@ -393,13 +428,15 @@ class Core:
         if call.key is not None and (call.has_task or not call.is_poll):
             self._replies.add(call.key, call.begin, call.text)
 
-    def _note(self, call: Call) -> None:
-        answer = "ok"
-        if call.text.startswith(b'{"error"'):
-            answer = str(json.loads(call.text)["error"])
-        self.metrics.calls[call.op, answer] += 1
-        if not call.is_poll:
-            self.metrics.latency.add(time.monotonic() - call.since)
+    def _note(self, calls: List[Call]) -> None:
+        """Counts calls that are answered now."""
+        now, counts = time.monotonic(), self.metrics.calls
+        for call in calls:
+            answer = "ok"
+            if call.text.startswith(b'{"error"'):
+                answer = str(json.loads(call.text)["error"])
+            counts[call.op, answer] += 1
+        self.metrics.latency.add_all([now - call.since for call in calls if not call.is_poll])
 
     def _forget_key(self, call: Call) -> None:
         if call.key is not None and self._by_key.get(call.key) is call:
@@ -428,7 +465,7 @@ class Core:
         """Answers the polls that waited long enough."""
         for call in self.polls.over(float("inf") if self.closing else time.monotonic()):
             self._forget_key(call)
-            self._note(call)
+            self._note([call])
             call.answer()
 
     # The program.

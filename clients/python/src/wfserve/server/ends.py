@@ -42,14 +42,16 @@ class UntilClosed(Receiver):
         self._core.submit(self._request, begin_of(self._request), self)
         self._lines = lines
 
-    def answer(self, text: bytes) -> None:
+    def answer(self, text: bytes) -> bool:
         """Takes a description, and hands it on where nothing is waited for any more."""
+        if self.is_gone():
+            return False
         self._text = text
         if OPEN not in text or self._is_over():
-            self._receiver.answer(text)
-            return
+            return self._receiver.answer(text)
         self._core.ends.add(self)
         self._look_later()
+        return True
 
     def fail(self, fault: Exception) -> None:
         self._receiver.fail(fault)

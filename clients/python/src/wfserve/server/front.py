@@ -66,8 +66,8 @@ class Request(Receiver):
         value = self.headers.get(name)
         return None if value is None else value.decode("latin-1")
 
-    def answer(self, text: bytes) -> None:
-        self._connection.write(self, status_of(text) if self.op else 200, text)
+    def answer(self, text: bytes) -> bool:
+        return self._connection.write(self, status_of(text) if self.op else 200, text)
 
     def fail(self, fault: Exception) -> None:
         status, name, said = fault_of(fault)
@@ -303,11 +303,11 @@ class Connection(asyncio.Protocol):
 
     # Answers.
 
-    def write(self, request: Request, status: int, text: bytes) -> None:
-        """Answers a request, and goes on with the next one."""
+    def write(self, request: Request, status: int, text: bytes) -> bool:
+        """Answers a request, and goes on with the next one. False where its client has hung up."""
         transport = self.transport
         if transport is None or transport.is_closing():
-            return
+            return False
         front, length = self._front, len(text)
         if status == 200 and request.keeps:
             head = front.plain.get(length) or front.plain_head(length)
@@ -322,6 +322,7 @@ class Connection(asyncio.Protocol):
             self._end()
         elif self._asked:
             asyncio.get_running_loop().call_soon(self._serve_next)
+        return True
 
     def _serve_next(self) -> None:
         """Serves what came while another call was on its way."""

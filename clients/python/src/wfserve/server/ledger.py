@@ -19,6 +19,11 @@ QUIET = (*POLLS, *READS, "heartbeat")
 TURNS = ("timer_turn", "dispatch_turn", "transfer_turn")
 # Those that may make turns necessary.
 NOTED = KEYS.keys() - {*QUIET, *TURNS}
+# Those by which the run that was there may close.
+MAY_CLOSE = {"start", "signal_with_start", "terminate"}
+COMPLETES = "complete_workflow_task"
+# Those that may issue a task, and nothing more.
+PLAIN = NOTED - {*MAY_CLOSE, COMPLETES}
 # So many dispatch turns of a shard are made at once, at most.
 MOST_AT_ONCE = 64
 # These commands issue one task each; these begin something on the shard of the workflow that they name.
@@ -101,10 +106,21 @@ class Ledger:
             needed.issued[shard] += 1
             return
         needed.may_issue.add(shard)
-        if op in ("start", "signal_with_start", "terminate"):
-            needed.closing.add(shard)
-        if op == "complete_workflow_task":
+        if op == COMPLETES:
             self._note_commands(shard, request.get("commands"), needed)
+        elif op in MAY_CLOSE:
+            needed.closing.add(shard)
+
+    def note_all(self, requests: Iterable[Request], needed: Needed) -> None:
+        """Adds what calls make necessary."""
+        shards, may_issue = self.shards, needed.may_issue
+        for request in requests:
+            if request.get("op") not in PLAIN:
+                self.note(request, needed)
+                continue
+            shard = 0 if shards == 1 else shard_of_request(request, shards)
+            if shard is not None:
+                may_issue.add(shard)
 
     def _note_commands(self, shard: int, commands: Any, needed: Needed) -> None:
         for command in commands if isinstance(commands, list) else ():

@@ -5,7 +5,7 @@ from __future__ import annotations
 import asyncio
 import json
 import time
-from typing import Any, List, Optional
+from typing import Any, Dict, List, Optional, Tuple
 
 from wfserve.operations import KEYS, POLLS, READS
 from wfserve.types import Reply, Request
@@ -16,8 +16,9 @@ from .ledger import Turn
 class Receiver:
     """Who waits for a reply."""
 
-    def answer(self, text: bytes) -> None:
-        """Takes the reply's text."""
+    def answer(self, text: bytes) -> bool:
+        """Takes the reply's text. False where nobody waits any longer."""
+        return False
 
     def fail(self, fault: Exception) -> None:
         """Learns that there is none."""
@@ -34,9 +35,11 @@ class Waiter(Receiver):
         self.future: "asyncio.Future[bytes]" = asyncio.get_running_loop().create_future()
         self._is_gone = is_gone
 
-    def answer(self, text: bytes) -> None:
-        if not self.future.done():
-            self.future.set_result(text)
+    def answer(self, text: bytes) -> bool:
+        if self.is_gone() or self.future.done():
+            return False
+        self.future.set_result(text)
+        return True
 
     def fail(self, fault: Exception) -> None:
         if not self.future.done():
@@ -46,6 +49,11 @@ class Waiter(Receiver):
         return self.future.cancelled() or (self._is_gone is not None and self._is_gone())
 
 
+# Of each operation its name, whether it is a poll, and whether the log gets its lines.
+TRAITS: Dict[Any, Tuple[str, bool, bool]] = {op: (op, op in POLLS, op not in READS) for op in KEYS}
+UNKNOWN = ("unknown", False, True)
+
+
 class Call:
     """A line that the log and the program get, or one that the program alone gets, as a read."""
 
@@ -53,28 +61,25 @@ class Call:
         "request", "op", "begin", "key", "receivers", "turn", "number", "late", "was_woken", "is_poll", "is_logged",
         "since", "line", "text", "reply",
     )
+    # Set once its batch is written: of a line its number in the log, of a read that of the last line before it; and its text.
+    number: int
+    line: bytes
+    # The program's last reply, as a text and as the text says; of a read it isn't looked into.
+    text: bytes
+    reply: Reply
 
     def __init__(
         self, request: Request, begin: bytes, receivers: List[Receiver], key: Optional[str] = None,
         turn: Optional[Turn] = None,
     ):
-        op = request.get("op")
         self.request = request
-        # Its operation, by a name that is known.
-        self.op: str = op if op in KEYS else "unknown"
+        # Its operation is a name that is known.
+        self.op, self.is_poll, self.is_logged = TRAITS.get(request.get("op"), UNKNOWN)
         # The line's text without its last brace, its moment and its key.
         self.begin = begin
         self.receivers = receivers
         self.turn = turn
-        self.is_poll = op in POLLS
-        self.is_logged = op not in READS
         self.key = key if self.is_logged else None
-        # Of a line its number in the log, and of a read that of the last line before it.
-        self.number = 0
-        self.line = b""
-        # The program's last reply, as a text and as the text says; of a read it isn't looked into.
-        self.text = b""
-        self.reply: Reply = {}
         # Until when a poll waits.
         self.late = 0.0
         self.was_woken = False
@@ -97,9 +102,7 @@ class Call:
         """Gives the reply to all who wait for it. False where nobody did."""
         is_taken = False
         for receiver in self.receivers:
-            if not receiver.is_gone():
-                receiver.answer(self.text)
-                is_taken = True
+            is_taken = receiver.answer(self.text) or is_taken
         return is_taken
 
     def fail(self, fault: Exception) -> None:

@@ -5,7 +5,7 @@ from __future__ import annotations
 import bisect
 import pathlib
 from collections import Counter
-from typing import Dict, Iterator, List, Mapping, Tuple, TypeVar
+from typing import Dict, Iterable, Iterator, List, Mapping, Tuple, TypeVar
 
 # Upper bounds in seconds.
 LATENCIES = (0.0005, 0.001, 0.0025, 0.005, 0.01, 0.025, 0.05, 0.1, 0.25, 0.5, 1.0, 2.5, 10.0, 60.0)
@@ -24,6 +24,13 @@ class Histogram:
     def add(self, value: float) -> None:
         self._counts[bisect.bisect_left(self._bounds, value)] += 1
         self._sum += value
+
+    def add_all(self, values: Iterable[float]) -> None:
+        """Adds each of these values."""
+        bounds, counts, place = self._bounds, self._counts, bisect.bisect_left
+        for value in values:
+            counts[place(bounds, value)] += 1
+            self._sum += value
 
     def lines(self, name: str) -> Iterator[str]:
         """Its lines, in the order of the bounds."""

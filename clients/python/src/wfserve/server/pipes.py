@@ -21,15 +21,17 @@ READ_AT_ONCE = 1 << 16
 
 
 class Pipes:
-    """Feeds the program without waiting for it, and takes its replies in chunks."""
+    """Feeds the program without waiting for it, and takes its replies in chunks.
+
+    `take` is told replies and the number that the program gave the last one before them, and `ended` that there are no more.
+    """
 
     def __init__(
-        self, program: Program, loop: asyncio.AbstractEventLoop, take: Callable[[List[bytes]], None],
+        self, program: Program, loop: asyncio.AbstractEventLoop, take: Callable[[List[bytes], int], None],
         ended: Callable[[], None],
     ):
         self._loop, self._take, self._ended = loop, take, ended
         self._into, self._out = program.pipes()
-        self._replies = program.replies
         self._program = program
         self._unfed = bytearray()
         self._begun: List[bytes] = []
@@ -42,12 +44,6 @@ class Pipes:
                 # A user may have only so many bytes in pipes; this one keeps what it has.
                 pass
         loop.add_reader(self._out, self._read)
-
-    def next_reply(self) -> int:
-        """The number that the program gives its next reply, which is taken now."""
-        self._replies += 1
-        self._program.replies = self._replies
-        return self._replies
 
     def feed(self, lines: bytes) -> None:
         """Gives the program lines, now or as soon as it takes them."""
@@ -86,7 +82,9 @@ class Pipes:
             return
         replies = b"".join([*self._begun, data[:last]]).split(b"\n")
         self._begun = [data[last + 1:]] if last + 1 < len(data) else []
-        self._take(replies)
+        before = self._program.replies
+        self._program.replies = before + len(replies)
+        self._take(replies, before)
 
     def close(self) -> None:
         """Lets the pipes be, which others close. They wait again for who reads and writes them."""
