@@ -16,6 +16,8 @@ const MOST_WAIT: u64 = 60_000;
 /// A completion's commands are four deep at most.
 const DEEPEST: usize = 20;
 const LONGEST_KEY: usize = 200;
+/// Most keys, and a moment, have room in so many bytes.
+const ROOM_FOR_END: usize = 64;
 /// The member by which a line on a socket bears its key.
 const CALL: &str = "call";
 
@@ -31,7 +33,7 @@ pub struct Asked {
 
 /// Reads the body of a call.
 pub fn asked(body: &[u8], shards: Shard) -> Result<Asked, Fault> {
-    asked_of(body, object_in(body)?, shards)
+    asked_of(body, object_in(body)?, shards, Vec::new())
 }
 
 /// Reads the body of a call whose operation the path names: it has the fields alone.
@@ -51,15 +53,15 @@ fn with_op(op: &str, body: &[u8]) -> Result<Vec<u8>, Fault> {
     Ok(text)
 }
 
-/// Reads a line of a socket, which may bear its key as a member.
-pub fn asked_by_line(line: &[u8], shards: Shard) -> Result<(Asked, Option<Box<str>>), Fault> {
+/// Reads a line of a socket, which may bear its key as a member. What is asked has its text in this memory.
+pub fn asked_by_line(line: &[u8], shards: Shard, memory: Vec<u8>) -> Result<(Asked, Option<Box<str>>), Fault> {
     let request = object_in(line)?;
     let key = match request.get(CALL) {
         None => None,
         Some(Value::Text(key)) => Some(call_key(key)?),
         Some(_) => return Err(Fault::BadCall(KEY_RULE.to_string())),
     };
-    Ok((asked_of(line, request, shards)?, key))
+    Ok((asked_of(line, request, shards, memory)?, key))
 }
 
 fn object_in(body: &[u8]) -> Result<Object<'_>, Fault> {
@@ -71,7 +73,7 @@ fn object_in(body: &[u8]) -> Result<Object<'_>, Fault> {
     }
 }
 
-fn asked_of(body: &[u8], mut request: Object<'_>, shards: Shard) -> Result<Asked, Fault> {
+fn asked_of(body: &[u8], mut request: Object<'_>, shards: Shard, mut begin: Vec<u8>) -> Result<Asked, Fault> {
     let op = request.text("op").map_or(Op::Unknown, Op::of);
     let wait = if op.is_poll() || op == Op::Describe { wait_of(&request)? } else { 0 };
     let (before, is_named) = (request.0.len(), request.text("op").map_or(false, |name| !name.is_empty()));
@@ -81,7 +83,11 @@ fn asked_of(body: &[u8], mut request: Object<'_>, shards: Shard) -> Result<Asked
         return Err(Fault::BadCall(format!("its values lie more than {DEEPEST} deep")));
     }
     let facts = Facts::of(op, &request, shards);
-    let begin = if request.0.len() == before && is_named { begin_of(body) } else { written(&request, is_named) };
+    if request.0.len() == before && is_named {
+        begin_of(body, &mut begin);
+    } else {
+        begin = written(&request, is_named);
+    }
     Ok(Asked { begin, facts, wait })
 }
 
@@ -89,12 +95,12 @@ fn is_any_too_deep(request: &Object<'_>) -> bool {
     request.0.iter().any(|member| member.1.is_deeper(DEEPEST - 1))
 }
 
-/// The body without its last brace, in one line.
-fn begin_of(body: &[u8]) -> Vec<u8> {
+/// The body without its last brace, in one line, in the place of what this text was.
+fn begin_of(body: &[u8], begin: &mut Vec<u8>) {
     let end = body.iter().rposition(|byte| *byte == b'}').unwrap_or(body.len());
-    let mut begin = Vec::with_capacity(end + 64);
+    begin.clear();
+    begin.reserve(end + ROOM_FOR_END);
     begin.extend(body[..end].iter().map(|byte| if matches!(byte, b'\n' | b'\r') { b' ' } else { *byte }));
-    begin
 }
 
 /// A request written anew, with the keys that it may have.
@@ -286,9 +292,9 @@ mod tests {
 
     #[test]
     fn a_line_of_a_socket_bears_its_key() {
-        let (found, key) = asked_by_line(br#"{"op":"signal","call":"k","name":"n"}"#, 1).unwrap();
+        let (found, key) = asked_by_line(br#"{"op":"signal","call":"k","name":"n"}"#, 1, b"old".to_vec()).unwrap();
         assert_eq!((found.begin.as_slice(), key.as_deref()), (&br#"{"op":"signal","name":"n""#[..], Some("k")));
-        assert!(asked_by_line(br#"{"op":"signal","call":7}"#, 1).is_err());
+        assert!(asked_by_line(br#"{"op":"signal","call":7}"#, 1, Vec::new()).is_err());
     }
 
     #[test]

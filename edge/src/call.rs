@@ -31,15 +31,15 @@ impl Receiver {
 }
 
 /// What becomes of a call: the reply's text, or why there is none. The call itself comes along where one waits for it, and is
-/// dropped by the thread that made it, which has its memory at hand.
+/// dropped by the thread that made it, which has its memory at hand, or used again there.
 pub struct Told {
     pub outcome: Result<Bytes, Fault>,
-    _call: Option<Call>,
+    pub call: Option<Call>,
 }
 
 impl Told {
     pub fn new(outcome: Result<Bytes, Fault>, call: Option<Call>) -> Told {
-        Told { outcome, _call: call }
+        Told { outcome, call }
     }
 }
 
@@ -74,6 +74,15 @@ pub struct Content {
     pub at: u64,
 }
 
+impl Content {
+    fn of(begin: Vec<u8>, facts: Facts, wait: u64, asker: Asker) -> Content {
+        let since = Instant::now();
+        let late = since + Duration::from_millis(wait);
+        let (begin, text) = (begin.len(), begin);
+        Content { begin, text, facts, asker, since, late, was_woken: false, number: 0, at: 0 }
+    }
+}
+
 impl Deref for Call {
     type Target = Content;
 
@@ -91,10 +100,13 @@ impl DerefMut for Call {
 impl Call {
     /// A client's call.
     pub fn of(begin: Vec<u8>, facts: Facts, wait: u64, asker: Asker) -> Call {
-        let since = Instant::now();
-        let late = since + Duration::from_millis(wait);
-        let (begin, text) = (begin.len(), begin);
-        Call(Box::new(Content { begin, text, facts, asker, since, late, was_woken: false, number: 0, at: 0 }))
+        Call(Box::new(Content::of(begin, facts, wait, asker)))
+    }
+
+    /// The same in the place of a call that was answered.
+    pub fn again(mut self, begin: Vec<u8>, facts: Facts, wait: u64, asker: Asker) -> Call {
+        *self.0 = Content::of(begin, facts, wait, asker);
+        self
     }
 
     /// The call of a turn of the edge's own.

@@ -7,6 +7,7 @@ use crate::body::Asked;
 use crate::core::Core;
 use crate::fault::Fault;
 use crate::operations::Op;
+use crate::texts::lasting;
 use hyper::body::Bytes;
 use std::sync::atomic::{AtomicUsize, Ordering::SeqCst};
 use std::time::{Duration, Instant};
@@ -58,7 +59,7 @@ pub async fn until_closed(core: &Core, asked: Asked) -> Result<Bytes, Fault> {
                 break;
             }
         }
-        last = Some((reply, before));
+        last = Some((lasting(&reply), before));
     }
 }
 

@@ -7,6 +7,7 @@ use crate::log_fault::LogFault;
 use crate::program::Program;
 use crate::system;
 use std::io::Write;
+use std::ops::Range;
 use std::process::ChildStdin;
 
 /// So many lines, and so many bytes of them, are read at once.
@@ -35,19 +36,31 @@ impl Tail {
     /// The next lines, up to the one of this number: it was written, and won't be taken back. Only the first ones where
     /// they are many.
     pub fn next(&mut self, number: u64) -> Result<Vec<Vec<u8>>, LogFault> {
+        let mut found = Vec::new();
+        self.read(number, |line| found.push(line.to_vec()))?;
+        Ok(found)
+    }
+
+    /// What a program is given for the next lines, likewise, in the place of a text.
+    pub fn next_text(&mut self, number: u64, text: &mut Vec<u8>) -> Result<(), LogFault> {
+        text.clear();
+        self.read(number, |line| add_line(line, text))
+    }
+
+    fn read(&mut self, number: u64, mut take: impl FnMut(&[u8])) -> Result<(), LogFault> {
         // It is opened each time: what was read ahead may be taken back, and written anew.
         let mut lines = Lines::at(&self.path, self.place)?;
-        let (mut found, mut bytes) = (Vec::new(), 0);
+        let mut bytes = 0;
         for _ in 0..number.saturating_sub(self.count()).min(MOST_LINES) {
             let line = lines.next()?.ok_or_else(|| gone(&self.path))?;
             bytes += line.len();
-            found.push(line.to_vec());
+            take(line);
             if bytes >= MOST_BYTES {
                 break;
             }
         }
         self.place = lines.place;
-        Ok(found)
+        Ok(())
     }
 }
 
@@ -62,10 +75,25 @@ pub fn serve<L: AsRef<[u8]>, E: From<Fault>>(
     first: u64,
     mut observe: impl FnMut(&[u8], &[u8]) -> Result<(), E>,
 ) -> Result<(), E> {
-    let (mut input, text) = (program.take_input(), text_of(lines));
+    let mut left = lines.iter();
+    serve_text(program, &text_of(lines), first..first + lines.len() as u64, |reply| match left.next() {
+        Some(line) => observe(line.as_ref(), reply),
+        None => Ok(()),
+    })
+}
+
+/// Gives a program the text of lines with these numbers, and hands on each reply.
+pub fn serve_text<E: From<Fault>>(
+    program: &mut Program,
+    text: &[u8],
+    mut numbers: Range<u64>,
+    mut observe: impl FnMut(&[u8]) -> Result<(), E>,
+) -> Result<(), E> {
+    let (mut input, mut reply) = (program.take_input(), Vec::new());
     let mut take = |program: &mut Program| {
-        let result = (first..).zip(lines).try_for_each(|(number, line)| match program.output.reply(number) {
-            Some(reply) => observe(line.as_ref(), &reply?),
+        let result = numbers.try_for_each(|number| match program.output.reply(number, &mut reply) {
+            Some(Ok(())) => observe(&reply),
+            Some(Err(fault)) => Err(fault.into()),
             None => Err(program.ended(number).into()),
         });
         if result.is_err() {
@@ -74,7 +102,7 @@ pub fn serve<L: AsRef<[u8]>, E: From<Fault>>(
         result
     };
     // That the program has ended shows where its replies are read.
-    let give = |input: &mut Option<ChildStdin>| input.as_mut().map(|input| input.write_all(&text));
+    let give = |input: &mut Option<ChildStdin>| input.as_mut().map(|input| input.write_all(text));
     // All lines before these were answered, so its pipe is empty.
     let result = if input.as_ref().map_or(true, |input| text.len() <= system::pipe_size(input)) {
         give(&mut input);
@@ -93,11 +121,14 @@ pub fn serve<L: AsRef<[u8]>, E: From<Fault>>(
 /// What a program is given for these lines.
 fn text_of<L: AsRef<[u8]>>(lines: &[L]) -> Vec<u8> {
     let mut text = Vec::with_capacity(lines.iter().map(|line| line.as_ref().len() + 1).sum());
-    for line in lines.iter().map(AsRef::as_ref) {
-        text.extend_from_slice(for_replay(line).as_deref().unwrap_or(line));
-        text.push(b'\n');
-    }
+    lines.iter().for_each(|line| add_line(line.as_ref(), &mut text));
     text
+}
+
+/// Adds what a program is given for a line.
+fn add_line(line: &[u8], text: &mut Vec<u8>) {
+    text.extend_from_slice(for_replay(line).as_deref().unwrap_or(line));
+    text.push(b'\n');
 }
 
 #[cfg(test)]

@@ -275,14 +275,18 @@ fn take_replies(
     count: u64,
     observer: &mut impl Observe,
 ) -> Result<(), NotServed> {
+    let mut text = Vec::new();
     lines.next()?;
     for number in 1..=count {
         let line = match lines.next()? {
             Some(line) => line,
             None => return Err(LogFault::Io(format!("line {number} of the log is gone")).into()),
         };
-        match program.output.reply(number) {
-            Some(reply) => observer.line(line, &reply?),
+        match program.output.reply(number, &mut text) {
+            Some(reply) => {
+                reply?;
+                observer.line(line, &text);
+            }
             None => return Err(program.ended(number).into()),
         }
     }

@@ -67,6 +67,7 @@ pub mod table;
 mod table_log;
 mod table_records;
 mod table_tail;
+mod texts;
 
 use crate::say::say;
 use options::{Options, HELP};

@@ -2,7 +2,7 @@
 //!
 //! It knows no socket: `lines` reads and writes.
 
-use crate::body::asked_by_line;
+use crate::body::{asked_by_line, Asked};
 use crate::call::{asker_of, Call};
 use crate::fault::Fault;
 use crate::json::quoted;
@@ -18,9 +18,39 @@ const LINE_LIMIT: usize = 1_048_576;
 const ON_THEIR_WAY: usize = 128;
 /// So many bytes of answers wait to be written at most, and the next one.
 const MOST_TEXT: usize = 1 << 16;
+/// The memory of so many calls is kept at most, of so many bytes each.
+const MOST_KEPT: usize = 1_024;
+const MOST_KEPT_BYTES: usize = 1 << 10;
 
-/// Calls that are to be asked.
-pub type Asking = Vec<(Call, Ticket)>;
+/// Calls that are to be asked, and some that were answered, whose memory the next ones have.
+#[derive(Default)]
+pub struct Asking {
+    pub calls: Vec<(Call, Ticket)>,
+    answered: Vec<Call>,
+}
+
+impl Asking {
+    /// Keeps the memory of a call that was answered, where that is little.
+    pub fn keep(&mut self, call: Call) {
+        if self.answered.len() < MOST_KEPT && call.text.capacity() <= MOST_KEPT_BYTES {
+            self.answered.push(call);
+        }
+    }
+
+    /// Adds the call of a line. Why it isn't one, where it is none.
+    fn add(&mut self, line: &[u8], shards: Shard, ticket: Ticket) -> Result<(), Fault> {
+        let mut former = self.answered.pop();
+        let memory = former.as_mut().map(|call| std::mem::take(&mut call.text)).unwrap_or_default();
+        let (Asked { begin, facts, wait }, key) = asked_by_line(line, shards, memory)?;
+        let asker = asker_of(key.filter(|_| !facts.op.is_read()), &begin);
+        let call = match former {
+            Some(former) => former.again(begin, facts, wait, asker),
+            None => Call::of(begin, facts, wait, asker),
+        };
+        self.calls.push((call, ticket));
+        Ok(())
+    }
+}
 
 /// What a connection's client sent and was not answered yet.
 pub struct Talk {
@@ -116,17 +146,9 @@ impl Talk {
     }
 
     fn ask(&mut self, line: &[u8], asking: &mut Asking) {
-        let outcome = match asked_by_line(line, self.shards) {
-            Ok((asked, key)) => {
-                let asker = asker_of(key.filter(|_| !asked.facts.op.is_read()), &asked.begin);
-                let number = self.first + self.asked.len() as u64;
-                let ticket = Ticket { connection: self.connection.clone(), number };
-                asking.push((Call::of(asked.begin, asked.facts, asked.wait, asker), ticket));
-                None
-            }
-            Err(fault) => Some(Err(fault)),
-        };
-        self.asked.push_back(outcome);
+        let number = self.first + self.asked.len() as u64;
+        let ticket = Ticket::new(&self.connection, number);
+        self.asked.push_back(asking.add(line, self.shards, ticket).err().map(Err));
     }
 
     /// All whole lines that were read are asked, and what is left is part of one.
@@ -211,10 +233,10 @@ mod tests {
     fn answers_come_in_the_order_of_the_calls_however_these_are_cut() {
         let text = b"{\"op\":\"signal\"}\n[1]\n{\"op\":\"signal\",\"name\":\"b\"}\n";
         for cut in 0..text.len() {
-            let (mut talk, mut asking) = (talk(), Vec::new());
+            let (mut talk, mut asking) = (talk(), Asking::default());
             talk.take_read(&text[..cut], &mut asking);
             talk.take_read(&text[cut..], &mut asking);
-            let numbers: Vec<u64> = asking.iter().map(|(_, ticket)| ticket.number).collect();
+            let numbers: Vec<u64> = asking.calls.iter().map(|(_, ticket)| ticket.number).collect();
             assert_eq!(numbers, [0, 2]);
             talk.settle(2, reply(2));
             assert!(talk.text(&mut asking).is_empty());
@@ -230,11 +252,11 @@ mod tests {
 
     #[test]
     fn only_so_many_calls_are_on_their_way() {
-        let (mut talk, mut asking) = (talk(), Vec::new());
+        let (mut talk, mut asking) = (talk(), Asking::default());
         talk.take_read(&b"{\"op\":\"signal\"}\n".repeat(300), &mut asking);
-        assert!(asking.len() == ON_THEIR_WAY && !talk.may_read());
+        assert!(asking.calls.len() == ON_THEIR_WAY && !talk.may_read());
         for number in 0..300 {
-            assert_eq!(asking.len(), (ON_THEIR_WAY + number).min(300));
+            assert_eq!(asking.calls.len(), (ON_THEIR_WAY + number).min(300));
             talk.settle(number as u64, reply(number));
             assert!(!talk.text(&mut asking).is_empty());
             let length = talk.text.len();
@@ -245,17 +267,17 @@ mod tests {
 
     #[test]
     fn a_line_that_is_too_long_is_the_last_one() {
-        let (mut talk, mut asking) = (talk(), Vec::new());
+        let (mut talk, mut asking) = (talk(), Asking::default());
         talk.take_read(&[b' '; LINE_LIMIT], &mut asking);
         assert!(talk.reads());
         talk.take_read(b"  ", &mut asking);
-        assert!(!talk.reads() && talk.is_unread() && asking.is_empty());
+        assert!(!talk.reads() && talk.is_unread() && asking.calls.is_empty());
         assert!(talk.text(&mut asking).starts_with(b"{\"error\":\"BadCall\""));
     }
 
     #[test]
     fn answers_that_nobody_reads_are_not_gathered() {
-        let (mut talk, mut asking) = (talk(), Vec::new());
+        let (mut talk, mut asking) = (talk(), Asking::default());
         talk.take_read(&b"{\"op\":\"signal\"}\n".repeat(3), &mut asking);
         for number in 0..3 {
             talk.settle(number, Ok(Bytes::from(vec![b'x'; MOST_TEXT])));
@@ -264,6 +286,24 @@ mod tests {
         assert_eq!(talk.text(&mut asking).len(), MOST_TEXT + 1);
         talk.was_written(MOST_TEXT + 1);
         assert_eq!(talk.text(&mut asking).len(), MOST_TEXT + 1);
+    }
+
+    #[test]
+    fn the_memory_of_a_call_that_was_answered_is_the_next_ones() {
+        let (mut talk, mut asking) = (talk(), Asking::default());
+        talk.take_read(b"{\"op\":\"signal\",\"name\":\"the first\"}\n", &mut asking);
+        let (first, _) = asking.calls.pop().unwrap();
+        let memory = first.text.as_ptr();
+        asking.keep(first);
+        let text = b"{\"op\":\"signal\",\"name\":\"next\"}\n".repeat(2);
+        talk.take_read(&text, &mut asking);
+        let texts: Vec<&[u8]> = asking.calls.iter().map(|(call, _)| call.text.as_slice()).collect();
+        assert_eq!(texts, [&text[..text.len() / 2 - 2]; 2]);
+        assert!(texts[0].as_ptr() == memory && texts[1].as_ptr() != memory);
+        let long = format!("{{\"op\":\"signal\",\"input\":\"{}\"}}\n", "x".repeat(MOST_KEPT_BYTES));
+        talk.take_read(long.as_bytes(), &mut asking);
+        asking.calls.drain(..).map(|(call, _)| call).collect::<Vec<_>>().into_iter().for_each(|call| asking.keep(call));
+        assert_eq!(asking.answered.len(), 2);
     }
 
     #[test]

@@ -6,6 +6,7 @@
 //! A thread of its own serves all connections of a socket, without a task for each. It reads what is there on all of them,
 //! asks that under one lock, and writes all answers that it is told by one word.
 
+use crate::call::Told;
 use crate::core::Core;
 use crate::line_talk::{Asking, Talk};
 use crate::listen::{Connections, Counted};
@@ -14,7 +15,7 @@ use crate::say::say;
 use crate::system::privately;
 use mio::event::Event;
 use mio::net::{UnixListener, UnixStream};
-use mio::{Events, Interest, Poll, Token, Waker};
+use mio::{Events, Interest, Poll, Registry, Token, Waker};
 use std::io::{ErrorKind, Read, Write};
 use std::net::Shutdown;
 use std::os::unix::fs::FileTypeExt;
@@ -68,7 +69,7 @@ impl Lines {
             touched: Vec::new(),
             unfinished: Vec::new(),
             lingering: Vec::new(),
-            asking: Vec::new(),
+            asking: Asking::default(),
             room: vec![0; READ_AT_ONCE],
         };
         Builder::new().name("lines".to_string()).spawn(move || serving.run())?;
@@ -87,6 +88,9 @@ struct Connection {
     talk: Talk,
     may_read: bool,
     may_write: bool,
+    /// Whether the system tells when there is room for answers again: only once there was none, as each answer that a client
+    /// reads makes some.
+    is_told_of_room: bool,
     /// Whether its client sends no more, and whether it is gone.
     has_ended: bool,
     is_closed: bool,
@@ -129,6 +133,15 @@ impl Connection {
             return false;
         }
         !self.talk.is_over() || (self.talk.is_unread() && self.begin_to_linger(room))
+    }
+
+    /// Has the system tell of room for answers, where there was none. False where it can't.
+    fn be_told_of_room(&mut self, registry: &Registry, place: usize) -> bool {
+        let Connection { socket, is_told_of_room, .. } = self;
+        if self.may_write || std::mem::replace(is_told_of_room, true) {
+            return true;
+        }
+        registry.reregister(socket, Token(place), Interest::READABLE | Interest::WRITABLE).is_ok()
     }
 
     /// Whether something may be read of it that nobody tells of again.
@@ -245,13 +258,16 @@ impl Serving {
     }
 
     fn settle(&mut self, answers: &mut Answers) {
-        for (ticket, told) in answers.drain(..) {
+        for (ticket, Told { outcome, call }) in answers.drain(..) {
+            if let Some(call) = call {
+                self.asking.keep(call);
+            }
             if ticket.connection.is_gone() {
                 continue;
             }
             let place = ticket.connection.place;
             if let Some(Some(connection)) = self.talks.get_mut(place) {
-                connection.talk.settle(ticket.number, told.outcome);
+                connection.talk.settle(ticket.number, outcome);
                 touch(connection, place, &mut self.touched);
             }
         }
@@ -280,11 +296,11 @@ impl Serving {
 
     /// Looks at the connections of which something is new, and asks what was read of them.
     fn go_on(&mut self) {
-        let Serving { talks, touched, unfinished, lingering, room, asking, free, .. } = self;
+        let Serving { poll, talks, touched, unfinished, lingering, room, asking, free, .. } = self;
         for place in touched.drain(..) {
             if let Some(connection) = &mut talks[place] {
                 connection.is_touched = false;
-                if !connection.go_on(room, asking) {
+                if !(connection.go_on(room, asking) && connection.be_told_of_room(poll.registry(), place)) {
                     talks[place] = None;
                     free.push(place);
                 } else if connection.lingers.is_some() {
@@ -294,7 +310,7 @@ impl Serving {
                 }
             }
         }
-        if !self.asking.is_empty() {
+        if !self.asking.calls.is_empty() {
             self.core.submit_all(&mut self.asking);
         }
     }
@@ -324,8 +340,7 @@ impl Serving {
         if place == self.talks.len() {
             self.talks.push(None);
         }
-        let interest = Interest::READABLE | Interest::WRITABLE;
-        if self.poll.registry().register(&mut socket, Token(place), interest).is_err() {
+        if self.poll.registry().register(&mut socket, Token(place), Interest::READABLE).is_err() {
             self.free.push(place);
             return;
         }
@@ -335,6 +350,7 @@ impl Serving {
             talk,
             may_read: true,
             may_write: true,
+            is_told_of_room: false,
             has_ended: false,
             is_closed: false,
             is_touched: true,

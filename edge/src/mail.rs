@@ -2,7 +2,7 @@
 
 use crate::call::Told;
 use mio::Waker;
-use std::sync::atomic::{AtomicBool, Ordering::SeqCst};
+use std::sync::atomic::{AtomicBool, AtomicU64, Ordering::SeqCst};
 use std::sync::{Arc, Mutex, MutexGuard, PoisonError};
 
 /// The calls of connections with what became of them, in the order in which that was known.
@@ -10,10 +10,15 @@ pub type Answers = Vec<(Ticket, Told)>;
 
 /// What a thread is told, which it takes when it comes to it.
 pub struct Mail {
+    /// Which one of those of this process it is.
+    number: u64,
     inbox: Mutex<Inbox>,
     waker: Waker,
     is_stopped: AtomicBool,
 }
+
+/// How many were made.
+static MADE: AtomicU64 = AtomicU64::new(0);
 
 #[derive(Default)]
 struct Inbox {
@@ -24,7 +29,8 @@ struct Inbox {
 
 impl Mail {
     pub fn new(waker: Waker) -> Arc<Mail> {
-        Arc::new(Mail { inbox: Mutex::default(), waker, is_stopped: AtomicBool::new(false) })
+        let number = MADE.fetch_add(1, SeqCst);
+        Arc::new(Mail { number, inbox: Mutex::default(), waker, is_stopped: AtomicBool::new(false) })
     }
 
     fn lock(&self) -> MutexGuard<'_, Inbox> {
@@ -75,7 +81,7 @@ impl Mail {
 pub fn deliver(answers: Answers) {
     let mut answers = answers.into_iter().peekable();
     while let Some(mail) = answers.peek().map(|(ticket, _)| ticket.connection.mail.clone()) {
-        let is_its = |answer: &(Ticket, Told)| Arc::ptr_eq(&answer.0.connection.mail, &mail);
+        let is_its = |answer: &(Ticket, Told)| answer.0.mail == mail.number;
         mail.put(std::iter::from_fn(|| answers.next_if(is_its)));
     }
 }
@@ -108,6 +114,14 @@ impl Presence {
 pub struct Ticket {
     pub connection: Arc<Presence>,
     pub number: u64,
+    /// The number of its mail. To look that up at the connection would take its memory from the thread that serves it.
+    mail: u64,
+}
+
+impl Ticket {
+    pub fn new(connection: &Arc<Presence>, number: u64) -> Ticket {
+        Ticket { connection: connection.clone(), number, mail: connection.mail.number }
+    }
 }
 
 #[cfg(test)]
@@ -124,7 +138,7 @@ mod tests {
     }
 
     fn answer(connection: &Arc<Presence>, number: u64) -> (Ticket, Told) {
-        (Ticket { connection: connection.clone(), number }, Told::new(Err(Fault::Draining), None))
+        (Ticket::new(connection, number), Told::new(Err(Fault::Draining), None))
     }
 
     /// Whether somebody was woken.

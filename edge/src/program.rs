@@ -1,7 +1,7 @@
 //! The program as a co-process: lines go in by one pipe, and their replies come out by another.
 
 use crate::fault::Fault;
-use crate::reply::numbered;
+use crate::reply::add_numbered;
 use crate::scan::place_of_byte;
 use crate::system;
 use std::collections::VecDeque;
@@ -89,27 +89,23 @@ impl Output {
         true
     }
 
-    /// The next reply that was read, under the number that its line has in the log.
-    pub fn take(&mut self, line: u64) -> Option<Result<Vec<u8>, Fault>> {
-        self.replies += 1;
-        let expected = self.replies;
-        let text = match self.cut() {
-            Some(text) => text,
-            None => {
-                self.replies -= 1;
-                return None;
-            }
-        };
-        Some(numbered(text, expected, line).ok_or_else(|| {
+    /// Adds the next reply that was read to other texts, under the number that its line has in the log.
+    pub fn take(&mut self, line: u64, out: &mut Vec<u8>) -> Option<Result<(), Fault>> {
+        let expected = self.replies + 1;
+        let text = self.cut()?;
+        let added = add_numbered(text, expected, line, out).ok_or_else(|| {
             let shown: String = String::from_utf8_lossy(text).chars().take(200).collect();
             Fault::Ended(format!("line {line}: the reply is to another line: {shown}"))
-        }))
+        });
+        self.replies = expected;
+        Some(added)
     }
 
-    /// The next reply, once it is there; None where the program has ended before.
-    pub fn reply(&mut self, line: u64) -> Option<Result<Vec<u8>, Fault>> {
+    /// Puts the next reply in the place of a text, once it is there; None where the program has ended before.
+    pub fn reply(&mut self, line: u64, text: &mut Vec<u8>) -> Option<Result<(), Fault>> {
         self.wait();
-        self.take(line)
+        text.clear();
+        self.take(line, text)
     }
 }
 
@@ -153,8 +149,8 @@ impl Program {
             // That it has ended shows where its reply is read.
             let _ = input.write_all(CHANGES_NOTHING);
         }
-        match self.output.reply(0) {
-            Some(reply) => reply.map(drop),
+        match self.output.reply(0, &mut Vec::new()) {
+            Some(reply) => reply,
             None => Err(self.ended(0)),
         }
     }
@@ -238,9 +234,11 @@ mod tests {
     #[test]
     fn replies_are_taken_in_their_order_and_by_their_numbers() {
         let mut program = shell(r#"echo '{"line":1}'; printf '{"line":2}\n{"li'; sleep 0.1; echo 'ne":3}'; read x"#);
+        let mut text = Vec::new();
         for number in 1..=3 {
             let wanted = format!("{{\"line\":{}}}", number + 7);
-            assert_eq!(program.output.reply(number + 7).unwrap().unwrap(), wanted.as_bytes());
+            program.output.reply(number + 7, &mut text).unwrap().unwrap();
+            assert_eq!(text, wanted.as_bytes());
         }
         assert!(!program.output.has_more());
         program.end();
@@ -249,7 +247,7 @@ mod tests {
     #[test]
     fn a_reply_to_another_line_is_a_fault() {
         let mut program = shell(r#"echo '{"line":2}'"#);
-        let fault = program.output.reply(9).unwrap().unwrap_err();
+        let fault = program.output.reply(9, &mut Vec::new()).unwrap().unwrap_err();
         assert_eq!(fault.to_string(), "line 9: the reply is to another line: {\"line\":2}");
         program.kill();
     }
@@ -257,7 +255,7 @@ mod tests {
     #[test]
     fn its_end_is_told_with_what_it_said() {
         let mut program = shell("echo 'unsaid: no memory' >&2; exit 3");
-        assert!(program.output.reply(4).is_none());
+        assert!(program.output.reply(4, &mut Vec::new()).is_none());
         assert_eq!(program.ended(4).to_string(), "line 4: the program ended with status 3: unsaid: no memory");
         let mut killed = shell("kill -9 $$");
         assert!(!killed.was_told_to_end() && shell("kill $$").was_told_to_end());

@@ -87,21 +87,28 @@ fn line_in(text: &[u8]) -> Option<(usize, usize)> {
     (digits > 0).then(|| (begin, begin + digits))
 }
 
+/// The number that digits are. None where they are more than have room in 64 bits.
+fn whole_in(digits: &[u8]) -> Option<u64> {
+    let number = || digits.iter().fold(0, |number, digit| 10 * number + u64::from(digit - b'0'));
+    (digits.len() <= MOST_DIGITS).then(number)
+}
+
 /// How many digits a text begins with.
 fn digits_in(text: &[u8]) -> usize {
     text.iter().take_while(|byte| byte.is_ascii_digit()).count()
 }
 
-/// A reply's text with its line's number in the log, in the place of the number that the program gave it. None where
-/// the program gave another number than was expected.
-pub fn numbered(text: &[u8], expected: u64, line: u64) -> Option<Vec<u8>> {
+/// Adds a reply's text to others, with its line's number in the log in the place of the number that the program gave it. None
+/// where the program gave another number than was expected.
+pub fn add_numbered(text: &[u8], expected: u64, line: u64, out: &mut Vec<u8>) -> Option<()> {
     let (begin, end) = line_in(text)?;
-    let given: u64 = std::str::from_utf8(&text[begin..end]).ok()?.parse().ok()?;
-    if given != expected {
+    if whole_in(&text[begin..end])? != expected {
         return None;
     }
-    let number = Digits::of(line);
-    Some([&text[..begin], number.bytes(), &text[end..]].concat())
+    out.extend_from_slice(&text[..begin]);
+    out.extend_from_slice(Digits::of(line).bytes());
+    out.extend_from_slice(&text[end..]);
+    Some(())
 }
 
 #[cfg(test)]
@@ -110,10 +117,14 @@ mod tests {
 
     #[test]
     fn a_reply_gets_its_lines_number_in_the_log() {
-        assert_eq!(numbered(br#"{"line":7,"ok":"none"}"#, 7, 12).unwrap(), br#"{"line":12,"ok":"none"}"#);
-        assert_eq!(numbered(br#"{"line": 7, "ok": "none"}"#, 7, 7).unwrap(), br#"{"line": 7, "ok": "none"}"#);
-        assert_eq!(numbered(br#"{"line":8,"ok":"none"}"#, 7, 12), None);
-        assert_eq!(numbered(br#"{"ok":"\"line\":7"}"#, 7, 12), None);
+        let numbered = |text: &str, line| {
+            let mut out = b"before".to_vec();
+            add_numbered(text.as_bytes(), 7, line, &mut out).map(|()| String::from_utf8(out).unwrap())
+        };
+        assert_eq!(numbered(r#"{"line":7,"ok":"none"}"#, 12).unwrap(), r#"before{"line":12,"ok":"none"}"#);
+        assert_eq!(numbered(r#"{"line": 7, "ok": "none"}"#, 7).unwrap(), r#"before{"line": 7, "ok": "none"}"#);
+        assert_eq!(numbered(r#"{"line":8,"ok":"none"}"#, 12), None);
+        assert_eq!(numbered(r#"{"ok":"\"line\":7"}"#, 12), None);
     }
 
     #[test]

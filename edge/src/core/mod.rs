@@ -264,9 +264,9 @@ impl Core {
     }
 
     /// Asks calls of connections for lines, in their order. What becomes of them is told to these.
-    pub fn submit_all(&self, calls: &mut Asking) {
+    pub fn submit_all(&self, asking: &mut Asking) {
         let mut state = self.lock();
-        for (call, ticket) in calls.drain(..) {
+        for (call, ticket) in asking.calls.drain(..) {
             if let Err(fault) = state.take_in(call, Receiver::Line(ticket.clone()), self.limit) {
                 state.metrics.note_refused(fault.name());
                 state.answers.add(Receiver::Line(ticket), Told::new(Err(fault), None));

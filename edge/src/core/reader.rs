@@ -9,14 +9,15 @@ use crate::kept::{start_again, NotServed};
 use crate::log_fault::LogFault;
 use crate::operations::Op;
 use crate::polls::Queue;
-use crate::program::Program;
+use crate::program::{Output, Program};
 use crate::reply::Reply;
 use crate::say::say;
+use crate::texts::Texts;
 use hyper::body::Bytes;
 use std::collections::VecDeque;
 use std::io::Write;
 use std::sync::{Arc, PoisonError};
-use std::time::Duration;
+use std::time::{Duration, Instant};
 
 /// So long after its end a program is started again that was told to end. Ctrl-C in a terminal ends both, and the edge
 /// learns of it a little later. One that ended in another way is started again at once.
@@ -94,20 +95,11 @@ impl Core {
         }
         let mut calls = state.taken(count);
         drop(state);
-        let (mut replies, mut result) = (Vec::with_capacity(calls.len()), Ok(()));
-        while let (Some(number), true) = (calls.front().map(|call| call.number), result.is_ok()) {
-            match program.output.take(number) {
-                Some(Ok(text)) => replies.extend(calls.pop_front().map(|call| (call, Bytes::from(text)))),
-                Some(Err(fault)) => result = Err(fault),
-                None => break,
-            }
-        }
-        if replies.is_empty() && result.is_ok() {
-            result = Err(Fault::Ended("the program gave a reply to no line".to_string()));
-        }
+        let (replies, result) = replies_of(&mut program.output, &calls);
+        let left = calls.split_off(replies.len());
         let mut state = self.lock();
-        state.give_back(calls.into_iter());
-        let gone_through = state.go_through(replies, self.limit);
+        state.give_back(left.into_iter());
+        let gone_through = state.go_through(calls.into_iter().zip(replies), self.limit);
         state.flags.is_taking = false;
         self.release(state);
         result.and(gone_through).map(|()| None)
@@ -219,6 +211,26 @@ impl Core {
     }
 }
 
+/// The replies to the first of these calls that were read, and why the next one is none.
+fn replies_of(output: &mut Output, calls: &VecDeque<Call>) -> (Vec<Bytes>, Result<(), Fault>) {
+    let (mut texts, mut result) = (Texts::default(), Ok(()));
+    for call in calls {
+        match output.take(call.number, texts.room()) {
+            Some(Ok(())) => texts.end(),
+            Some(Err(fault)) => {
+                result = Err(fault);
+                break;
+            }
+            None => break,
+        }
+    }
+    let replies = texts.into_all();
+    if replies.is_empty() && result.is_ok() {
+        result = Err(Fault::Ended("the program gave a reply to no line".to_string()));
+    }
+    (replies, result)
+}
+
 /// Whether a program was started in vain, and not its log at fault: it may have been ended while it loaded snapshots.
 fn is_of_the_program(fault: &NotServed) -> bool {
     matches!(fault, NotServed::Program(_) | NotServed::Log(LogFault::NotOpened(_)))
@@ -254,15 +266,19 @@ impl State {
         }
     }
 
-    fn go_through(&mut self, replies: Vec<(Call, Bytes)>, limit: usize) -> Result<(), Fault> {
-        let (mut replies, mut handed) = (replies.into_iter(), 0);
+    fn go_through(
+        &mut self,
+        mut replies: impl DoubleEndedIterator<Item = (Call, Bytes)> + ExactSizeIterator,
+        limit: usize,
+    ) -> Result<(), Fault> {
+        let (now, mut handed) = (Instant::now(), 0);
         while let Some((call, text)) = replies.next() {
             let number = call.number;
             self.endings = Endings::default();
             if call.is_logged() {
                 self.window.note(number, &text);
             }
-            match self.take_reply(call, text, limit) {
+            match self.take_reply(call, text, limit, now) {
                 Ok(count) => handed += count,
                 Err(call) => {
                     self.give_back(std::iter::once(*call).chain(replies.map(|(call, _)| call)));
@@ -278,10 +294,10 @@ impl State {
     }
 
     /// Takes one reply. How many tasks it says were handed over; the call again where the reply can't be read.
-    fn take_reply(&mut self, call: Call, text: Bytes, limit: usize) -> Result<usize, Box<Call>> {
+    fn take_reply(&mut self, call: Call, text: Bytes, limit: usize, now: Instant) -> Result<usize, Box<Call>> {
         if !call.is_logged() {
             let said = Said { error: error_in(&text), has_task: false };
-            self.answer_when_synced(Answered { call, reply: text, said });
+            self.answer_when_synced(Answered { call, reply: text, said }, now);
             return Ok(0);
         }
         let told = match Reply::of(&text) {
@@ -297,8 +313,8 @@ impl State {
         let said = Said { error: told.error.as_deref().map(Into::into), has_task: polled == Some(Polled::Task) };
         let answered = Answered { call, reply: text, said };
         match polled {
-            Some(polled) => self.take_poll(answered, polled, limit),
-            None => self.answer_when_synced(answered),
+            Some(polled) => self.take_poll(answered, polled, limit, now),
+            None => self.answer_when_synced(answered, now),
         }
         Ok(handed)
     }
@@ -331,7 +347,7 @@ impl State {
     }
 
     /// Takes a poll's reply: after a hint of what is over by now it is asked again, and it waits where it found nothing.
-    fn take_poll(&mut self, mut answered: Answered, polled: Polled, limit: usize) {
+    fn take_poll(&mut self, mut answered: Answered, polled: Polled, limit: usize, now: Instant) {
         if matches!(polled, Polled::Task | Polled::Stale) {
             let turns = self.ledger.made_room();
             self.own.extend(turns);
@@ -350,12 +366,12 @@ impl State {
                 return;
             }
         }
-        self.answer_when_synced(answered);
+        self.answer_when_synced(answered, now);
     }
 
-    fn answer_when_synced(&mut self, answered: Answered) {
+    fn answer_when_synced(&mut self, answered: Answered, now: Instant) {
         if answered.call.number <= self.synced {
-            self.let_go(answered);
+            self.let_go(answered, now);
         } else {
             self.unsynced.push_back(answered);
         }

@@ -277,9 +277,10 @@ impl State {
     /// A sync has covered the lines up to this one.
     fn was_synced(&mut self, number: u64) {
         self.synced = number;
+        let now = Instant::now();
         while self.unsynced.front().map_or(false, |first| first.call.number <= number) {
             if let Some(answered) = self.unsynced.pop_front() {
-                self.let_go(answered);
+                self.let_go(answered, now);
             }
         }
         if std::mem::take(&mut self.flags.has_missed) {

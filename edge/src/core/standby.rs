@@ -6,7 +6,7 @@
 
 use super::state::State;
 use super::Core;
-use crate::following::{serve, Tail};
+use crate::following::{serve_text, Tail};
 use crate::kept::{NotServed, Origin};
 use crate::program::Program;
 use crate::say::say;
@@ -27,6 +27,8 @@ const PATIENCE: Duration = Duration::from_secs(5);
 pub struct Standby {
     program: Program,
     tail: Tail,
+    /// What it is given.
+    text: Vec<u8>,
     /// The generation of its log.
     generation: u64,
 }
@@ -102,7 +104,7 @@ impl Core {
             program.kill();
             return Err(fault.into());
         }
-        Ok(Standby { program, tail, generation: origin.generation })
+        Ok(Standby { program, tail, text: Vec::new(), generation: origin.generation })
     }
 
     /// Gives it the lines that are answered, as they come. Whether it is wanted; else another one is started once there may be
@@ -171,8 +173,9 @@ impl Standby {
     fn serve(&mut self, number: u64) -> Result<(), NotServed> {
         while self.tail.count() < number {
             let first = self.tail.count() + 1;
-            let lines = self.tail.next(number)?;
-            serve(&mut self.program, &lines, first, |_, _| Ok::<(), NotServed>(()))?;
+            self.tail.next_text(number, &mut self.text)?;
+            let numbers = first..self.tail.count() + 1;
+            serve_text(&mut self.program, &self.text, numbers, |_| Ok::<(), NotServed>(()))?;
         }
         Ok(())
     }

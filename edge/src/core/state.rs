@@ -18,6 +18,7 @@ use crate::program::Program;
 use crate::replies::{Mark, Replies};
 use crate::say::say;
 use crate::system;
+use crate::texts::lasting;
 use hyper::body::Bytes;
 use std::collections::{HashMap, VecDeque};
 use std::time::{Duration, Instant};
@@ -366,18 +367,18 @@ impl State {
 
     // How calls are answered.
 
-    /// Answers a call whose line is on the disk.
-    pub fn let_go(&mut self, answered: Answered) {
+    /// Answers a call whose line is on the disk, at this moment.
+    pub fn let_go(&mut self, answered: Answered, now: Instant) {
         let Answered { call, reply, said } = answered;
         self.count -= 1;
         self.bytes -= call.size();
-        let has_receiver = !is_gone(&call, &self.under_way);
         if said.has_task || !call.op().is_poll() {
             self.remember(&call, &reply);
         }
-        self.note(&call, &said);
-        let is_left = said.has_task && call.key().is_none() && !has_receiver;
-        let left = is_left.then(|| (Queue::of(&call), reply.clone()));
+        self.note(&call, &said, now);
+        // Whether a client is there is looked at for tasks alone: what says so lies with the thread that serves it.
+        let is_left = said.has_task && call.key().is_none() && is_gone(&call, &self.under_way);
+        let left = is_left.then(|| (Queue::of(&call), lasting(&reply)));
         self.answer(call, Ok(reply));
         if let Some((queue, reply)) = left {
             self.leave(queue, reply);
@@ -397,14 +398,14 @@ impl State {
 
     fn remember(&mut self, call: &Call, reply: &Bytes) {
         if let Asker::Keyed(key, mark) = &call.asker {
-            self.replies.add(key, *mark, reply.clone());
+            self.replies.add(key, *mark, lasting(reply));
         }
     }
 
-    fn note(&mut self, call: &Call, said: &Said) {
+    fn note(&mut self, call: &Call, said: &Said, now: Instant) {
         self.metrics.note_call(call.op(), said.error.as_deref());
         if !call.op().is_poll() {
-            self.metrics.latency.add(call.since.elapsed().as_secs_f64());
+            self.metrics.latency.add(now.saturating_duration_since(call.since).as_secs_f64());
         }
     }
 
@@ -415,7 +416,8 @@ impl State {
             Asker::Client(Some(receiver)) => self.answers.add(receiver, Told::new(outcome, Some(call))),
             Asker::Keyed(key, _) => {
                 let receivers = self.under_way.remove(&key).map(|one| one.receivers).unwrap_or_default();
-                receivers.into_iter().for_each(|one| self.answers.add(one, Told::new(outcome.clone(), None)));
+                let mut call = Some(call);
+                receivers.into_iter().for_each(|one| self.answers.add(one, Told::new(outcome.clone(), call.take())));
             }
         }
     }
@@ -453,7 +455,7 @@ impl State {
         self.count -= 1;
         self.bytes -= call.size();
         let late = late_of(&call, &self.under_way).unwrap_or(call.late);
-        self.polls.wait(Waiting { call, reply });
+        self.polls.wait(Waiting { call, reply: lasting(&reply) });
         self.look_at(late);
     }
 
@@ -496,7 +498,7 @@ impl State {
         self.next_late = over.next;
         self.drop_all(over.dropped);
         for Waiting { call, reply } in over.polls {
-            self.note(&call, &Said::default());
+            self.note(&call, &Said::default(), now);
             self.answer(call, Ok(reply));
         }
     }
