@@ -3,7 +3,7 @@
 
 Usage: bench/journal.py [--program PROGRAM] [--folder DIR] [--scale S] [--rounds N] [PART..]
 
-    lines      lines of a file, read 512 KiB at a time: with a journal, and without one
+    lines      lines of a file, read 2 MiB at a time in parts of 256 KiB: with a journal, and without one
     batches    the same lines by a pipe, so that one read gives 64 KiB at most
     lanes      the same lines of a file over 16 shards in eight lanes, read 1 MiB at a time
     caller     a caller who waits for each reply, beside one of a C program that writes as many bytes over zeros and

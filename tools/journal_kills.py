@@ -22,10 +22,11 @@ import sys
 import tempfile
 import time
 import unittest
+from collections.abc import Callable
 
 from journal_program import (
-    BEGIN, OF_SHARDS, SHARDS, VALUES, Fed, InLanes, Line, Tested, drawn_lines, histories, ran, replies_in, run_tests, served,
-    start, steps_in, text, words,
+    BEGIN, OF_SHARDS, SECONDS, SHARDS, VALUES, WORKFLOWS, Fed, InLanes, Line, Tested, drawn_lines, histories, ran, replies_in,
+    run_tests, served, start, steps_in, text, words,
 )
 from wfserve.journal import JournalSettings, framed
 
@@ -36,11 +37,22 @@ FEW_ZEROS = 300_000
 SHARE = 0.3
 # One kill in so many comes while the program opens.
 OPENING = 6
+# What the program reads of a file at once, and what of it is one batch. So many lines are more than one such read.
+READ, PART = 2_097_152, 262_144
+FILE_LINES, FILE_KILLS = 20_000, 8
 
 
 def taken_in(replies: list[Line]) -> list[str]:
     """The workflow IDs of the tasks that were taken, in their order."""
     return [reply["workflow_id"] for reply in replies if reply.get("ok") == "task"]
+
+
+def limit_to(most: int) -> Callable[[], None]:
+    """What a program does before it begins, so that each of its files takes at most so many bytes."""
+    def limit() -> None:
+        signals.signal(signals.SIGXFSZ, signals.SIG_IGN)
+        resource.setrlimit(resource.RLIMIT_FSIZE, (most, most))
+    return limit
 
 
 class Killed(InLanes):
@@ -108,14 +120,74 @@ class KilledWithLanes(Killed):
     passes = 8
 
 
+class OfAFile(unittest.TestCase):
+    """A file is read by megabytes, and served and committed part by part."""
+
+    def setUp(self) -> None:
+        draws = random.Random(Tested.seed)
+        self.lines = [start(f"w{number}") for number in range(WORKFLOWS)]
+        for at in range(FILE_LINES):
+            given = {"at": at, "request_id": f"r{at}", "input": "x" * draws.randrange(120)}
+            self.lines.append({"op": "signal", "name": "s", "workflow_id": f"w{draws.randrange(WORKFLOWS)}", **given})
+        self.draws = draws
+        folder = tempfile.TemporaryDirectory()
+        self.addCleanup(folder.cleanup)
+        self.file = pathlib.Path(folder.name, "lines.jsonl")
+        self.file.write_text(text(self.lines))
+        done = subprocess.run([Tested.program, self.file], capture_output=True, text=True, timeout=SECONDS)
+        self.undisturbed = replies_in(done.stdout)
+        self.assertEqual((done.returncode, len(self.undisturbed)), (0, len(self.lines)))
+
+    def answered(self, folder: str, seconds: float) -> list[Line]:
+        """The replies of a program that serves the file with a journal, and is killed after so many seconds."""
+        printed = pathlib.Path(folder, "replies")
+        with printed.open("wb") as replies, subprocess.Popen([*words(folder), self.file], stdout=replies) as program:
+            try:
+                program.wait(seconds)
+            except subprocess.TimeoutExpired:
+                program.kill()
+        return replies_in(printed.read_text())
+
+    def test_each_part_is_a_batch(self) -> None:
+        with tempfile.TemporaryDirectory() as folder:
+            self.assertEqual(self.answered(folder, SECONDS), self.undisturbed)
+            self.assertEqual(steps_in(folder), len(self.lines))
+            reads, rest = divmod(self.file.stat().st_size, READ)
+            parts = reads * READ // PART + -(-rest // PART)
+            # The settings are a batch too.
+            self.assertEqual(pathlib.Path(folder, "journal").read_bytes().count(BEGIN), 1 + parts)
+
+    def test_no_answered_step_is_lost_or_doubled(self) -> None:
+        began = time.monotonic()
+        with tempfile.TemporaryDirectory() as folder:
+            self.answered(folder, SECONDS)
+        whole, inside = time.monotonic() - began, 0
+        for number in range(FILE_KILLS):
+            with self.subTest(kill=number, seed=Tested.seed), tempfile.TemporaryDirectory() as folder:
+                replies = self.answered(folder, self.draws.uniform(0, whole))
+                now = steps_in(folder)
+                inside += 0 < now < len(self.lines)
+                self.assertEqual(replies, self.undisturbed[:len(replies)])
+                self.assertLessEqual(len(replies), now)
+                self.assertEqual(served(self.lines[now:], folder), self.undisturbed[now:])
+        print(f"journal_kills: {inside} of {FILE_KILLS} kills came while a file was served", flush=True)
+
+    def test_a_part_that_finds_no_room_is_not_answered(self) -> None:
+        for _ in range(3):
+            most = self.draws.randrange(self.file.stat().st_size)
+            with self.subTest(bytes=most, seed=Tested.seed), tempfile.TemporaryDirectory() as folder:
+                done = subprocess.run([*words(folder), self.file], capture_output=True, text=True, timeout=SECONDS,
+                                      preexec_fn=limit_to(most))
+                self.assertEqual(done.returncode, 2)
+                self.assertRegex(done.stderr, re.escape(f"wfserve: {folder}/journal: ") + ".*File too large")
+                told, kept = replies_in(done.stdout), steps_in(folder)
+                self.assertLessEqual(len(told), kept)
+                self.assertEqual(told, self.undisturbed[:len(told)])
+                self.assertEqual(served(self.lines[kept:], folder), self.undisturbed[kept:])
+
+
 class FullDisk(unittest.TestCase):
     """A journal's file may take so many bytes, and then none."""
-
-    def limited(self, lines: list[Line], folder: str, most: int) -> subprocess.CompletedProcess[str]:
-        def limit() -> None:
-            signals.signal(signals.SIGXFSZ, signals.SIG_IGN)
-            resource.setrlimit(resource.RLIMIT_FSIZE, (most, most))
-        return ran(lines, folder, preexec_fn=limit)
 
     def test_nothing_is_answered_that_is_not_on_the_disk(self) -> None:
         """The program ends with status 2 and a text, and goes on from what is there once there is room again."""
@@ -126,7 +198,7 @@ class FullDisk(unittest.TestCase):
             size = pathlib.Path(quiet, "journal").stat().st_size
         for most in [0, 1, size - 1, *(draws.randrange(size) for _ in range(12))]:
             with self.subTest(bytes=most, seed=Tested.seed), tempfile.TemporaryDirectory() as folder:
-                done = self.limited(lines, folder, most)
+                done = ran(lines, folder, preexec_fn=limit_to(most))
                 self.assertEqual(done.returncode, 2, done.stdout)
                 self.assertRegex(done.stderr, re.escape(f"wfserve: {folder}/journal: ") + ".*File too large")
                 told, kept = replies_in(done.stdout), steps_in(folder)

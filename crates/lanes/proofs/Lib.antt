@@ -19,7 +19,6 @@ pub mod RepliedLemmas
 pub mod SettleLemmas
 pub mod ShownLemmas
 pub mod SortLemmas
-pub mod TailLemmas
 pub mod TraceLemmas
 pub mod ToldLemmas
 pub mod TurnLemmas

@@ -13,5 +13,4 @@ pub mod Printed
 pub mod Reopened
 pub mod Shown
 pub mod Sorted
-pub mod TailLines
 pub mod ToldLines

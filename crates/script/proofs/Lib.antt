@@ -12,9 +12,11 @@ pub mod OpenLemmas
 pub mod ResumeLemmas
 mod CloseLemmas
 mod OpeningLaws
+pub mod RanLemmas
 pub mod JournaledLemmas
 mod KeptLemmas
 mod RecordLaws
 pub mod EndLemmas
 pub mod FaultLemmas
 pub mod TakenLemmas
+pub mod TailLemmas

@@ -15,5 +15,6 @@ pub mod Endings
 pub mod ScriptCursor
 pub mod Status
 pub mod Taken
+pub mod Tails
 pub mod Journaled
 pub mod Batched
