@@ -2,12 +2,11 @@
 
 use case_files::transcript;
 use std::alloc::{AllocError, Allocator, Global};
-use std::cell::Cell;
 use std::env::FillError;
 use std::fmt::Display;
 use std::io::{self, BufRead, Error, ErrorKind, Input, Lines};
 use std::rt::{Clock, Env};
-use std::sync::Wait;
+use std::sync::{Mutex, Wait};
 use std::thread::Threads;
 use wfserve_run::LockFiles;
 
@@ -49,47 +48,61 @@ pub(crate) fn run_program<R: Clock + LockFiles + AllocGlobal + Threads + Wait + 
     room: usize,
     ended: &mut Ended,
 ) -> Result<(), AllocError> {
-    let process = Process::new(rt.alloc(), words, input, room);
+    let process = Process::new(rt, rt.alloc(), words, input, room);
     let status = wfserve_run::run(rt, &process);
-    let output = process.output.replace(Vec::new(rt.alloc()));
-    let errors = process.errors.replace(Vec::new(rt.alloc()));
+    let Written { output, errors, .. } = process.written.into_inner();
     ended.add(&output, &errors, status)
 }
 
-/// A process over memory.
+/// What a process wrote, and how many bytes more its standard output takes.
 #[derive(Drop)]
-struct Process<'a> {
+struct Written {
+    room: usize,
+    output: Vec<u8>,
+    errors: Vec<u8>,
+}
+
+/// A process over memory. What it writes is told by more than one thread where it has a journal.
+#[derive(Drop)]
+struct Process<'a, R: Wait> {
+    rt: &'a R,
     alloc: Global,
     words: &'a [&'a str],
     input: &'a [u8],
-    room: Cell<usize>,
-    output: Cell<Vec<u8>>,
-    errors: Cell<Vec<u8>>,
+    written: Mutex<Written>,
 }
 
-/// Puts the bytes after those that the cell has.
-fn write_into(alloc: Global, cell: &Cell<Vec<u8>>, bytes: &[u8]) -> Result<(), AllocError> {
-    let mut all = cell.replace(Vec::new(alloc));
-    let written = all.extend_from_slice(bytes);
-    cell.set(all);
-    written
-}
-
-impl<'a> Process<'a> {
+impl<'a, R: Wait> Process<'a, R> {
     /// A process with these arguments and this input, whose standard output takes so many bytes.
-    fn new(alloc: Global, words: &'a [&'a str], input: &'a [u8], room: usize) -> Process<'a> {
+    fn new(
+        rt: &'a R,
+        alloc: Global,
+        words: &'a [&'a str],
+        input: &'a [u8],
+        room: usize,
+    ) -> Process<'a, R> {
+        let written = Written {
+            room,
+            output: Vec::new(alloc),
+            errors: Vec::new(alloc),
+        };
         Process {
+            rt,
             alloc,
             words,
             input,
-            room: Cell::new(room),
-            output: Cell::new(Vec::new(alloc)),
-            errors: Cell::new(Vec::new(alloc)),
+            written: Mutex::new(written),
         }
+    }
+
+    /// Writes to standard error.
+    fn complain(&self, bytes: &[u8]) -> Result<(), AllocError> {
+        let mut written = self.written.lock(self.rt);
+        written.errors.extend_from_slice(bytes)
     }
 }
 
-impl Env for Process<'_> {
+impl<R: Wait> Env for Process<'_, R> {
     fn arg(&self, i: usize, buf: &mut [u8]) -> Result<usize, FillError> {
         let Some(word) = self.words.get(i) else {
             return Err(FillError::NotPresent);
@@ -111,7 +124,7 @@ impl Env for Process<'_> {
     }
 }
 
-impl<'a> Input for Process<'a> {
+impl<'a, R: Wait> Input for Process<'a, R> {
     type Reader = &'a [u8];
 
     fn read_line<A: Allocator + Clone>(&self, buf: &mut String<A>) -> io::Result<usize> {
@@ -127,7 +140,7 @@ impl<'a> Input for Process<'a> {
     }
 }
 
-impl Print for Process<'_> {
+impl<R: Wait> Print for Process<'_, R> {
     fn print<D: Display + Drop>(&self, value: D) -> io::Result<()> {
         self.write_all(value.to_string(self.alloc)?.as_bytes())
     }
@@ -145,24 +158,24 @@ impl Print for Process<'_> {
     }
 
     fn write_some(&self, bytes: &[u8]) -> io::Result<usize> {
-        let room = self.room.get();
-        let count = bytes.len().min(room);
-        write_into(self.alloc, &self.output, &bytes[..count])?;
-        self.room.set(room - count);
+        let mut written = self.written.lock(self.rt);
+        let count = bytes.len().min(written.room);
+        written.output.extend_from_slice(&bytes[..count])?;
+        written.room -= count;
         Ok(count)
     }
 }
 
-impl Eprint for Process<'_> {
+impl<R: Wait> Eprint for Process<'_, R> {
     fn eprint<D: Display + Drop>(&self, value: D) -> io::Result<()> {
         let text = value.to_string(self.alloc)?;
-        write_into(self.alloc, &self.errors, text.as_bytes())?;
+        self.complain(text.as_bytes())?;
         Ok(())
     }
 
     fn eprintln<D: Display + Drop>(&self, value: D) -> io::Result<()> {
         self.eprint(value)?;
-        write_into(self.alloc, &self.errors, b"\n")?;
+        self.complain(b"\n")?;
         Ok(())
     }
 }
