@@ -13,8 +13,9 @@ Usage: bench/journal.py [--program PROGRAM] [--folder DIR] [--scale S] [--rounds
 
 Without PART all are made. S makes all counts that many times as large (1: 200,000 lines, 10,000,000 steps in `memory`).
 The journal lies in a folder of its own in DIR, which should be on the disk that is meant. Of each pair N rounds are
-made by turns, and all are printed: of times the shortest counts, since other work only adds to them. Under each row
-stands its share, the aim, and whether that is met. The status is 1 where an aim is missed.
+made by turns, and all are printed: of times the shortest counts, since other work only adds to them. Where the speed of
+the machine varies, the median of the rounds' shares says more, since the two of a round are made right after one
+another. Under each row stands its share, the aim, and whether that is met. The status is 1 where an aim is missed.
 """
 from __future__ import annotations
 
@@ -22,6 +23,7 @@ import argparse
 import json
 import os
 import pathlib
+import statistics
 import subprocess
 import sys
 import tempfile
@@ -117,6 +119,9 @@ class Bench:
                 lambda: self.served(lines, *more, piped=piped))
         print(f"{title}: {count:,} lines; lines a second with a journal {rates(count, kept)}, "
               f"without {rates(count, plain)}")
+        shares = [without / with_one for without, with_one in zip(plain, kept)]
+        print(f"  the rounds' shares: {statistics.median(shares):.2f} in the median, "
+              f"{min(shares):.2f} to {max(shares):.2f}")
         aim("share of the speed without", min(plain) / min(kept), wanted)
 
     def lines(self) -> None:
