@@ -63,6 +63,20 @@ class Batches(OverALog):
 
         asyncio.run(called())
 
+    def test_what_was_read_before_a_batch_is_made_is_in_it(self):
+        async def called():
+            async with self.served(COUNTING) as served:
+                read = [{"op": "signal", "name": "b"}, {"op": "signal", "name": "c"}]
+                asked = []
+                served.core.ask_read = lambda: asked.extend(served.submit(**read.pop(0)) for _ in range(len(read)))
+                with mock.patch("os.pwrite", wraps=os.pwrite) as written:
+                    first = served.submit(op="signal", name="a")
+                    self.assertEqual(json.loads(await first)["line"], 1)
+                    self.assertEqual([json.loads(text)["line"] for text in await asyncio.gather(*asked)], [2, 3])
+                self.assertEqual(written.call_count, 1)
+
+        asyncio.run(called())
+
     def test_no_reply_is_let_go_before_its_line_is_synced(self):
         async def called():
             may_sync, whole = asyncio.Event(), os.fdatasync

@@ -83,6 +83,8 @@ class Core:
         self.closing = False
         # Set where nothing is served any more, to why.
         self.over: "asyncio.Future[Exception]" = asyncio.get_running_loop().create_future()
+        # Has all calls asked that were read by now. Who gathers them before they are asked says how.
+        self.ask_read: Callable[[], None] = lambda: None
         # Whether a call that may issue something was made since the last sweep.
         self.called = True
         # Until when no turns are made.
@@ -222,6 +224,7 @@ class Core:
     # A batch.
 
     def _write(self) -> None:
+        self.ask_read()
         self._planned = False
         if self._held_by or self._is_syncing or self.over.done():
             return

@@ -97,6 +97,7 @@ class Front:
         self._gathered: List[Request] = []
         self._since = 0.0
         self._loop = asyncio.get_running_loop()
+        core.ask_read = self._serve_gathered
         self.read_seconds = read_seconds
         self._tell_date()
 
@@ -135,6 +136,7 @@ class Front:
         self._gathered.append(request)
 
     def _serve_gathered(self) -> None:
+        """Asks all that was gathered: once the loop has read what it can, and before a batch is made."""
         gathered, self._gathered = self._gathered, []
         asked: List[Call] = []
         since = self._since
