@@ -12,7 +12,7 @@ from support.programs import has_loopback
 from support.served import until
 from wfserve import http as http_calls
 from wfserve.calls import Task
-from wfserve.errors import CallLost, NotServed, Refused
+from wfserve.errors import CallLost, NotServed, Refused, Unavailable
 from wfserve.http import HttpService
 
 TASK = Task({"token": "T", "run": "r", "workflow_id": "w", "attempt": 1})
@@ -149,7 +149,7 @@ class HttpCalls(unittest.TestCase):
         def call():
             try:
                 self.service.complete_activity(TASK)
-            except NotServed as fault:
+            except Unavailable as fault:
                 faults.append(fault)
 
         calling = threading.Thread(target=call)
@@ -158,6 +158,16 @@ class HttpCalls(unittest.TestCase):
         self.service.close()
         calling.join(60)
         self.assertEqual(len(faults), 1)
+
+    def test_what_http_client_meets_in_a_closed_connection_is_a_lost_call(self):
+        for met in (AttributeError("'NoneType' object has no attribute 'close'"), ValueError("I/O operation on closed file")):
+            with mock.patch("wfserve.http.answer_to", side_effect=met):
+                with self.assertRaises(type(met)):
+                    self.service.complete_activity(TASK)
+                self.service.give_up()
+                with self.assertRaises(CallLost):
+                    self.service.complete_activity(TASK)
+            self.service._hopeless.clear()
 
     def test_connections_that_were_lost_are_not_kept(self):
         self.answers(*[DROPPED] * 5)

@@ -18,8 +18,10 @@ from support.core_fixture import OverALog
 from support.programs import BUILT, COUNTING, needs_program, program_file
 from wfserve.durable import Settings
 from wfserve.errors import Ended, LogBroken, LogFull, NotCompacted
-from wfserve.server.calls import BadCall, Busy, call_of
+from wfserve.server.calls import BadCall, Busy, Draining, call_of
 from wfserve.server.endings import Endings
+from wfserve.server.lines import Call, Waiter
+from wfserve.server.metrics import Histogram
 from wfserve.server.moments import Moments
 from test_server_ledger import drawn_call, worked
 
@@ -58,6 +60,20 @@ class Batches(OverALog):
                 names = [json.loads(reply["said"])["name"] for reply in replies]
                 self.assertEqual(names, [str(number) for number in range(50)])
                 self.assertEqual(len({json.loads(line)["at"] for line in served.lines()}), 1)
+
+        asyncio.run(called())
+
+    def test_what_was_read_before_a_batch_is_made_is_in_it(self):
+        async def called():
+            async with self.served(COUNTING) as served:
+                read = [{"op": "signal", "name": "b"}, {"op": "signal", "name": "c"}]
+                asked = []
+                served.core.ask_read = lambda: asked.extend(served.submit(**read.pop(0)) for _ in range(len(read)))
+                with mock.patch("os.pwrite", wraps=os.pwrite) as written:
+                    first = served.submit(op="signal", name="a")
+                    self.assertEqual(json.loads(await first)["line"], 1)
+                    self.assertEqual([json.loads(text)["line"] for text in await asyncio.gather(*asked)], [2, 3])
+                self.assertEqual(written.call_count, 1)
 
         asyncio.run(called())
 
@@ -131,6 +147,36 @@ class Batches(OverALog):
                 self.assertEqual((served.core.waiting, len(served.core.polls)), (0, 0))
 
         asyncio.run(called())
+
+    def test_of_calls_that_come_together_those_above_the_limit_are_refused(self):
+        async def called():
+            async with self.served(COUNTING, limit=3) as served:
+                waiters = [Waiter() for _ in range(5)]
+                calls = [Call(*call_of(b'{"op":"signal","name":"%d"}' % number), [it]) for number, it in enumerate(waiters)]
+                served.core.submit_all(calls[:2])
+                self.assertEqual(served.core.waiting, 2)
+                served.core.submit_all(calls[2:])
+                found = await asyncio.gather(*[it.future for it in waiters], return_exceptions=True)
+                self.assertEqual([json.loads(text)["line"] for text in found[:3]], [1, 2, 3])
+                self.assertEqual([type(fault) for fault in found[3:]], [Busy] * 2)
+                self.assertEqual((served.core.waiting, served.core.metrics.refused["Busy"]), (0, 2))
+                self.assertEqual(served.core.metrics.calls["signal", "ok"], 3)
+                served.core.closing, late = True, Waiter()
+                served.core.submit_all([Call(*call_of(b'{"op":"signal"}'), [late])])
+                with self.assertRaises(Draining):
+                    await late.future
+
+        asyncio.run(called())
+
+    def test_many_times_at_once_are_counted_as_one_after_another(self):
+        drawn, bounds = random.Random(SEED), (0.001, 0.01, 0.1, 1.0)
+        for count in (0, 1, 7, 8, 9, 100):
+            values = [drawn.choice([*bounds, drawn.random() ** 4, 2 * drawn.random()]) for _ in range(count)]
+            one_by_one, together = Histogram(bounds), Histogram(bounds)
+            for value in values:
+                one_by_one.add(value)
+            together.add_all(list(values))
+            self.assertEqual(list(together.lines("it")), list(one_by_one.lines("it")), (SEED, values))
 
     def test_replies_of_any_size_and_many_lines_stop_neither_side(self):
         talks = program_file(self.folder, f"#!{sys.executable} -S\n" + """

@@ -50,18 +50,23 @@ class Known(unittest.TestCase):
         self.assertIsNotNone(heads.find(HEAD.replace(b"h\r", b"h%d\r" % number) + b"{}"))
 
 
+def read_answer(connection):
+    """The status and the body of the next answer."""
+    with connection.makefile("rb") as answer:
+        status, length = int(answer.readline().split()[1]), 0
+        while (line := answer.readline().strip()):
+            if line.lower().startswith(b"content-length:"):
+                length = int(line.split(b":")[1])
+        return status, json.loads(answer.read(length))
+
+
 @needs_server
 class OverSockets(WithAServer):
     def asked(self, connection, name, head):
         """The status of a call, and what the program was told of it."""
         body = json.dumps({"op": "signal", "name": name}).encode()
         connection.sendall(head.replace(b"LENGTH", b"%d" % len(body)) + body)
-        with connection.makefile("rb") as answer:
-            status, length = int(answer.readline().split()[1]), 0
-            while (line := answer.readline().strip()):
-                if line.lower().startswith(b"content-length:"):
-                    length = int(line.split(b":")[1])
-            return status, json.loads(answer.read(length))
+        return read_answer(connection)
 
     def head(self, *more):
         lines = ["POST /calls HTTP/1.1", "Host: 127.0.0.1", "Content-Type: application/json", "Content-Length: LENGTH", *more]
@@ -82,6 +87,39 @@ class OverSockets(WithAServer):
         text = self.log.read_bytes()
         self.assertEqual([text.count(b'"n%d"' % number) for number in range(10, 30)], [1] * 20)
         self.assertEqual([text.count(b'"k%d"' % number) for number in range(10, 30)], [1] * 20)
+
+    def test_requests_that_come_together_are_each_answered_by_themselves(self):
+        server = self.serve(program=self.double())
+        connections = [socket.create_connection((server.host, server.port), timeout=60) for _ in range(20)]
+        for connection in connections:
+            self.addCleanup(connection.close)
+            self.assertEqual(self.asked(connection, "first", self.head())[0], 200)
+        bodies = {number: b'{"op":"signal","name":"n%02d"}' % number for number in range(20)}
+        # None of these is a plain call, and each is as long as the others.
+        bodies[3], bodies[7] = b'{"op":"signal","name":"n07" ', b'{"name":"x" ,"name":"n07"   }'[:len(bodies[0])]
+        bodies[11] = b'{"op":"signal", "name":[1,2]}'[:len(bodies[0])]
+        head = self.head().replace(b"LENGTH", b"%d" % len(bodies[0]))
+        for _ in range(30):
+            for number, connection in enumerate(connections):
+                connection.sendall(head + bodies[number])
+            for number, connection in enumerate(connections):
+                status, reply = read_answer(connection)
+                if number in (3, 7, 11):
+                    self.assertEqual((status, reply["error"]), (400, "BadCall"), bodies[number])
+                else:
+                    self.assertEqual((status, json.loads(reply["said"])["name"]), (200, f"n{number:02}"))
+        self.assertEqual(server.stop(), 0)
+        self.assertEqual(self.log.read_bytes().count(b'"n12"'), 30)
+
+    def test_who_hung_up_behind_its_call_has_it_counted(self):
+        server = self.serve(program=self.double())
+        for number in range(20):
+            with socket.create_connection((server.host, server.port), timeout=60) as connection:
+                self.assertEqual(self.asked(connection, f"a{number}", self.head())[0], 200)
+                body = b'{"op":"signal","name":"b%d"}' % number
+                connection.sendall(self.head().replace(b"LENGTH", b"%d" % len(body)) + body)
+        self.assertEqual(server.stop(), 0)
+        self.assertEqual([self.log.read_bytes().count(b'"b%d"' % number) for number in range(20)], [1] * 20)
 
     def test_who_has_no_token_is_not_let_in_after_who_has(self):
         server = self.serve("--token-file", self.token_file(), program=self.double())

@@ -181,7 +181,10 @@ class HttpService(Calls):
         try:
             response = answer_to(connection, method, path, body, {**self._headers, **headers})
             return response.status, response.read().decode()
-        except (OSError, http.client.HTTPException) as fault:
+        except (OSError, http.client.HTTPException, AttributeError, ValueError) as fault:
+            # Where another thread has closed the connection meanwhile, http.client finds its file gone or closed.
+            if isinstance(fault, (AttributeError, ValueError)) and not self._hopeless.is_set():
+                raise
             self._own.connection = None
             self._open.discard(connection)
             connection.close()

@@ -56,9 +56,9 @@ def no_number(text: str) -> None:
     raise BadCall(f"{text} is no JSON")
 
 
-# Of both the types leave out `scan_once`.
+# The types leave out `scan_once`.
 DECODER: Any = json.JSONDecoder(object_pairs_hook=without_repeats, parse_constant=no_number)
-PLAIN: Any = json.JSONDecoder(parse_constant=no_number)
+scan_plain: Any = json.JSONDecoder(parse_constant=no_number).scan_once  # type: ignore[attr-defined]
 
 
 def plain_call(text: str) -> Optional[Json]:
@@ -67,17 +67,17 @@ def plain_call(text: str) -> Optional[Json]:
 
     With a colon for each key no key comes twice. So they needn't be looked at one by one.
     """
-    if not text.startswith("{") or text.find("{", 1) >= 0 or "[" in text:
+    if "[" in text or text.rfind("{"):
         return None
     try:
-        value, end = PLAIN.scan_once(text, 0)
+        value, end = scan_plain(text, 0)
     except (StopIteration, ValueError, BadCall):
         # The other reader says what is wrong.
         return None
     if end != len(text) or text.count(":") != len(value):
         return None
-    op = value.get("op")
-    allowed = ALLOWED.get(op) if isinstance(op, str) else None
+    # Its values are texts, numbers and the like, which can be looked for.
+    allowed = ALLOWED.get(value.get("op"))
     return value if allowed is not None and allowed.issuperset(value) else None
 
 

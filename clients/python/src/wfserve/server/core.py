@@ -35,6 +35,7 @@ from .moments import Moments
 from .pipes import Pipes, Syncer
 from .polls import Polls
 from .replies import Replies, ended_line
+from .statuses import REFUSED
 
 if TYPE_CHECKING:
     from .ends import UntilClosed
@@ -47,7 +48,7 @@ WORDS = (
     "accepted", "already", "cancel_requested", "canceled", "completed", "dispatched", "empty", "failed", "heartbeat", "none",
     "pushed", "repeated", "signaled", "stale", "task_failed", "terminated",
 )
-PLAIN_REPLIES = {b',"ok":"%s"}' % word.encode(): {"ok": word} for word in WORDS}
+PLAIN_REPLIES: Dict[bytes, Json] = {b',"ok":"%s"}' % word.encode(): {"ok": word} for word in WORDS}
 MOST_LINES, MOST_BYTES = 4_096, 1 << 20
 # So many bytes of calls may wait.
 MOST_WAITING_BYTES = 64 << 20
@@ -82,6 +83,8 @@ class Core:
         self.closing = False
         # Set where nothing is served any more, to why.
         self.over: "asyncio.Future[Exception]" = asyncio.get_running_loop().create_future()
+        # Has all calls asked that were read by now. Who gathers them before they are asked says how.
+        self.ask_read: Callable[[], None] = lambda: None
         # Whether a call that may issue something was made since the last sweep.
         self.called = True
         # Until when no turns are made.
@@ -144,20 +147,39 @@ class Core:
 
     def submit(self, request: Request, begin: bytes, receiver: Receiver, key: Optional[str] = None) -> None:
         """Asks for a client. The receiver gets the reply, or why there is none."""
+        self._submit(Call(request, begin, [receiver], key))
+
+    def submit_all(self, calls: List[Call]) -> None:
+        """Asks for clients, by calls that are no polls and have no keys. Their receivers are also told why one isn't taken."""
+        size = sum([len(call.begin) for call in calls])
+        is_room = self._count + len(calls) <= self.limit and self._bytes + size < MOST_WAITING_BYTES
+        if is_room and not self.closing and not self.over.done():
+            self._count += len(calls)
+            self._bytes += size
+            self._asked.extend(calls)
+            if not (self._is_syncing or self._planned):
+                self.plan()
+            return
+        for call in calls:
+            try:
+                self._submit(call)
+            except Exception as fault:
+                call.fail(fault)
+
+    def _submit(self, call: Call) -> None:
         if self.over.done():
             raise self.over.result()
         if self.closing:
             raise Draining("the server is told to stop")
-        call = Call(request, begin, [receiver], key)
         if call.is_poll:
-            call.late = call.since + wait_of(request) / 1_000
-        if (call.key is not None or call.is_poll) and self._is_had_again(call, receiver):
+            call.late = call.since + wait_of(call.request) / 1_000
+        if (call.key is not None or call.is_poll) and self._is_had_again(call, call.receivers[0]):
             return
         if self._count >= self.limit or self._bytes >= MOST_WAITING_BYTES:
             self.metrics.refused["Busy"] += 1
             raise Busy(f"{self._count} calls wait already")
         self._count += 1
-        self._bytes += len(begin)
+        self._bytes += len(call.begin)
         if call.key is not None:
             self._by_key[call.key] = call
         self._asked.append(call)
@@ -202,6 +224,7 @@ class Core:
     # A batch.
 
     def _write(self) -> None:
+        self.ask_read()
         self._planned = False
         if self._held_by or self._is_syncing or self.over.done():
             return
@@ -249,7 +272,7 @@ class Core:
         """The calls of the next batch, and after them the turns that they make necessary."""
         own, self._own = self._own, []
         asked, needed = self._next_asked(MOST_LINES - len(own)), Needed()
-        self.ledger.note_all([call.request for call in asked], needed)
+        self.ledger.note_all(asked, needed)
         turns = self.ledger.turns(needed)
         self.called = self.called or bool(turns)
         return own + asked + self._without_held([own_call(turn) for turn in turns])
@@ -340,22 +363,23 @@ class Core:
 
     def _read(self, call: Call, text: bytes, expected: int) -> str:
         """Takes a call's reply, which the program gave this number. What is wrong with it, where something is."""
+        number = call.number
         try:
             begin = b'{"line":%d' % expected
             reply = PLAIN_REPLIES.get(text[len(begin):]) if call.is_logged and text.startswith(begin) else None
             if reply is not None:
                 # Nothing of it has to be read but its number.
-                text = text if expected == call.number else b'{"line":%d%s' % (call.number, text[len(begin):])
-                reply = {"line": call.number, **reply}
+                text = text if expected == number else b'{"line":%d%s' % (number, text[len(begin):])
+                reply = {"line": number, **reply}
             else:
-                text = numbered(text, expected, call.number)
+                text = numbered(text, expected, number)
                 reply = decoded(REPLIES, text.decode()) if call.is_logged else {}
         except (Ended, ValueError) as wrong:
-            return f"line {call.number}: {wrong}"
-        call.text, call.reply, self._answered = text, reply, call.number
+            return f"line {number}: {wrong}"
+        call.text, call.reply, self._answered = text, reply, number
         if call.is_logged:
             if self.window is not None:
-                self.window.note(call.number, text)
+                self.window.note(number, text)
             self._observe(call.request, reply)
         return ""
 
@@ -406,7 +430,12 @@ class Core:
         """Answers calls whose lines are on the disk."""
         self._note(calls)
         for call in calls:
-            self._let_go(call)
+            if call.key is not None or call.is_poll:
+                self._let_go(call)
+                continue
+            self._count -= 1
+            self._bytes -= len(call.begin)
+            call.answer()
 
     def _let_go(self, call: Call) -> None:
         self._count -= 1
@@ -430,12 +459,10 @@ class Core:
 
     def _note(self, calls: List[Call]) -> None:
         """Counts calls that are answered now."""
-        now, counts = time.monotonic(), self.metrics.calls
-        for call in calls:
-            answer = "ok"
-            if call.text.startswith(b'{"error"'):
-                answer = str(json.loads(call.text)["error"])
-            counts[call.op, answer] += 1
+        now = time.monotonic()
+        self.metrics.calls.update([
+            (call.op, "ok" if not call.text.startswith(REFUSED) else str(json.loads(call.text)["error"])) for call in calls
+        ])
         self.metrics.latency.add_all([now - call.since for call in calls if not call.is_poll])
 
     def _forget_key(self, call: Call) -> None:

@@ -12,7 +12,7 @@ import json
 import logging
 import time
 from collections import deque
-from typing import Callable, Deque, Dict, Optional, Set, Tuple, cast
+from typing import Callable, Deque, Dict, List, Optional, Set, Tuple, cast
 
 import httptools
 
@@ -22,7 +22,7 @@ from .core import Core
 from .ends import submit
 from .heads import Heads
 from .http import RETRY_SECONDS, Guard, fault_of
-from .lines import Receiver
+from .lines import Call, Receiver
 from .lingering import linger
 from .statuses import named_call_of, op_of, status_of
 
@@ -40,7 +40,8 @@ REASONS = {
 }
 HEAD = b"HTTP/1.1 %d %s\r\nContent-Type: application/json; charset=utf-8\r\nContent-Length: %d\r\nDate: %s\r\n%s\r\n"
 # Headers that a call may have without being handed on, beside those that say nothing here.
-KNOWN = {b"host", b"content-type", b"content-length", b"authorization", b"idempotency-key"}
+KEY = b"idempotency-key"
+KNOWN = {b"host", b"content-type", b"content-length", b"authorization", KEY}
 HANDED_ON = {b"transfer-encoding", b"expect", b"upgrade", b"content-encoding", b"cookie"}
 
 
@@ -51,10 +52,10 @@ class HandOn(WfserveError):
 class Request(Receiver):
     """A call of a connection."""
 
-    __slots__ = ("_connection", "headers", "body", "keeps", "op")
+    __slots__ = ("connection", "headers", "body", "keeps", "op")
 
     def __init__(self, connection: "Connection", headers: Dict[bytes, bytes], op: str = "", body: bytes = b""):
-        self._connection = connection
+        self.connection = connection
         self.headers = headers
         self.body = body
         self.keeps = True
@@ -67,16 +68,16 @@ class Request(Receiver):
         return None if value is None else value.decode("latin-1")
 
     def answer(self, text: bytes) -> bool:
-        return self._connection.write(self, status_of(text) if self.op else 200, text)
+        return self.connection.write(self, status_of(text) if self.op else 200, text)
 
     def fail(self, fault: Exception) -> None:
         status, name, said = fault_of(fault)
         if name == "Fault":
             LOG.error("POST /calls: %s: %s", type(fault).__name__, fault)
-        self._connection.write(self, status, json.dumps({"error": name, "said": said}).encode())
+        self.connection.write(self, status, json.dumps({"error": name, "said": said}).encode())
 
     def is_gone(self) -> bool:
-        transport = self._connection.transport
+        transport = self.connection.transport
         return transport is None or transport.is_closing()
 
 
@@ -92,6 +93,11 @@ class Front:
         self._date = b""
         self.heads = Heads()
         self.connections: Set[Connection] = set()
+        # Requests that are whole and not asked yet, and since when the first of them is there.
+        self._gathered: List[Request] = []
+        self._since = 0.0
+        self._loop = asyncio.get_running_loop()
+        core.ask_read = self._serve_gathered
         self.read_seconds = read_seconds
         self._tell_date()
 
@@ -121,6 +127,35 @@ class Front:
             for connection in list(self.connections):
                 connection.look(now, self.read_seconds)
 
+    def gather(self, request: Request) -> None:
+        """Serves a request together with all others that the loop reads now. One after another the same steps go quicker
+        than between reads of sockets."""
+        if not self._gathered:
+            self._since = time.monotonic()
+            self._loop.call_soon(self._serve_gathered)
+        self._gathered.append(request)
+
+    def _serve_gathered(self) -> None:
+        """Asks all that was gathered: once the loop has read what it can, and before a batch is made."""
+        gathered, self._gathered = self._gathered, []
+        asked: List[Call] = []
+        since = self._since
+        for request in gathered:
+            if request.op or KEY in request.headers:
+                request.connection.serve(request)
+                continue
+            try:
+                called, begin = call_of(request.body)
+                call = Call(called, begin, [request], None, None, since)
+                if call.is_poll or "wait" in called:
+                    submit(self.core, called, begin, request)
+                else:
+                    asked.append(call)
+            except Exception as fault:
+                request.fail(fault)
+        if asked:
+            self.core.submit_all(asked)
+
     def close(self) -> None:
         """Closes all connections."""
         for connection in list(self.connections):
@@ -143,6 +178,10 @@ class Connection(asyncio.Protocol):
         self._serving: Optional[Request] = None
         self._since = time.monotonic()
         self._was_asked = False
+        # The last request that was known by its head, that head, and how many bytes it had.
+        self._former: Optional[Request] = None
+        self._former_head = b""
+        self._former_size = 0
         # The headers by which a request of this connection was let through last.
         self._let_in: Optional[Tuple[Optional[bytes], Optional[bytes]]] = None
 
@@ -195,15 +234,15 @@ class Connection(asyncio.Protocol):
 
     def data_received(self, data: bytes) -> None:
         if self._reading is None:
-            self._raw, self._since = b"", time.monotonic()
             if self._serving is None and not self._asked:
-                head = self._front.heads.find(data)
-                if head is not None:
+                request = self._known(data)
+                if request is not None:
                     # The parser is between two requests, and learns nothing of this one.
-                    self._was_asked = True
-                    self._serve(Request(self, head.headers, head.op, data[len(data) - head.length:]))
+                    self._was_asked, self._serving = True, request
+                    self._front.gather(request)
                     return
                 self._piece = data
+            self._raw, self._since = b"", time.monotonic()
         if not self._is_whole:
             self._raw += data
         try:
@@ -214,6 +253,22 @@ class Connection(asyncio.Protocol):
             self._hand_on()
         if self._asked and self.transport is not None:
             self.transport.pause_reading()
+
+    def _known(self, data: bytes) -> Optional[Request]:
+        """The request that came in one piece, where a request with its head was let in before."""
+        former, head = self._former, self._former_head
+        if former is not None and len(data) == self._former_size and data.startswith(head):
+            # One of them is on its way at a time, so it has that one's place.
+            former.body = data[len(head):]
+            return former
+        found = self._front.heads.find(data)
+        if found is None:
+            return None
+        length = len(data) - found.length
+        request = Request(self, found.headers, found.op, data[length:])
+        if KEY not in found.headers:
+            self._former, self._former_head, self._former_size = request, data[:length], len(data)
+        return request
 
     def on_message_begin(self) -> None:
         if self._reading is not None or self._asked or self._serving is not None:
@@ -271,15 +326,16 @@ class Connection(asyncio.Protocol):
             length = len(reading.body)
             self._front.heads.keep(piece[:len(piece) - length], reading.headers, reading.op, length)
         if self._serving is None and not self._asked:
-            self._serve(reading)
+            self.serve(reading)
         else:
             self._asked.append(reading)
 
-    def _serve(self, request: Request) -> None:
+    def serve(self, request: Request) -> None:
+        """Asks the core for a request."""
         self._serving = request
         try:
             call, begin = named_call_of(request.op, request.body) if request.op else call_of(request.body)
-            key = key_of(request.header(b"idempotency-key")) if b"idempotency-key" in request.headers else None
+            key = key_of(request.header(KEY)) if KEY in request.headers else None
             if "wait" in call:
                 submit(self._front.core, call, begin, request, key)
             else:
@@ -330,4 +386,4 @@ class Connection(asyncio.Protocol):
             request = self._asked.popleft()
             if not self._asked:
                 self.transport.resume_reading()
-            self._serve(request)
+            self.serve(request)

@@ -8,15 +8,18 @@ reply, and decides which turns follow. A sweep of all shards and pairs, once in 
 from __future__ import annotations
 
 from collections import defaultdict
-from typing import Any, Dict, Iterable, List, Optional, Set, Tuple
+from typing import TYPE_CHECKING, Any, Dict, Iterable, List, Optional, Set, Tuple
 
 from wfserve.ids import shard_of, shard_of_token
 from wfserve.operations import KEYS, POLLS, READS
 from wfserve.types import Reply, Request
 
+if TYPE_CHECKING:
+    from .lines import Call
+
 # Calls that issue no task, send nothing to another shard and close no run.
 QUIET = (*POLLS, *READS, "heartbeat")
-TURNS = ("timer_turn", "dispatch_turn", "transfer_turn")
+TURNS = frozenset({"timer_turn", "dispatch_turn", "transfer_turn"})
 # Those that may make turns necessary.
 NOTED = KEYS.keys() - {*QUIET, *TURNS}
 # Those by which the run that was there may close.
@@ -111,14 +114,14 @@ class Ledger:
         elif op in MAY_CLOSE:
             needed.closing.add(shard)
 
-    def note_all(self, requests: Iterable[Request], needed: Needed) -> None:
+    def note_all(self, calls: Iterable[Call], needed: Needed) -> None:
         """Adds what calls make necessary."""
         shards, may_issue = self.shards, needed.may_issue
-        for request in requests:
-            if request.get("op") not in PLAIN:
-                self.note(request, needed)
+        for call in calls:
+            if call.op not in PLAIN:
+                self.note(call.request, needed)
                 continue
-            shard = 0 if shards == 1 else shard_of_request(request, shards)
+            shard = 0 if shards == 1 else shard_of_request(call.request, shards)
             if shard is not None:
                 may_issue.add(shard)
 

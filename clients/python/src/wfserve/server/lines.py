@@ -3,6 +3,7 @@
 from __future__ import annotations
 
 import asyncio
+import functools
 import json
 import time
 from typing import Any, Dict, List, Optional, Tuple
@@ -52,6 +53,8 @@ class Waiter(Receiver):
 # Of each operation its name, whether it is a poll, and whether the log gets its lines.
 TRAITS: Dict[Any, Tuple[str, bool, bool]] = {op: (op, op in POLLS, op not in READS) for op in KEYS}
 UNKNOWN = ("unknown", False, True)
+# The texts of so many turns are kept: of 64 shards those of all pairs.
+MOST_TURNS = 4_096
 
 
 class Call:
@@ -70,20 +73,22 @@ class Call:
 
     def __init__(
         self, request: Request, begin: bytes, receivers: List[Receiver], key: Optional[str] = None,
-        turn: Optional[Turn] = None,
+        turn: Optional[Turn] = None, since: Optional[float] = None,
     ):
         self.request = request
         # Its operation is a name that is known.
-        self.op, self.is_poll, self.is_logged = TRAITS.get(request.get("op"), UNKNOWN)
+        self.op, self.is_poll, is_logged = TRAITS.get(request.get("op"), UNKNOWN)
+        self.is_logged = is_logged
         # The line's text without its last brace, its moment and its key.
         self.begin = begin
         self.receivers = receivers
         self.turn = turn
-        self.key = key if self.is_logged else None
+        self.key = key if is_logged else None
         # Until when a poll waits.
         self.late = 0.0
         self.was_woken = False
-        self.since = time.monotonic()
+        # When it came.
+        self.since = time.monotonic() if since is None else since
 
     def is_gone(self) -> bool:
         """Whether a client asked, and hung up."""
@@ -119,6 +124,12 @@ class Call:
         return ", ".join(said + ([f"key {self.key!r}"] if self.key else []))
 
 
+@functools.lru_cache(maxsize=MOST_TURNS)
+def _begin_of_turn(members: Tuple[Tuple[str, Any], ...]) -> bytes:
+    """The text of a turn's line without its last brace. The same few turns are made again and again."""
+    return json.dumps(dict(members), separators=(",", ":")).encode()[:-1]
+
+
 def own_call(turn: Turn) -> Call:
     """The call of a turn of the server's own."""
-    return Call(turn.request, json.dumps(turn.request, separators=(",", ":")).encode()[:-1], [], turn=turn)
+    return Call(turn.request, _begin_of_turn(tuple(turn.request.items())), [], turn=turn)
