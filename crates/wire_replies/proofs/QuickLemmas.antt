@@ -30,34 +30,33 @@ grown-flat text (p ∷ ps) = grown-flat (text ++ p) ps ∙ append_assoc text p (
 in-quotes : (text rest : List ℕ) → escape text ≡ text → quoted text ++ rest ≡ 34 ∷ (text ++ 34 ∷ rest)
 in-quotes text rest plain = ap (λ t. 34 ∷ ((t ++ 34 ∷ []) ++ rest)) plain ∙ ap (λ t. 34 ∷ t) (append_assoc text (34 ∷ []) rest)
 
--- the pieces of a line, of which the last is its line feed
-ended : (ps : List (List ℕ)) (text : List ℕ) → text ≡ flat ps → grown [] (ps ++ (10 ∷ []) ∷ []) ≡ text ++ 10 ∷ []
-ended ps text is = grown-flat [] (ps ++ (10 ∷ []) ∷ []) ∙ flat-push ps ∙ ap (λ t. t ++ 10 ∷ []) (sym is)
+-- the pieces of a line, of which the last ends in its line feed
+ended : (ps : List (List ℕ)) (last text : List ℕ) → text ≡ flat (ps ++ last ∷ []) → grown [] (ps ++ (last ++ 10 ∷ []) ∷ []) ≡ text ++ 10 ∷ []
+ended ps last text is = grown-flat [] (ps ++ (last ++ 10 ∷ []) ∷ []) ∙ flat-push ps ∙ ap (λ t. t ++ 10 ∷ []) (sym is)
   where
-    flat-push : (ps : List (List ℕ)) → flat (ps ++ (10 ∷ []) ∷ []) ≡ flat ps ++ 10 ∷ []
-    flat-push [] = refl
-    flat-push (p ∷ ps) = ap (λ t. p ++ t) (flat-push ps) ∙ sym (append_assoc p (flat ps) (10 ∷ []))
+    flat-push : (ps : List (List ℕ)) → flat (ps ++ (last ++ 10 ∷ []) ∷ []) ≡ flat (ps ++ last ∷ []) ++ 10 ∷ []
+    flat-push [] = append-nil (last ++ 10 ∷ []) ∙ ap (λ t. t ++ 10 ∷ []) (sym (append-nil last))
+    flat-push (p ∷ ps) = ap (λ t. p ++ t) (flat-push ps) ∙ sym (append_assoc p (flat (ps ++ last ∷ [])) (10 ∷ []))
 
-name-line : (line : ℕ) (name : List ℕ) → escape name ≡ name
-    → grown [] (codes "{\"line\":" ∷ decimal line ∷ codes ",\"ok\":\"" ∷ name ∷ codes "\"}" ∷ (10 ∷ []) ∷ []) ≡ line_of (object (ok_member name (line_member line)))
+signaled-line : (line : ℕ) → grown [] (codes "{\"line\":" ∷ decimal line ∷ codes ",\"ok\":\"signaled\"}\n" ∷ []) ≡ line_of (object (ok_member (codes "signaled") (line_member line)))
 unfolding escape_byte
-name-line line name plain =
-    ended (codes "{\"line\":" ∷ decimal line ∷ codes ",\"ok\":\"" ∷ name ∷ codes "\"}" ∷ []) (compact_text (object (ok_member name (line_member line))))
-    (ap (λ t. codes "{\"line\":" ++ (decimal line ++ (codes ",\"ok\":" ++ t))) (in-quotes name (125 ∷ []) plain))
+signaled-line line = ended (codes "{\"line\":" ∷ decimal line ∷ []) (codes ",\"ok\":\"signaled\"}") (compact_text (object (ok_member (codes "signaled") (line_member line)))) refl
 
-run-line : (line : ℕ) (name : List ℕ) (run : Run) → escape name ≡ name → escape (run_text run) ≡ run_text run
-    → grown [] (codes "{\"line\":" ∷ decimal line ∷ codes ",\"ok\":\"" ∷ name ∷ codes "\",\"run\":\"" ∷ run_text run ∷ codes "\"}" ∷ (10 ∷ []) ∷ [])
-    ≡ line_of (object (with_run name run (line_member line)))
+completed-line : (line : ℕ) → grown [] (codes "{\"line\":" ∷ decimal line ∷ codes ",\"ok\":\"completed\"}\n" ∷ []) ≡ line_of (object (ok_member (codes "completed") (line_member line)))
 unfolding escape_byte
-run-line line name run plain plain_run =
-    ended (codes "{\"line\":" ∷ decimal line ∷ codes ",\"ok\":\"" ∷ name ∷ codes "\",\"run\":\"" ∷ run_text run ∷ codes "\"}" ∷ []) (compact_text (object (with_run name run (line_member line))))
-    (ap (λ t. codes "{\"line\":" ++ (decimal line ++ (codes ",\"ok\":" ++ t)))
-    (in-quotes name _ plain ∙ ap (λ t. 34 ∷ (name ++ (34 ∷ (codes ",\"run\":" ++ t)))) (in-quotes (run_text run) (125 ∷ []) plain_run)))
+completed-line line = ended (codes "{\"line\":" ∷ decimal line ∷ []) (codes ",\"ok\":\"completed\"}") (compact_text (object (ok_member (codes "completed") (line_member line)))) refl
+
+started-line : (line : ℕ) (run : Run) → escape (run_text run) ≡ run_text run
+    → grown [] (codes "{\"line\":" ∷ decimal line ∷ codes ",\"ok\":\"started\",\"run\":\"" ∷ run_text run ∷ codes "\"}\n" ∷ []) ≡ line_of (object (with_run (codes "started") run (line_member line)))
+unfolding escape_byte
+started-line line run plain_run =
+    ended (codes "{\"line\":" ∷ decimal line ∷ codes ",\"ok\":\"started\",\"run\":\"" ∷ run_text run ∷ []) (codes "\"}") (compact_text (object (with_run (codes "started") run (line_member line))))
+    (ap (λ t. codes "{\"line\":" ++ (decimal line ++ (codes ",\"ok\":\"started\",\"run\":" ++ t))) (in-quotes (run_text run) (125 ∷ []) plain_run))
 
 task-line : (line : ℕ) (t : WorkflowTask) (token : List ℕ) → token ≡ token_text (token_of Workflow t.run t.scheduled t.attempt)
     → escape token ≡ token → escape (run_text t.run) ≡ run_text t.run → escape t.workflow_id ≡ t.workflow_id
     → grown [] (codes "{\"attempt\":" ∷ decimal t.attempt ∷ codes ",\"line\":" ∷ decimal line ∷ codes ",\"ok\":\"task\",\"run\":\"" ∷ run_text t.run ∷ codes "\",\"started\":" ∷ decimal t.started
-    ∷ codes ",\"token\":\"" ∷ token ∷ codes "\",\"workflow_id\":\"" ∷ t.workflow_id ∷ codes "\"}" ∷ (10 ∷ []) ∷ [])
+    ∷ codes ",\"token\":\"" ∷ token ∷ codes "\",\"workflow_id\":\"" ∷ t.workflow_id ∷ codes "\"}\n" ∷ [])
     ≡ line_of (object (workflow_task_members t (line_member line)))
 unfolding escape_byte workflow_task_members
 task-line line t token is plain_token plain_run plain_id =
@@ -67,7 +66,7 @@ task-line line t token is plain_token plain_run plain_id =
     let tokened = ap (λ x. quoted x ++ named (quoted t.workflow_id ++ 125 ∷ [])) (sym is) ∙ in-quotes token (named (quoted t.workflow_id ++ 125 ∷ [])) plain_token ∙ ap (λ x. 34 ∷ (token ++ 34 ∷ named x)) id in
     let ran : List ℕ → List ℕ = λ x. 34 ∷ (run_text t.run ++ 34 ∷ (codes ",\"started\":" ++ (decimal t.started ++ (codes ",\"token\":" ++ x)))) in
     ended (codes "{\"attempt\":" ∷ decimal t.attempt ∷ codes ",\"line\":" ∷ decimal line ∷ codes ",\"ok\":\"task\",\"run\":\"" ∷ run_text t.run ∷ codes "\",\"started\":" ∷ decimal t.started
-    ∷ codes ",\"token\":\"" ∷ token ∷ codes "\",\"workflow_id\":\"" ∷ t.workflow_id ∷ codes "\"}" ∷ []) text
+    ∷ codes ",\"token\":\"" ∷ token ∷ codes "\",\"workflow_id\":\"" ∷ t.workflow_id ∷ []) (codes "\"}") text
     (ap (λ x. codes "{\"attempt\":" ++ (decimal t.attempt ++ (codes ",\"line\":" ++ (decimal line ++ (codes ",\"ok\":\"task\",\"run\":" ++ x))))) (in-quotes (run_text t.run) _ plain_run ∙ ap ran tokened))
 
 -- ---- the same of texts that grew by two pieces at a time
@@ -83,22 +82,29 @@ more t t' piece x after is e = e ∙ ap (λ y. (y ++ piece) ++ x) is
 pub shown : (before piece x y after : List ℕ) → More before piece x after → x ≡ y → More before piece y after
 shown before piece x y after e is = e ∙ ap (λ t. (before ++ piece) ++ t) is
 
-pub named : (line : ℕ) (name a b c d : List ℕ) → a ≡ [] → More a (codes "{\"line\":") (decimal line) b → More b (codes ",\"ok\":\"") name c → More c (codes "\"}") (10 ∷ []) d
-    → escape name ≡ name → d ≡ line_of (object (ok_member name (line_member line)))
-named line name a b c d e1 e2 e3 e4 plain = more c _ _ _ d (more b _ _ _ c (more a _ _ _ b e1 e2) e3) e4 ∙ name-line line name plain
+-- a last piece after these
+last : (t t' piece after : List ℕ) → t ≡ t' → after ≡ t ++ piece → after ≡ t' ++ piece
+last t t' piece after is e = e ∙ ap (λ y. y ++ piece) is
 
-pub run : (line : ℕ) (name : List ℕ) (r : Run) (a b c d e : List ℕ) → a ≡ [] → More a (codes "{\"line\":") (decimal line) b → More b (codes ",\"ok\":\"") name c
-    → More c (codes "\",\"run\":\"") (run_text r) d → More d (codes "\"}") (10 ∷ []) e
-    → escape name ≡ name → escape (run_text r) ≡ run_text r → e ≡ line_of (object (with_run name r (line_member line)))
-run line name r a b c d e e1 e2 e3 e4 e5 plain plain_run =
-    more d _ _ _ e (more c _ _ _ d (more b _ _ _ c (more a _ _ _ b e1 e2) e3) e4) e5 ∙ run-line line name r plain plain_run
+pub signaled : (line : ℕ) (a b c : List ℕ) → a ≡ [] → More a (codes "{\"line\":") (decimal line) b → c ≡ b ++ codes ",\"ok\":\"signaled\"}\n"
+    → c ≡ line_of (object (ok_member (codes "signaled") (line_member line)))
+signaled line a b c e1 e2 e3 = last b _ _ c (more a _ _ _ b e1 e2) e3 ∙ signaled-line line
+
+pub completed : (line : ℕ) (a b c : List ℕ) → a ≡ [] → More a (codes "{\"line\":") (decimal line) b → c ≡ b ++ codes ",\"ok\":\"completed\"}\n"
+    → c ≡ line_of (object (ok_member (codes "completed") (line_member line)))
+completed line a b c e1 e2 e3 = last b _ _ c (more a _ _ _ b e1 e2) e3 ∙ completed-line line
+
+pub started : (line : ℕ) (r : Run) (a b c d : List ℕ) → a ≡ [] → More a (codes "{\"line\":") (decimal line) b
+    → More b (codes ",\"ok\":\"started\",\"run\":\"") (run_text r) c → d ≡ c ++ codes "\"}\n"
+    → escape (run_text r) ≡ run_text r → d ≡ line_of (object (with_run (codes "started") r (line_member line)))
+started line r a b c d e1 e2 e3 e4 plain_run = last c _ _ d (more b _ _ _ c (more a _ _ _ b e1 e2) e3) e4 ∙ started-line line r plain_run
 
 pub task : (line : ℕ) (t : WorkflowTask) (token a b c d e f g h : List ℕ) → token ≡ token_text (token_of Workflow t.run t.scheduled t.attempt) → a ≡ []
     → More a (codes "{\"attempt\":") (decimal t.attempt) b → More b (codes ",\"line\":") (decimal line) c
     → More c (codes ",\"ok\":\"task\",\"run\":\"") (run_text t.run) d → More d (codes "\",\"started\":") (decimal t.started) e
-    → More e (codes ",\"token\":\"") token f → More f (codes "\",\"workflow_id\":\"") t.workflow_id g → More g (codes "\"}") (10 ∷ []) h
+    → More e (codes ",\"token\":\"") token f → More f (codes "\",\"workflow_id\":\"") t.workflow_id g → h ≡ g ++ codes "\"}\n"
     → escape token ≡ token → escape (run_text t.run) ≡ run_text t.run → escape t.workflow_id ≡ t.workflow_id
     → h ≡ line_of (object (workflow_task_members t (line_member line)))
 task line t token a b c d e f g h is e1 e2 e3 e4 e5 e6 e7 e8 plain_token plain_run plain_id =
-    more g _ _ _ h (more f _ _ _ g (more e _ _ _ f (more d _ _ _ e (more c _ _ _ d (more b _ _ _ c (more a _ _ _ b e1 e2) e3) e4) e5) e6) e7) e8
+    last g _ _ h (more f _ _ _ g (more e _ _ _ f (more d _ _ _ e (more c _ _ _ d (more b _ _ _ c (more a _ _ _ b e1 e2) e3) e4) e5) e6) e7) e8
     ∙ task-line line t token is plain_token plain_run plain_id

@@ -3,7 +3,7 @@
 //!
 //! Rules: L10.
 
-ghost use Rattle.std.specs.Prelude.{◌≡◌, [], ◌++◌, decimal, IfOk, OnOk, string_bytes};
+ghost use Rattle.std.specs.Prelude.{◌≡◌, [], ◌++◌, codes, decimal, IfOk, OnOk, string_bytes};
 ghost use Rattle.std.specs.Bool.{OnTrue};
 ghost use Rattle.serde_json.specs.Data.{object};
 ghost use Rattle.wire_replies.specs.Answers.{line_member, ok_member, with_run};
@@ -37,39 +37,50 @@ fn put_number(page: &mut String, piece: &str, number: u64) -> Result<(), AllocEr
     put_both(page, piece, buffer.format(number))
 }
 
-/// The line of an answer that says nothing but its name. It says whether it was written.
-fn put_name(page: &mut String, line: u64, name: &str) -> Result<bool, AllocError>
+/// One more piece of text.
+#[inline(always)]
+fn put_last(page: &mut String, piece: &str) -> Result<(), AllocError>
+    ensures { OnOk result (string_bytes page.new ≡ string_bytes page.old ++ piece.now) }
+{
+    page.push_str(piece)
+}
+
+/// The line of a signal that was taken. It says that it was written.
+fn put_signaled(page: &mut String, line: u64) -> Result<bool, AllocError>
     requires { string_bytes page.old ≡ [] }
     ensures { IfOk result (λ done. OnTrue done (string_bytes page.new
-        ≡ line_of (object (ok_member name.now (line_member line))))) }
+        ≡ line_of (object (ok_member (codes "signaled") (line_member line))))) }
 {
-    if !is_plain(name.as_bytes()) {
-        return Ok(false);
-    }
     put_number(page, "{\"line\":", line)?;
-    put_both(page, ",\"ok\":\"", name)?;
-    put_both(page, "\"}", "\n")?;
+    put_last(page, ",\"ok\":\"signaled\"}\n")?;
     Ok(true)
 }
 
-/// The line of an answer that names a run. It says whether it was written.
-fn put_run(page: &mut String, line: u64, name: &str, run: RunId) -> Result<bool, AllocError>
+/// The line of a task that was completed. It says that it was written.
+fn put_completed(page: &mut String, line: u64) -> Result<bool, AllocError>
     requires { string_bytes page.old ≡ [] }
     ensures { IfOk result (λ done. OnTrue done (string_bytes page.new
-        ≡ line_of (object (with_run name.now run (line_member line))))) }
+        ≡ line_of (object (ok_member (codes "completed") (line_member line))))) }
+{
+    put_number(page, "{\"line\":", line)?;
+    put_last(page, ",\"ok\":\"completed\"}\n")?;
+    Ok(true)
+}
+
+/// The line of a run that was started. It says whether it was written.
+fn put_started(page: &mut String, line: u64, run: RunId) -> Result<bool, AllocError>
+    requires { string_bytes page.old ≡ [] }
+    ensures { IfOk result (λ done. OnTrue done (string_bytes page.new
+        ≡ line_of (object (with_run (codes "started") run (line_member line))))) }
 {
     let mut buffer = [0; RUN_TEXT_LENGTH];
     let run = run.write(&mut buffer);
-    if !is_plain(name.as_bytes()) {
-        return Ok(false);
-    }
     if !is_plain(run.as_bytes()) {
         return Ok(false);
     }
     put_number(page, "{\"line\":", line)?;
-    put_both(page, ",\"ok\":\"", name)?;
-    put_both(page, "\",\"run\":\"", run)?;
-    put_both(page, "\"}", "\n")?;
+    put_both(page, ",\"ok\":\"started\",\"run\":\"", run)?;
+    put_last(page, "\"}\n")?;
     Ok(true)
 }
 
@@ -113,7 +124,7 @@ fn put_task(page: &mut String, line: u64, task: &WorkflowTask) -> Result<bool, A
     put_number(page, "\",\"started\":", task.started)?;
     put_both(page, ",\"token\":\"", token)?;
     put_both(page, "\",\"workflow_id\":\"", workflow_id)?;
-    put_both(page, "\"}", "\n")?;
+    put_last(page, "\"}\n")?;
     Ok(true)
 }
 
@@ -128,11 +139,11 @@ pub(crate) fn put_quickly(page: &mut String, line: u64, reply: &Reply) -> Result
         return Ok(false);
     };
     match answer {
-        Answer::Started(run) => put_run(page, line, "started", *run),
-        Answer::Signaled => put_name(page, line, "signaled"),
+        Answer::Started(run) => put_started(page, line, *run),
+        Answer::Signaled => put_signaled(page, line),
         Answer::WorkflowTask(task) => put_task(page, line, task),
-        Answer::Completed => put_name(page, line, "completed"),
-        Answer::ActivityCompleted => put_name(page, line, "completed"),
+        Answer::Completed => put_completed(page, line),
+        Answer::ActivityCompleted => put_completed(page, line),
         _ => Ok(false),
     }
 }

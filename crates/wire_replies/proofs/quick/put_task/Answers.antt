@@ -13,4 +13,4 @@ returns c =
     task c.args.line c.args.task.now c.write_in-token.result.now _ _ _ _ _ _ _ _ (c.write_in-token.ensures ∙ ap token_text c.workflow_token-token.ensures) c.requires
     (shown (string_bytes c.args.page.now) (codes "{\"attempt\":") _ _ _ c.in_ok-put_number.ensures (ap decimal c.from.ensures)) c.in_ok-put_number-2.ensures
     (shown (string_bytes c.put_number-2.new.page) (codes ",\"ok\":\"task\",\"run\":\"") _ _ _ c.in_ok-put_both.ensures c.write-run.ensures) c.in_ok-put_number-3.ensures c.in_ok-put_both-2.ensures
-    (shown (string_bytes c.put_both-2.new.page) (codes "\",\"workflow_id\":\"") _ _ _ c.in_ok-put_both-3.ensures c.as_str-workflow_id.ensures.value) c.in_ok-put_both-4.ensures plain_token plain_run plain_id
+    (shown (string_bytes c.put_both-2.new.page) (codes "\",\"workflow_id\":\"") _ _ _ c.in_ok-put_both-3.ensures c.as_str-workflow_id.ensures.value) c.in_ok-put_last.ensures plain_token plain_run plain_id
