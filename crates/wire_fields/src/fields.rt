@@ -1,4 +1,6 @@
 //! Fields that are required, that have a default, or that may be missing.
+//!
+//! They are inlined: a line has most of the optional fields not, and a call costs more than the look-up.
 
 ghost use Rattle.std.specs.Prelude.{◌≡◌};
 ghost use Rattle.wf_event_values.specs.Gives.{Gives};
@@ -10,6 +12,7 @@ use wf_event_values::{Field, Refusal};
 use wire_trees::Tree;
 
 /// A field that has to be there: one that is missing is an invalid argument.
+#[inline(always)]
 pub fn required<T: FieldValue, V: Tree>(
     alloc: Global,
     object: &V,
@@ -24,6 +27,7 @@ pub fn required<T: FieldValue, V: Tree>(
 }
 
 /// A field, or its default where it is missing.
+#[inline(always)]
 pub fn or_default<T: FieldValue + Drop, V: Tree>(
     alloc: Global,
     object: &V,
@@ -39,6 +43,7 @@ pub fn or_default<T: FieldValue + Drop, V: Tree>(
 }
 
 /// A field, where it is there.
+#[inline(always)]
 pub fn optional<T: FieldValue, V: Tree>(
     alloc: Global,
     object: &V,
