@@ -3,13 +3,15 @@
 ghost use Rattle.std.specs.Prelude.{◌≡◌, bytes_eq, is_some, map, option_and_then, option_map};
 ghost use Rattle.serde_json.specs.Find.{as_array, as_bool, as_number, as_object, as_str, as_u64, get, get_member};
 ghost use Rattle.serde_json.specs.View.{items_of};
-ghost use Rattle.wire_trees.specs.Borrowed.{data_of, members_of};
+ghost use Rattle.wire_trees.specs.Borrowed.{data_of, marked_of, members_of};
 
+use crate::lengths::is_marked;
 use crate::tree::Tree;
 
 /// A JSON value that copies no text. Its numbers are whole, from 0 to 2^64 - 1.
 ///
-/// An object keeps its members as they were written, and the last one of a name counts.
+/// An object keeps its members as they were written, and which lengths their names have. The last one of a
+/// name counts.
 #[derive(Drop)]
 pub enum BorrowedValue<'a> {
     Null,
@@ -17,7 +19,7 @@ pub enum BorrowedValue<'a> {
     Number(u64),
     Text(&'a str),
     Array(Vec<BorrowedValue<'a>>),
-    Object(Vec<(&'a str, BorrowedValue<'a>)>),
+    Object(u32, Vec<(&'a str, BorrowedValue<'a>)>),
 }
 
 /// Whether two names are the same. Most that aren't differ in length, which is looked at first.
@@ -29,6 +31,7 @@ fn is_same(one: &str, other: &str) -> bool
 }
 
 /// The last member of that name.
+#[inline(always)]
 fn last_named<'v, 'a>(
     members: &'v Vec<(&'a str, BorrowedValue<'a>)>,
     name: &str,
@@ -47,12 +50,29 @@ fn last_named<'v, 'a>(
     None
 }
 
+/// The same, where a name of its length is there.
+#[inline(always)]
+fn named<'v, 'a>(
+    lengths: u32,
+    members: &'v Vec<(&'a str, BorrowedValue<'a>)>,
+    name: &str,
+) -> Option<&'v BorrowedValue<'a>>
+    ensures { option_map (λ v. data_of v.now) result
+        ≡ get_member name.now (marked_of lengths members.now.items) }
+{
+    if !is_marked(lengths, name) {
+        return None;
+    }
+    last_named(members, name)
+}
+
 impl<'a> Tree for BorrowedValue<'a> {
     ghost stands_for = { data_of };
 
+    #[inline(always)]
     fn member(&self, name: &str) -> Option<&BorrowedValue<'a>> {
         match self {
-            BorrowedValue::Object(members) => last_named(members, name),
+            BorrowedValue::Object(lengths, members) => named(*lengths, members, name),
             _ => None,
         }
     }
@@ -86,6 +106,6 @@ impl<'a> Tree for BorrowedValue<'a> {
     }
 
     fn has_members(&self) -> bool {
-        matches!(self, BorrowedValue::Object(_))
+        matches!(self, BorrowedValue::Object(_, _))
     }
 }

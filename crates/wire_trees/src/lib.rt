@@ -2,6 +2,7 @@
 #![tactic(auto)]
 
 mod borrowed;
+mod lengths;
 mod reading;
 mod tree;
 

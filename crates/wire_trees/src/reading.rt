@@ -11,10 +11,11 @@ ghost use Rattle.std.specs.Bool.{OnTrue};
 ghost use Rattle.json.specs.Reads.{token_of};
 ghost use Rattle.serde_json.specs.Data.{unsigned};
 ghost use Rattle.serde_json.specs.Read.{number_of, read};
-ghost use Rattle.wire_trees.specs.Borrowed.{data_of, members_of};
+ghost use Rattle.wire_trees.specs.Borrowed.{AllMarked, data_of, members_of};
 ghost use Rattle.wire_trees.specs.Reading.{AreItems, AreMembers, BeginsPlainly, IsScalar, IsValue, in_list, in_object};
 
 use crate::borrowed::BorrowedValue;
+use crate::lengths::mark;
 use json::{Reader, Scratch, Token};
 use std::alloc::{AllocError, Global};
 
@@ -141,8 +142,8 @@ fn object<'a>(
     if depth == 0 {
         return Err(Unread::Other);
     }
-    let found = members(alloc, reader, depth - 1)?;
-    Ok(BorrowedValue::Object(found))
+    let (lengths, found) = members(alloc, reader, depth - 1)?;
+    Ok(BorrowedValue::Object(lengths, found))
 }
 
 /// Reads an array's items up to its closing bracket.
@@ -162,24 +163,27 @@ fn items<'a>(
     Ok(found)
 }
 
-/// Reads an object's members up to its closing brace.
+/// Reads an object's members up to its closing brace, with the lengths of their names.
 #[cycle(value)]
 fn members<'a>(
     alloc: Global,
     reader: &mut Reader<'a>,
     depth: usize,
-) -> Result<Vec<(&'a str, BorrowedValue<'a>)>, Unread>
-    ensures { IfOk result (λ ms. AreMembers depth reader.old (members_of ms.items) reader.new) }
+) -> Result<(u32, Vec<(&'a str, BorrowedValue<'a>)>), Unread>
+    ensures { IfOk result (λ r. AreMembers depth reader.old (members_of r.1.items) reader.new
+        × AllMarked r.0 r.1.items) }
 {
     let mut found = Vec::with_capacity(alloc, MEMBERS)?;
+    let mut lengths = 0;
     'members: loop {
         let key = match reader.next_key() {
             Ok(Some(key)) => key,
-            Ok(None) => return Ok(found),
+            Ok(None) => return Ok((lengths, found)),
             Err(_) => return Err(Unread::Other),
         };
         let member = value(alloc, reader, depth)?;
         add(&mut found, (key, member))?;
+        lengths = mark(lengths, key);
     }
 }
 

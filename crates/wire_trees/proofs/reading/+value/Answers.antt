@@ -3,9 +3,9 @@ use Rattle.json.specs.Json.{after_end_array, read_key}
 use Rattle.json.specs.Reads.{token_of}
 use Rattle.json.proofs.Grammar.{read_key-shorter}
 use Rattle.serde_json.specs.Data.{put}
-use Rattle.wire_trees.specs.Borrowed.{data_of, members_of}
+use Rattle.wire_trees.specs.Borrowed.{AllMarked, data_of, members_of}
 use Rattle.wire_trees.specs.Reading.{IsValue}
-use Rattle.wire_trees.proofs.MemberLemmas.{data-Array, data-Object, members-push}
+use Rattle.wire_trees.proofs.MemberLemmas.{data-Array, marked-push, members-push, object-marked}
 use Rattle.wire_trees.proofs.ReadingLemmas.{ItemsSoFar, MembersSoFar, items-begun, items-done, items-grow, list-value, members-begun, members-done, members-grow, object-value, scalar-found, value-shorter}
 use Rattle.wire_trees.proofs.reading.+value.Goals as goal
 
@@ -20,9 +20,9 @@ list-returns t c =
 
 pub object-returns : goal.object-returns
 object-returns t c =
-    let found = c.in_ok-found.found in
+    let found = c.in_ok-lengths.found in
     let some : 0 < c.args.depth = omega arith in
-    object-value c.args.depth c.args.reader.now _ (members_of found.items) c.members.new.reader some (data-Object found) c.in_ok-found.ensures
+    object-value c.args.depth c.args.reader.now _ (members_of found.items) c.members.new.reader some (object-marked c.in_ok-lengths.lengths found c.in_ok-lengths.ensures.1) c.in_ok-lengths.ensures.0
 
 pub items-items-init : goal.items-items-init
 items-items-init t c =
@@ -55,7 +55,7 @@ items-returns t c =
 pub members-members-init : goal.members-members-init
 members-members-init t c =
     let start = c.args.reader.now in
-    subst (λ ms. MembersSoFar c.args.depth start (members_of ms) start) (sym c.in_ok-found.ensures.items) (members-begun c.args.depth start)
+    subst (λ ms. MembersSoFar c.args.depth start (members_of ms) start × AllMarked 0 ms) (sym c.in_ok-found.ensures.items) (members-begun c.args.depth start, tt)
 
 pub members-members-smaller : goal.members-members-smaller
 members-members-smaller t c =
@@ -75,11 +75,13 @@ members-members-preserved t c =
     let rest = c.value.new.reader in
     let named : read_key l.reader ≡ Some (Some k.now, behind) = grind arith in
     let pushed : members_of c.add.new.list.items ≡ put k.now (data_of v) (members_of l.found.items) = ap members_of c.in_ok-add.ensures ∙ members-push l.found.items (k, v) in
-    subst (λ found. MembersSoFar c.args.depth c.args.reader.now found rest) (sym pushed) (members-grow c.args.depth c.args.reader.now (members_of l.found.items) l.reader k.now behind v rest l.invariant named c.in_ok-member.ensures)
+    let more = subst (λ found. MembersSoFar c.args.depth c.args.reader.now found rest) (sym pushed) (members-grow c.args.depth c.args.reader.now (members_of l.found.items) l.reader k.now behind v rest l.invariant.0 named c.in_ok-member.ensures) in
+    let marks = marked-push l.lengths c.mark-lengths.result l.found.items (k, v) c.mark-lengths.ensures.kept c.mark-lengths.ensures.marked l.invariant.1 in
+    (more, subst (AllMarked c.mark-lengths.result) (sym c.in_ok-add.ensures) marks)
 
 pub members-returns-in-Ok-None : goal.members-returns-in-Ok-None
 members-returns-in-Ok-None t c =
     let l = c.members in
     let rest = c.next_key.new.self in
     let closed : read_key l.reader ≡ Some (None, rest) = grind arith in
-    members-done c.args.depth c.args.reader.now (members_of l.found.items) l.reader rest l.invariant closed
+    (members-done c.args.depth c.args.reader.now (members_of l.found.items) l.reader rest l.invariant.0 closed, l.invariant.1)

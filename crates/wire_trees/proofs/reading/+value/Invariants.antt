@@ -1,5 +1,5 @@
 use Rattle.std.proofs.Common.{◌+◌, ◌*◌, length}
-use Rattle.wire_trees.specs.Borrowed.{members_of}
+use Rattle.wire_trees.specs.Borrowed.{AllMarked, members_of}
 use Rattle.wire_trees.proofs.ReadingLemmas.{ItemsSoFar, MembersSoFar}
 use Rattle.wire_trees.proofs.reading.+value.Given as goal
 
@@ -25,7 +25,7 @@ abbrev pub decreases-items-items : goal.decreases-items-items
 decreases-items-items l = length l.reader
 
 abbrev pub invariant-members-members : goal.invariant-members-members
-invariant-members-members l = MembersSoFar l.depth l.initial.reader (members_of l.found.items) l.reader
+invariant-members-members l = MembersSoFar l.depth l.initial.reader (members_of l.found.items) l.reader × AllMarked l.lengths l.found.items
 
 abbrev pub decreases-members-members : goal.decreases-members-members
 decreases-members-members l = length l.reader
