@@ -1,10 +1,10 @@
 -- the lines of replies, piece by piece
 use Rattle.std.proofs.Common.{◌≡◌, ℕ, List, [], ◌∷◌, ◌++◌, codes, decimal, refl, sym, ap, ◌∙◌, append_assoc}
-use Rattle.std.proofs.lemmas.List.{append-nil}
 use Rattle.json.specs.Print.{escape, escape_byte, quoted}
 use Rattle.serde_json.specs.Data.{object}
 use Rattle.serde_json.specs.Written.{compact_text}
 use Rattle.task_token.specs.RunTexts.{run_text}
+use Rattle.text_pieces.proofs.PieceLemmas.{flat, grown, grown-flat, flat-push, in-quotes, More, more, one}
 use Rattle.wf_event_values.specs.Run.{Run}
 use Rattle.wire_replies.specs.Answers.{line_member, ok_member, with_run}
 use Rattle.wire_replies.specs.Replies.{line_of}
@@ -13,30 +13,11 @@ use Rattle.task_token.specs.TokenTexts.{token_text}
 use Rattle.wf_event_values.specs.declared.policies.TaskKind.TheVariants.{Workflow}
 use Rattle.service_model_types.specs.declared.answer.WorkflowTask.{WorkflowTask}
 
--- pieces, one after another, and as they are put at the end of a text
-abbrev flat : List (List ℕ) → List ℕ
-flat [] = []
-flat (p ∷ ps) = p ++ flat ps
-
-abbrev grown : List ℕ → List (List ℕ) → List ℕ
-grown text [] = text
-grown text (p ∷ ps) = grown (text ++ p) ps
-
-grown-flat : (text : List ℕ) (ps : List (List ℕ)) → grown text ps ≡ text ++ flat ps
-grown-flat text [] = sym (append-nil text)
-grown-flat text (p ∷ ps) = grown-flat (text ++ p) ps ∙ append_assoc text p (flat ps)
-
--- a text that needs no escapes, in quotes before more
-in-quotes : (text rest : List ℕ) → escape text ≡ text → quoted text ++ rest ≡ 34 ∷ (text ++ 34 ∷ rest)
-in-quotes text rest plain = ap (λ t. 34 ∷ ((t ++ 34 ∷ []) ++ rest)) plain ∙ ap (λ t. 34 ∷ t) (append_assoc text (34 ∷ []) rest)
-
 -- the pieces of a line, of which the last ends in its line feed
 ended : (ps : List (List ℕ)) (last text : List ℕ) → text ≡ flat (ps ++ last ∷ []) → grown [] (ps ++ (last ++ 10 ∷ []) ∷ []) ≡ text ++ 10 ∷ []
-ended ps last text is = grown-flat [] (ps ++ (last ++ 10 ∷ []) ∷ []) ∙ flat-push ps ∙ ap (λ t. t ++ 10 ∷ []) (sym is)
-  where
-    flat-push : (ps : List (List ℕ)) → flat (ps ++ (last ++ 10 ∷ []) ∷ []) ≡ flat (ps ++ last ∷ []) ++ 10 ∷ []
-    flat-push [] = append-nil (last ++ 10 ∷ []) ∙ ap (λ t. t ++ 10 ∷ []) (sym (append-nil last))
-    flat-push (p ∷ ps) = ap (λ t. p ++ t) (flat-push ps) ∙ sym (append_assoc p (flat (ps ++ last ∷ [])) (10 ∷ []))
+ended ps last text is =
+    grown-flat [] (ps ++ (last ++ 10 ∷ []) ∷ []) ∙ flat-push ps (last ++ 10 ∷ []) ∙ sym (append_assoc (flat ps) last (10 ∷ []))
+    ∙ ap (λ t. t ++ 10 ∷ []) (sym (flat-push ps last) ∙ sym is)
 
 signaled-line : (line : ℕ) → grown [] (codes "{\"line\":" ∷ decimal line ∷ codes ",\"ok\":\"signaled\"}\n" ∷ []) ≡ line_of (object (ok_member (codes "signaled") (line_member line)))
 unfolding escape_byte
@@ -71,33 +52,18 @@ task-line line t token is plain_token plain_run plain_id =
 
 -- ---- the same of texts that grew by two pieces at a time
 
--- a text with two pieces more
-abbrev More : List ℕ → List ℕ → List ℕ → List ℕ → Type 0
-More before piece more after = after ≡ (before ++ piece) ++ more
-
-more : (t t' piece x : List ℕ) (after : List ℕ) → t ≡ t' → More t piece x after → after ≡ (t' ++ piece) ++ x
-more t t' piece x after is e = e ∙ ap (λ y. (y ++ piece) ++ x) is
-
--- the second piece is another text of the same bytes
-pub shown : (before piece x y after : List ℕ) → More before piece x after → x ≡ y → More before piece y after
-shown before piece x y after e is = e ∙ ap (λ t. (before ++ piece) ++ t) is
-
--- a last piece after these
-last : (t t' piece after : List ℕ) → t ≡ t' → after ≡ t ++ piece → after ≡ t' ++ piece
-last t t' piece after is e = e ∙ ap (λ y. y ++ piece) is
-
 pub signaled : (line : ℕ) (a b c : List ℕ) → a ≡ [] → More a (codes "{\"line\":") (decimal line) b → c ≡ b ++ codes ",\"ok\":\"signaled\"}\n"
     → c ≡ line_of (object (ok_member (codes "signaled") (line_member line)))
-signaled line a b c e1 e2 e3 = last b _ _ c (more a _ _ _ b e1 e2) e3 ∙ signaled-line line
+signaled line a b c e1 e2 e3 = one b _ _ c (more a _ _ _ b e1 e2) e3 ∙ signaled-line line
 
 pub completed : (line : ℕ) (a b c : List ℕ) → a ≡ [] → More a (codes "{\"line\":") (decimal line) b → c ≡ b ++ codes ",\"ok\":\"completed\"}\n"
     → c ≡ line_of (object (ok_member (codes "completed") (line_member line)))
-completed line a b c e1 e2 e3 = last b _ _ c (more a _ _ _ b e1 e2) e3 ∙ completed-line line
+completed line a b c e1 e2 e3 = one b _ _ c (more a _ _ _ b e1 e2) e3 ∙ completed-line line
 
 pub started : (line : ℕ) (r : Run) (a b c d : List ℕ) → a ≡ [] → More a (codes "{\"line\":") (decimal line) b
     → More b (codes ",\"ok\":\"started\",\"run\":\"") (run_text r) c → d ≡ c ++ codes "\"}\n"
     → escape (run_text r) ≡ run_text r → d ≡ line_of (object (with_run (codes "started") r (line_member line)))
-started line r a b c d e1 e2 e3 e4 plain_run = last c _ _ d (more b _ _ _ c (more a _ _ _ b e1 e2) e3) e4 ∙ started-line line r plain_run
+started line r a b c d e1 e2 e3 e4 plain_run = one c _ _ d (more b _ _ _ c (more a _ _ _ b e1 e2) e3) e4 ∙ started-line line r plain_run
 
 pub task : (line : ℕ) (t : WorkflowTask) (token a b c d e f g h : List ℕ) → token ≡ token_text (token_of Workflow t.run t.scheduled t.attempt) → a ≡ []
     → More a (codes "{\"attempt\":") (decimal t.attempt) b → More b (codes ",\"line\":") (decimal line) c
@@ -106,5 +72,5 @@ pub task : (line : ℕ) (t : WorkflowTask) (token a b c d e f g h : List ℕ) �
     → escape token ≡ token → escape (run_text t.run) ≡ run_text t.run → escape t.workflow_id ≡ t.workflow_id
     → h ≡ line_of (object (workflow_task_members t (line_member line)))
 task line t token a b c d e f g h is e1 e2 e3 e4 e5 e6 e7 e8 plain_token plain_run plain_id =
-    last g _ _ h (more f _ _ _ g (more e _ _ _ f (more d _ _ _ e (more c _ _ _ d (more b _ _ _ c (more a _ _ _ b e1 e2) e3) e4) e5) e6) e7) e8
+    one g _ _ h (more f _ _ _ g (more e _ _ _ f (more d _ _ _ e (more c _ _ _ d (more b _ _ _ c (more a _ _ _ b e1 e2) e3) e4) e5) e6) e7) e8
     ∙ task-line line t token is plain_token plain_run plain_id

@@ -5,7 +5,6 @@
 #![tactic(auto)]
 
 mod answers;
-mod plain;
 mod quick;
 mod replies;
 mod tasks;

@@ -3,7 +3,7 @@
 //!
 //! Rules: L10.
 
-ghost use Rattle.std.specs.Prelude.{◌≡◌, [], ◌++◌, codes, decimal, IfOk, OnOk, string_bytes};
+ghost use Rattle.std.specs.Prelude.{◌≡◌, [], ◌++◌, codes, IfOk, OnOk, string_bytes};
 ghost use Rattle.std.specs.Bool.{OnTrue};
 ghost use Rattle.serde_json.specs.Data.{object};
 ghost use Rattle.wire_replies.specs.Answers.{line_member, ok_member, with_run};
@@ -11,31 +11,11 @@ ghost use Rattle.wire_replies.specs.Replies.{line_of, reply_line};
 ghost use Rattle.wire_replies.specs.Tasks.{token_of, workflow_task_members};
 ghost use Rattle.wf_event_values.specs.declared.policies.TaskKind.TheVariants.{Workflow};
 
-use crate::plain::is_plain;
 use service_model_types::answer::{Answer, Reply, WorkflowTask};
 use std::alloc::AllocError;
 use task_token::{RUN_TEXT_LENGTH, RunText, TOKEN_TEXT_LENGTH, TaskToken};
+use text_pieces::{is_plain, put_both, put_number};
 use wf_event_values::{RunId, TaskKind};
-
-/// A piece of text, and another after it.
-#[inline(always)]
-fn put_both(page: &mut String, piece: &str, text: &str) -> Result<(), AllocError>
-    ensures { OnOk result (string_bytes page.new
-        ≡ (string_bytes page.old ++ piece.now) ++ text.now) }
-{
-    page.push_str(piece)?;
-    page.push_str(text)
-}
-
-/// A piece of text, and a number after it.
-#[inline(always)]
-fn put_number(page: &mut String, piece: &str, number: u64) -> Result<(), AllocError>
-    ensures { OnOk result (string_bytes page.new
-        ≡ (string_bytes page.old ++ piece.now) ++ decimal number) }
-{
-    let mut buffer = itoa::Buffer::new();
-    put_both(page, piece, buffer.format(number))
-}
 
 /// One more piece of text.
 #[inline(always)]

@@ -1,7 +1,8 @@
 use Rattle.std.proofs.Common.{◌≡◌, ◌∙◌, codes, subst}
 use Rattle.std.specs.Prelude.{string_bytes}
 use Rattle.json.specs.Print.{escape}
-use Rattle.wire_replies.proofs.QuickLemmas.{shown, started}
+use Rattle.text_pieces.proofs.PieceLemmas.{shown}
+use Rattle.wire_replies.proofs.QuickLemmas.{started}
 use Rattle.wire_replies.proofs.quick.put_started.Goals as goal
 
 pub returns : goal.returns

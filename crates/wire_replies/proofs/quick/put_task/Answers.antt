@@ -2,7 +2,8 @@ use Rattle.std.proofs.Common.{◌≡◌, ◌∙◌, ap, codes, decimal, subst}
 use Rattle.std.specs.Prelude.{string_bytes}
 use Rattle.json.specs.Print.{escape}
 use Rattle.task_token.specs.TokenTexts.{token_text}
-use Rattle.wire_replies.proofs.QuickLemmas.{shown, task}
+use Rattle.text_pieces.proofs.PieceLemmas.{shown}
+use Rattle.wire_replies.proofs.QuickLemmas.{task}
 use Rattle.wire_replies.proofs.quick.put_task.Goals as goal
 
 pub returns : goal.returns

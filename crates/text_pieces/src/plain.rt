@@ -67,7 +67,7 @@ fn short_is_plain(text: &[u8]) -> bool
 
 /// Whether none of a text's bytes wants an escape.
 #[inline(always)]
-pub(crate) fn is_plain(text: &[u8]) -> bool
+pub fn is_plain(text: &[u8]) -> bool
     ensures { OnTrue result (escape text.now ≡ text.now) }
 {
     if text.len() > 16 {

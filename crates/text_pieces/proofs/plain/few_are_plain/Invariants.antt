@@ -1,5 +1,5 @@
 use Rattle.json.specs.Written.{PlainBetween}
-use Rattle.wire_replies.proofs.plain.few_are_plain.Given as goal
+use Rattle.text_pieces.proofs.plain.few_are_plain.Given as goal
 
 abbrev pub invariant-loop-byte : goal.invariant-loop-byte
 invariant-loop-byte l = PlainBetween l.text 0 l.byte-index
