@@ -264,11 +264,6 @@ pub when_err : {T E : Type 0} (r : Result T E) (P : Type 0) → is_err r ≡ tru
 when_err (Ok x) P is h = absurd (cc)
 when_err (Err e) P is h = h
 
--- what is so whatever the result
-pub on_any_ok : {T E : Type 0} (r : Result T E) (P : Type 0) → P → OnOk r P
-on_any_ok (Ok x) P p = p
-on_any_ok (Err e) P p = tt
-
 pub when_ok : {T E : Type 0} (r : Result T E) (P : Type 0) → is_err r ≡ false → OnOk r P → P
 when_ok (Ok x) P is h = h
 when_ok (Err e) P is h = absurd (cc)
