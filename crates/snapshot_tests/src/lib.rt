@@ -1,22 +1,13 @@
-//! A shard is restored from a snapshot's text, and answers as the shard did of which the text tells.
-//! Each damage of the text is named.
+//! What only code can show of snapshots: what no line asks of a restored shard, whether two runs are the
+//! same, and texts that are written after a fault. What the built program can show is in
+//! `tools/snapshot_rows.py`.
 #![tactic(auto)]
 
 #[cfg(test)]
 mod answers;
 #[cfg(test)]
-mod counts;
-#[cfg(test)]
-mod damages;
-#[cfg(test)]
 mod pieces;
 #[cfg(test)]
-mod reading;
-#[cfg(test)]
 mod same;
-#[cfg(test)]
-mod told;
-#[cfg(test)]
-mod whole;
 #[cfg(test)]
 mod written;

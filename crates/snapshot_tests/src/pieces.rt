@@ -1,15 +1,8 @@
-//! The lines of a snapshot of the first of two shards: a run was deleted, one has closed, one is in the
-//! middle of much, and two were only begun. The task of one of those was handed to its queue, and that
-//! of the other was not.
+//! The lines of a snapshot of the first of two shards, but for its first two and its last one: a run was
+//! deleted, one has closed, one is in the middle of much, and two were only begun. The task of one of those
+//! was handed to its queue, and that of the other was not.
 
 use std::alloc::{AllocError, Global};
-
-pub(crate) const HEAD: &str = r#"{"head":{"retention":86400000,"service":1,"shard":0,"shards":2}}
-"#;
-
-pub(crate) const COUNTED: &str =
-    r#"{"counted":{"dispatched":9,"transfers":[{"accepted":0,"acknowledged":0},{"accepted":4,"acknowledged":2}]}}
-"#;
 
 pub(crate) const GONE: &str = r#"{"gone":1}
 "#;
@@ -77,9 +70,6 @@ pub(crate) const TRANSFER: &str =
     r#"{"to":1,"transfer":{"content":{"from_run":"00000000-0001-8000-8000-000000000003","initiated":7,"input":"i","name":"s","workflow_id":"b"},"from":0,"kind":"signal_external","number":3}}
 "#;
 
-pub(crate) const END: &str = r#"{"end":{"last":4750,"lines":32}}
-"#;
-
 /// Some lines, one after another.
 pub(crate) fn joined(alloc: Global, parts: &[&str]) -> Result<String, AllocError> {
     let mut text = String::new(alloc);
@@ -90,25 +80,17 @@ pub(crate) fn joined(alloc: Global, parts: &[&str]) -> Result<String, AllocError
 }
 
 /// All of them.
-pub(crate) fn snapshot(alloc: Global) -> Result<String, AllocError> {
-    joined(
-        alloc,
-        &[
-            HEAD,
-            COUNTED,
-            GONE,
-            CLOSED,
-            START_REQUEST,
-            BEGUN,
-            SIGNAL_REQUEST,
-            SIGNALED,
-            NOTES,
-            HELD,
-            HANDED_OVER,
-            WAITING,
-            DISPATCH,
-            TRANSFER,
-            END,
-        ],
-    )
-}
+pub(crate) const ALL: [&str; 12] = [
+    GONE,
+    CLOSED,
+    START_REQUEST,
+    BEGUN,
+    SIGNAL_REQUEST,
+    SIGNALED,
+    NOTES,
+    HELD,
+    HANDED_OVER,
+    WAITING,
+    DISPATCH,
+    TRANSFER,
+];

@@ -1,40 +1,40 @@
 //! Two restored runs are the same beside their events where their texts are, and aren't where one thing
-//! differs. What is restored of an activity whose end is buffered.
+//! differs.
 
-use crate::pieces::{
-    BEGUN, COUNTED, END, HEAD, HELD, NOTES, SIGNAL_REQUEST, SIGNALED, START_REQUEST, joined,
-};
-use crate::reading::restored;
+use crate::pieces::{BEGUN, HELD, NOTES, SIGNAL_REQUEST, SIGNALED, START_REQUEST};
+use crate::written::shard_of;
 use mutable_state::Run;
+use mutable_state_keeper::TellsRun;
 use shard_store::Store;
-use std::alloc::{AllocError, AllocGlobal, Global};
-use std::process::Abort;
+use std::alloc::Global;
 
-/// The shard of one run, by its lines.
-fn shard<R: Abort + AllocGlobal>(rt: &R, parts: &[&str]) -> Store<Run> {
-    let Ok(lines) = joined(rt.alloc(), parts) else {
-        panic!(rt; "no memory")
+/// Whether the only runs of two shards are the same beside their events.
+fn are_same<T: TellsRun>(alloc: Global, one: &Store<T>, other: &Store<T>) -> Option<bool> {
+    let (Some(index), Some(place)) = (one.place_of(1), other.place_of(1)) else {
+        return None;
     };
-    let Ok(text) = joined(rt.alloc(), &[HEAD, COUNTED, lines.as_str(), END]) else {
-        panic!(rt; "no memory")
-    };
-    match restored(rt.alloc(), text.as_str()) {
-        Ok(store) => store,
-        Err(fault) => panic!(rt; "{fault}"),
-    }
+    one.run(index)
+        .is_same_beside_events(alloc, other.run(place))
+        .ok()
 }
 
-/// Whether the runs of two shards are the same beside their events.
-fn is_same<R: Abort + AllocGlobal>(rt: &R, one: &[&str], other: &[&str]) -> bool {
-    let (one, other) = (shard(rt, one), shard(rt, other));
-    let (Some(index), Some(place)) = (one.place_of(1), other.place_of(1)) else {
-        panic!(rt; "no run")
+/// The same of the shards that two texts restore.
+fn told<T: TellsRun>(alloc: Global, one: &[&str], other: &[&str]) -> Option<bool> {
+    let Ok(one) = shard_of::<T>(alloc, one, 4750) else {
+        return None;
     };
-    let run = one.run(index);
-    match run.is_same_beside_events(rt.alloc(), other.run(place)) {
-        Ok(same) => same,
-        Err(_) => panic!(rt; "no memory"),
-    }
+    let Ok(other) = shard_of::<T>(alloc, other, 4750) else {
+        return None;
+    };
+    are_same(alloc, &one, &other)
+}
+
+fn is_same(alloc: Global, one: &[&str], other: &[&str]) -> bool {
+    told::<Run>(alloc, one, other) == Some(true)
+}
+
+fn is_another(alloc: Global, one: &[&str], other: &[&str]) -> bool {
+    told::<Run>(alloc, one, other) == Some(false)
 }
 
 /// The third attempt ended, and the fourth isn't queued yet.
@@ -70,14 +70,14 @@ const CANCEL_ASKED_ELSEWHERE: &str =
 #[test]
 fn runs_of_one_text_are_the_same(rt: HostRuntime) {
     let all = [START_REQUEST, BEGUN, SIGNAL_REQUEST, SIGNALED, NOTES, HELD];
-    assert!(rt; is_same(&rt, &all, &all));
+    assert!(rt; is_same(rt.alloc(), &all, &all));
     let asked = [BEGUN, SIGNALED, NOTES, CANCEL_ASKED];
-    assert!(rt; is_same(&rt, &asked, &asked));
+    assert!(rt; is_same(rt.alloc(), &asked, &asked));
     let completed = [BEGUN, SIGNALED, NOTES, COMPLETED];
-    assert!(rt; is_same(&rt, &completed, &completed));
+    assert!(rt; is_same(rt.alloc(), &completed, &completed));
     assert!(rt;
         is_same(
-            &rt,
+            rt.alloc(),
             &[BEGUN, SIGNALED, NOTES],
             &[BEGUN, SIGNALED, NOTES, UNNAMED]
         )
@@ -87,56 +87,28 @@ fn runs_of_one_text_are_the_same(rt: HostRuntime) {
 #[test]
 fn runs_of_two_texts_differ(rt: HostRuntime) {
     let one = [BEGUN, SIGNALED, NOTES];
-    assert!(rt; !is_same(&rt, &one, &[START_REQUEST, BEGUN, SIGNALED, NOTES]));
-    assert!(rt; !is_same(&rt, &one, &[BEGUN, SIGNAL_REQUEST, SIGNALED, NOTES]));
-    assert!(rt; !is_same(&rt, &one, &[BEGUN, SIGNALED]));
-    assert!(rt; !is_same(&rt, &one, &[BEGUN, SIGNALED, NOTES, ENDED]));
-    assert!(rt; !is_same(&rt, &one, &[BEGUN, SIGNALED, NOTES, OTHER_BEAT]));
-    assert!(rt; !is_same(&rt, &one, &[BEGUN, SIGNALED, NOTES, COMPLETED]));
-    assert!(rt; !is_same(&rt, &one, &[BEGUN, NOTES]));
+    assert!(rt; is_another(rt.alloc(), &one, &[START_REQUEST, BEGUN, SIGNALED, NOTES]));
+    assert!(rt; is_another(rt.alloc(), &one, &[BEGUN, SIGNAL_REQUEST, SIGNALED, NOTES]));
+    assert!(rt; is_another(rt.alloc(), &one, &[BEGUN, SIGNALED]));
+    assert!(rt; is_another(rt.alloc(), &one, &[BEGUN, SIGNALED, NOTES, ENDED]));
+    assert!(rt; is_another(rt.alloc(), &one, &[BEGUN, SIGNALED, NOTES, OTHER_BEAT]));
+    assert!(rt; is_another(rt.alloc(), &one, &[BEGUN, SIGNALED, NOTES, COMPLETED]));
+    assert!(rt; is_another(rt.alloc(), &one, &[BEGUN, NOTES]));
     let asked = [BEGUN, SIGNALED, NOTES, CANCEL_ASKED];
-    assert!(rt; !is_same(&rt, &one, &asked));
+    assert!(rt; is_another(rt.alloc(), &one, &asked));
     assert!(rt;
-        !is_same(
-            &rt,
+        is_another(
+            rt.alloc(),
             &asked,
             &[BEGUN, SIGNALED, NOTES, CANCEL_ASKED_ELSEWHERE]
         )
     );
     let signaled = [BEGUN, SIGNAL_REQUEST, SIGNALED, NOTES];
-    assert!(rt; !is_same(&rt, &signaled, &[BEGUN, OTHER_REQUEST, SIGNALED, NOTES]));
-}
-
-/// At which attempts the activities in use are, and of how many no end is buffered.
-fn attempts(alloc: Global, store: &Store<Run>) -> Result<(Vec<u32>, usize), AllocError> {
-    let mut attempts = Vec::new(alloc);
-    let mut pending: usize = 0;
-    let Some(index) = store.place_of(1) else {
-        return Ok((attempts, pending));
-    };
-    let run = store.run(index);
-    for activity in run.activities(alloc)? {
-        attempts.push(activity.notes.attempt)?;
-        if run
-            .pending_activity(alloc, activity.scheduled.id)?
-            .is_some()
-        {
-            pending = pending.saturating_add(1);
-        }
-    }
-    Ok((attempts, pending))
-}
-
-#[test]
-fn an_activity_whose_end_is_buffered_is_told(rt: HostRuntime) {
-    let store = shard(&rt, &[BEGUN, SIGNALED, NOTES]);
-    let Ok((found, pending)) = attempts(rt.alloc(), &store) else {
-        panic!(rt; "no memory")
-    };
-    assert!(rt; matches!(found.as_slice(), [3]) && pending == 1);
-    let store = shard(&rt, &[BEGUN, SIGNALED, NOTES, COMPLETED]);
-    let Ok((found, pending)) = attempts(rt.alloc(), &store) else {
-        panic!(rt; "no memory")
-    };
-    assert!(rt; matches!(found.as_slice(), [3]) && pending == 0);
+    assert!(rt;
+        is_another(
+            rt.alloc(),
+            &signaled,
+            &[BEGUN, OTHER_REQUEST, SIGNALED, NOTES]
+        )
+    );
 }
