@@ -100,6 +100,32 @@ class Batches(OverALog):
 
         asyncio.run(called())
 
+    def test_on_a_disk_that_is_now_quick_and_now_slow_only_what_was_synced_is_answered(self):
+        draws, synced, whole = random.Random(SEED), [0], os.fdatasync
+
+        async def called(served, client):
+            for number in range(40):
+                line = (await served.call(op="signal", name=f"{client} {number}"))["line"]
+                self.assertLessEqual(line, synced[0], f"seed {SEED}")
+
+        async def all_called():
+            async with self.served(COUNTING) as served:
+                def sync(file):
+                    lines = served.kept.lines
+                    time.sleep(draws.choice((0, 0, 0.0005, 0.003)))
+                    whole(file)
+                    synced[0] = lines
+
+                with mock.patch("os.fdatasync", sync):
+                    await asyncio.gather(*[called(served, client) for client in range(12)])
+                requests = [json.loads(line) for line in served.lines()]
+                names = sorted(request["name"] for request in requests if request["op"] == "signal")
+                wanted = sorted(f"{client} {number}" for client in range(12) for number in range(40))
+                self.assertEqual(names, wanted, f"seed {SEED}")
+
+        print(f"\ndrawn disks: seed {SEED}", file=sys.stderr)
+        asyncio.run(all_called())
+
     def test_a_sync_that_fails_ends_all_and_answers_nobody(self):
         async def called():
             async with self.served(COUNTING) as served:

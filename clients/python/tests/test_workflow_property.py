@@ -345,12 +345,15 @@ class Drawn(ToldAtOnce):
             self.assertEqual(calm, found, f"{told}: to the last moment")
 
     def test_a_service_that_is_killed_between_lines_changes_no_history(self):
+        crashes = 0
         for number in range(DRAWN // 2):
             plans = Plans(f"{SEED} {number}")
             calm, _ = played(plans, 0, 0)
-            between, crashes = played_between(plans, f"{SEED} {number}")
-            self.assertGreater(crashes["service between lines"], 0)
-            self.assertEqual(between, calm)
+            between, had = played_between(plans, f"{SEED} {number}")
+            crashes += had["service between lines"]
+            self.assertEqual(between, calm, f"seed {SEED}, plans {number}")
+        # Short plans may have none.
+        self.assertGreater(crashes, 0, f"seed {SEED}")
 
 
 def played_between(plans, seed):
