@@ -31,7 +31,7 @@ from wfserve.durable.due import Limits
 from wfserve.durable.kept import KeptProgram
 from wfserve.durable.log import LineLog
 from wfserve.durable.successor import Successor
-from wfserve.durable.told import read_told
+from wfserve.durable.told import MOST_REPLIES, read_told
 from wfserve.durable.window import Window
 from wfserve.errors import Ended, NotCompacted
 
@@ -578,8 +578,10 @@ class Served(WithAServer):
         server.kill()
         server.start()
         draw = random.Random(SEED)
-        for thread, number in draw.sample(sorted(had), min(50, len(had))):
-            self.assertEqual(self.signal(server, thread, number), (200, had[thread, number]))
+        # A quick machine makes more calls than the server keeps replies of.
+        kept = sorted(list(had)[-MOST_REPLIES // 2:])
+        for thread, number in draw.sample(kept, min(50, len(kept))):
+            self.assertEqual(self.signal(server, thread, number), (200, had[thread, number]), f"seed {SEED}")
         client = server.client()
         for thread in range(CLIENTS):
             names = names_of(client.history(f"w{thread}"))
