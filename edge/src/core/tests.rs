@@ -11,12 +11,12 @@ use crate::moments::{MachineClocks, Moments};
 use crate::opening::Opened;
 use crate::scratch::Scratch;
 use crate::settings::Named;
+use crate::waits::{received, returned, wait_until, SECONDS};
 use hyper::body::Bytes;
 use std::sync::atomic::{AtomicBool, Ordering::SeqCst};
 use std::sync::{Arc, Mutex};
 use std::thread::JoinHandle;
 use std::time::{Duration, Instant};
-use tokio::sync::oneshot::Receiver;
 
 /// Ends at a line with the word `poison`; turns have nothing to do, and polls find nothing. One that was opened from
 /// snapshots answers polls in another way. It keeps the lines in its snapshots, and says by a file which process it is.
@@ -43,9 +43,6 @@ while read -r line; do
 done
 if [ -n "$snapshot" ]; then { cat "$kept"; echo '{"end":{"last":0,"lines":0}}'; } > "$snapshot/shard-00.snap"; fi
 "#;
-/// For so long what is waited for is not given up: on a machine that does much else all of this takes a thousand times as
-/// long as on a quiet one.
-const SECONDS: Duration = Duration::from_secs(120);
 /// Once a log has so many lines, calls come slowly while it is compacted: else those that come while a slow machine does
 /// that make the next compaction longer, and that one the next, without end.
 const MANY: u64 = 1_000;
@@ -114,31 +111,9 @@ fn wait(outcome: Outcome) -> Result<Bytes, Fault> {
     received("the outcome of a call", outcome).outcome
 }
 
-/// What comes of this, which has to come in time.
-fn received<T>(what: &str, outcome: Receiver<T>) -> T {
-    let runtime = tokio::runtime::Builder::new_current_thread().enable_all().build().unwrap();
-    let waited = runtime.block_on(async { tokio::time::timeout(SECONDS, outcome).await });
-    waited.unwrap_or_else(|_| panic!("waited for {what}")).unwrap()
-}
-
 /// What a compaction comes to.
 fn compacted(served: &Served) -> Result<Compacted, Fault> {
     received("a compaction", served.core.compact(0)?)
-}
-
-/// Returns once this is so, which it has to be in time.
-fn wait_until(what: &str, is_so: impl Fn() -> bool) {
-    let late = Instant::now() + SECONDS;
-    while !is_so() {
-        assert!(Instant::now() < late, "waited for {what}");
-        std::thread::sleep(Duration::from_millis(1));
-    }
-}
-
-/// What a thread returns, which has to end in time.
-fn returned<T>(what: &str, thread: JoinHandle<T>) -> T {
-    wait_until(what, || thread.is_finished());
-    thread.join().unwrap()
 }
 
 fn is_signaled(reply: &Bytes) -> bool {
