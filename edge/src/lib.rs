@@ -68,6 +68,8 @@ mod table_log;
 mod table_records;
 mod table_tail;
 mod texts;
+#[cfg(test)]
+mod waits;
 
 use crate::say::say;
 use options::{Options, HELP};

@@ -17,9 +17,8 @@ pub struct Shared {
     pub starts: Vec<(Start, Vec<Piece>)>,
     /// Pieces by their epoch, generation and number, which count for nothing yet.
     pub put: BTreeMap<(u64, u64, u64), Piece>,
-    /// Whether only the leader's connection answers from the last piece of a compaction on, until another one is opened.
-    pub cuts_off: bool,
-    pub is_cut_off: bool,
+    /// Says when only the leader's connection answers.
+    pub cuts_off: Option<Arc<dyn Fn() -> bool + Send + Sync>>,
     /// Whether a connection that does not lead hangs where it reads.
     pub hangs: bool,
 }
@@ -28,6 +27,17 @@ pub struct Shared {
 struct InMemory {
     shared: Arc<Mutex<Shared>>,
     epoch: u64,
+}
+
+impl InMemory {
+    /// Refuses where this connection is cut off.
+    fn answer(&self) -> Result<(), LogFault> {
+        let cuts_off = self.shared.lock().unwrap().cuts_off.clone();
+        match self.epoch == 0 && cuts_off.map_or(false, |cuts_off| cuts_off()) {
+            true => Err(LogFault::Io("the connection is cut off".to_string())),
+            false => Ok(()),
+        }
+    }
 }
 
 impl Table for InMemory {
@@ -40,10 +50,8 @@ impl Table for InMemory {
         while self.epoch == 0 && self.shared.lock().unwrap().hangs {
             std::thread::sleep(Duration::from_millis(1));
         }
+        self.answer()?;
         let shared = self.shared.lock().unwrap();
-        if shared.is_cut_off && self.epoch == 0 {
-            return Err(LogFault::Io("the connection is cut off".to_string()));
-        }
         let rest = (after + 1..).zip(shared.batches.iter().skip(after as usize));
         let generation = |number| {
             shared.starts.iter().find(|(start, _)| start.number == number).map_or(0, |(start, _)| start.generation)
@@ -98,6 +106,7 @@ impl Table for InMemory {
     }
 
     fn put(&mut self, from: PiecePlace, pieces: Pieces<'_>) -> Result<u64, LogFault> {
+        self.answer()?;
         let PiecePlace { epoch, generation, mut number } = from;
         if number == 1 {
             self.shared.lock().unwrap().put.retain(|place, _| (place.0, place.1) != (epoch, generation));
@@ -107,9 +116,6 @@ impl Table for InMemory {
             assert_eq!(former, None);
             number += 1;
         }
-        let mut shared = self.shared.lock().unwrap();
-        shared.is_cut_off =
-            shared.cuts_off && shared.put.values().next_back().map_or(false, |piece| piece.name == "end");
         Ok(number)
     }
 
@@ -131,7 +137,8 @@ impl Table for InMemory {
 pub fn table_in(shared: &Arc<Mutex<Shared>>) -> Connect {
     let own = shared.clone();
     Connect::by("a table".to_string(), move || {
-        own.lock().unwrap().is_cut_off = false;
-        Ok(Box::new(InMemory { shared: own.clone(), epoch: 0 }))
+        let table = InMemory { shared: own.clone(), epoch: 0 };
+        table.answer()?;
+        Ok(Box::new(table))
     })
 }

@@ -332,6 +332,7 @@ mod tests {
     use super::*;
     use crate::memory_table::{table_in, Shared};
     use crate::scratch::Scratch;
+    use crate::waits::{returned, wait_until};
     use std::sync::{Arc, Mutex};
 
     /// Answers each line with its number, and writes it into a file.
@@ -373,28 +374,25 @@ while read -r line; do n=$((n + 1)); echo "$line" >> "$0.lines"; echo "{\"line\"
 
     #[test]
     fn a_follower_serves_what_the_leader_adds_and_takes_over() {
-        let place = Place::new();
+        let place = Arc::new(Place::new());
         let (mut first, _) = place.open();
         first.log.write([b"one".as_slice(), b"two"]).unwrap();
-        std::thread::scope(|scope| {
-            let second = scope.spawn(|| place.open());
-            while place.shared.lock().unwrap().told < 2 {
-                std::thread::sleep(Duration::from_millis(1));
-            }
-            first.log.write([b"three".as_slice()]).unwrap();
-            place.shared.lock().unwrap().is_led = false;
-            let (mut second, seen) = second.join().unwrap();
-            assert_eq!(seen.0, ["one {\"line\":1}", "two {\"line\":2}", "three {\"line\":3}"]);
-            assert_eq!((second.log.len(), second.log.size()), (4, first.log.size()));
-            // What the one before adds now, or would answer, is refused from then on.
-            assert!(first.log.confirm().unwrap_err().to_string().contains("another edge leads"));
-            assert!(first.log.is_broken() && first.log.write([b"late".as_slice()]).is_err());
-            second.log.write([b"four".as_slice()]).unwrap();
-            assert_eq!(place.shared.lock().unwrap().batches.len(), 4);
-            for kept in [first, second] {
-                kept.program.end();
-            }
-        });
+        let own = place.clone();
+        let second = std::thread::spawn(move || own.open());
+        wait_until("a follower", || place.shared.lock().unwrap().told >= 2);
+        first.log.write([b"three".as_slice()]).unwrap();
+        place.shared.lock().unwrap().is_led = false;
+        let (mut second, seen) = returned("a follower that leads", second);
+        assert_eq!(seen.0, ["one {\"line\":1}", "two {\"line\":2}", "three {\"line\":3}"]);
+        assert_eq!((second.log.len(), second.log.size()), (4, first.log.size()));
+        // What the one before adds now, or would answer, is refused from then on.
+        assert!(first.log.confirm().unwrap_err().to_string().contains("another edge leads"));
+        assert!(first.log.is_broken() && first.log.write([b"late".as_slice()]).is_err());
+        second.log.write([b"four".as_slice()]).unwrap();
+        assert_eq!(place.shared.lock().unwrap().batches.len(), 4);
+        for kept in [first, second] {
+            kept.program.end();
+        }
     }
 
     #[test]

@@ -1,7 +1,7 @@
 //! The core over a program of some lines of shell, which answers each line with its number.
 
 use super::compacting::{Window, MOST_HELD};
-use super::{Core, Limits, Outcome, Threads};
+use super::{Compacted, Core, Limits, Outcome, Threads};
 use crate::body::asked;
 use crate::fault::Fault;
 use crate::kept::NotServed;
@@ -11,6 +11,7 @@ use crate::moments::{MachineClocks, Moments};
 use crate::opening::Opened;
 use crate::scratch::Scratch;
 use crate::settings::Named;
+use crate::waits::{received, returned, wait_until, SECONDS};
 use hyper::body::Bytes;
 use std::sync::atomic::{AtomicBool, Ordering::SeqCst};
 use std::sync::{Arc, Mutex};
@@ -19,14 +20,17 @@ use std::time::{Duration, Instant};
 
 /// Ends at a line with the word `poison`; turns have nothing to do, and polls find nothing. One that was opened from
 /// snapshots answers polls in another way. It keeps the lines in its snapshots, and says by a file which process it is.
+/// What it keeps is in a file, so that a line takes as long after many others as after few. In a variable all of it is
+/// copied at each line: then the calls that a slow machine makes while a log is compacted make the next time longer still.
 const PROGRAM: &str = r#"#!/bin/sh
-n=0 load= snapshot= poll=empty kept=
+n=0 load= snapshot= poll=empty kept="$0.kept-$$"
 echo $$ >> "$0.started"
 while [ $# -gt 0 ]; do
     case "$1" in --load) load="$2" ;; --snapshot) snapshot="$2" ;; esac
     shift
 done
-if [ -n "$load" ]; then poll=other kept="$(cat "$load/shard-00.snap")"; fi
+exec 3> "$kept"
+if [ -n "$load" ]; then poll=other; cat "$load/shard-00.snap" >&3; fi
 while read -r line; do
     n=$((n + 1))
     case "$line" in
@@ -35,14 +39,14 @@ while read -r line; do
     *poll_*) echo "{\"line\":$n,\"by\":\"$poll\",\"ok\":\"empty\"}" ;;
     *) echo "{\"line\":$n,\"ok\":\"signaled\"}" ;;
     esac
-    kept="$kept
-$line"
+    printf '%s\n' "$line" >&3
 done
-if [ -n "$snapshot" ]; then printf '%s\n{"end":{"last":0,"lines":0}}\n' "$kept" > "$snapshot/shard-00.snap"; fi
+if [ -n "$snapshot" ]; then { cat "$kept"; echo '{"end":{"last":0,"lines":0}}'; } > "$snapshot/shard-00.snap"; fi
 "#;
-/// For so long what is waited for is not given up: on a machine that does much else all of this takes a thousand times as
-/// long as on a quiet one.
-const SECONDS: Duration = Duration::from_secs(120);
+/// Once a log has so many lines, calls come slowly while it is compacted: else those that come while a slow machine does
+/// that make the next compaction longer, and that one the next, without end.
+const MANY: u64 = 1_000;
+const BETWEEN_CALLS: Duration = Duration::from_millis(20);
 const LIMITS: Limits = Limits { bytes: 0, time: Duration::ZERO, has_standby: false };
 
 struct Served {
@@ -104,8 +108,12 @@ impl Served {
 }
 
 fn wait(outcome: Outcome) -> Result<Bytes, Fault> {
-    let runtime = tokio::runtime::Builder::new_current_thread().enable_all().build().unwrap();
-    runtime.block_on(async { tokio::time::timeout(SECONDS, outcome).await }).unwrap().unwrap().outcome
+    received("the outcome of a call", outcome).outcome
+}
+
+/// What a compaction comes to.
+fn compacted(served: &Served) -> Result<Compacted, Fault> {
+    received("a compaction", served.core.compact(0)?)
 }
 
 fn is_signaled(reply: &Bytes) -> bool {
@@ -157,9 +165,7 @@ fn more_calls_than_may_wait_are_refused_and_polls_are_not_counted() {
     let served = Served::new(2);
     let poll = r#"{"op":"poll_workflow_task","task_queue":"main","wait":60000}"#;
     let polls: Vec<Outcome> = (0..2).map(|_| served.submit(poll, None).unwrap()).collect();
-    while served.core.lock().polls.len() < 2 {
-        std::thread::sleep(Duration::from_millis(1));
-    }
+    wait_until("two polls that wait", || served.core.lock().polls.len() == 2);
     assert!(served.call(r#"{"op":"signal","name":"a"}"#, None).is_ok());
     assert!(matches!(served.call(poll, None), Err(Fault::Busy(_))));
     let runtime = tokio::runtime::Builder::new_current_thread().enable_all().build().unwrap();
@@ -175,18 +181,48 @@ fn is_by(reply: &Bytes, who: &str) -> bool {
     String::from_utf8_lossy(reply).contains(&format!("\"by\":\"{who}\""))
 }
 
-/// Makes a call again and again, until it is told to stop. The replies.
-fn calls_of(core: &Arc<Core>, body: &'static str, stop: &Arc<AtomicBool>) -> JoinHandle<Vec<Bytes>> {
-    let (core, stop) = (core.clone(), stop.clone());
-    std::thread::spawn(move || {
-        let mut replies = Vec::new();
-        while !stop.load(SeqCst) {
-            let key = format!("{}-{}", &body[7..11], replies.len());
-            let outcome = core.submit(asked(body.as_bytes(), 1).unwrap(), Some(key.into())).unwrap();
-            replies.push(outcome.blocking_recv().unwrap().outcome.unwrap());
-        }
-        replies
-    })
+/// Rests after a call, where the log is compacted and has many lines.
+fn rest_where_many(core: &Core) {
+    let health = core.health();
+    if health.is_compacting && health.lines > MANY {
+        std::thread::sleep(BETWEEN_CALLS);
+    }
+}
+
+/// Calls that are made again and again, until they are stopped or let go: a test that fails leaves none to the others.
+struct Calls {
+    stop: Arc<AtomicBool>,
+    made: Option<JoinHandle<Vec<Bytes>>>,
+}
+
+impl Calls {
+    fn begin(core: &Arc<Core>, body: &'static str) -> Calls {
+        let (core, stop) = (core.clone(), Arc::new(AtomicBool::new(false)));
+        let is_stopped = stop.clone();
+        let made = std::thread::spawn(move || {
+            let mut replies = Vec::new();
+            while !is_stopped.load(SeqCst) {
+                let key = format!("{}-{}", &body[7..11], replies.len());
+                let outcome = core.submit(asked(body.as_bytes(), 1).unwrap(), Some(key.into())).unwrap();
+                replies.push(outcome.blocking_recv().unwrap().outcome.unwrap());
+                rest_where_many(&core);
+            }
+            replies
+        });
+        Calls { stop, made: Some(made) }
+    }
+
+    /// Makes no more. The replies.
+    fn stop(mut self) -> Vec<Bytes> {
+        self.stop.store(true, SeqCst);
+        returned("the last one of many calls", self.made.take().unwrap())
+    }
+}
+
+impl Drop for Calls {
+    fn drop(&mut self) {
+        self.stop.store(true, SeqCst);
+    }
 }
 
 /// What the log and its snapshots have of calls of an operation, in their order.
@@ -198,31 +234,26 @@ fn kept_by(log: &str, generation: u64, lines: &[String], op: &str) -> Vec<String
 
 /// Returns once so many lines more were written, and a while later.
 fn wait_for_lines(served: &Served, more: u64) {
-    let (late, wanted) = (Instant::now() + SECONDS, served.core.lines() + more);
-    while served.core.lines() < wanted {
-        assert!(Instant::now() < late);
-        std::thread::sleep(Duration::from_millis(1));
-    }
+    let wanted = served.core.lines() + more;
+    wait_until("more lines", || served.core.lines() >= wanted);
     std::thread::sleep(Duration::from_millis(30));
 }
 
 /// Compacts a log three times while calls are made. The replies to signals and to polls.
 fn compacted_under_calls(served: &Served) -> (Vec<Bytes>, Vec<Bytes>) {
-    let stop = Arc::new(AtomicBool::new(false));
-    let signals = calls_of(&served.core, r#"{"op":"signal","name":"n"}"#, &stop);
-    let polls = calls_of(&served.core, r#"{"op":"poll_workflow_task","task_queue":"main","wait":0}"#, &stop);
+    let signals = Calls::begin(&served.core, r#"{"op":"signal","name":"n"}"#);
+    let polls = Calls::begin(&served.core, r#"{"op":"poll_workflow_task","task_queue":"main","wait":0}"#);
     for generation in 1..=3 {
         wait_for_lines(served, 10);
         // A poll is answered in another way by the program beside: so it is made once more, and polls wait for it.
         let outcome = served.core.compact(0).unwrap();
         assert!(matches!(served.core.compact(0), Err(Fault::Busy(_))));
-        let done = outcome.blocking_recv().unwrap().unwrap();
+        let done = received("a compaction", outcome).unwrap();
         assert!(done.lines > 0 && done.records > 0);
         assert_eq!(served.core.lock().origin.generation, generation);
     }
     wait_for_lines(served, 10);
-    stop.store(true, SeqCst);
-    let (signals, polls) = (signals.join().unwrap(), polls.join().unwrap());
+    let (signals, polls) = (signals.stop(), polls.stop());
     assert!(signals.iter().all(is_signaled) && is_by(polls.last().unwrap(), "other"));
     (signals, polls)
 }
@@ -271,43 +302,45 @@ fn kept_in(shared: &Shared, op: &str) -> Vec<String> {
 fn a_table_is_compacted_while_it_is_served_and_followed_and_loses_nothing() {
     let shared = Arc::new(Mutex::new(Shared::default()));
     let connect = table_in(&shared);
-    let open = |program: &str| Opened::of_table(program, &connect, &Named::default(), true);
-    let served = Served::by(100, |program, _| open(program));
+    let open = move |program: &str| {
+        Opened::of_table(program, &connect, &Named::default(), true).map_err(|fault| fault.to_string()).unwrap()
+    };
+    let served = Served::by(100, |program, _| Ok(open(program)));
     let program = served._folder.path("program");
-    std::thread::scope(|scope| {
-        let follower = scope.spawn(|| open(&program).map_err(|fault| fault.to_string()).unwrap());
-        while shared.lock().unwrap().told == 0 {
-            std::thread::sleep(Duration::from_millis(1));
-        }
-        let (signals, polls) = compacted_under_calls(&served);
-        served.core.close();
-        assert!(served.threads.join(SECONDS));
-        for (op, name, count) in
-            [("\"signal\"", "sign", signals.len()), ("\"poll_workflow_task\"", "poll", polls.len())]
-        {
-            let wanted: Vec<String> = (0..count).map(|number| format!("{name}-{number}")).collect();
-            assert_eq!(kept_in(&shared.lock().unwrap(), op), wanted);
-        }
-        let place = |opened: &Opened| (opened.kept.log.len(), opened.kept.log.size(), opened.kept.log.batches());
-        shared.lock().unwrap().is_led = false;
-        let followed = follower.join().unwrap();
-        shared.lock().unwrap().is_led = false;
-        let anew = open(&program).map_err(|fault| fault.to_string()).unwrap();
-        let served = served.core.lock().log;
-        assert_eq!(place(&followed), (served.lines + 1, served.bytes, served.batches));
-        assert_eq!(place(&anew), place(&followed));
-        for opened in [followed, anew] {
-            assert_eq!(opened.kept.origin.generation, 3);
-            knows_replies(opened, &signals);
-        }
-    });
+    let follower = {
+        let (open, program) = (open.clone(), program.clone());
+        std::thread::spawn(move || open(&program))
+    };
+    wait_until("a follower", || shared.lock().unwrap().told > 0);
+    let (signals, polls) = compacted_under_calls(&served);
+    served.core.close();
+    assert!(served.threads.join(SECONDS), "{:?}", served.threads.left());
+    for (op, name, count) in [("\"signal\"", "sign", signals.len()), ("\"poll_workflow_task\"", "poll", polls.len())] {
+        let wanted: Vec<String> = (0..count).map(|number| format!("{name}-{number}")).collect();
+        assert_eq!(kept_in(&shared.lock().unwrap(), op), wanted);
+    }
+    let place = |opened: &Opened| (opened.kept.log.len(), opened.kept.log.size(), opened.kept.log.batches());
+    shared.lock().unwrap().is_led = false;
+    let followed = returned("a follower that leads", follower);
+    shared.lock().unwrap().is_led = false;
+    let anew = open(&program);
+    let log = served.core.lock().log;
+    assert_eq!(place(&followed), (log.lines + 1, log.bytes, log.batches));
+    assert_eq!(place(&anew), place(&followed));
+    for opened in [followed, anew] {
+        assert_eq!(opened.kept.origin.generation, 3);
+        knows_replies(opened, &signals);
+    }
 }
 
 #[test]
 fn while_batches_rest_a_table_is_asked_by_no_second_connection() {
-    let shared = Arc::new(Mutex::new(Shared { cuts_off: true, ..Shared::default() }));
+    let shared = Arc::new(Mutex::new(Shared::default()));
     let connect = table_in(&shared);
     let served = Served::by(100, |program, _| Opened::of_table(program, &connect, &Named::default(), true));
+    let core = Arc::downgrade(&served.core);
+    let is_exchanging = move || core.upgrade().map_or(false, |core| core.lock().flags.is_exchanging);
+    shared.lock().unwrap().cuts_off = Some(Arc::new(is_exchanging));
     compacted_under_calls(&served);
     assert!(shared.lock().unwrap().starts.len() == 3);
     served.core.close();
@@ -322,8 +355,7 @@ fn a_table_is_not_compacted_once_another_edge_leads() {
     assert!(served.call(r#"{"op":"signal","name":"n"}"#, None).is_ok());
     shared.lock().unwrap().epoch += 1;
     // The clock's own turns may have found it first.
-    let outcome = served.core.compact(0).and_then(|outcome| outcome.blocking_recv().unwrap().map(drop));
-    assert!(outcome.unwrap_err().to_string().contains("another edge leads"));
+    assert!(compacted(&served).map(drop).unwrap_err().to_string().contains("another edge leads"));
     assert!(served.core.lock().over.is_some() && shared.lock().unwrap().starts.is_empty());
     served.core.close();
     assert!(served.threads.join(SECONDS), "{:?}", served.threads.left());
@@ -337,7 +369,7 @@ fn no_call_waits_for_a_tail_that_hangs() {
     let signal = || served.call(r#"{"op":"signal","name":"n"}"#, None);
     assert!(is_signaled(&signal().unwrap()));
     shared.lock().unwrap().hangs = true;
-    let compacted = served.core.compact(0).unwrap();
+    let outcome = served.core.compact(0).unwrap();
     // As where calls come as fast as the program beside serves them: what is ahead of it waits.
     served.core.lock().window.have_wait(0);
     let begun = Instant::now();
@@ -345,10 +377,10 @@ fn no_call_waits_for_a_tail_that_hangs() {
     assert!(begun.elapsed() >= MOST_HELD);
     assert!(is_signaled(&signal().unwrap()));
     shared.lock().unwrap().hangs = false;
-    let fault = compacted.blocking_recv().unwrap().map(drop).unwrap_err();
+    let fault = received("a compaction", outcome).map(drop).unwrap_err();
     assert!(matches!(fault, Fault::NotCompacted(_)), "{fault:?}");
     // Nothing is left of it, and the next one is done.
-    assert!(served.core.compact(0).unwrap().blocking_recv().unwrap().is_ok());
+    assert!(compacted(&served).is_ok());
     assert!(is_signaled(&signal().unwrap()) && shared.lock().unwrap().starts.len() == 1);
     served.core.close();
     assert!(served.threads.join(SECONDS), "{:?}", served.threads.left());
@@ -374,7 +406,9 @@ fn batches_wait_while_a_program_beside_comes_nearer() {
 fn compacted_by_itself(served: &Served) {
     let late = Instant::now() + SECONDS;
     while served.core.lock().origin.generation < 2 {
-        assert!(Instant::now() < late && served.call(r#"{"op":"signal","name":"n"}"#, None).is_ok());
+        assert!(Instant::now() < late, "waited for two compactions of {} lines", served.core.lines());
+        assert!(is_signaled(&served.call(r#"{"op":"signal","name":"n"}"#, None).unwrap()));
+        rest_where_many(&served.core);
     }
 }
 
@@ -397,28 +431,22 @@ fn a_log_is_compacted_by_itself_once_it_is_long_or_old() {
 fn a_second_program_takes_the_place_of_one_that_ends() {
     let limits = Limits { has_standby: true, ..LIMITS };
     let served = Served::with(100, limits, |program, log| Opened::of(program, log, &Named::default(), true));
-    let stop = Arc::new(AtomicBool::new(false));
-    let signals = calls_of(&served.core, r#"{"op":"signal","name":"n"}"#, &stop);
+    let signals = Calls::begin(&served.core, r#"{"op":"signal","name":"n"}"#);
     for killed in 1..=3 {
-        let late = Instant::now() + SECONDS;
-        while !served.core.lock().has_standby() {
-            assert!(Instant::now() < late);
-            std::thread::sleep(Duration::from_millis(1));
-        }
+        wait_until("a second program", || served.core.lock().has_standby());
         // It is not started anew: there is no program under this name.
         let (path, away) = (served._folder.path("program"), served._folder.path("away"));
         std::fs::rename(&path, &away).unwrap();
         crate::system::kill(served.core.lock().pid);
-        while served.core.lock().metrics.restarts < killed || served.core.lock().has_standby() {
-            assert!(Instant::now() < late);
-            std::thread::sleep(Duration::from_millis(1));
-        }
+        wait_until("the second program that serves", || {
+            let state = served.core.lock();
+            state.metrics.restarts >= killed && !state.has_standby()
+        });
         assert!(is_signaled(&served.call(r#"{"op":"signal","name":"after"}"#, None).unwrap()));
         std::fs::rename(&away, &path).unwrap();
-        assert_eq!(served.core.compact(0).unwrap().blocking_recv().unwrap().map(drop), Ok(()));
+        assert_eq!(compacted(&served).map(drop), Ok(()));
     }
-    stop.store(true, SeqCst);
-    assert!(signals.join().unwrap().iter().all(is_signaled));
+    assert!(signals.stop().iter().all(is_signaled));
     served.end();
 }
 
@@ -428,11 +456,7 @@ fn a_second_program_that_was_ended_with_the_first_one_takes_no_place() {
     for rest in [0, 300, 600] {
         let served = Served::with(100, limits, |program, log| Opened::of(program, log, &Named::default(), true));
         assert!(is_signaled(&served.call(r#"{"op":"signal","name":"before"}"#, None).unwrap()));
-        let late = Instant::now() + SECONDS;
-        while !served.core.lock().has_standby() {
-            assert!(Instant::now() < late);
-            std::thread::sleep(Duration::from_millis(1));
-        }
+        wait_until("a second program", || served.core.lock().has_standby());
         // By then it has served all there is, so that it is not missed before it is asked.
         std::thread::sleep(Duration::from_millis(rest));
         served.kill_programs();
@@ -449,12 +473,8 @@ fn a_program_that_is_killed_again_and_again_is_no_lines_fault() {
     let served = Served::new(100);
     for killed in 1..=12 {
         assert!(is_signaled(&served.call(r#"{"op":"describe","workflow_id":"w"}"#, None).unwrap()));
-        let late = Instant::now() + SECONDS;
         served.kill_programs();
-        while served.core.lock().metrics.restarts < killed {
-            assert!(Instant::now() < late);
-            std::thread::sleep(Duration::from_millis(1));
-        }
+        wait_until("a program that is started again", || served.core.lock().metrics.restarts >= killed);
     }
     served.end();
 }
@@ -466,9 +486,7 @@ fn a_program_that_has_ended_is_not_ready() {
     assert_eq!((crate::system::has_ended(pid), served.core.health().wrong), (false, ""));
     // Another child that has ended stands for it, so that nobody notices.
     let ended = std::process::Command::new("/bin/sh").args(["-c", "exit 3"]).spawn().unwrap().id();
-    while !crate::system::has_ended(ended) {
-        std::thread::sleep(Duration::from_millis(1));
-    }
+    wait_until("a child that ends", || crate::system::has_ended(ended));
     served.core.lock().pid = ended;
     assert_eq!(served.core.health().wrong, "restarting");
     served.core.lock().pid = pid;
@@ -481,7 +499,7 @@ fn a_program_that_writes_no_snapshots_is_served_on() {
     assert!(served.call(r#"{"op":"signal","name":"n"}"#, None).is_ok());
     let path = served._folder.path("program");
     std::fs::write(&path, PROGRAM.replace("if [ -n \"$snapshot\" ]", "exit 2; if false")).unwrap();
-    let fault = served.core.compact(0).unwrap().blocking_recv().unwrap().map(drop).unwrap_err();
+    let fault = compacted(&served).map(drop).unwrap_err();
     assert!(matches!(fault, Fault::NotCompacted(_)), "{fault:?}");
     assert!(served.call(r#"{"op":"signal","name":"n"}"#, None).is_ok());
     assert!(served.core.health().lines >= 2 && !served.core.health().is_compacting);
@@ -494,9 +512,9 @@ fn a_read_is_not_answered_once_another_edge_leads() {
     let connect = table_in(&shared);
     let served = Served::by(9, |program, _| Opened::of_table(program, &connect, &Named::default(), true));
     let read = || served.submit(r#"{"op":"describe","workflow_id":"w"}"#, None);
-    assert!(read().unwrap().blocking_recv().unwrap().outcome.is_ok());
+    assert!(wait(read().unwrap()).is_ok());
     shared.lock().unwrap().epoch += 1;
-    let refused = read().map(|outcome| outcome.blocking_recv().unwrap().outcome);
+    let refused = read().map(wait);
     assert!(matches!(refused, Err(Fault::LogBroken(_)) | Ok(Err(Fault::LogBroken(_)))), "{refused:?}");
     served.core.close();
     assert!(served.threads.join(SECONDS), "{:?}", served.threads.left());
