@@ -243,9 +243,10 @@ class Moved(Journaled):
         self.fill(self.log, random.Random(SEED), 20)
         limit = resource.getrlimit(resource.RLIMIT_FSIZE)
         former = signal.signal(signal.SIGXFSZ, signal.SIG_IGN)
-        resource.setrlimit(resource.RLIMIT_FSIZE, (1_000, limit[1]))
+        # The settings alone take more than that, however few steps the drawn calls made.
+        resource.setrlimit(resource.RLIMIT_FSIZE, (100, limit[1]))
         try:
-            with self.assertRaises((LogFault, Ended, OSError)):
+            with self.assertRaises((LogFault, Ended, OSError), msg=f"seed {SEED}"):
                 move_log([str(BUILT)], self.log, self.kept)
         finally:
             resource.setrlimit(resource.RLIMIT_FSIZE, limit)
