@@ -5,7 +5,7 @@ Usage: bench/journal.py [--program PROGRAM] [--folder DIR] [--scale S] [--rounds
 
     lines      lines of a file, read 2 MiB at a time in parts of 256 KiB: with a journal, and without one
     batches    the same lines by a pipe, so that one read gives 64 KiB at most
-    lanes      the same lines of a file over 16 shards in eight lanes, read 1 MiB at a time
+    lanes      the same lines of a file over 16 shards in eight lanes, read 2 MiB at a time
     caller     a caller who waits for each reply, beside one of a C program that writes as many bytes over zeros and
                syncs each; and what of it is the journal's: both again where nothing is written
     opening    how many entries a second a journal is opened at, and the memory that this takes

@@ -11,6 +11,7 @@ many replies. Where the program's journal serves several lanes, all of it is mad
 """
 from __future__ import annotations
 
+import fcntl
 import os
 import pathlib
 import random
@@ -39,6 +40,8 @@ SHARE = 0.3
 OPENING = 6
 # What the program reads of a file at once, and what of it is one batch. So many lines are more than one such read.
 READ, PART = 2_097_152, 262_144
+# Of several lanes that is one batch. So many steps are committed beside the next read, and a pipe may hold their lines.
+LARGE, PIPE = 3_000, 1_048_576
 FILE_LINES, FILE_KILLS = 20_000, 8
 
 
@@ -120,40 +123,53 @@ class KilledWithLanes(Killed):
     passes = 8
 
 
-class OfAFile(unittest.TestCase):
+class OfAFile(InLanes):
     """A file is read by megabytes, and served and committed part by part."""
+
+    # What is one batch of a file.
+    batch = PART
 
     def setUp(self) -> None:
         draws = random.Random(Tested.seed)
-        self.lines = [start(f"w{number}") for number in range(WORKFLOWS)]
+        self.lines = [self.in_lane(number, start(f"w{number}")) for number in range(WORKFLOWS)]
         for at in range(FILE_LINES):
             given = {"at": at, "request_id": f"r{at}", "input": "x" * draws.randrange(120)}
-            self.lines.append({"op": "signal", "name": "s", "workflow_id": f"w{draws.randrange(WORKFLOWS)}", **given})
+            number = draws.randrange(WORKFLOWS)
+            self.lines.append(self.in_lane(number, {"op": "signal", "name": "s", "workflow_id": f"w{number}", **given}))
         self.draws = draws
         folder = tempfile.TemporaryDirectory()
         self.addCleanup(folder.cleanup)
         self.file = pathlib.Path(folder.name, "lines.jsonl")
         self.file.write_text(text(self.lines))
-        done = subprocess.run([Tested.program, self.file], capture_output=True, text=True, timeout=SECONDS)
-        self.undisturbed = replies_in(done.stdout)
+        done = subprocess.run(
+            [Tested.program, *self.more, self.file], capture_output=True, text=True, timeout=SECONDS)
+        self.undisturbed = self.shown(replies_in(done.stdout))
         self.assertEqual((done.returncode, len(self.undisturbed)), (0, len(self.lines)))
+
+    def in_lane(self, number: int, line: Line) -> Line:
+        """The line of this workflow, in its lane where there are several."""
+        return {**line, "lane": number % self.passes} if self.passes > 1 else line
 
     def answered(self, folder: str, seconds: float) -> list[Line]:
         """The replies of a program that serves the file with a journal, and is killed after so many seconds."""
         printed = pathlib.Path(folder, "replies")
-        with printed.open("wb") as replies, subprocess.Popen([*words(folder), self.file], stdout=replies) as program:
+        with printed.open("wb") as replies, subprocess.Popen([*words(folder, *self.more), self.file], stdout=replies) as program:
             try:
                 program.wait(seconds)
             except subprocess.TimeoutExpired:
                 program.kill()
-        return replies_in(printed.read_text())
+        return self.shown(replies_in(printed.read_text()))
+
+    def go_on(self, folder: str, kept: int) -> None:
+        """What comes after the lines whose steps a journal has is answered as if nothing had been."""
+        self.assertEqual(self.shown(served(self.lines[kept:], folder, *self.more)), self.undisturbed[kept:])
 
     def test_each_part_is_a_batch(self) -> None:
         with tempfile.TemporaryDirectory() as folder:
             self.assertEqual(self.answered(folder, SECONDS), self.undisturbed)
             self.assertEqual(steps_in(folder), len(self.lines))
             reads, rest = divmod(self.file.stat().st_size, READ)
-            parts = reads * READ // PART + -(-rest // PART)
+            parts = reads * READ // self.batch + -(-rest // self.batch)
             # The settings are a batch too.
             self.assertEqual(pathlib.Path(folder, "journal").read_bytes().count(BEGIN), 1 + parts)
 
@@ -169,21 +185,44 @@ class OfAFile(unittest.TestCase):
                 inside += 0 < now < len(self.lines)
                 self.assertEqual(replies, self.undisturbed[:len(replies)])
                 self.assertLessEqual(len(replies), now)
-                self.assertEqual(served(self.lines[now:], folder), self.undisturbed[now:])
+                self.go_on(folder, now)
         print(f"journal_kills: {inside} of {FILE_KILLS} kills came while a file was served", flush=True)
 
     def test_a_part_that_finds_no_room_is_not_answered(self) -> None:
         for _ in range(3):
             most = self.draws.randrange(self.file.stat().st_size)
             with self.subTest(bytes=most, seed=Tested.seed), tempfile.TemporaryDirectory() as folder:
-                done = subprocess.run([*words(folder), self.file], capture_output=True, text=True, timeout=SECONDS,
-                                      preexec_fn=limit_to(most))
+                done = subprocess.run([*words(folder, *self.more), self.file], capture_output=True, text=True,
+                                      timeout=SECONDS, preexec_fn=limit_to(most))
                 self.assertEqual(done.returncode, 2)
                 self.assertRegex(done.stderr, re.escape(f"wfserve: {folder}/journal: ") + ".*File too large")
-                told, kept = replies_in(done.stdout), steps_in(folder)
+                told, kept = self.shown(replies_in(done.stdout)), steps_in(folder)
                 self.assertLessEqual(len(told), kept)
                 self.assertEqual(told, self.undisturbed[:len(told)])
-                self.assertEqual(served(self.lines[kept:], folder), self.undisturbed[kept:])
+                self.go_on(folder, kept)
+
+
+class OfAFileInLanes(OfAFile):
+    """The same with eight lanes: what a read gave is one batch, and is committed while the next read is served."""
+
+    passes, batch = 8, READ
+
+    def test_a_large_batch_is_answered_while_nothing_more_comes(self) -> None:
+        """A pipe that holds many lines gives them at once, and stays open."""
+        reads, writes = os.pipe()
+        fcntl.fcntl(writes, fcntl.F_SETPIPE_SZ, PIPE)
+        lines = self.lines[:LARGE]
+        os.write(writes, text(lines).encode())
+        with tempfile.TemporaryDirectory() as folder, os.fdopen(writes, "wb") as ours, subprocess.Popen(
+            words(folder, *self.more), stdin=reads, stdout=subprocess.PIPE, text=True
+        ) as program:
+            os.close(reads)
+            assert program.stdout is not None
+            told = replies_in("".join(program.stdout.readline() for _ in lines))
+            self.assertEqual(self.shown(told), self.undisturbed[:LARGE])
+            self.assertEqual(steps_in(folder), LARGE)
+            ours.close()
+            self.assertEqual(program.stdout.read(), "")
 
 
 class FullDisk(unittest.TestCase):

@@ -22,4 +22,5 @@ pub mod SortLemmas
 pub mod TraceLemmas
 pub mod ToldLemmas
 pub mod TurnLemmas
+pub mod WaitsLemmas
 pub mod WorkLemmas

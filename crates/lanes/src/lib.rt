@@ -10,6 +10,8 @@
 #![tactic(auto)]
 
 mod answer;
+mod batch;
+mod beside;
 mod calls;
 mod door;
 mod journaled;

@@ -28,6 +28,6 @@ pub use line::{LINE_LIMIT, Line};
 pub use reading::asked;
 pub use run::{CHUNK, Outcome, run_from, run_one, run_resumed};
 pub use serving::opening_fault;
-pub use tails::{are_many, write_tails};
+pub use tails::write_tails;
 pub use trace::print_trace;
 pub use wire_lines::cut;
