@@ -110,6 +110,55 @@ class Typist(unittest.TestCase):
         self.assertTrue(shown.empty())
 
 
+class Texts(unittest.TestCase):
+    """Tokens and run ids as they were written by hand, which the program writes and reads."""
+
+    # Of run 1 of shard 0: those of the workflow's tasks at events 2 and 7, and of the activity's first and third attempt.
+    TOKENS = ("AQEAAAAAAAAAAAABAAAAAAAAAAIAAAAB", "AQEAAAAAAAAAAAABAAAAAAAAAAcAAAAB",
+              "AQIAAAAAAAAAAAABAAAAAAAAAAUAAAAB", "AQIAAAAAAAAAAAABAAAAAAAAAAUAAAAD")
+    # A service, the first run of its first shard, and of its second.
+    RUNS = (("1", "00000000-0001-8000-8000-000000000001", "00000000-0001-8001-8000-000000000001"),
+            ("281474976710655", "ffffffff-ffff-8000-8000-000000000001", "ffffffff-ffff-8001-8000-000000000001"))
+    # Of runs that are not there: all bits of service, shard and ordinal, and none.
+    OTHERS = ("ffffffff-ffff-8fff-bfff-ffffffffffff", "00000000-0000-8000-8000-000000000000")
+
+    def test_tokens(self):
+        """Each is handed out, and taken back."""
+        retry = {"attempts": 3, "coefficient": 200, "initial": 1, "maximum": 0, "non_retryable": []}
+        activity = {"activity_id": "x", "activity_type": "t", "retry": retry, "start_to_close": 10, "task_queue": "main",
+                    "type": "ScheduleActivityTask"}
+        turn, take = {"op": "dispatch_turn", "shard": 0}, {"op": "poll_activity_task", "task_queue": "main"}
+        lines = [start("a"), turn, poll(),
+                 {"op": "complete_workflow_task", "token": self.TOKENS[0], "commands": [activity]},
+                 {"op": "signal", "name": "s", "workflow_id": "a"}, turn, take, turn, poll()]
+        for attempt in (1, 2):
+            lines += [{"op": "fail_activity", "token": token_text(TaskKind.ACTIVITY, 1, 5, attempt), "message": "m"}]
+            at = 9 * attempt
+            lines += [{"at": at, "op": "timer_turn", "shard": 0}, {"at": at, **turn}, {"at": at, **take}]
+        lines += [{"op": "complete_activity", "token": self.TOKENS[3], "result": "r"},
+                  {"op": "complete_workflow_task", "token": self.TOKENS[1], "commands": []}]
+        replies = served(lines)
+        handed = [reply["token"] for reply in replies if "token" in reply]
+        self.assertEqual([handed[place] for place in (0, 2, 1, 4)], [*self.TOKENS])
+        self.assertEqual([reply["ok"] for reply in replies[-2:]], ["completed", "completed"])
+
+    def test_run_ids(self):
+        """Each is answered to a start, and names the run."""
+        for service, *runs in self.RUNS:
+            words = ["--service", service, "--shards", "2"]
+            reads = [{"op": "describe", "run": run, "workflow_id": name} for run, name in zip(runs, "ab")]
+            with self.subTest(service=service):
+                self.assertEqual([reply["run"] for reply in served([start("a"), start("b"), *reads], *words)], runs * 2)
+
+    def test_run_ids_at_their_limits(self):
+        """They name no run, and are written as they were read."""
+        for run in self.OTHERS:
+            read = {"op": "describe", "run": run, "workflow_id": "a"}
+            with self.subTest(run):
+                reply, step = [json.loads(line) for line in ran([start("a"), read], "--trace").stdout.splitlines()][1::2]
+                self.assertEqual((reply["error"], step["request"]["run"]), ("NotFound", run))
+
+
 class ManyLines(unittest.TestCase):
     """As many tasks, deadlines and transfers as a service is asked for in a day, none of which is refused."""
 
@@ -140,11 +189,12 @@ class ManyLines(unittest.TestCase):
         """Timers of one completion that are due at one moment fire as they were started, and then none does."""
         timers = [{"type": "StartTimer", "timer_id": f"t{number}", "duration": 5} for number in range(self.TASKS)]
         completion = {"op": "complete_workflow_task", "token": token(0, 1), "commands": timers}
-        turns = [{"at": 5, "op": "timer_turn", "shard": 0}] * (self.TASKS + 1)
+        # none fires before its moment
+        turns = [{"at": 4, "op": "timer_turn", "shard": 0}, *[{"at": 5, "op": "timer_turn", "shard": 0}] * (self.TASKS + 1)]
         replies = served([start("a"), {"op": "dispatch_turn", "shard": 0}, poll(), completion] + turns)[4:]
         # the first four events are the run's start, and its task scheduled, started and completed
-        self.assertEqual([reply.get("event") for reply in replies], [*range(5, self.TASKS + 5), None])
-        self.assertEqual(replies[-1]["ok"], "none")
+        self.assertEqual([reply.get("event") for reply in replies], [None, *range(5, self.TASKS + 5), None])
+        self.assertEqual([replies[0]["ok"], replies[-1]["ok"]], ["none", "none"])
 
     def test_five_thousand_runs_come_and_go(self):
         """They time out and are deleted, and then each workflow begins anew."""

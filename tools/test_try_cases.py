@@ -28,7 +28,8 @@ class Cases(Scratch):
 
     def setUp(self):
         super().setUp()
-        self.replace(try_cases, CASES=self.top / "cases")
+        self.replace(try_cases, CASES=self.top / "cases", as_scripts=lambda names: self.differs)
+        self.differs: list[str] = []
 
     def ran(self, *words: str, prints: str = PASSED, status: int = 0) -> tuple:
         with self.with_toolchain(PRINTS=prints, STATUS=str(status), ASKED=str(self.top / "asked")):
@@ -49,6 +50,10 @@ class Cases(Scratch):
         self.assertEqual(self.ran("starts", prints=failed, status=1), (
             1, ["starts.cases: a second: line 2 of the replies differs", "missing: starts.cases: a second: ok"]))
         self.assertEqual(self.ran(), (1, ["missing: lines.cases: a line: ok"]))
+
+    def test_a_case_that_fails_as_a_script(self):
+        self.differs = ["starts.cases: a start: differs as a script"]
+        self.assertEqual(self.ran("starts"), (1, self.differs))
 
     def test_what_can_not_be_run(self):
         self.assertEqual(self.ran("start")[0], 2)

@@ -1,11 +1,11 @@
 #!/usr/bin/env python3
-"""Runs cases before anything is proved: the program `cases`, compiled as `./try` compiles `wfserve`.
+"""Runs cases before anything is proved: the programs `cases` and `wfserve`, compiled as `./try` compiles them.
 
     tools/try_cases.py [NAME..]    the cases of crates/cases/data/NAME.cases; without a name those of all files
 
-It compiles for two to three minutes of processor time, and then runs some cases a second. Each has to say `ok`, and
-none may be missing of those that crates/cases/stdout lists. The status is 0 then, 1 where a case fails or is missing,
-and 2 where nothing could be run. The gate runs the same cases with the proved program.
+It compiles each for two to three minutes of processor time, and then runs some cases a second: by calls, and as scripts
+(`tools/case_rows.py`). Each has to say what crates/cases/stdout lists, and none may be missing. The status is 0 then, 1
+where a case fails or is missing, and 2 where nothing could be run. The gate runs the same cases with the proved programs.
 """
 from __future__ import annotations
 
@@ -16,6 +16,8 @@ import sys
 from pathlib import Path
 
 import build_program
+import case_rows
+import unproved_program
 
 CASES = build_program.ROOT / "crates" / "cases"
 SECONDS = 3600
@@ -48,6 +50,12 @@ def faults_of(said: list[str], names: list[str]) -> list[str]:
     return [line for line in said if line not in lines] + [f"missing: {line}" for line in lines if line not in said]
 
 
+def as_scripts(names: list[str]) -> list[str]:
+    """What differs where the program is given the cases of these files as scripts."""
+    why = "" if unproved_program.is_fresh(unproved_program.PROGRAM) else unproved_program.build(unproved_program.PROGRAM)
+    return [f"wfserve was not built: {why}"] if why else case_rows.faults_in(unproved_program.PROGRAM, names)[1]
+
+
 def main(words: list[str]) -> int:
     if words in (["-h"], ["--help"]):
         print(__doc__.strip())
@@ -67,7 +75,7 @@ def main(words: list[str]) -> int:
     if not said:
         print(printed[-2000:], file=sys.stderr)
         return 2
-    faults = faults_of(said, names)
+    faults = [*faults_of(said, names), *as_scripts(names)]
     print("\n".join(faults) if faults else f"{len(wanted(names))} cases passed, none of them proved")
     return 1 if faults else 0
 

@@ -23,12 +23,6 @@ pub struct Case<'a> {
     words: Vec<&'a str>,
     steps: Vec<Step>,
     room: Option<usize>,
-    /// Whether the program is also ended after lines of it, and goes on from its records.
-    is_cut: bool,
-    /// The lines after which it is not, since a poll then finds other hints.
-    whole_behind: Vec<usize>,
-    /// How many steps each shard's record has at the end; none where that isn't said.
-    recorded: Vec<usize>,
     answers: String,
     status: &'a str,
     unknown_line: Option<usize>,
@@ -43,9 +37,6 @@ impl<'a> Case<'a> {
             words,
             steps: Vec::new(alloc),
             room: None,
-            is_cut: false,
-            whole_behind: Vec::new(alloc),
-            recorded: Vec::new(alloc),
             answers: String::new(alloc),
             status: "0",
             unknown_line: None,
@@ -72,16 +63,6 @@ impl<'a> Case<'a> {
         self.room
     }
 
-    /// Whether the program is also ended after this line, and goes on from its records.
-    pub fn is_cut_behind(&self, line: usize) -> bool {
-        self.is_cut && !self.whole_behind.iter().any(|other| *other == line)
-    }
-
-    /// How many steps each shard's record has at the end; none where that isn't said.
-    pub fn recorded(&self) -> &[usize] {
-        &self.recorded
-    }
-
     /// The first line of the file that says nothing that a case can say.
     pub fn unknown_line(&self) -> Option<usize> {
         self.unknown_line
@@ -92,17 +73,6 @@ impl<'a> Case<'a> {
         let mut wanted = String::from_str(alloc, self.answers.as_str())?;
         push_line(&mut wanted, "=", self.status)?;
         Ok(wanted)
-    }
-
-    /// The reply lines that have to come, in their order.
-    pub fn replies(&self, alloc: Global) -> Result<Vec<&str>, AllocError> {
-        let mut replies = Vec::new(alloc);
-        for line in self.answers.lines() {
-            if let Some(reply) = line.strip_prefix("< ") {
-                replies.push(reply)?;
-            }
-        }
-        Ok(replies)
     }
 
     /// Puts so many more copies of the bytes after the last line of the script. False where there
@@ -139,27 +109,13 @@ impl<'a> Case<'a> {
         Ok(true)
     }
 
-    /// The lines after which the program is not ended. False where a word is no number.
-    fn leave_whole(&mut self, words: &[&str]) -> Result<bool, AllocError> {
-        push_numbers(&mut self.whole_behind, words)
-    }
-
-    /// How many steps the records have. False where a word is no number.
-    fn count_steps(&mut self, words: &[&str]) -> Result<bool, AllocError> {
-        push_numbers(&mut self.recorded, words)
-    }
-
     /// Adds what no line of a script says. False where it is nothing that is known.
     fn add_pseudo_line(&mut self, alloc: Global, text: &str) -> Result<bool, AllocError> {
         let words: Vec<&str> = text.split(' ').collect(alloc)?;
         match words.as_slice() {
             ["skip", ..] => self.steps.push(Step::Skip)?,
-            ["cuts"] => self.is_cut = true,
-            ["cuts", "but", ..] => {
-                self.is_cut = true;
-                return self.leave_whole(&words[2..]);
-            }
-            ["steps", ..] => return self.count_steps(&words[1..]),
+            // Only who runs the case as a script looks at these.
+            ["cuts", ..] | ["steps", ..] => {}
             ["room", room] => match room.parse::<usize>() {
                 Ok(room) => self.room = Some(room),
                 Err(_) => return Ok(false),
@@ -200,17 +156,6 @@ impl<'a> Case<'a> {
         }
         Ok(true)
     }
-}
-
-/// Puts numbers after others. False where a word is none.
-fn push_numbers(numbers: &mut Vec<usize>, words: &[&str]) -> Result<bool, AllocError> {
-    for word in words {
-        match word.parse::<usize>() {
-            Ok(number) => numbers.push(number)?,
-            Err(_) => return Ok(false),
-        }
-    }
-    Ok(true)
 }
 
 /// Puts a text after a line, with the number in place of each `#`.

@@ -1,6 +1,5 @@
 //! Lines as calls of the service.
 
-use crate::form::script_of;
 use crate::opened::{CallForm, Opened};
 use crate::talk::Talk;
 use case_files::{Case, Step, transcript};
@@ -14,6 +13,19 @@ use std::sync::Wait;
 use step_record::Record;
 use wf_event_values::Refusal;
 use wire_counted::Counted;
+
+/// The script that a case gives the program, or nothing where it has more than lines.
+fn script_of(alloc: Global, case: &Case) -> Result<Option<Vec<u8>>, AllocError> {
+    let mut script = Vec::new(alloc);
+    for step in case.steps() {
+        let Step::Line(line) = step else {
+            return Ok(None);
+        };
+        script.extend_from_slice(line)?;
+        script.push(b'\n')?;
+    }
+    Ok(Some(script))
+}
 
 /// The command line of a case, or nothing where the case can't be run by calls: its lines stand in a
 /// file or go to several lanes, it loads or saves records or has a journal, it prints the steps too,

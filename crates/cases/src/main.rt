@@ -2,30 +2,25 @@
 //! `cases --tell=FILE`: tells what the calls of the file's first case are answered, and what the lines of
 //! its second one read after each call that is refused memory (`tools/refused_allocations.py`).
 //!
-//! A case is text: what the program is given, and what it has to answer. Each is run as the program
-//! runs a script, and by the calls of the service, in the form that may wait and in the one that
-//! never does; the answers have to be the same, also where the program is ended after a line and goes
-//! on from its records. The exit status is 0 only where all cases passed.
+//! A case is text: what the program is given, and what it has to answer. Here each that can be is run by the
+//! calls of the service, in the form that may wait and in the one that never does; the answers have to be
+//! those of the case. The exit status is 0 only where none differs. As scripts `tools/case_rows.py` gives
+//! them to the built program.
 //! `README.md` beside `src` says how a case is written.
 #![tactic(auto)]
 
 mod calls;
-mod cuts;
-mod form;
 mod opened;
-mod process;
 mod talk;
 
-use crate::cuts::{has_steps, is_saved_alike, run_cut};
-use crate::form::{Form, by_calls_over_tables};
+use crate::calls::by_calls;
 use crate::opened::CallForm;
 use case_files::{Case, cases_of, first_difference};
 use std::io;
 use std::process::ExitCode;
-use std::rt::{Clock, Env};
+use std::rt::{Env, Files};
 use std::sync::Wait;
-use std::thread::Threads;
-use wfserve_run::LockFiles;
+use workflow_service::Shard;
 
 /// How many cases there are, how many of them failed, and whether a file was told of.
 #[derive(Clone, Copy)]
@@ -44,101 +39,41 @@ fn is_wanted<R: Print>(rt: &R, title: &str, by: &str, wanted: &str, got: &str) -
     Ok(false)
 }
 
-/// Whether a case is answered as is wanted in this form, or nothing where it can't be run in it.
-fn passes_form<R: Clock + LockFiles + Print + AllocGlobal + Threads + Wait + Sync>(
+/// Whether a case is answered as is wanted in this form, or nothing where it can't be run by calls.
+fn passes_form<R: Print + AllocGlobal + Wait>(
     rt: &R,
     title: &str,
     case: &Case,
-    form: Form,
+    form: CallForm,
     wanted: &str,
 ) -> io::Result<Option<bool>> {
-    match form.run(rt, case)? {
+    match by_calls::<Shard, R>(rt, case, form, &[])? {
         Some(got) => Ok(Some(is_wanted(rt, title, form.name(), wanted, got.as_str())?)),
         None => Ok(None),
     }
 }
 
-/// In how many forms a case was run, or nothing where one of them answers something else.
-fn run_forms<R: Clock + LockFiles + Print + AllocGlobal + Threads + Wait + Sync>(
+/// Runs a case in both forms, and prints what became of it. Whether neither answers something else.
+fn passes_forms<R: Print + AllocGlobal + Wait>(
     rt: &R,
     title: &str,
     case: &Case,
     wanted: &str,
-) -> io::Result<Option<u64>> {
-    let mut count: u64 = 0;
-    for form in Form::ALL {
+) -> io::Result<bool> {
+    let mut outcome = "by the program alone";
+    for form in CallForm::ALL {
         match passes_form(rt, title, case, form, wanted)? {
-            Some(true) => count = count.saturating_add(1),
-            Some(false) => return Ok(None),
+            Some(true) => outcome = "ok",
+            Some(false) => return Ok(false),
             None => {}
         }
     }
-    Ok(Some(count))
-}
-
-/// Whether the answers are the same where the program is ended after this line, and goes on from its
-/// records.
-fn passes_cut<R: Clock + LockFiles + Print + AllocGlobal + Threads + Wait + Sync>(
-    rt: &R,
-    title: &str,
-    case: &Case,
-    line: usize,
-    wanted: &str,
-) -> io::Result<bool> {
-    let got = run_cut(rt, case, line)?;
-    let by = format!(in rt.alloc(); "cut behind line {line}")?;
-    is_wanted(rt, title, by.as_str(), wanted, got.as_str())
-}
-
-/// The same of each line; and the records of all lines are saved alike once they were loaded.
-fn passes_cuts<R: Clock + LockFiles + Print + AllocGlobal + Threads + Wait + Sync>(
-    rt: &R,
-    title: &str,
-    case: &Case,
-    wanted: &str,
-) -> io::Result<bool> {
-    let lines = case.steps().len();
-    let mut passed = true;
-    for line in 1..=lines {
-        if case.is_cut_behind(line) {
-            passed &= passes_cut(rt, title, case, line, wanted)?;
-        }
-    }
-    if case.is_cut_behind(lines) && !is_saved_alike(rt)? {
-        println!(rt; "{title}: saved otherwise once it was loaded")?;
-        return Ok(false);
-    }
-    if case.is_cut_behind(lines) && !has_steps(rt, case)? {
-        println!(rt; "{title}: its records have other numbers of steps")?;
-        return Ok(false);
-    }
-    Ok(passed)
-}
-
-/// Runs a case in every form in which it can be run, and prints what became of it. Whether it passed.
-fn passes_all<R: Clock + LockFiles + Print + AllocGlobal + Threads + Wait + Sync>(
-    rt: &R,
-    title: &str,
-    case: &Case,
-    wanted: &str,
-) -> io::Result<bool> {
-    let Some(forms) = run_forms(rt, title, case, wanted)? else {
-        return Ok(false);
-    };
-    if !passes_cuts(rt, title, case, wanted)? {
-        return Ok(false);
-    }
-    let outcome = if forms > 0 { "ok" } else { "can't be run" };
     println!(rt; "{title}: {outcome}")?;
-    Ok(forms > 0)
+    Ok(true)
 }
 
 /// Whether a case passes. One with a line that says nothing doesn't.
-fn passes<R: Clock + LockFiles + Print + AllocGlobal + Threads + Wait + Sync>(
-    rt: &R,
-    file: &str,
-    case: &Case,
-) -> io::Result<bool> {
+fn passes<R: Print + AllocGlobal + Wait>(rt: &R, file: &str, case: &Case) -> io::Result<bool> {
     if let Some(line) = case.unknown_line() {
         println!(rt; "{file}: line {line} says nothing that a case can say")?;
         return Ok(false);
@@ -146,10 +81,10 @@ fn passes<R: Clock + LockFiles + Print + AllocGlobal + Threads + Wait + Sync>(
     let name = case.name();
     let title = format!(in rt.alloc(); "{file}: {name}")?;
     let wanted = case.wanted(rt.alloc())?;
-    passes_all(rt, title.as_str(), case, wanted.as_str())
+    passes_forms(rt, title.as_str(), case, wanted.as_str())
 }
 
-fn run_cases<R: Clock + LockFiles + Print + AllocGlobal + Threads + Wait + Sync>(
+fn run_cases<R: Print + AllocGlobal + Wait>(
     rt: &R,
     file: &str,
     cases: &[Case],
@@ -179,7 +114,7 @@ fn tell<R: Print + AllocGlobal + Wait>(
     };
     // Where the command line fails for memory, the second time it does not.
     for _ in 0..2 {
-        if let Some(told) = by_calls_over_tables(rt, case, CallForm::MayWait, reads.steps())? {
+        if let Some(told) = by_calls::<Shard, R>(rt, case, CallForm::MayWait, reads.steps())? {
             return println!(rt; "{told}");
         }
     }
@@ -188,7 +123,7 @@ fn tell<R: Print + AllocGlobal + Wait>(
 }
 
 /// Runs the cases of the file that a word names, or tells of them.
-fn run_word<R: Clock + LockFiles + Print + AllocGlobal + Threads + Wait + Sync>(
+fn run_word<R: Files + Print + AllocGlobal + Wait>(
     rt: &R,
     word: &str,
     tally: &mut Tally,
@@ -204,9 +139,7 @@ fn run_word<R: Clock + LockFiles + Print + AllocGlobal + Threads + Wait + Sync>(
 }
 
 /// Runs the cases of all files that the arguments name. Whether there were some, and all passed.
-fn run<R: Clock + Env + LockFiles + Print + AllocGlobal + Threads + Wait + Sync>(
-    rt: &R,
-) -> io::Result<bool> {
+fn run<R: Env + Files + Print + AllocGlobal + Wait>(rt: &R) -> io::Result<bool> {
     let mut tally = Tally {
         cases: 0,
         failed: 0,

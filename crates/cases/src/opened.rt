@@ -22,6 +22,17 @@ pub(crate) enum CallForm {
     NeverWaits,
 }
 
+impl CallForm {
+    pub(crate) const ALL: [CallForm; 2] = [CallForm::MayWait, CallForm::NeverWaits];
+
+    pub(crate) fn name(&self) -> &'static str {
+        match self {
+            CallForm::MayWait => "by calls that may wait",
+            CallForm::NeverWaits => "by calls that never wait",
+        }
+    }
+}
+
 /// A service with two passes of it.
 pub(crate) struct Opened<S: KeepsShard> {
     service: Service<S>,

@@ -29,8 +29,6 @@ mod rows;
 #[cfg(test)]
 mod sameness;
 #[cfg(test)]
-mod texts;
-#[cfg(test)]
 mod transfers;
 #[cfg(test)]
 mod without_memory;

@@ -33,14 +33,13 @@ pub(crate) fn settings<R: Abort + AllocGlobal>(rt: &R, shards: u64, passes: u64)
     }
 }
 
-/// What a script came to: where it was served, whether a reply was a refusal, and the records.
-#[derive(Drop)]
+/// What a script came to.
+#[derive(Clone, Copy)]
 pub(crate) enum End {
-    Served(bool, Vec<Record<Request>>),
+    Served,
     ReaderFailed,
     WriterFailed,
     RecordsRefused,
-    QueueFull,
     Otherwise,
 }
 
@@ -61,19 +60,10 @@ pub(crate) fn serve<
     requires { trace ≡ true → records.items ≡ [] }
 {
     match run_lanes_from::<S, _, _, _>(rt, rt.alloc(), settings, trace, records, reader, writer) {
-        Ok(outcome) => End::Served(outcome.refused, outcome.records),
+        Ok(_) => End::Served,
         Err(ScriptFault::Read(_)) => End::ReaderFailed,
         Err(ScriptFault::Write(_)) => End::WriterFailed,
         Err(ScriptFault::Records) => End::RecordsRefused,
-        Err(ScriptFault::QueueFull) => End::QueueFull,
         Err(_) => End::Otherwise,
-    }
-}
-
-/// The records after a script none of whose replies was a refusal.
-pub(crate) fn records_of<R: Abort>(rt: &R, end: End) -> Vec<Record<Request>> {
-    match end {
-        End::Served(false, records) => records,
-        _ => panic!(rt; "not served"),
     }
 }

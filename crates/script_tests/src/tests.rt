@@ -4,7 +4,7 @@ use crate::devices::{
     readers_fail_at_each_byte, writers_fail_at_each_byte, writers_whose_flush_fails,
 };
 use crate::faults::each_fault;
-use crate::{lane_devices, lane_holding, lane_limits, lane_reopen, lane_trace, trace_devices};
+use crate::{lane_devices, lane_holding, lane_records, trace_devices};
 use workflow_service::Shard;
 
 #[test]
@@ -36,13 +36,9 @@ fn devices_that_fail_where_steps_are_printed(rt: HostRuntime) {
 fn lanes_at_the_same_time(rt: HostRuntime) {
     lane_holding::holds_one::<Shard, HostRuntime>(&rt, 1);
     lane_holding::holds_one::<Shard, HostRuntime>(&rt, 2);
-    lane_limits::as_many_lanes_as_there_may_be::<Shard, HostRuntime>(&rt);
 }
 
 #[test]
-fn records_and_steps_of_lanes(rt: HostRuntime) {
-    lane_reopen::records_are_given_back::<Shard, HostRuntime>(&rt);
-    lane_reopen::tasks_that_wait_are_taken_again::<Shard, HostRuntime>(&rt);
-    lane_reopen::openings_that_are_refused::<Shard, HostRuntime>(&rt);
-    lane_trace::steps_of_all_lanes_stand_in_one_list::<Shard, HostRuntime>(&rt);
+fn records_of_lanes_that_are_refused(rt: HostRuntime) {
+    lane_records::records_of_too_few_shards::<Shard, HostRuntime>(&rt);
 }

@@ -1,9 +1,6 @@
 -- passes that lie in the order of their numbers
-use Rattle.std.proofs.Common.{◌≡◌, ◌∙◌, ℕ, ◌<◌, List, [], ◌∷◌, ◌++◌, Some, arith, zero, suc, refl, ap, subst, length}
-use Rattle.std.specs.Prelude.{get_or, slice_get, unwrap_or}
-use Rattle.std.proofs.lemmas.Option.{get_or_from_slice_get, slice_get-get_or, slice_get_within}
-use Rattle.service.specs.ServiceViews.{Pass, Service}
-use Rattle.service_tests.specs.Passes.{ComesBack, InOrder}
+use Rattle.std.proofs.Common.{◌≡◌, ℕ, ◌<◌, List, [], ◌∷◌, ◌++◌, Some, arith, zero, suc, refl, ap, subst, length}
+use Rattle.std.specs.Prelude.{slice_get, unwrap_or}
 
 -- what stands at a place within a list
 pub stands-at : {A : Type 0} (xs : List A) (n : ℕ) → n < length xs → (x : A) × (slice_get xs n ≡ Some x)
@@ -23,11 +20,3 @@ each-push P [] x h here zero y is = subst (P 0) (ap (λ o. unwrap_or o x) is) he
 each-push P [] x h here (suc k) y is = absurd (cc)
 each-push P (z ∷ xs) x h here zero y is = h 0 y is
 each-push P (z ∷ xs) x h here (suc k) y is = each-push (λ n. P (suc n)) xs x (λ n. h (suc n)) here k y is
-
--- where each pass comes back at its place they lie in the order of their numbers as before
-pub each-back : (x : Service) (ps ps' : List Pass) → length ps' ≡ length ps
-    → ((k : ℕ) (d : Pass) → k < length ps → ComesBack x (get_or ps k d) (get_or ps' k d)) → InOrder x ps → InOrder x ps'
-each-back x ps ps' count each own k p there =
-    let below : k < length ps = subst (λ n. k < n) count (slice_get_within ps' k p there) in
-    let back : ComesBack x (get_or ps k p) p = subst (ComesBack x (get_or ps k p)) (get_or_from_slice_get ps' k p p there) (each k p below) in
-    (back.0, back.1 ∙ (own k (get_or ps k p) (slice_get-get_or ps k p below)).1)

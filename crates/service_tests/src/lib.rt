@@ -1,7 +1,6 @@
-//! The service over its calls: what no contract says about them, that they succeed and that threads
-//! get through. What the calls answer is shown by `cases`.
-//!
-//! What a thread asks is lines, as the program reads them, again and again: see `work`.
+//! The service over its calls: what no contract says about them, that each succeeds by its name and that
+//! a pass of another thread is kept out. What the calls answer is shown by `cases`, and that threads get
+//! through by the built program (`tools/lane_plans.py`).
 #![tactic(auto)]
 
 #[cfg(test)]
@@ -9,24 +8,14 @@ mod asked;
 #[cfg(test)]
 mod held;
 #[cfg(test)]
-mod histories;
-#[cfg(test)]
-mod limits;
-#[cfg(test)]
 mod named;
 #[cfg(test)]
 mod passes;
-#[cfg(test)]
-mod recorded;
 #[cfg(test)]
 mod shown;
 #[cfg(test)]
 mod tests;
 #[cfg(test)]
-mod threads;
-#[cfg(test)]
 mod values;
 #[cfg(test)]
 mod without_memory;
-#[cfg(test)]
-mod work;

@@ -9,7 +9,6 @@ fn name_of(answer: &Answer) -> &'static str {
         Answer::Signaled => "signaled",
         Answer::CancelRequested => "cancel requested",
         Answer::Terminated => "terminated",
-        Answer::Stale => "stale",
         Answer::History(_) => "history",
         Answer::Described(_) => "described",
         Answer::WorkflowTask(_) => "task",
@@ -18,24 +17,22 @@ fn name_of(answer: &Answer) -> &'static str {
         Answer::ActivityTask(_) => "activity task",
         Answer::Heartbeat(_) => "heartbeat",
         Answer::ActivityCompleted => "activity completed",
+        Answer::Retrying(_) => "retrying",
         Answer::ActivityFailed(_) => "activity failed",
         Answer::ActivityCanceled => "activity canceled",
         Answer::Fired(_) => "fired",
         Answer::Dispatched(_) => "dispatched",
         Answer::Accepted(_) => "accepted",
-        Answer::AlreadyDelivered(_) => "already delivered",
         Answer::Empty => "empty",
         Answer::NothingDue | Answer::NoTransfer | Answer::NoDispatch => "none",
         _ => "another answer",
     }
 }
 
-/// The answer's name or the refusal's, and of an invalid argument its field's. A workflow that is started
-/// already is told by its first run here, and any other run would be another answer.
+/// The answer's name or the refusal's, and of an invalid argument its field's.
 pub(crate) fn shown(reply: &Reply) -> &'static str {
     match reply {
         Ok(answer) => name_of(answer),
-        Err(Refusal::AlreadyStarted(run)) if run.ordinal() != 1 => "another run",
         Err(Refusal::InvalidArgument(field)) => field.name(),
         Err(refusal) => refusal.name(),
     }

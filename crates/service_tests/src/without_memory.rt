@@ -10,10 +10,10 @@ ghost use Rattle.service.specs.Services.{IsPassOf, known_by, settings_of};
 ghost use Rattle.service_model_types.specs.declared.content.Content.{Content};
 ghost use Rattle.service_tests.specs.Passes.{ComesBack, InOrder};
 
-use crate::asked::settings;
+use crate::asked::{call, settings};
 use crate::passes::{give_back, open, take_pass};
+use crate::shown::came;
 use crate::values::{boxed, start};
-use crate::work::go_through;
 use gate::Object;
 use service::{KeepsShard, Pass, Service};
 use service_model_types::content::Setup;
@@ -22,7 +22,6 @@ use service_model_types::settings::Settings;
 use std::alloc::AllocGlobal;
 use std::process::Abort;
 use std::sync::Wait;
-use std::thread::Threads;
 use step_record::Record;
 use wf_event_values::{Field, Moment, Span};
 
@@ -36,11 +35,74 @@ const RETENTION: u64 = 5;
 
 /// A workflow with a timer that is canceled while its firing is buffered, an activity that is tried twice, a child
 /// on the other shard and a signal to it, each of which goes through all of its steps, and at the end both runs are
-/// deleted.
+/// deleted: what is answered, and the line.
 const WORKFLOWS: &str =
-    r##"1|5|dispatched|started,task,signaled,completed,accepted,activity task,heartbeat,activity failed,fired,another answer,activity completed,cancel requested,failed,history,terminated,described|{"op":"start","task_queue":"main","workflow_id":"a","workflow_type":"w","request_id":"r1","execution_timeout":100}&{"op":"dispatch_turn","shard":0}&{"op":"poll_workflow_task","task_queue":"main"}&{"op":"signal","workflow_id":"a","name":"s","request_id":"s1"}&{"op":"complete_workflow_task","token":"AQEAAAAAAAAAAAABAAAAAAAAAAIAAAAB","commands":[{"type":"StartTimer","timer_id":"t","duration":3},{"type":"RecordMarker","name":"m"},{"type":"ScheduleActivityTask","activity_id":"x","activity_type":"w","task_queue":"main","start_to_close":10,"retry":{"attempts":3,"coefficient":200,"initial":1,"maximum":0,"non_retryable":[]}},{"type":"StartChildWorkflowExecution","workflow_id":"b","task_queue":"main","workflow_type":"v"},{"type":"SignalExternalWorkflowExecution","workflow_id":"b","name":"s"}]}&{"op":"transfer_turn","from":0,"to":1}&{"op":"transfer_turn","from":0,"to":1}&{"op":"transfer_turn","from":1,"to":0}&{"op":"transfer_turn","from":1,"to":0}&{"op":"dispatch_turn","shard":0}&{"op":"dispatch_turn","shard":0}&{"op":"poll_activity_task","task_queue":"main"}&{"op":"heartbeat","token":"AQIAAAAAAAAAAAABAAAAAAAAAAcAAAAB","details":"d"}&{"op":"fail_activity","token":"AQIAAAAAAAAAAAABAAAAAAAAAAcAAAAB","message":"m"}&{"at":1,"op":"timer_turn","shard":0}&{"at":1,"op":"dispatch_turn","shard":0}&{"at":1,"op":"poll_activity_task","task_queue":"main"}&{"at":2,"op":"complete_activity","token":"AQIAAAAAAAAAAAABAAAAAAAAAAcAAAAC","result":"y"}&{"at":3,"op":"poll_workflow_task","task_queue":"main"}&{"at":3,"op":"timer_turn","shard":0}&{"at":3,"op":"request_cancel","workflow_id":"a"}&{"at":3,"op":"complete_workflow_task","token":"AQEAAAAAAAAAAAABAAAAAAAAAAsAAAAB","commands":[{"type":"CancelTimer","timer_id":"t"}]}&{"at":3,"op":"dispatch_turn","shard":0}&{"at":3,"op":"poll_workflow_task","task_queue":"main"}&{"at":3,"op":"fail_workflow_task","token":"AQEAAAAAAAAAAAABAAAAAAAAABQAAAAB","message":"no"}&{"at":3,"op":"history","workflow_id":"a"}&{"at":3,"op":"signal_with_start","task_queue":"main","workflow_id":"c","workflow_type":"w","name":"s"}&{"at":4,"op":"terminate","workflow_id":"a","reason":"r"}&{"at":4,"op":"transfer_turn","from":0,"to":1}&{"at":4,"op":"describe","workflow_id":"b"}&{"at":9,"op":"timer_turn","shard":0}&{"at":9,"op":"timer_turn","shard":1}
-= 5
-"##;
+    r##"started|{"op":"start","task_queue":"main","workflow_id":"a","workflow_type":"w","request_id":"r1","execution_timeout":100}
+dispatched|{"op":"dispatch_turn","shard":0}
+task|{"op":"poll_workflow_task","task_queue":"main"}
+signaled|{"op":"signal","workflow_id":"a","name":"s","request_id":"s1"}
+completed|{"op":"complete_workflow_task","token":"AQEAAAAAAAAAAAABAAAAAAAAAAIAAAAB","commands":[{"type":"StartTimer","timer_id":"t","duration":3},{"type":"RecordMarker","name":"m"},{"type":"ScheduleActivityTask","activity_id":"x","activity_type":"w","task_queue":"main","start_to_close":10,"retry":{"attempts":3,"coefficient":200,"initial":1,"maximum":0,"non_retryable":[]}},{"type":"StartChildWorkflowExecution","workflow_id":"b","task_queue":"main","workflow_type":"v"},{"type":"SignalExternalWorkflowExecution","workflow_id":"b","name":"s"}]}
+accepted|{"op":"transfer_turn","from":0,"to":1}
+accepted|{"op":"transfer_turn","from":0,"to":1}
+accepted|{"op":"transfer_turn","from":1,"to":0}
+accepted|{"op":"transfer_turn","from":1,"to":0}
+dispatched|{"op":"dispatch_turn","shard":0}
+dispatched|{"op":"dispatch_turn","shard":0}
+activity task|{"op":"poll_activity_task","task_queue":"main"}
+heartbeat|{"op":"heartbeat","token":"AQIAAAAAAAAAAAABAAAAAAAAAAcAAAAB","details":"d"}
+retrying|{"op":"fail_activity","token":"AQIAAAAAAAAAAAABAAAAAAAAAAcAAAAB","message":"m"}
+fired|{"at":1,"op":"timer_turn","shard":0}
+dispatched|{"at":1,"op":"dispatch_turn","shard":0}
+activity task|{"at":1,"op":"poll_activity_task","task_queue":"main"}
+activity completed|{"at":2,"op":"complete_activity","token":"AQIAAAAAAAAAAAABAAAAAAAAAAcAAAAC","result":"y"}
+task|{"at":3,"op":"poll_workflow_task","task_queue":"main"}
+fired|{"at":3,"op":"timer_turn","shard":0}
+cancel requested|{"at":3,"op":"request_cancel","workflow_id":"a"}
+completed|{"at":3,"op":"complete_workflow_task","token":"AQEAAAAAAAAAAAABAAAAAAAAAAsAAAAB","commands":[{"type":"CancelTimer","timer_id":"t"}]}
+dispatched|{"at":3,"op":"dispatch_turn","shard":0}
+task|{"at":3,"op":"poll_workflow_task","task_queue":"main"}
+failed|{"at":3,"op":"fail_workflow_task","token":"AQEAAAAAAAAAAAABAAAAAAAAABQAAAAB","message":"no"}
+history|{"at":3,"op":"history","workflow_id":"a"}
+started|{"at":3,"op":"signal_with_start","task_queue":"main","workflow_id":"c","workflow_type":"w","name":"s"}
+terminated|{"at":4,"op":"terminate","workflow_id":"a","reason":"r"}
+accepted|{"at":4,"op":"transfer_turn","from":0,"to":1}
+described|{"at":4,"op":"describe","workflow_id":"b"}
+fired|{"at":9,"op":"timer_turn","shard":0}
+fired|{"at":9,"op":"timer_turn","shard":1}"##;
+
+/// Asks a line, which is answered as its row says.
+fn ask<S: KeepsShard, R: Abort + AllocGlobal + Wait>(
+    rt: &R,
+    service: &Service<S>,
+    pass: &mut Pass<S>,
+    row: &str,
+)
+    requires { IsPassOf pass.old service.now }
+    ensures { ComesBack service.now pass.old pass.new }
+{
+    let Some((wanted, line)) = row.split_once('|') else {
+        panic!(rt; "{row} is no row")
+    };
+    let asked = call(rt, service.settings(), line);
+    assert!(rt;
+        came(service.serve_call(rt, pass, asked)) == wanted,
+        "{row}"
+    );
+}
+
+/// Asks all lines.
+fn ask_all<S: KeepsShard, R: Abort + AllocGlobal + Wait>(
+    rt: &R,
+    service: &Service<S>,
+    pass: &mut Pass<S>,
+)
+    requires { IsPassOf pass.old service.now }
+    ensures { ComesBack service.now pass.old pass.new }
+{
+    for row in WORKFLOWS.lines() {
+        ask(rt, service, pass, row);
+    }
+}
 
 /// Asks for so many bytes.
 fn ask_for<R: Abort + AllocGlobal>(rt: &R, bytes: usize) {
@@ -139,16 +201,13 @@ fn close<S: KeepsShard, R: Abort + AllocGlobal>(
     closed.records
 }
 
-pub(crate) fn what_takes_no_memory<
-    S: KeepsShard + Send + Sync,
-    R: Abort + AllocGlobal + Threads + Wait + Sync,
->(rt: &R) {
+pub(crate) fn what_takes_no_memory<S: KeepsShard, R: Abort + AllocGlobal + Wait>(rt: &R) {
     let mut settings = settings(rt, 2, 2);
     settings.retention = RETENTION;
     let (service, mut passes) = open::<S, R>(rt, &settings);
-    go_through(rt, &service, &mut passes, WORKFLOWS);
     let second = take_pass(&service, &mut passes);
-    let first = take_pass(&service, &mut passes);
+    let mut first = take_pass(&service, &mut passes);
+    ask_all(rt, &service, &mut first);
     let (first, second) = leave_and_meet(rt, &service, first, second);
     give_back(rt, &service, &mut passes, first);
     give_back(rt, &service, &mut passes, second);
