@@ -10,10 +10,8 @@ status is 1 where a test fails.
 """
 from __future__ import annotations
 
-import argparse
 import collections
 import json
-import pathlib
 import subprocess
 import sys
 import unittest
@@ -21,7 +19,7 @@ from typing import Iterable, Optional
 
 from drawn_lines import CHILDREN, ORDERS, Draws, drawn_line, line_of, numbered
 from drawn_knowledge import Hint, Known, Tasks, taken_in
-from journal_program import Line, Tested
+from journal_program import Line, Tested, run_rows
 
 # All kinds of reply that drawn requests get.
 REPLIES = frozenset("""\
@@ -413,16 +411,5 @@ class Together(unittest.TestCase):
         self.assertEqual((DELIVERIES | OUTWARD) - {*seen}, set())
 
 
-def main(given: list[str]) -> int:
-    options = argparse.ArgumentParser(description=__doc__, formatter_class=argparse.RawDescriptionHelpFormatter)
-    options.add_argument("program", type=pathlib.Path)
-    program = options.parse_args(given).program
-    if not program.is_file():
-        options.error(f"there is no program {program}")
-    Tested.program = program.resolve()
-    tests = unittest.main(module=__name__, argv=[sys.argv[0]], exit=False)
-    return 0 if tests.result.wasSuccessful() else 1
-
-
 if __name__ == "__main__":
-    sys.exit(main(sys.argv[1:]))
+    sys.exit(run_rows(__name__, sys.argv[1:]))

@@ -45,25 +45,51 @@ class Tested:
     every = 1
 
 
+def asked_of(module: str) -> argparse.ArgumentParser:
+    """The command line of a script of tests, which begins with PROGRAM."""
+    options = argparse.ArgumentParser(
+        description=sys.modules[module].__doc__, formatter_class=argparse.RawDescriptionHelpFormatter)
+    options.add_argument("program", type=pathlib.Path)
+    return options
+
+
+def program_in(options: argparse.ArgumentParser, given: list[str]) -> argparse.Namespace:
+    """What a command line asks for. Its program, which has to be there, is tested from now on."""
+    asked = options.parse_args(given)
+    if not asked.program.is_file():
+        options.error(f"there is no program {asked.program}")
+    Tested.program = asked.program.resolve()
+    return asked
+
+
+def status_of(module: str) -> int:
+    """Runs the tests of a script. The status: 0 where all passed, and else 1."""
+    run = unittest.main(module=module, argv=[sys.argv[0]], exit=False)
+    return 0 if run.result.wasSuccessful() else 1
+
+
+def run_rows(module: str, given: list[str], said: str = "") -> int:
+    """Runs the tests of a script whose command line is PROGRAM alone, once this was said. The status."""
+    program_in(asked_of(module), given)
+    if said:
+        print(said, flush=True)
+    return status_of(module)
+
+
 def run_tests(module: str, given: list[str], number: str, default: int) -> int:
     """Runs the tests of a script, whose command line is PROGRAM [--seed S] and one number of Tested. The status.
 
     The seed is said first, so that it is known whatever happens then.
     """
-    script = sys.modules[module]
-    options = argparse.ArgumentParser(description=script.__doc__, formatter_class=argparse.RawDescriptionHelpFormatter)
-    options.add_argument("program", type=pathlib.Path)
+    options = asked_of(module)
     options.add_argument(f"--{number}", type=int, default=default)
     options.add_argument("--seed", type=int, default=Tested.seed)
-    asked = options.parse_args(given)
-    if not asked.program.is_file():
-        options.error(f"there is no program {asked.program}")
-    Tested.program, Tested.seed = asked.program.resolve(), asked.seed
+    asked = program_in(options, given)
+    Tested.seed = asked.seed
     setattr(Tested, number, getattr(asked, number))
     many = f", {counted(Tested.kills, 'kill')}" if number == "kills" else ""
-    print(f"{pathlib.Path(str(script.__file__)).stem}: seed {Tested.seed}{many}", flush=True)
-    run = unittest.main(module=module, argv=[sys.argv[0]], exit=False)
-    return 0 if run.result.wasSuccessful() else 1
+    print(f"{pathlib.Path(str(sys.modules[module].__file__)).stem}: seed {Tested.seed}{many}", flush=True)
+    return status_of(module)
 
 
 def text(lines: list[Line]) -> str:

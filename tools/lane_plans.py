@@ -10,7 +10,6 @@ test fails.
 """
 from __future__ import annotations
 
-import argparse
 import collections
 import json
 import pathlib
@@ -20,7 +19,7 @@ import tempfile
 import unittest
 from typing import Iterable, NamedTuple, Optional
 
-from journal_program import SECONDS, Line, Tested, start, text
+from journal_program import SECONDS, Line, Tested, run_rows, start, text
 from wfserve.ids import TaskKind, token_text
 
 SIGNAL = {"name": "s", "op": "signal", "workflow_id": "a"}
@@ -212,16 +211,5 @@ class Plans(unittest.TestCase):
         self.assert_steps(came.records, [self.EVENTS])
 
 
-def main(given: list[str]) -> int:
-    options = argparse.ArgumentParser(description=__doc__, formatter_class=argparse.RawDescriptionHelpFormatter)
-    options.add_argument("program", type=pathlib.Path)
-    program = options.parse_args(given).program
-    if not program.is_file():
-        options.error(f"there is no program {program}")
-    Tested.program = program.resolve()
-    tests = unittest.main(module=__name__, argv=[sys.argv[0]], exit=False)
-    return 0 if tests.result.wasSuccessful() else 1
-
-
 if __name__ == "__main__":
-    sys.exit(main(sys.argv[1:]))
+    sys.exit(run_rows(__name__, sys.argv[1:]))

@@ -9,7 +9,6 @@ list after the last reply, and each shard's record is its part of that list. The
 """
 from __future__ import annotations
 
-import argparse
 import json
 import pathlib
 import subprocess
@@ -17,7 +16,7 @@ import sys
 import tempfile
 import unittest
 
-from journal_program import SECONDS, Line, Tested, start, text
+from journal_program import SECONDS, Line, Tested, run_rows, start, text
 from lane_plans import HISTORY, POLL
 
 # A start, and two signals, the later one at an earlier moment.
@@ -207,16 +206,5 @@ class Lanes(Records):
         self.assertEqual({reply["status"] for reply in replies[lanes:]}, {"Running"})
 
 
-def main(given: list[str]) -> int:
-    options = argparse.ArgumentParser(description=__doc__, formatter_class=argparse.RawDescriptionHelpFormatter)
-    options.add_argument("program", type=pathlib.Path)
-    program = options.parse_args(given).program
-    if not program.is_file():
-        options.error(f"there is no program {program}")
-    Tested.program = program.resolve()
-    tests = unittest.main(module=__name__, argv=[sys.argv[0]], exit=False)
-    return 0 if tests.result.wasSuccessful() else 1
-
-
 if __name__ == "__main__":
-    sys.exit(main(sys.argv[1:]))
+    sys.exit(run_rows(__name__, sys.argv[1:]))

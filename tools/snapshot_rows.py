@@ -11,15 +11,13 @@ where a test fails.
 """
 from __future__ import annotations
 
-import argparse
 import json
 import pathlib
 import shutil
 import sys
-import unittest
 from typing import NamedTuple, Optional
 
-from journal_program import Line, Tested, text
+from journal_program import Line, run_rows, text
 from snapshot_tests import NOT_OF_ONE_MOMENT, OTHER_SETTINGS, Folder, Ran, names, put_in, ran, texts_in
 from wfserve.ids import TaskKind, run_id, token_text
 
@@ -632,16 +630,8 @@ class Stories(OfTexts):
 
 
 def main(given: list[str]) -> int:
-    options = argparse.ArgumentParser(description=__doc__, formatter_class=argparse.RawDescriptionHelpFormatter)
-    options.add_argument("program", type=pathlib.Path)
-    program = options.parse_args(given).program
-    if not program.is_file():
-        options.error(f"there is no program {program}")
-    Tested.program = program.resolve()
     rows = sum(map(len, TEXTS.values())) + len(COUNTS)
-    print(f"snapshot_rows: {rows} texts, {len(STORIES)} stories", flush=True)
-    tests = unittest.main(module=__name__, argv=[sys.argv[0]], exit=False)
-    return 0 if tests.result.wasSuccessful() else 1
+    return run_rows(__name__, given, f"snapshot_rows: {rows} texts, {len(STORIES)} stories")
 
 
 if __name__ == "__main__":
