@@ -1,13 +1,28 @@
-"""For tests of the tools: a folder with files and a toolchain of the test's own."""
+"""For tests of the tools: a folder with files and a toolchain of the test's own, and a program that is a script."""
 from __future__ import annotations
 
+import contextlib
 import os
 import tempfile
 import unittest
 import unittest.mock
+from collections.abc import Iterator
 from pathlib import Path
 from types import ModuleType
 from typing import Any
+
+from journal_program import Tested
+
+
+@contextlib.contextmanager
+def stubbed(program: str) -> Iterator[None]:
+    """A block in which the tested program is this script."""
+    with tempfile.TemporaryDirectory() as folder:
+        stub = Path(folder, "program")
+        stub.write_text(program, encoding="utf-8")
+        stub.chmod(0o755)
+        with unittest.mock.patch.object(Tested, "program", stub):
+            yield
 
 
 class Scratch(unittest.TestCase):

@@ -186,6 +186,13 @@ ACTIVITY_COMPLETED = """\
 OTHERS_DISPATCH = DISPATCH.replace('"shard":0', '"shard":1')
 
 
+def scheduled(text: str) -> str:
+    """An event with this input. What stands there for a byte that is none of UTF-8 is written as the byte."""
+    return (f'{{"at":7,"attrs":{{"activity_id":"x","activity_type":"t","heartbeat":4,"input":"{text}","retry":{{"attempts":5,'
+            '"coefficient":600,"initial":7,"maximum":8,"non_retryable":["b","a"]},"schedule_to_close":3,"schedule_to_start":1,'
+            '"start_to_close":2,"task_queue":"main"},"id":5,"type":"ActivityTaskScheduled"}\n')
+
+
 class Text(NamedTuple):
     """The text of the first shard's snapshot, and the first damaged line of it with what is wrong there. None where it is
     opened."""
@@ -274,6 +281,11 @@ TEXTS: dict[str, list[Text]] = {
         Text(COUNTED + HEAD, (1, ORDER)),
         Text(HEAD + CLOSED, (2, ORDER)),
         Text(HEAD + COUNTED + DISPATCH + BEGUN, (4, ORDER)),
+    ],
+    # Either of its two bytes is another one.
+    "a letter of which a byte lacks is none": [
+        Text(laid([scheduled("é")]), (3, ORDER)),
+        *(Text(laid([scheduled(text)]), (3, NO_PIECE)) for text in ("0\udca9", '"\udca9', "\udcc30", '\udcc3"')),
     ],
 }
 
@@ -548,7 +560,7 @@ class OfTexts(Folder):
         """Has these snapshots be loaded, and older ones lie where others are written."""
         for folder in (self.loaded, self.out):
             shutil.rmtree(folder, ignore_errors=True)
-        put_in(self.loaded, [one.encode() for one in texts])
+        put_in(self.loaded, [one.encode(errors="surrogateescape") for one in texts])
         put_in(self.out, [b"older\n" for _ in texts])
 
     def words(self, **others: str) -> list[str | pathlib.Path]:

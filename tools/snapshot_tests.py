@@ -463,6 +463,16 @@ class Refused(Folder):
             self.refused(done.said.removeprefix("wfserve: ").rstrip("\n"), *words, "--load", self.loaded)
         self.refused(f"{self.loaded}/shard-01.snap: --shards leaves this snapshot out", "--load", self.loaded)
 
+    def test_a_task_that_waits_in_a_queue_that_is_left_out(self) -> None:
+        turns = [{"op": "dispatch_turn", "shard": shard} for shard in range(2)]
+        waits = self.made("waits")
+        ran(text([start("a"), *turns]).encode(), *self.WORDS, "--snapshot", waits)
+        (path,) = [path for path in waits.iterdir() if b"WorkflowTaskScheduled" in path.read_bytes()]
+        changed = path.read_bytes().replace(b'"task_queue":"main"},"id":2', b'"task_queue":"none"},"id":2')
+        self.assertNotEqual(changed, path.read_bytes())
+        path.write_bytes(changed)
+        self.refused(f"{path}: it names a task queue that --queues leaves out", *self.WORDS, "--load", waits)
+
     def test_what_else_lies_in_the_folder(self) -> None:
         record = self.loaded / "shard-00.rec"
         record.write_bytes((self.records / "shard-00.rec").read_bytes())

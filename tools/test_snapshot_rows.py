@@ -2,13 +2,10 @@
 from __future__ import annotations
 
 import json
-import pathlib
-import tempfile
 import unittest
-import unittest.mock
 
 import snapshot_rows
-from journal_program import Tested
+from scratch import stubbed
 from snapshot_rows import COUNTS, SNAPSHOT, STORIES, TEXTS, Count, counted, laid, shown, text_of_replies
 
 # Opens everything, writes nothing and answers nothing.
@@ -52,15 +49,11 @@ class Failing(unittest.TestCase):
     """Each row of a test fails where the program does something else."""
 
     def failures(self, program: str, test: unittest.TestCase) -> int:
-        with tempfile.TemporaryDirectory() as folder:
-            stub = pathlib.Path(folder, "program")
-            stub.write_text(program)
-            stub.chmod(0o755)
-            result = unittest.TestResult()
-            with unittest.mock.patch.object(Tested, "program", stub):
-                test.run(result)
-            self.assertEqual(result.errors, [])
-            return len(result.failures)
+        result = unittest.TestResult()
+        with stubbed(program):
+            test.run(result)
+        self.assertEqual(result.errors, [])
+        return len(result.failures)
 
     def test_texts_that_are_not_written_again_and_texts_that_are_not_refused(self) -> None:
         rows = sum(map(len, TEXTS.values()))

@@ -8,6 +8,7 @@ use Rattle.service_model_types.specs.declared.content.Content.{Content}
 use Rattle.service_model_types.specs.declared.content.Dispatch.{Dispatch}
 use Rattle.service_model_types.specs.declared.content.Setup.{Setup}
 use Rattle.service_model.specs.RunState.{ActivityRow, RunState, is_open, queue_of, state_of}
+use Rattle.service_model.specs.Waiting.{all_waiting}
 
 -- the queue of an activity, by what scheduled it
 abbrev pub knows_by : Setup → Attributes → Bool
@@ -18,9 +19,13 @@ knows_by setup _ = true
 abbrev pub knows_run : Setup → RunState → Bool
 knows_run setup s = not (is_open s) || (knows_queue setup (queue_of s) && list_all (λ (r : ActivityRow). knows_by setup r.opened.attributes) s.activities)
 
--- those of all runs, and of the dispatches that wait
+-- those of some tasks
+abbrev pub knows_each_of : Setup → List Dispatch → Bool
+knows_each_of setup tasks = list_all (λ (d : Dispatch). knows_queue setup d.queue) tasks
+
+-- those of the dispatches that wait, of all runs, and of the tasks that wait to be taken: an opening puts these into their queues
 abbrev pub knows_queues : Setup → List Dispatch → List RunState → Bool
-knows_queues setup waiting runs = list_all (λ (d : Dispatch). knows_queue setup d.queue) waiting && list_all (knows_run setup) runs
+knows_queues setup waiting runs = knows_each_of setup waiting && (list_all (knows_run setup) runs && knows_each_of setup (all_waiting setup runs))
 
 abbrev pub knows_queues_in : Content → Bool
 knows_queues_in S = knows_queues S.setup (drop S.dispatched S.dispatches) (map state_of S.runs)

@@ -2,17 +2,16 @@
 
 ghost use Rattle.std.specs.Prelude.{◌≡◌, ◌<◌, IfOk, length, map};
 ghost use Rattle.std.specs.List.{list_all};
-ghost use Rattle.checkpoints.specs.Queues.{knows_by, knows_queues, knows_run};
+ghost use Rattle.checkpoints.specs.Queues.{knows_by, knows_each_of, knows_queues, knows_run};
 ghost use Rattle.mutable_state.specs.Activities.{row_said};
 ghost use Rattle.service_model.specs.RunState.{ActivityRow};
-ghost use Rattle.service_model_types.specs.Routing.{knows_queue};
-ghost use Rattle.service_model_types.specs.declared.content.Dispatch.{Dispatch as Waiting};
+ghost use Rattle.service_model.specs.Waiting.{all_waiting};
 ghost use Rattle.shard_issued.specs.Outstanding.{IsCaughtUp};
 ghost use Rattle.shard_store.specs.ShardView.{run_in, state, states};
 
 use mutable_state::Activity;
 use mutable_state_keeper::{KeepsRun, Run, TellsRun};
-use service_model_types::content::Setup;
+use service_model_types::content::{Dispatch, Setup};
 use shard_store::Store;
 use std::alloc::{AllocError, Global};
 use wf_event::Attributes;
@@ -89,8 +88,7 @@ fn knows_runs<T: TellsRun>(alloc: Global, store: &Store<T>) -> Result<bool, Allo
 /// Whether those of the dispatches that wait are.
 fn knows_dispatches<T: KeepsRun>(store: &Store<T>) -> bool
     requires { IsCaughtUp store.now.changed }
-    ensures { result ≡ list_all (λ (d : Waiting). knows_queue store.now.setup d.queue)
-        store.now.waiting.items }
+    ensures { result ≡ knows_each_of store.now.setup store.now.waiting.items }
 {
     for index in 0..store.waiting_dispatches() {
         if let Some(dispatch) = store.dispatch_at(index) {
@@ -100,6 +98,22 @@ fn knows_dispatches<T: KeepsRun>(store: &Store<T>) -> bool
         }
     }
     true
+}
+
+/// Whether those of some tasks are.
+fn knows_tasks(setup: &Setup, tasks: &[Dispatch]) -> bool
+    ensures { result ≡ knows_each_of setup.now tasks.now }
+{
+    tasks.iter().all(|task| setup.knows_queue(&task.queue))
+}
+
+/// Whether those of the tasks that wait to be taken are.
+fn knows_waiting<T: KeepsRun>(alloc: Global, store: &Store<T>) -> Result<bool, AllocError>
+    ensures { IfOk result (λ known. known ≡ knows_each_of store.now.setup
+        (all_waiting store.now.setup (states store.now.runs))) }
+{
+    let tasks = store.waiting_tasks(alloc)?;
+    Ok(knows_tasks(store.setup(), tasks.as_slice()))
 }
 
 /// Whether the service has each task queue that a shard names: a task that is to be handed to another
@@ -116,5 +130,5 @@ pub(crate) fn knows_all<T: TellsRun>(
         store.old.waiting.items (states store.old.runs)) }
 {
     store.catch_up()?;
-    Ok(knows_dispatches(store) && knows_runs(alloc, store)?)
+    Ok(knows_dispatches(store) && knows_runs(alloc, store)? && knows_waiting(alloc, store)?)
 }

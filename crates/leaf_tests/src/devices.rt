@@ -11,10 +11,6 @@ struct Trickle<T> {
 }
 
 impl<T> Trickle<T> {
-    fn new(inner: T) -> Trickle<T> {
-        Trickle { inner, calls: 0 }
-    }
-
     fn next_call(&mut self) -> io::Result<()> {
         self.calls = self.calls.saturating_add(1);
         if self.calls % 2 == 0 {
@@ -70,13 +66,6 @@ fn is_written<W: Write>(writer: &mut Counted<W>) -> bool {
         && writer.failures == 2
 }
 
-#[test]
-fn writes_past_interruptions(rt: HostRuntime) {
-    let mut writer = Counted::new(Trickle::new(Vec::new(rt.alloc())));
-    assert!(rt; is_written(&mut writer));
-    assert!(rt; writer.inner.inner.as_slice() == b"seven+1".as_slice());
-}
-
 /// Whether a text of which four bytes are taken is written with a failure, and so is the flush.
 fn is_refused<W: Write>(writer: &mut Counted<W>) -> bool {
     let result = write_whole(writer, b"seven+1");
@@ -84,11 +73,6 @@ fn is_refused<W: Write>(writer: &mut Counted<W>) -> bool {
         && writer.failures == 1
         && writer.flush().is_err()
         && writer.failures == 2
-}
-
-#[test]
-fn counts_a_write_that_takes_nothing(rt: HostRuntime) {
-    assert!(rt; is_refused(&mut Counted::new(Full { room: 4 })));
 }
 
 /// Whether three bytes are read, then one, and then none.
@@ -101,7 +85,17 @@ fn is_read<R: Read>(reader: &mut Counted<R>) -> bool {
 }
 
 #[test]
-fn reads_past_interruptions(rt: HostRuntime) {
-    let mut reader = Counted::new(Trickle::new(b"four".as_slice()));
+fn goes_past_interruptions_and_counts_failures(rt: HostRuntime) {
+    assert!(rt; is_refused(&mut Counted::new(Full { room: 4 })));
+    let mut reader = Counted::new(Trickle {
+        inner: b"four".as_slice(),
+        calls: 0,
+    });
     assert!(rt; is_read(&mut reader));
+    let mut writer = Counted::new(Trickle {
+        inner: Vec::new(rt.alloc()),
+        calls: 0,
+    });
+    assert!(rt; is_written(&mut writer));
+    assert!(rt; writer.inner.inner.as_slice() == b"seven+1".as_slice());
 }

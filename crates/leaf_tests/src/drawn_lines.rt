@@ -5,7 +5,7 @@ ghost use Rattle.std.specs.Prelude.{◌<◌, length};
 
 use crate::lines::is_read;
 use json::Scratch;
-use service_model_types::call::{Call, StepCall, Stop};
+use service_model_types::call::{Call, StepCall};
 use service_model_types::limits::DEFAULT_CAPACITY;
 use service_model_types::settings::{Settings, main_queue};
 use std::alloc::{AllocError, AllocGlobal, Global};
@@ -107,14 +107,6 @@ fn drawn(alloc: Global, state: &mut u64) -> Result<String, AllocError> {
     Ok(line)
 }
 
-fn stop_number(stop: Stop) -> u64 {
-    match stop {
-        Stop::AtEnd => 0,
-        Stop::AfterFirstPart => 1,
-        Stop::AfterSecondPart => 2,
-    }
-}
-
 fn shown_step(alloc: Global, step: StepCall) -> Result<String, AllocError> {
     let shard = match &step {
         StepCall::TimerTurn(turn) => turn.shard,
@@ -136,14 +128,14 @@ fn shown_call(alloc: Global, call: Call) -> Result<String, AllocError> {
         Call::DispatchTurn(turn) => format!(in alloc;
             "dispatch {} {} {}",
             turn.shard,
-            stop_number(turn.stop),
+            turn.stop as u8,
             turn.at.millis()
         ),
         Call::TransferTurn(turn) => format!(in alloc;
             "transfer {} {} {} {}",
             turn.from,
             turn.to,
-            stop_number(turn.stop),
+            turn.stop as u8,
             turn.at.millis()
         ),
     }

@@ -5,13 +5,9 @@
 #[cfg(test)]
 mod deadlines;
 #[cfg(test)]
-mod decisions;
-#[cfg(test)]
 mod devices;
 #[cfg(test)]
 mod drawn_lines;
-#[cfg(test)]
-mod event_texts;
 #[cfg(test)]
 mod lines;
 #[cfg(test)]
@@ -19,16 +15,10 @@ mod listed;
 #[cfg(test)]
 mod numbers;
 #[cfg(test)]
-mod piece_texts;
-#[cfg(test)]
 mod refused;
 #[cfg(test)]
 mod retries;
 #[cfg(test)]
 mod rows;
-#[cfg(test)]
-mod sameness;
-#[cfg(test)]
-mod transfers;
 #[cfg(test)]
 mod without_memory;

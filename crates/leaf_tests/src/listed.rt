@@ -7,70 +7,34 @@ ghost use Rattle.timeouts.specs.declared.due.Due.{Due};
 
 use crate::deadlines::{are_same, drawn_due, next_state};
 use crate::rows::moment;
-use std::alloc::{AllocError, AllocGlobal, Global};
+use std::alloc::AllocError;
 use std::process::Abort;
 use timeouts::{Deadlines, Due, DueId};
-use wf_event_values::Moment;
 
-/// Deadlines at the numbers by which they are known.
-#[derive(Drop)]
-struct Listed {
-    members: Vec<Option<Due>>,
+/// Adds a deadline at the first free number of a list. Each is known by its number there.
+fn add_listed(listed: &mut Vec<Option<Due>>, due: Due) -> Result<DueId, AllocError> {
+    let free = listed.iter().position(|member| member.is_none());
+    let number = free.unwrap_or(listed.len());
+    if number == listed.len() {
+        listed.push(None)?;
+    }
+    if let Some(member) = listed.get_mut(number) {
+        *member = Some(due);
+    }
+    Ok(DueId { number })
 }
 
-impl Listed {
-    fn new(alloc: Global) -> Listed {
-        Listed {
-            members: Vec::new(alloc),
-        }
+/// The deadline that fires first.
+pub(crate) fn least_of(listed: &[Option<Due>]) -> Option<Due> {
+    let mut first: Option<Due> = None;
+    for member in listed {
+        first = match (first, *member) {
+            (Some(one), Some(other)) if fires_before(other, one) => Some(other),
+            (None, other) => other,
+            (one, _) => one,
+        };
     }
-
-    /// The first number that is free.
-    fn free_number(&self) -> usize {
-        for (number, member) in self.members.iter().enumerate() {
-            if member.is_none() {
-                return number;
-            }
-        }
-        self.members.len()
-    }
-
-    /// Adds a deadline at the first free number.
-    fn add(&mut self, due: Due) -> Result<DueId, AllocError> {
-        let number = self.free_number();
-        if number == self.members.len() {
-            self.members.push(None)?;
-        }
-        if let Some(member) = self.members.get_mut(number) {
-            *member = Some(due);
-        }
-        Ok(DueId { number })
-    }
-
-    /// Removes a deadline that is there.
-    fn remove(&mut self, id: DueId) {
-        if let Some(member) = self.members.get_mut(id.number) {
-            *member = None;
-        }
-    }
-
-    /// The deadline that fires first.
-    fn least(&self) -> Option<Due> {
-        let mut first: Option<Due> = None;
-        for member in &self.members {
-            first = match (first, *member) {
-                (Some(one), Some(other)) if fires_before(other, one) => Some(other),
-                (None, other) => other,
-                (one, _) => one,
-            };
-        }
-        first
-    }
-
-    /// The deadline that fires first, where its moment has come.
-    fn due(&self, moment: Moment) -> Option<Due> {
-        self.least().filter(|first| first.due <= moment.millis())
-    }
+    first
 }
 
 /// By the moment, then by run, class and event.
@@ -98,10 +62,11 @@ struct Known {
 const MIDDLE: u64 = 7;
 
 /// Both say the same of the first deadline.
-fn compare<R: Abort>(rt: &R, deadlines: &Deadlines, listed: &Listed) {
-    assert!(rt; are_same(deadlines.least(), listed.least()));
-    let middle = moment(rt, MIDDLE);
-    assert!(rt; are_same(deadlines.due(middle), listed.due(middle)));
+fn compare<R: Abort>(rt: &R, deadlines: &Deadlines, listed: &[Option<Due>]) {
+    let least = least_of(listed);
+    assert!(rt; are_same(deadlines.least(), least));
+    let come = least.filter(|first| first.due <= MIDDLE);
+    assert!(rt; are_same(deadlines.due(moment(rt, MIDDLE)), come));
 }
 
 /// Draws a deadline; one is drawn in three cases of four.
@@ -116,7 +81,12 @@ fn draw<R: Abort>(rt: &R, state: &mut u64) -> Due {
 }
 
 /// Adds a drawn deadline to both.
-fn add<R: Abort>(rt: &R, deadlines: &mut Deadlines, listed: &mut Listed, state: &mut u64) -> Known
+fn add<R: Abort>(
+    rt: &R,
+    deadlines: &mut Deadlines,
+    listed: &mut Vec<Option<Due>>,
+    state: &mut u64,
+) -> Known
     ensures free { get deadlines.old.members result.heap.number ≡ None }
     ensures there { (d : Due) × (get deadlines.new.members result.heap.number ≡ Some d) }
     ensures others { (k : ℕ) → k ≢ result.heap.number
@@ -126,24 +96,26 @@ fn add<R: Abort>(rt: &R, deadlines: &mut Deadlines, listed: &mut Listed, state: 
     let Ok(()) = deadlines.reserve(1) else {
         panic!(rt; "no memory")
     };
-    let Ok(list) = listed.add(due) else {
+    let Ok(list) = add_listed(listed, due) else {
         panic!(rt; "no memory")
     };
     let heap = deadlines.add(due);
-    compare(rt, deadlines, listed);
+    compare(rt, deadlines, listed.as_slice());
     Known { heap, list }
 }
 
 /// Removes a deadline from both.
-fn remove<R: Abort>(rt: &R, deadlines: &mut Deadlines, listed: &mut Listed, known: Known)
+fn remove<R: Abort>(rt: &R, deadlines: &mut Deadlines, listed: &mut Vec<Option<Due>>, known: Known)
     requires { (d : Due) × (get deadlines.old.members known.heap.number ≡ Some d) }
     ensures gone { get deadlines.new.members known.heap.number ≡ None }
     ensures others { (k : ℕ) → k ≢ known.heap.number
         → get deadlines.new.members k ≡ get deadlines.old.members k }
 {
     deadlines.remove(known.heap);
-    listed.remove(known.list);
-    compare(rt, deadlines, listed);
+    if let Some(member) = listed.get_mut(known.list.number) {
+        *member = None;
+    }
+    compare(rt, deadlines, listed.as_slice());
 }
 
 /// Two deadlines come, and go again in either order. Before the first and before the second of them goes,
@@ -151,7 +123,7 @@ fn remove<R: Abort>(rt: &R, deadlines: &mut Deadlines, listed: &mut Listed, know
 fn come_and_go<R: Abort>(
     rt: &R,
     deadlines: &mut Deadlines,
-    listed: &mut Listed,
+    listed: &mut Vec<Option<Due>>,
     state: &mut u64,
     depth: usize,
 )
@@ -181,9 +153,9 @@ const DEPTH: usize = 8;
 #[test]
 fn answers_as_a_list_does(rt: HostRuntime) {
     let mut deadlines = Deadlines::new(rt.alloc());
-    let mut listed = Listed::new(rt.alloc());
+    let mut listed = Vec::new(rt.alloc());
     let mut state = 1;
     come_and_go(&rt, &mut deadlines, &mut listed, &mut state, DEPTH);
-    assert!(rt; listed.members.len() == 2 * DEPTH);
-    assert!(rt; deadlines.least().is_none() && listed.least().is_none());
+    assert!(rt; listed.len() == 2 * DEPTH);
+    assert!(rt; deadlines.least().is_none() && least_of(listed.as_slice()).is_none());
 }

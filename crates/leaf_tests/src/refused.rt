@@ -55,7 +55,7 @@ fn text<R: Abort + AllocGlobal>(rt: &R) -> Text {
     panic!(rt; "refused twice")
 }
 
-fn id<R: Abort + AllocGlobal>(rt: &R) -> Id {
+pub(crate) fn id<R: Abort + AllocGlobal>(rt: &R) -> Id {
     for _ in 0..TIMES {
         match Id::new(rt.alloc(), Field::WorkflowId, WORDS) {
             Ok(id) => return id,
@@ -206,7 +206,8 @@ fn numbers<R: Abort + AllocGlobal>(rt: &R) {
     assert!(rt; numbers.get(5) == 7 && numbers.get(1030) == 8 && numbers.get(6) == 0);
 }
 
-fn outbox<R: Abort + AllocGlobal>(rt: &R) -> Outbox
+/// An outbox and an inbox of two shards.
+pub(crate) fn outbox<R: Abort + AllocGlobal>(rt: &R) -> Outbox
     ensures { length result ≡ 2 }
 {
     for _ in 0..TIMES {
@@ -217,7 +218,9 @@ fn outbox<R: Abort + AllocGlobal>(rt: &R) -> Outbox
     panic!(rt; "refused twice")
 }
 
-fn inbox<R: Abort + AllocGlobal>(rt: &R) -> Inbox {
+pub(crate) fn inbox<R: Abort + AllocGlobal>(rt: &R) -> Inbox
+    ensures { length result ≡ 2 }
+{
     for _ in 0..TIMES {
         if let Ok(inbox) = Inbox::new(rt.alloc(), 2) {
             return inbox;
@@ -226,14 +229,19 @@ fn inbox<R: Abort + AllocGlobal>(rt: &R) -> Inbox {
     panic!(rt; "refused twice")
 }
 
+/// What a transfer may carry.
+pub(crate) fn content() -> TransferContent {
+    TransferContent::ChildStartFailed(ChildStartFailed {
+        parent_run: RunId::new(1, 0, 1),
+        initiated: 5,
+    })
+}
+
 /// Two transfers to shard 1, and one to shard 0.
 fn try_sent(alloc: Global) -> Result<Vec<Sent>, AllocError> {
     let mut sent = Vec::new(alloc);
     for to in [1, 0, 1] {
-        let content = TransferContent::ChildStartFailed(ChildStartFailed {
-            parent_run: RunId::new(1, 0, 1),
-            initiated: 5,
-        });
+        let content = content();
         sent.push(Sent { to, content })?;
     }
     Ok(sent)
@@ -249,7 +257,7 @@ fn sent<R: Abort + AllocGlobal>(rt: &R) -> Vec<Sent> {
 }
 
 /// The number of the first transfer to a shard that is not acknowledged, or 0.
-fn first_number(outbox: &Outbox, to: u16) -> u64
+pub(crate) fn first_number(outbox: &Outbox, to: u16) -> u64
     requires { (length outbox.now ≡ 2) × (to < 2) }
 {
     outbox.first_to(to).map_or(0, |first| first.0)

@@ -19,134 +19,62 @@ pub(crate) fn fields(alloc: Global, initial: u64, coefficient: u64, maximum: u64
     }
 }
 
-/// Whether a policy waits so long after an attempt; each vector is an initial interval, a coefficient
-/// in hundredths, a maximum, the attempt and the wait.
-fn waits_so(alloc: Global, vector: (u64, u64, u64, u32, u64)) -> bool {
-    let (initial, coefficient, maximum, attempt, wait) = vector;
-    RetryPolicy::new(fields(alloc, initial, coefficient, maximum)).is_ok_and(|policy| wait_after(
-        &policy, attempt,
-    ) == wait)
-}
+/// An initial interval, a coefficient in hundredths, a maximum, an attempt and how long the next one waits
+/// after it: by whole factors, at the limits, and rounded up each time. Rounded once at the end, the wait
+/// after the sixth would be 7594.
+const WAITS: &str = "1000|200|0|1|1000
+1000|200|0|2|2000
+1000|200|0|3|4000
+1000|200|0|4|8000
+1000|200|0|5|16000
+1000|200|0|6|32000
+1000|200|0|7|64000
+1000|200|0|8|100000
+1000|200|0|4294967295|100000
+1|200|1000000000000|40|549755813888
+1|200|1000000000000|41|1000000000000
+1000000000000|100000|0|1|1000000000000
+7|100|500|4294967295|7
+7|100000|500|2|500
+1000|100|100000|1|1000
+1000|100|100000|4294967295|1000
+1000000000000|100000|1000000000000|1|1000000000000
+1000000000000|100000|1000000000000|200|1000000000000
+1000000000000|100000|1000000000000|4294967295|1000000000000
+1|101|1000000000000|2372|998783892642
+1|101|1000000000000|2373|1000000000000
+1|101|1000000000000|4294967295|1000000000000
+1000|150|100000|0|1000
+1000|150|100000|1|1000
+1000|150|100000|2|1500
+1000|150|100000|3|2250
+1000|150|100000|4|3375
+1000|150|100000|5|5063
+1000|150|100000|6|7595
+1000|150|100000|7|11393
+1000|150|100000|12|86520
+1000|150|100000|13|100000
+1|101|100|1|1
+1|101|100|2|2
+1|101|100|3|3
+1|101|100|4|4
+1|101|100|4294967295|100
+3|199|1000000000000|20|1479641";
 
-#[test]
-fn waits_by_whole_factors(rt: HostRuntime) {
-    let vectors = [
-        (1000, 200, 0, 1, 1000),
-        (1000, 200, 0, 2, 2000),
-        (1000, 200, 0, 3, 4000),
-        (1000, 200, 0, 4, 8000),
-        (1000, 200, 0, 5, 16_000),
-        (1000, 200, 0, 6, 32_000),
-        (1000, 200, 0, 7, 64_000),
-        (1000, 200, 0, 8, 100_000),
-        (1000, 200, 0, u32::MAX, 100_000),
-        (1, 200, 1_000_000_000_000, 40, 549_755_813_888),
-        (1, 200, 1_000_000_000_000, 41, 1_000_000_000_000),
-        (1_000_000_000_000, 100_000, 0, 1, 1_000_000_000_000),
-        (7, 100, 500, u32::MAX, 7),
-        (7, 100_000, 500, 2, 500),
-        (1000, 100, 100_000, 1, 1000),
-        (1000, 100, 100_000, u32::MAX, 1000),
-    ];
-    for vector in vectors {
-        assert!(rt; waits_so(rt.alloc(), vector), "{:?}", vector);
-    }
-}
-
-/// The longest maximum, and the most and the fewest attempts.
-#[test]
-fn waits_at_the_limits(rt: HostRuntime) {
-    let longest = 1_000_000_000_000;
-    let vectors = [
-        (longest, 100_000, longest, 1, longest),
-        (longest, 100_000, longest, 200, longest),
-        (longest, 100_000, longest, u32::MAX, longest),
-        (1, 101, longest, 2372, 998_783_892_642),
-        (1, 101, longest, 2373, longest),
-        (1, 101, longest, u32::MAX, longest),
-        (1000, 150, 100_000, 0, 1000),
-    ];
-    for vector in vectors {
-        assert!(rt; waits_so(rt.alloc(), vector), "{:?}", vector);
-    }
-}
-
-/// Each wait is rounded up: rounded once at the end, the sixth would be 7594.
-#[test]
-fn waits_that_are_rounded(rt: HostRuntime) {
-    let vectors = [
-        (1000, 150, 100_000, 1, 1000),
-        (1000, 150, 100_000, 2, 1500),
-        (1000, 150, 100_000, 3, 2250),
-        (1000, 150, 100_000, 4, 3375),
-        (1000, 150, 100_000, 5, 5063),
-        (1000, 150, 100_000, 6, 7595),
-        (1000, 150, 100_000, 7, 11_393),
-        (1000, 150, 100_000, 12, 86_520),
-        (1000, 150, 100_000, 13, 100_000),
-        (1, 101, 100, 1, 1),
-        (1, 101, 100, 2, 2),
-        (1, 101, 100, 3, 3),
-        (1, 101, 100, 4, 4),
-        (1, 101, 100, u32::MAX, 100),
-        (3, 199, 1_000_000_000_000, 20, 1_479_641),
-    ];
-    for vector in vectors {
-        assert!(rt; waits_so(rt.alloc(), vector), "{:?}", vector);
-    }
-}
-
-/// So many empty texts.
-fn texts<R: Abort + AllocGlobal>(rt: &R, count: u64) -> Items<Text> {
-    let mut texts = Vec::new(rt.alloc());
-    for _ in 0..count {
-        if texts.push(Text::empty(rt.alloc())).is_err() {
-            panic!(rt; "no memory");
-        }
-    }
-    Items::from_vec(texts)
-}
-
-/// An initial interval, a coefficient, a maximum, the attempts, how many types aren't tried again, and
-/// whether a policy may be so.
-const RANGES: &str = "0|200|0|0|0|bad
-1000000000001|200|0|0|0|bad
-1000|0|0|0|0|bad
-1000|99|0|0|0|bad
-1000|100001|0|0|0|bad
-1000|200|999|0|0|bad
-1000|200|1000000000001|0|0|bad
-1000|200|0|4294967296|100|bad
-1000|200|0|0|101|bad
-1|100|1|4294967295|100|good
-1|100000|1|4294967295|100|good";
-
-fn is_range_row<R: Abort + AllocGlobal>(rt: &R, row: &str) -> bool {
+fn is_wait_row<R: Abort + AllocGlobal>(rt: &R, row: &str) -> bool {
     let cells = cells(rt, row);
-    let [initial, coefficient, maximum, attempts, types, expected] = cells.as_slice() else {
+    let [initial, coefficient, maximum, attempts, wait] = cells.as_slice() else {
         return false;
     };
-    let fields = PolicyFields {
-        attempts: number(rt, attempts),
-        coefficient: number(rt, coefficient),
-        initial: number(rt, initial),
-        maximum: number(rt, maximum),
-        non_retryable: texts(rt, number(rt, types)),
-    };
-    RetryPolicy::new(fields).is_ok() == (*expected == "good")
-}
-
-#[test]
-fn policies_by_their_ranges(rt: HostRuntime) {
-    for row in RANGES.lines() {
-        assert!(rt; is_range_row(&rt, row), "{row}");
-    }
-}
-
-fn shown(verdict: Verdict) -> (u64, &'static str) {
-    match verdict {
-        Verdict::Retry { ready } => (ready, "retried"),
-        Verdict::GiveUp(state) => (0, state.name()),
+    let fields = fields(
+        rt.alloc(),
+        number(rt, initial),
+        number(rt, coefficient),
+        number(rt, maximum),
+    );
+    match RetryPolicy::new(fields) {
+        Ok(policy) => wait_after(&policy, attempt(rt, attempts)) == number(rt, wait),
+        Err(_) => false,
     }
 }
 
@@ -179,42 +107,41 @@ typed|fatal|4|0|0|0|NonRetryableFailure
 marked||4|0|0|0|NonRetryableFailure
 canceled||4|0|0|0|CancelRequested";
 
-/// How an attempt ended that fails for this reason, where it doesn't time out.
-fn ended<'a>(word: &str, reason: &'a Text) -> Ended<'a> {
-    match word {
-        "timeout" => Ended::Timeout,
-        "typed" => Ended::Failure {
-            error_type: Some(reason),
-            non_retryable: false,
-        },
-        _ => Ended::Failure {
-            error_type: None,
-            non_retryable: word != "untyped",
-        },
-    }
-}
-
 fn is_end_row<R: Abort + AllocGlobal>(rt: &R, policy: &RetryPolicy, row: &str) -> bool {
     let cells = cells(rt, row);
     let [word, reason, attempts, at, deadline, ready, expected] = cells.as_slice() else {
         return false;
     };
     let reason = text(rt, reason);
+    let ended = match *word {
+        "timeout" => Ended::Timeout,
+        word => Ended::Failure {
+            error_type: if word == "typed" { Some(&reason) } else { None },
+            non_retryable: word == "marked" || word == "canceled",
+        },
+    };
     let verdict = verdict_on(
         policy,
-        ended(word, &reason),
+        ended,
         *word == "canceled",
         attempt(rt, attempts),
         moment(rt, number(rt, at)),
         deadline.parse().ok(),
     );
-    shown(verdict) == (number(rt, ready), *expected)
+    let shown = match verdict {
+        Verdict::Retry { ready } => (ready, "retried"),
+        Verdict::GiveUp(state) => (0, state.name()),
+    };
+    shown == (number(rt, ready), *expected)
 }
 
 #[test]
-fn verdicts(rt: HostRuntime) {
+fn waits_and_verdicts(rt: HostRuntime) {
+    for row in WAITS.lines() {
+        assert!(rt; is_wait_row(&rt, row), "{row}");
+    }
     let policy = policy(&rt);
     for row in ENDS.lines() {
-        assert!(rt; is_end_row(&rt, &policy, row));
+        assert!(rt; is_end_row(&rt, &policy, row), "{row}");
     }
 }

@@ -2,7 +2,7 @@
 
 use std::alloc::AllocGlobal;
 use std::process::Abort;
-use wf_event_values::{Field, Id, Moment, Text};
+use wf_event_values::{Field, Moment, Text};
 
 pub(crate) fn cells<'a, R: Abort + AllocGlobal>(rt: &R, row: &'a str) -> Vec<&'a str> {
     match row.split('|').collect(rt.alloc()) {
@@ -29,17 +29,6 @@ pub(crate) fn moment<R: Abort>(rt: &R, at: u64) -> Moment {
     match Moment::new(Field::At, at) {
         Ok(moment) => moment,
         Err(_) => panic!(rt; "no moment"),
-    }
-}
-
-/// An ID, or none for an empty cell.
-pub(crate) fn id<R: Abort + AllocGlobal>(rt: &R, cell: &str) -> Option<Id> {
-    if cell.is_empty() {
-        return None;
-    }
-    match Id::new(rt.alloc(), Field::RequestId, cell) {
-        Ok(id) => Some(id),
-        Err(_) => panic!(rt; "{cell} is no ID"),
     }
 }
 

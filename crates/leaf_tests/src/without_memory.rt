@@ -6,22 +6,22 @@
 ghost use Rattle.std.specs.Prelude.{◌≡◌, length};
 
 use crate::deadlines::are_same;
-use crate::decisions::decided_by;
 use crate::numbers::{clear_first, fill_up};
-use crate::refused::{ask_for, due};
+use crate::refused::{ask_for, content, due, first_number, id, inbox, outbox};
 use crate::retries::fields;
-use crate::rows::{id, moment};
-use crate::transfers::{content, first_number, inbox, outbox, shown_acknowledged, shown_delivery};
+use crate::rows::moment;
+use id_policy::{Latest, decide};
 use retry::{Ended, verdict_on, wait_after};
-use service_model_types::decided::Verdict;
-use service_model_types::transfer::Transfer;
+use service_model_types::answer::Acknowledged;
+use service_model_types::decided::{Decision, Verdict};
+use service_model_types::transfer::{Delivery, Transfer};
 use sparse_numbers::SparseNumbers;
 use std::alloc::AllocGlobal;
 use std::process::Abort;
 use task_token::{RUN_TEXT_LENGTH, RunText, TOKEN_TEXT_LENGTH, TaskToken};
 use timeouts::Deadlines;
 use wf_event::RetryPolicy;
-use wf_event_values::{Field, RunId, Span, Status, TaskKind};
+use wf_event_values::{ConflictPolicy, Field, Id, ReusePolicy, RunId, Span, Status, TaskKind};
 
 /// The sizes by which the allocator is told, in bytes.
 const REFUSE_ALL: usize = 1_000_003;
@@ -40,6 +40,7 @@ fn deadlines<R: Abort + AllocGlobal>(rt: &R) {
     let second = deadlines.add(early);
     assert!(rt; are_same(deadlines.least(), Some(early)));
     deadlines.remove(second);
+    assert!(rt; are_same(deadlines.least(), Some(late)));
     assert!(rt; are_same(deadlines.due(moment(rt, 9)), Some(late)));
     deadlines.clear();
     assert!(rt; deadlines.least().is_none());
@@ -70,21 +71,35 @@ fn transfers<R: Abort + AllocGlobal>(rt: &R) {
         panic!(rt; "no memory")
     };
     ask_for(rt, REFUSE_ALL);
-    outbox.issue(1, content(5));
-    assert!(rt; first_number(&outbox) == 1);
-    let transfer = Transfer::restored(1, 1, content(5));
-    assert!(rt; shown_delivery(inbox.judge(&transfer)) == "accepted");
-    assert!(rt; shown_delivery(inbox.accept(&transfer)) == "accepted");
-    assert!(rt; shown_acknowledged(outbox.acknowledge(1, 1)) == "acknowledged");
-    assert!(rt; first_number(&outbox) == 0);
+    outbox.issue(1, content());
+    assert!(rt; first_number(&outbox, 1) == 1);
+    let transfer = Transfer::restored(1, 1, content());
+    assert!(rt; matches!(inbox.judge(&transfer), Delivery::Accepted));
+    assert!(rt; matches!(inbox.accept(&transfer), Delivery::Accepted));
+    assert!(rt; matches!(outbox.acknowledge(1, 1), Acknowledged::Acknowledged));
+    assert!(rt; first_number(&outbox, 1) == 0);
     ask_for(rt, REFUSE_NONE);
 }
 
+/// A start without policies that allow it, with the request id of the open run.
+fn decided(first: &Id, given: &Id) -> Decision {
+    let latest = Latest {
+        status: Status::Running,
+        request_id: Some(first),
+    };
+    decide(
+        Some(&latest),
+        ReusePolicy::RejectDuplicate,
+        ConflictPolicy::Fail,
+        Some(given),
+    )
+}
+
 fn decisions<R: Abort + AllocGlobal>(rt: &R) {
-    let (first, given) = (id(rt, "r1"), id(rt, "r1"));
+    let (first, given) = (id(rt), id(rt));
     let fields = fields(rt.alloc(), 1000, 200, 0);
     ask_for(rt, REFUSE_ALL);
-    assert!(rt; decided_by(Status::Running, first.as_ref(), given.as_ref()) == "same");
+    assert!(rt; matches!(decided(&first, &given), Decision::Same));
     let Ok(policy) = RetryPolicy::new(fields) else {
         panic!(rt; "no policy")
     };

@@ -22,7 +22,7 @@ mod trace;
 
 pub use fault::{JournaledFault, ScriptFault};
 pub use journaled::{
-    Journaled, commit, of_commit, of_serving, run_journaled, run_resumed_journaled,
+    Journaled, commit, empty, of_commit, of_serving, run_journaled, run_resumed_journaled,
 };
 pub use line::{LINE_LIMIT, Line};
 pub use reading::asked;

@@ -6,6 +6,7 @@ pub mod StartLemmas
 mod ResumeLemmas
 pub mod JournalLemmas
 pub mod ServedLemmas
+mod RouteLemmas
 mod TurnLemmas
 mod TransferLemmas
 mod GroundLemmas

@@ -39,7 +39,7 @@ use Rattle.service.specs.Headline.{IsSequential, content_of}
 use Rattle.service.specs.Starting.{start_of}
 use Rattle.service.proofs.OnceLemmas.{delivered-once}
 use Rattle.service.proofs.StartLemmas.{counts-all, found-at, start-is-fit}
-use Rattle.service.specs.Services.{known_by, Answered, IsOpened, IsPassOf, IsServedAtLast, IsServedOn, IsServedOnBy, IsTriedOn}
+use Rattle.service.specs.Services.{known_by, IsOpened, IsPassOf, IsServedAtLast, IsServedOn, IsServedOnBy, IsTriedOn}
 
 -- nothing refuses, so the test holds
 unrefused : (b : Bool) (rest : Option Refusal) (e : Refusal) → ◌≡◌ {A = Option Refusal} (if b then rest else Some e) None → b ≡ true
@@ -63,7 +63,7 @@ home-below K (Workflow id) rest some none = mod_below (hash_of id) K.shards (ome
 home-below K (Token t) rest some none = token-below K t (unrefused _ _ _ (first-none _ rest none))
 home-below K Part rest some none = absurd (cc)
 
-pub shard-below : (K : Settings) (o : Operation) → 1 ≤ K.shards → refusal_of K o ≡ None → shard_of K o < K.shards
+shard-below : (K : Settings) (o : Operation) → 1 ≤ K.shards → refusal_of K o ≡ None → shard_of K o < K.shards
 shard-below K o some none = home-below K (home o) (commands_refusal o) some none
 
 -- a shard that nothing refuses is there
@@ -178,14 +178,6 @@ needs-nothing contents s (operation.NextTransfer q) h = tt
 needs-nothing contents s operation.NextDispatch h = tt
 needs-nothing contents s (operation.Dispatched q) h = tt
 
--- what was served is answered, where nothing refuses it
-pub by-step : (o : Option Refusal) (served : Type 0) (v w : View Request Content) (r : Reply) → o ≡ None → served → Answered o served v w r
-by-step o served v w r none h = let P : Option Refusal → Type 0 = λ o. Answered o served v w r in subst P (sym none) h
-
--- a refusal answers, where the pass is as it was
-pub by-refusal : (o : Option Refusal) (served : Type 0) (v : View Request Content) (e : Refusal) → o ≡ Some e → Answered o served v v (Err e)
-by-refusal o served v e some = let P : Option Refusal → Type 0 = λ o. Answered o served v v (Err e) in subst P (sym some) (refl, refl)
-
 -- what two clauses say about the value of an Ok
 pub both : {T E : Type 0} (r : Result T E) (P Q R : T → Type 0) → ((x : T) → P x → Q x → R x) → IfOk r P → IfOk r Q → IfOk r R
 both (Ok x) P Q R f h k = f x h k
@@ -197,39 +189,39 @@ weaker (Ok x) P Q f h = f x h
 weaker (Err e) P Q f h = tt
 
 -- A step of the gate is one of the service, whichever way its parts are seen: x and p as they lie in memory are y and q as clauses read them
-pub tried : (x y : Service) (p q : Pass) (w : gates.PassView) → x ≡ y → p ≡ q → (refusal : Option Refusal) (shard : ℕ) (a : Request) (result : Result Reply (Refused × Request)) → IsPassOf q y → refusal ≡ None
+pub tried : (x y : Service) (p q : Pass) (w : gates.PassView) → x ≡ y → p ≡ q → (shard : ℕ) (a : Request) (result : Result Reply (Refused × Request)) → IsPassOf q y
     → gates.IsPassOf w x.gate → gate.number w.known ≡ gate.number p.inner.known
     → IfOk result (λ r. gate.Stepped after answer KeepsHistories p.inner.known w.known shard a r) → IfOk result (λ r. gate.Stamped p.inner.known w.known shard)
     → IfErr result (λ e. e.1 ≡ a) → IfErr result (λ e. gate.Refuses e.0 p.inner.known w.known shard)
-    → IsTriedOn y q (record { inner = w; hints = p.hints }) refusal shard a result
-tried x y p q w is same refusal shard a result own none kept named step stamp back err =
+    → IsTriedOn y q (record { inner = w; hints = p.hints }) None shard a result
+tried x y p q w is same shard a result own kept named step stamp back err =
     let whole : Pass = record { inner = w; hints = p.hints } in
     let own_here : IsPassOf p x = subst (λ (z : Service). IsPassOf p z) (sym is) (subst (λ (u : Pass). IsPassOf u y) (sym same) own) in
-    let here : IsTriedOn x p whole refusal shard a result = record {
+    let here : IsTriedOn x p whole None shard a result = record {
       own = record { opened = own_here.opened; own = kept; hints = own_here.hints };
       named = named;
       hints = refl;
-      ok = both result _ _ _ (λ r stepped stamped. by-step _ _ _ _ r none (served p w.known x shard a r own_here stepped stamped)) step stamp;
+      ok = both result _ _ _ (λ r stepped stamped. served p w.known x shard a r own_here stepped stamped) step stamp;
       back = back;
       err = err;
     } in
-    subst (λ (u : Pass). IsTriedOn y u whole refusal shard a result) same (subst (λ (z : Service). IsTriedOn z p whole refusal shard a result) is here)
+    subst (λ (u : Pass). IsTriedOn y u whole None shard a result) same (subst (λ (z : Service). IsTriedOn z p whole None shard a result) is here)
 
 -- the same, where it may have waited
-pub served-on : {E : Type 0} (x y : Service) (p q : Pass) (w : gates.PassView) → x ≡ y → p ≡ q → (refusal : Option Refusal) (shard : ℕ) (a : Request) (result : Result Reply (E × Request)) → IsPassOf q y → refusal ≡ None
+pub served-on : {E : Type 0} (x y : Service) (p q : Pass) (w : gates.PassView) → x ≡ y → p ≡ q → (shard : ℕ) (a : Request) (result : Result Reply (E × Request)) → IsPassOf q y
     → gates.IsPassOf w x.gate → gate.number w.known ≡ gate.number p.inner.known
     → IfOk result (λ r. gate.SteppedAt after answer KeepsHistories p.inner.known w.known shard a r) → IfOk result (λ r. gate.Stamped p.inner.known w.known shard)
     → IfErr result (λ e. e.1 ≡ a) → IfErr result (λ e. gate.Waited p.inner.known w.known shard)
-    → IsServedOnBy y q (record { inner = w; hints = p.hints }) refusal shard a result
-served-on x y p q w is same refusal shard a result own none kept named step stamp back err =
+    → IsServedOnBy y q (record { inner = w; hints = p.hints }) None shard a result
+served-on x y p q w is same shard a result own kept named step stamp back err =
     let whole : Pass = record { inner = w; hints = p.hints } in
     let own_here : IsPassOf p x = subst (λ (z : Service). IsPassOf p z) (sym is) (subst (λ (u : Pass). IsPassOf u y) (sym same) own) in
-    let here : IsServedOnBy x p whole refusal shard a result = record {
+    let here : IsServedOnBy x p whole None shard a result = record {
       own = record { opened = own_here.opened; own = kept; hints = own_here.hints };
       named = named;
       hints = refl;
-      ok = both result _ _ _ (λ r stepped stamped. by-step _ _ _ _ r none (served-at-last p w.known x shard a r own_here stepped stamped)) step stamp;
+      ok = both result _ _ _ (λ r stepped stamped. served-at-last p w.known x shard a r own_here stepped stamped) step stamp;
       back = back;
       err = err;
     } in
-    subst (λ (u : Pass). IsServedOnBy y u whole refusal shard a result) same (subst (λ (z : Service). IsServedOnBy z p whole refusal shard a result) is here)
+    subst (λ (u : Pass). IsServedOnBy y u whole None shard a result) same (subst (λ (z : Service). IsServedOnBy z p whole None shard a result) is here)

@@ -8,6 +8,7 @@ pub mod HeldHints
 pub mod HeldPasses
 pub mod HistoryLaws
 pub mod Ranges
+pub mod Routes
 pub mod Reopening
 pub mod JournalLaws
 pub mod Services

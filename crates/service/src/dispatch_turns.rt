@@ -8,7 +8,7 @@ ghost use Rattle.service.specs.CallRequests.{to_next_dispatch};
 ghost use Rattle.service.specs.Turns.{AnsweredOn, Counts, TurnKept, Turns};
 
 use crate::calls::asked_by_client;
-use crate::route::shard_refusal;
+use crate::route::shard_route;
 use crate::service::{Pass, Service};
 use service_model_types::answer::{Answer, NumberedDispatch, Reply};
 use service_model_types::call::Stop;
@@ -137,8 +137,8 @@ impl<S: ShardObject> Service<S> {
             self.now shard (known_by pass.old) (known_by pass.new) asked r) }
         ensures err { OnErr result (Waited (known_by pass.old) (known_by pass.new) shard) }
     {
-        let refusal = shard_refusal(&self.settings, shard);
-        match self.serve_on(rt, pass, refusal, usize::from(shard), asked) {
+        let route = shard_route(&self.settings, shard);
+        match self.serve_on(rt, pass, route, asked) {
             Ok(reply) => Ok(reply),
             Err(_) => Err(AllocError),
         }

@@ -6,6 +6,7 @@ ghost use Rattle.service_model_types.specs.declared.request.Operation.TheVariant
 ghost use Rattle.service.specs.CallRequests.{ask};
 
 use crate::calls::request;
+use crate::route::shard_of_id;
 use crate::service::{Pass, Service};
 use gate::Refused;
 use matching::QueuesPass;
@@ -57,8 +58,8 @@ impl<S: ShardObject> Service<S> {
         ensures hints { IfOk result (λ h. hints_of h ≡ hints_by pass) }
         ensures back_hints { IfErr result (λ e. hints_by e.1 ≡ hints_by pass) }
     {
+        let slot = shard_of_id(&self.settings, &asked.get().workflow_id);
         let request = request(at, Operation::Start(asked));
-        let slot = self.slot_of(&request);
         let (inner, hints) = pass.into_parts();
         match self.gate.try_enter(inner, slot, request) {
             Ok(inner) => Ok(Held { inner, hints }),

@@ -1,8 +1,9 @@
 //! The service and its passes, and the request that every call makes.
 
-ghost use Rattle.std.specs.Prelude.{◌≡◌, ◌<◌};
+ghost use Rattle.std.specs.Prelude.{◌≡◌, ◌<◌, IfOk};
 
 use crate::close::PassRoom;
+use crate::route::Route;
 use gate::Refused;
 use matching::{Queues, QueuesPass};
 use service_model_types::answer::Reply;
@@ -13,7 +14,6 @@ use shard_gate::{ShardGate, ShardObject, ShardPass};
 use std::alloc::AllocError;
 use std::marker::Model;
 use std::sync::{Mutex, Wait};
-use wf_event_values::Refusal;
 
 /// A workflow service, over shards that `S` keeps.
 pub struct Service<S: ShardObject> {
@@ -76,7 +76,8 @@ impl<S: ShardObject> Pass<S> {
 }
 
 impl<S: ShardObject> Service<S> {
-    ghost use Rattle.service.specs.Services.{IsPassOf, IsServedBy, IsServedOnBy, IsTried, IsTriedOn, settings_of};
+    ghost use Rattle.service.specs.Services.{IsPassOf, IsServedBy, IsTried, settings_of};
+    ghost use Rattle.service.specs.Routes.{IsServedVia, IsTriedVia};
 
     /// The gate and the queues, and the room that closing needs.
     pub(crate) fn into_parts(self) -> (ShardGate<S>, Queues, Mutex<PassRoom<S>>)
@@ -116,9 +117,8 @@ impl<S: ShardObject> Service<S> {
         requires { IsPassOf pass.old self.now }
         ensures { IsTried self.now pass.old pass.new request result }
     {
-        let refusal = self.refusal_of(&request.request().operation);
-        let slot = self.slot_of(request.request());
-        self.try_serve_on(pass, refusal, slot, request)
+        let route = self.route(request.request());
+        self.try_serve_on(pass, route, request)
     }
 
     /// Serves a request as `try_serve` does, trying again while another pass is there. It may wait
@@ -135,47 +135,44 @@ impl<S: ShardObject> Service<S> {
         requires { IsPassOf pass.old self.now }
         ensures { IsServedBy self.now pass.old pass.new request result }
     {
-        let refusal = self.refusal_of(&request.request().operation);
-        let slot = self.slot_of(request.request());
-        self.serve_on(rt, pass, refusal, slot, request)
+        let route = self.route(request.request());
+        self.serve_on(rt, pass, route, request)
     }
 
-    /// Serves a request on a shard, if no other pass is there and nothing refuses it.
+    /// Serves a request where it goes, if no other pass is there.
     pub(crate) fn try_serve_on(
         &self,
         pass: &mut Pass<S>,
-        refusal: Option<Refusal>,
-        slot: usize,
+        route: Route,
         request: ClientRequest,
     ) -> Result<Reply, (Refused, Request)>
         requires own { IsPassOf pass.old self.now }
-        requires there { refusal ≡ None → slot < (settings_of self.now).shards }
-        ensures { IsTriedOn self.now pass.old pass.new refusal slot request result }
+        requires there { IfOk route (λ slot. slot < (settings_of self.now).shards) }
+        ensures { IsTriedVia self.now pass.old pass.new route request result }
     {
-        match refusal {
-            Some(refusal) => Ok(Err(refusal)),
-            None => self
+        match route {
+            Err(refusal) => Ok(Err(refusal)),
+            Ok(slot) => self
                 .gate
                 .try_step(&mut pass.inner, slot, request.into_request()),
         }
     }
 
-    /// Serves a request on a shard, trying again while another pass is there, unless it is refused.
+    /// Serves a request where it goes, trying again while another pass is there.
     pub(crate) fn serve_on<R: Wait>(
         &self,
         rt: &R,
         pass: &mut Pass<S>,
-        refusal: Option<Refusal>,
-        slot: usize,
+        route: Route,
         request: ClientRequest,
     ) -> Result<Reply, (AllocError, Request)>
         requires own { IsPassOf pass.old self.now }
-        requires there { refusal ≡ None → slot < (settings_of self.now).shards }
-        ensures { IsServedOnBy self.now pass.old pass.new refusal slot request result }
+        requires there { IfOk route (λ slot. slot < (settings_of self.now).shards) }
+        ensures { IsServedVia self.now pass.old pass.new route request result }
     {
-        match refusal {
-            Some(refusal) => Ok(Err(refusal)),
-            None => self
+        match route {
+            Err(refusal) => Ok(Err(refusal)),
+            Ok(slot) => self
                 .gate
                 .step(rt, &mut pass.inner, slot, request.into_request()),
         }

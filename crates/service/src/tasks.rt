@@ -6,7 +6,7 @@ ghost use Rattle.service.specs.CallRequests.{ask, to_start_task};
 ghost use Rattle.service.specs.Contents.{shard_refusal};
 
 use crate::calls::asked_by_client;
-use crate::route::shard_refusal;
+use crate::route::shard_route;
 use crate::service::{Pass, Service};
 use gate::Refused;
 use service_model_types::answer::Reply;
@@ -36,9 +36,9 @@ impl<S: ShardObject> Service<S> {
             (shard_refusal (settings_of self.now) hint.shard) hint.shard
             (to_start_task at hint) result }
     {
-        let refusal = shard_refusal(&self.settings, hint.shard);
+        let route = shard_route(&self.settings, hint.shard);
         let start = asked_by_client(at, Operation::StartTask(hint.task()));
-        self.try_serve_on(pass, refusal, usize::from(hint.shard), start)
+        self.try_serve_on(pass, route, start)
     }
 
     /// Takes the task that a hint names for a worker, where it still waits to be taken, else answers
@@ -58,9 +58,9 @@ impl<S: ShardObject> Service<S> {
             (shard_refusal (settings_of self.now) hint.shard) hint.shard
             (to_start_task at hint) result }
     {
-        let refusal = shard_refusal(&self.settings, hint.shard);
+        let route = shard_route(&self.settings, hint.shard);
         let start = asked_by_client(at, Operation::StartTask(hint.task()));
-        self.serve_on(rt, pass, refusal, usize::from(hint.shard), start)
+        self.serve_on(rt, pass, route, start)
     }
 
     /// [`Service::complete_workflow_task`] that never waits.

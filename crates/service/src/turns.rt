@@ -4,7 +4,7 @@ ghost use Rattle.service.specs.CallRequests.{to_turn_timers};
 ghost use Rattle.service.specs.Contents.{shard_refusal};
 
 use crate::calls::asked_by_client;
-use crate::route::shard_refusal;
+use crate::route::shard_route;
 use crate::service::{Pass, Service};
 use gate::Refused;
 use service_model_types::answer::Reply;
@@ -33,9 +33,9 @@ impl<S: ShardObject> Service<S> {
             (shard_refusal (settings_of self.now) shard) shard
             (to_turn_timers at) result }
     {
-        let refusal = shard_refusal(&self.settings, shard);
+        let route = shard_route(&self.settings, shard);
         let turn = asked_by_client(at, Operation::TimerTurn);
-        self.try_serve_on(pass, refusal, usize::from(shard), turn)
+        self.try_serve_on(pass, route, turn)
     }
 
     /// Lets the first deadline of a shard fire, if it is due at that moment, else answers `NothingDue`.
@@ -56,9 +56,9 @@ impl<S: ShardObject> Service<S> {
             (shard_refusal (settings_of self.now) shard) shard
             (to_turn_timers at) result }
     {
-        let refusal = shard_refusal(&self.settings, shard);
+        let route = shard_route(&self.settings, shard);
         let turn = asked_by_client(at, Operation::TimerTurn);
-        self.serve_on(rt, pass, refusal, usize::from(shard), turn)
+        self.serve_on(rt, pass, route, turn)
     }
 
     /// [`Service::serve_step`] that never waits.
@@ -73,9 +73,8 @@ impl<S: ShardObject> Service<S> {
         requires { IsPassOf pass.old self.now }
         ensures { IsTriedStep self.now pass.old pass.new call result }
     {
-        let refusal = self.refusal_of_step(&call);
-        let slot = self.slot_of_step(&call);
-        self.try_serve_on(pass, refusal, slot, call.into_client())
+        let route = self.route_of_step(&call);
+        self.try_serve_on(pass, route, call.into_client())
     }
 
     /// Serves a call of one step, whichever it is. It may wait for ever.
@@ -91,8 +90,7 @@ impl<S: ShardObject> Service<S> {
         requires { IsPassOf pass.old self.now }
         ensures { IsServedStep self.now pass.old pass.new call result }
     {
-        let refusal = self.refusal_of_step(&call);
-        let slot = self.slot_of_step(&call);
-        self.serve_on(rt, pass, refusal, slot, call.into_client())
+        let route = self.route_of_step(&call);
+        self.serve_on(rt, pass, route, call.into_client())
     }
 }

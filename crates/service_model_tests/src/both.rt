@@ -1,5 +1,7 @@
 //! A shard that keeps its runs by tables beside one that keeps them by their journals.
 
+ghost use Rattle.service_model_types.specs.declared.content.Content.{Content};
+ghost use Rattle.shard.specs.Standing.{StandsFor};
 ghost use Rattle.shard.specs.View.{IsSetup};
 ghost use Rattle.std.specs.Prelude.{IfOk};
 
@@ -12,6 +14,7 @@ use service_model_types::content::Setup;
 use service_model_types::request::{Operation, Request};
 use service_model_types::settings::main_queue;
 use shard::Shard;
+use shard_store::Store;
 use std::alloc::{AllocError, Global};
 use std::marker::Model;
 use step_record::Entry;
@@ -47,7 +50,7 @@ impl From<AllocError> for Fault {
 }
 
 /// Service 1's shard of that number, with the queue `main`.
-fn setup(alloc: Global, shard: u16, shards: u16, retention: Span) -> Result<Setup, Fault>
+pub(crate) fn setup(alloc: Global, shard: u16, shards: u16, retention: Span) -> Result<Setup, Fault>
     ensures { IfOk result (λ setup. IsSetup setup) }
 {
     if shards == 0 || shards > 64 || shard >= shards {
@@ -64,7 +67,7 @@ fn setup(alloc: Global, shard: u16, shards: u16, retention: Span) -> Result<Setu
 
 /// A shard that stands for what was asked of it.
 #[derive(Drop)]
-struct Standing<T: KeepsRun> {
+pub(crate) struct Standing<T: KeepsRun> {
     shard: Shard<T>,
 }
 
@@ -88,6 +91,24 @@ impl<T: KeepsRun> Standing<T> {
             Ok(shard) => Ok(Standing { shard }),
             Err(error) => Err(error),
         }
+    }
+
+    /// A shard that a snapshot restored.
+    pub(crate) fn of(alloc: Global, store: Store<T>) -> Result<Standing<T>, AllocError>
+        requires { (S : Content) × StandsFor store S }
+    {
+        match Shard::from_store(alloc, store) {
+            Ok(shard) => Ok(Standing { shard }),
+            Err(error) => Err(error),
+        }
+    }
+
+    /// What it says to the step of a line.
+    pub(crate) fn asked(&mut self, alloc: Global, line: &str) -> Result<String, Fault> {
+        let Some(entry) = read_entry(alloc, line.as_bytes())? else {
+            return Err(Fault::Unread);
+        };
+        Ok(said(alloc, self.serve(&entry.request)?)?)
     }
 
     /// Serves a request in the gate's two halves.

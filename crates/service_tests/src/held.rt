@@ -7,9 +7,8 @@ ghost use Rattle.service.specs.Services.{IsPassOf, known_by};
 ghost use Rattle.service_tests.specs.Passes.{ComesBack};
 ghost use Rattle.std.specs.Thread.{IsSync};
 
-use crate::asked::settings;
+use crate::asked::{START_A, START_B, settings, start};
 use crate::passes::{close, give_back, open, take_pass};
-use crate::values::{boxed, start};
 use service::{KeepsShard, Pass, Refused, Service};
 use service_model_types::answer::{Answer, Reply};
 use service_model_types::home::Home;
@@ -44,13 +43,13 @@ fn tried<S: KeepsShard, R: Abort + AllocGlobal>(
     rt: &R,
     service: &Service<S>,
     pass: &mut Pass<S>,
-    workflow_id: &str,
+    line: &str,
     shard: u16,
 ) -> &'static str
     requires { IsPassOf pass.old service.now }
     ensures { ComesBack service.now pass.old pass.new }
 {
-    let asked = boxed(rt, start(rt, workflow_id));
+    let asked = start(rt, line);
     match &service.try_start(pass, asked, Moment::zero()) {
         Ok(reply) => began(reply, shard),
         Err((Refused::Busy, request)) if names_a(request) => "busy",
@@ -67,8 +66,8 @@ fn start_both<S: KeepsShard, R: Abort + AllocGlobal>(
     requires { IsPassOf pass service.now }
     ensures { ComesBack service.now pass result }
 {
-    assert!(rt; tried(rt, service, &mut pass, "b", 1) == "started");
-    assert!(rt; tried(rt, service, &mut pass, "a", 0) == "busy");
+    assert!(rt; tried(rt, service, &mut pass, START_B, 1) == "started");
+    assert!(rt; tried(rt, service, &mut pass, START_A, 0) == "busy");
     pass
 }
 
@@ -104,7 +103,7 @@ fn stay_and_leave<S: KeepsShard + Send + Sync, R: Abort + AllocGlobal + Threads 
     ensures named { (number (known_by result.0) ≡ number (known_by first))
         × (number (known_by result.1) ≡ number (known_by second)) }
 {
-    let asked = boxed(rt, start(rt, "a"));
+    let asked = start(rt, START_A);
     let Ok(held) = service.try_enter_start(first, asked, Moment::zero()) else {
         panic!(rt; "the shard was free")
     };
@@ -134,7 +133,7 @@ pub(crate) fn a_pass_on_a_shard_keeps_others_out<
     let second = take_pass(&service, &mut passes);
     let first = take_pass(&service, &mut passes);
     let (first, mut second) = stay_and_leave(rt, &service, first, second);
-    assert!(rt; tried(rt, &service, &mut second, "a", 0) == "already started");
+    assert!(rt; tried(rt, &service, &mut second, START_A, 0) == "already started");
     give_back(rt, &service, &mut passes, first);
     give_back(rt, &service, &mut passes, second);
     assert!(rt; have_passes(&close(service, passes)));

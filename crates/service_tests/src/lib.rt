@@ -16,6 +16,4 @@ mod shown;
 #[cfg(test)]
 mod tests;
 #[cfg(test)]
-mod values;
-#[cfg(test)]
 mod without_memory;

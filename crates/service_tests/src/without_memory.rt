@@ -10,10 +10,9 @@ ghost use Rattle.service.specs.Services.{IsPassOf, known_by, settings_of};
 ghost use Rattle.service_model_types.specs.declared.content.Content.{Content};
 ghost use Rattle.service_tests.specs.Passes.{ComesBack, InOrder};
 
-use crate::asked::{call, settings};
+use crate::asked::{START_D, call, settings, start};
 use crate::passes::{give_back, open, take_pass};
 use crate::shown::came;
-use crate::values::{boxed, start};
 use gate::Object;
 use service::{KeepsShard, Pass, Service};
 use service_model_types::content::Setup;
@@ -174,7 +173,7 @@ fn leave_and_meet<S: KeepsShard, R: Abort + AllocGlobal>(
     ensures first { ComesBack service.now first result.0 }
     ensures second { ComesBack service.now second result.1 }
 {
-    let asked = boxed(rt, start(rt, "d"));
+    let asked = start(rt, START_D);
     let Ok(held) = service.try_enter_start(first, asked, Moment::zero()) else {
         panic!(rt; "the shard was free")
     };

@@ -1,33 +1,40 @@
-use Rattle.std.proofs.Common.{◌≡◌, ◌<◌, ap, arith, refl, subst}
+use Rattle.std.proofs.Common.{◌≡◌, ◌<◌, Err, Ok, ap, arith, refl, subst, sym}
 use Rattle.std.specs.Prelude.{IfErr, IfOk}
 use Rattle.service_model.specs.Growth.{KeepsHistories}
 use Rattle.service_model.specs.Service.{after, answer}
 use Rattle.gate.specs.Passes.{SteppedAt}
 use Rattle.shard_gate.specs.GateViews as gates
+use Rattle.service.specs.Routes.{IsServedVia}
 use Rattle.service.specs.ServiceViews.{Service}
-use Rattle.service.proofs.ServedLemmas.{by-refusal, needs-nothing, served-on}
+use Rattle.service.proofs.ServedLemmas.{needs-nothing, served-on}
 use Rattle.service.proofs.service.Service.serve_on.Goals as goal
 
 pub step-requires-clause-slot : goal.step-requires-clause-slot
 step-requires-clause-slot g c =
-    let below : c.args.slot < c.args.self.now.settings.shards = c.requires.there c.in-None.is in
+    let below = subst (λ r. IfOk r (λ slot. slot < c.args.self.now.settings.shards)) c.in-Ok.is c.requires.there in
     let slots = ap (λ (x : Service). gates.slots x.gate) c.self.view_is in
     omega (arith, below, c.requires.own.opened.slots, slots)
 
-pub returns-in-Some : goal.returns-in-Some
-returns-in-Some g c = record { own = c.requires.own; named = refl; hints = refl; ok = by-refusal _ _ _ _ c.in-Some.is; back = tt; err = tt }
+pub returns-in-Err : goal.returns-in-Err
+returns-in-Err g c =
+    let x = c.args.self.now in
+    let p = c.args.pass.now in
+    subst (λ r. IsServedVia x p p r c.args.request (Ok (Err c.in-Err.refusal))) (sym c.in-Err.is) (refl, refl)
 
-pub returns-in-None : goal.returns-in-None
-returns-in-None g c =
+pub returns-in-Ok : goal.returns-in-Ok
+returns-in-Ok g c =
     let same = c.into_request.ensures.same in
+    let x = c.args.self.now in
+    let p = c.args.pass.now in
     let v = c.pass.inside.inner.known in
     let w = c.step.new.pass in
-    served-on _ c.args.self.now _ c.args.pass.now w c.self.view_is c.pass.view_is c.args.refusal c.args.slot c.args.request c.step.result c.requires.own c.in-None.is
+    let served = served-on _ x _ p w c.self.view_is c.pass.view_is c.in-Ok.slot c.args.request c.step.result c.requires.own
     c.step.ensures.own c.step.ensures.named
-    (subst (λ q. IfOk c.step.result (λ r. SteppedAt after answer KeepsHistories v w.known c.args.slot q r)) same c.step.ensures.ok)
+    (subst (λ q. IfOk c.step.result (λ r. SteppedAt after answer KeepsHistories v w.known c.in-Ok.slot q r)) same c.step.ensures.ok)
     c.step.ensures.ticket
     (subst (λ q. IfErr c.step.result (λ e. e.1 ≡ q)) same c.step.ensures.back)
-    c.step.ensures.err
+    c.step.ensures.err in
+    subst (λ r. IsServedVia x p (record { inner = w; hints = c.pass.inside.hints }) r c.args.request c.step.result) (sym c.in-Ok.is) served
 
 pub step-requires-clause-grounds : goal.step-requires-clause-grounds
-step-requires-clause-grounds g c = needs-nothing _ c.args.slot c.into_request.result.operation c.into_request.ensures.clients
+step-requires-clause-grounds g c = needs-nothing _ c.in-Ok.slot c.into_request.result.operation c.into_request.ensures.clients

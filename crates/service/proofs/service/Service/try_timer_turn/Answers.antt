@@ -1,10 +1,17 @@
-use Rattle.std.proofs.Common.{◌<◌, ◌∙◌, ap, sym, subst}
+use Rattle.std.proofs.Common.{◌∙◌, ap, subst}
+use Rattle.service_model_types.specs.declared.request.Request.{Request}
+use Rattle.service.specs.Contents.{shard_refusal}
+use Rattle.service.specs.Routes.{routed}
+use Rattle.service.specs.Services.{IsTriedOn}
 use Rattle.service.specs.ServiceViews.{Service}
-use Rattle.service.proofs.ServedLemmas.{named-below}
+use Rattle.service.proofs.RouteLemmas.{tried-via}
 use Rattle.service.proofs.service.Service.try_timer_turn.Goals as goal
 
-pub try_serve_on-requires-clause-there : goal.try_serve_on-requires-clause-there
-try_serve_on-requires-clause-there g c = λ none.
-    let K = c.self.inside.settings in
-    let below = named-below K c.args.shard (sym c.shard_refusal-refusal.ensures ∙ none) in
-    subst (λ n. c.from.result < n) (ap (λ (x : Service). x.settings.shards) c.self.view_is) (subst (λ k. k < K.shards) (sym c.from.ensures) below)
+pub returns : goal.returns
+returns g c =
+    let x = c.args.self.now in
+    let p = c.args.pass.now in
+    let shard = c.args.shard in
+    let Done : Request → Type 0 = λ q. IsTriedOn x p c.try_serve_on.new.pass (shard_refusal x.settings shard) shard q c.try_serve_on.result in
+    let route = c.shard_route-route.ensures.route ∙ ap (λ (y : Service). routed (shard_refusal y.settings shard) shard) c.self.view_is in
+    subst Done c.asked_by_client-turn.ensures (tried-via x p c.try_serve_on.new.pass _ (shard_refusal x.settings shard) shard _ _ c.requires route c.try_serve_on.ensures)
