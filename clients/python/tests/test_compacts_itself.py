@@ -451,8 +451,9 @@ class Run:
         if left and self.draw.randrange(2):
             stage = f"{self.draw.choice(['before', 'after'])}:{self.draw.choice(sorted(STAGES))}:{self.draw.randrange(2)}"
         late = self.draw.random() * 1.5 if left and stage == "-" else None
-        # The last time all clients end with the same call.
-        calls = 1 << 30 if left else max(self.answered()) + MORE_CALLS
+        # The last time all clients end with the same call. It is the last of four, which completes what the poll before it
+        # took: signals to a run whose task is started are buffered, and not in its history before that.
+        calls = 1 << 30 if left else (max(self.answered()) + MORE_CALLS) // 4 * 4
         command = [sys.executable, "-S", str(TESTS / "support/compact_driver.py"), str(BUILT), self.log, self.seed]
         driver = subprocess.Popen(
             [*command, str(CLIENTS), str(calls), "2500", stage, *map(str, self.answered())],
