@@ -17,7 +17,7 @@ import unittest
 from concurrent.futures import ThreadPoolExecutor
 
 from support import CLIENT
-from support.programs import BUILT, COUNTING, SERVER, SERVER_PYTHON, memory_folder, needs_program, needs_server
+from support.programs import BUILT, COUNTING, SERVER, SERVER_PYTHON, memory_folder, needs_program, needs_server, program_file
 from support.served import PATIENCE, Server, until
 from examples import children
 from wfserve.errors import CallLost, NotServed, Refused
@@ -51,10 +51,7 @@ class WithAServer(unittest.TestCase):
 
     def double(self):
         """The counting program, as a file."""
-        path = self.folder / "double"
-        path.write_text(f"#!{COUNTING[0]} -S{COUNTING[3]}", encoding="utf-8")
-        path.chmod(0o755)
-        return str(path)
+        return program_file(self.folder, f"#!{COUNTING[0]} -S{COUNTING[3]}", "double")
 
     def token_file(self, token=TOKEN):
         path = self.folder / "token"

@@ -29,11 +29,14 @@ def memory_folder():
     return tempfile.TemporaryDirectory(dir="/dev/shm" if os.access("/dev/shm", os.W_OK) else None)
 
 
-def program_file(folder, text):
-    """A program of these lines, as a file that can be started."""
-    path = pathlib.Path(folder) / "program"
-    path.write_text(text, encoding="utf-8")
-    path.chmod(0o755)
+def program_file(folder, text, name="program"):
+    """A program of these lines, as a file that can be started. One that runs by this name keeps its own: a file that is
+    executed can't be written."""
+    path = pathlib.Path(folder) / name
+    written = path.with_name(f"{name}.new")
+    written.write_text(text, encoding="utf-8")
+    written.chmod(0o755)
+    written.replace(path)
     return str(path)
 
 
