@@ -23,7 +23,8 @@ knows_run setup s = not (is_open s) || (knows_queue setup (queue_of s) && list_a
 abbrev pub knows_each_of : Setup → List Dispatch → Bool
 knows_each_of setup tasks = list_all (λ (d : Dispatch). knows_queue setup d.queue) tasks
 
--- those of the dispatches that wait, of all runs, and of the tasks that wait to be taken: an opening puts these into their queues
+-- Those of the dispatches that wait, of all runs, and of the tasks that wait to be taken. An opening puts such a task into its queue,
+-- unless its dispatch waits: a dispatch turn does then.
 abbrev pub knows_queues : Setup → List Dispatch → List RunState → Bool
 knows_queues setup waiting runs = knows_each_of setup waiting && (list_all (knows_run setup) runs && knows_each_of setup (all_waiting setup runs))
 

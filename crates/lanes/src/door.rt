@@ -1,6 +1,6 @@
 //! What the lanes' calls go through.
 
-ghost use Rattle.std.specs.Prelude.{◌≡◌, IfOk};
+ghost use Rattle.std.specs.Prelude.{IfOk};
 ghost use Rattle.service.specs.Services.{IsPassOf};
 ghost use Rattle.lanes.specs.Meetings.{PassServed, PassesMet};
 

@@ -11,6 +11,7 @@
 
 mod answer;
 mod batch;
+mod batches;
 mod beside;
 mod calls;
 mod door;

@@ -1,6 +1,6 @@
 //! Lines that are read in several threads.
 
-ghost use Rattle.std.specs.Prelude.{◌≡◌, ℕ, ◌<◌, List, ◌++◌, [], ◌∷◌, length, get_or, OnOk, IfOk, IfSome, IfNone};
+ghost use Rattle.std.specs.Prelude.{◌≡◌, ℕ, ◌<◌, List, ◌++◌, [], ◌∷◌, length, get_or, OnOk, IfSome, IfNone};
 ghost use Rattle.wf_event_values.specs.Gives.{Gives};
 ghost use Rattle.service_model_types.specs.declared.settings.Settings.{Settings};
 ghost use Rattle.script.specs.Asked.{asked};

@@ -1,6 +1,6 @@
-use Rattle.std.proofs.Common.{rules, ◌≡◌, ◌++◌, All, drop, length, take, refl, sym, ap, subst, ◌∙◌, arith}
-use Rattle.std.proofs.lemmas.List.{take-append-le, take_all}
+use Rattle.std.proofs.Common.{rules, ◌≡◌, All, length, refl, sym, ap, subst, ◌∙◌, arith}
 use Rattle.lanes.specs.Printed.{PhasePrinted}
+use Rattle.lanes.proofs.PartLemmas.{put-back}
 use Rattle.lanes.proofs.run.LaneScript.serve_waiting.Goals as goal
 
 pub returns : goal.returns
@@ -11,7 +11,7 @@ returns g c =
     let old = c.args.self.now.lanes in
     let new = c.serve_phase.new.lanes in
     let count : length new ≡ old.len = c.in_ok-refused.ensures.count ∙ ap length c.deref_mut.ensures.value ∙ sym old.ok.0 in
-    let back : take old.len (new ++ drop (length new) old.items) ≡ new = take-append-le old.len new _ (omega (arith, count)) ∙ take_all old.len new (omega (arith, count)) in
+    let back = put-back old.len new old.items count in
     record {
       own = subst (All (λ l. g.D.Door.admits c.args.door.now l.pass)) (sym back) c.serve_phase.ensures.own;
       told = record {
