@@ -25,10 +25,10 @@ BYTES_FOR_A_PROOF = 4 << 30
 FIRST_SECONDS = 2400
 
 
-def lines_of_crates():
+def lines_of_crates(root=None):
     """Returns the line of crates.txt for each crate, and the crates that it stands on."""
     lines, below = {}, {}
-    for line in (ROOT / "crates.txt").read_text().splitlines():
+    for line in ((root or ROOT) / "crates.txt").read_text().splitlines():
         line = line.split("#")[0].strip()
         if line:
             head, _, names = line.partition(":")

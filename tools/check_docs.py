@@ -58,7 +58,7 @@ def tracked() -> list[Path]:
 
 
 def is_wrong_body(file: Path) -> bool:
-    """Whether a file is a wrong body, also one that no run of the whole gate tries, which ends in `.md`."""
+    """Whether a file is a wrong body, which ends as a document does."""
     return file.parent.name == "must-fail"
 
 

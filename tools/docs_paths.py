@@ -13,11 +13,11 @@ from typing import Iterator, NamedTuple
 import docs_claims
 
 COMMENT = {".rt": re.compile(r"^\s*//[/!]?(?: |$)(.*)"), ".antt": re.compile(r"^\s*--(?: |$)(.*)")}
-FOLDERS = {"specs": ".antt", "proofs": ".antt", "src": ".rt", "must-fail": ".edit"}
+FOLDERS = {"specs": ".antt", "proofs": ".antt", "src": ".rt", "must-fail": ".md"}
 ENDS = tuple(FOLDERS.values())
 CITED = re.compile(
     r"(?<![\w./*-])(?:crates/)?(?:(\w+)/)?(" + "|".join(FOLDERS) + r")/"
-    r"(\{[^{}]*\}|[\w-]+(?:/[\w-]+)*)(?!\*)(\.(?:antt|rt|edit)\b|\.\{[^{}]*\}|\.[A-Za-z_][\w'-]*)?"
+    r"(\{[^{}]*\}|[\w-]+(?:/[\w-]+)*)(?!\*)(\.(?:antt|rt|md)\b|\.\{[^{}]*\}|\.[A-Za-z_][\w'-]*)?"
 )
 
 
@@ -61,9 +61,6 @@ def places_of(cited: Cited, name: str, crate: str, top: Path) -> list[Path]:
     """The files and folders of a crate, or of any, that this name can mean."""
     folder, end = f"crates/{crate or '*'}/{cited.folder}", FOLDERS[cited.folder]
     patterns = [f"{folder}/{name}", f"{folder}/{name}{end}", f"{folder}/**/{name}{end}"]
-    if cited.folder == "must-fail":
-        # A wrong body that no run of the whole gate tries.
-        patterns.append(f"{folder}/{name}.md")
     return [path for pattern in patterns for path in top.glob(pattern)]
 
 

@@ -27,10 +27,8 @@ PLACES = {
     "Definition": "crates/{}/specs/{}.antt",
     "Example": "crates/service_model/proofs/{}.antt",
     "Case": "crates/cases/data/{}.cases",
-    "Wrong body": "crates/{}/must-fail/{}.edit",
+    "Wrong body": "crates/{}/must-fail/{}.md",
 }
-# A wrong body of a crate that is dear to check: tools/gate crate tries it, and no run of the whole gate.
-SELDOM_TRIED = "crates/{}/must-fail/{}.md"
 BESIDE = re.compile("\\. ".join(f"{kind}: (.+?)" for kind in KINDS) + "\\.")
 REFERENCES = re.compile(r"`[^`]+`(, `[^`]+`)*")
 CODE = re.compile(r"(\w+)/([\w/]+\.rt)")
@@ -56,8 +54,7 @@ that one in `crates/service_model/proofs/TaskRows.antt` |
 | Case | what the program is given and answers, tested | `signals: a repeated signal` is the case of that title in \
 `crates/cases/data/signals.cases` |
 | Wrong body | a mutant: a deliberate bug in the code or in a definition, which the proofs must reject | \
-`timeouts: fires_before_its_moment` is `crates/timeouts/must-fail/fires_before_its_moment.edit`; of crates that are \
-dear to check it ends in `.md` |
+`timeouts: fires_before_its_moment` is `crates/timeouts/must-fail/fires_before_its_moment.md` |
 
 A `-` says that there is nothing of that kind. Some references stand at several rules.
 """
@@ -82,8 +79,6 @@ def fault_of_reference(kind: str, reference: str, top: Path) -> str | None:
     if not colon or len(parts) != (2 if kind == "Definition" else 1):
         return f"no reference to a {kind.lower()}: {reference}"
     file = PLACES[kind].format(*parts, name)
-    if kind == "Wrong body" and not (top / file).is_file():
-        file = SELDOM_TRIED.format(*parts, name)
     if not (top / file).is_file():
         return f"no such {kind.lower()}: {reference} ({file})"
     word = re.escape(name)

@@ -1,9 +1,8 @@
-"""The gate of single crates, on a copy in which those of their wrong bodies that no run of the whole gate tries
-(`must-fail/*.md`) are as all others. The copy lies in a folder of its own, since `rt ci` takes no second crates.txt in a tree.
+"""The gate of single crates, on a copy of them and of what they stand on, in which their wrong bodies end in `.edit`.
 
-`rt ci NAME..` makes it there. For a toolchain whose `rt ci` takes no names it is made of other commands: a verdict, which
-proves a crate, its tests and all below it from nothing; then its tests; then its wrong bodies. `rt ci` also runs programs
-outside the repository, and compares what two compilers make of them: that is left to it.
+So `rt ci` tries these there, and none at the top of the tree. It takes from the work that is kept on the machine what is
+proved already. What was tried is read from its lines, body by body: one that can't be applied or read, or of which nothing
+is known, is as much a failure as one that is not refused.
 """
 from __future__ import annotations
 
@@ -13,19 +12,29 @@ import shutil
 import subprocess
 import sys
 import tempfile
+from collections.abc import Callable, Iterable, Iterator
 from pathlib import Path
-from typing import Iterator
 
 import build_program
+import rests_on
+import tried
 
 TOP = build_program.ROOT
-TAKES_NAMES = re.compile(r"^\s*rt ci \[?NAME", re.MULTILINE)
+REFUSED = re.compile(r"rt: must-fail (\w+)/([\w.-]+)\.edit: refused, as it must be")
+# How many that were not refused are named.
+NAMED = 20
+
+Follow = Callable[[Iterable[str], list[str]], None]
 
 
-def takes_names() -> bool:
-    """Whether `rt ci` of the toolchain that is here takes crates' names."""
-    said = subprocess.run(["rt", "--help"], capture_output=True, text=True, errors="replace")
-    return bool(TAKES_NAMES.search(said.stdout + said.stderr))
+def listed(names: list[str]) -> list[str]:
+    """These crates and all of the tree that they stand on, lowest first."""
+    _, below = build_program.lines_of_crates()
+    found: list[str] = []
+    for name in names:
+        if name not in found:
+            build_program.needed(name, below, found)
+    return found
 
 
 @contextlib.contextmanager
@@ -38,41 +47,65 @@ def copied(names: list[str]) -> Iterator[Path]:
 
 def copy(names: list[str], to: Path) -> None:
     """Makes the copy in this folder. Crates that they stand on have no wrong bodies there."""
-    lines, below = build_program.lines_of_crates()
-    listed: list[str] = []
-    for name in names:
-        if name not in listed:
-            build_program.needed(name, below, listed)
-    for name in listed:
+    lines, _ = build_program.lines_of_crates()
+    crates = listed(names)
+    for name in crates:
         left_out = ("out",) if name in names else ("out", "must-fail")
         shutil.copytree(TOP / "crates" / name, to / "crates" / name, ignore=shutil.ignore_patterns(*left_out))
-    for name in names:
-        for seldom in (to / "crates" / name / "must-fail").glob("*.md"):
-            seldom.rename(seldom.with_suffix(".edit"))
-    (to / "crates.txt").write_text("".join(f"{lines[name]}\n" for name in listed), encoding="utf-8")
+    (to / "crates.txt").write_text("".join(f"{lines[name]}\n" for name in crates), encoding="utf-8")
     shutil.copy(TOP / "HANDLES", to / "HANDLES")
+    # It is the top of a repository, wherever it lies.
+    (to / ".git").mkdir()
 
 
-def steps_of(name: str, top: Path) -> list[tuple[str, list[str], Path]]:
-    """What is made of a crate of a copy: what it is called, the command, and the folder in which it runs."""
-    folder = top / "crates" / name
-    steps = [("verdict", ["rt", "verdict"], folder)]
-    if any("#[test]" in source.read_text(encoding="utf-8") for source in (folder / "src").rglob("*.rt")):
-        steps.append(("tests", ["rt", "test"], folder))
-    if any((folder / "must-fail").glob("*.edit")):
-        steps.append(("wrong bodies", ["rt", "must-fail", name], top))
-    return steps
+def refused_in(lines: Iterable[str]) -> set[tuple[str, str]]:
+    """The wrong bodies that a run's lines say were refused: their crates and names."""
+    return {(found[1], found[2]) for found in map(REFUSED.match, lines) if found}
 
 
-def verdicts(names: list[str]) -> int:
-    """Runs all of it for each crate, also after one that failed. 0 where all passed, and else 1."""
-    print("gate: rt ci of this toolchain takes no names: verdict, tests and wrong bodies are those of a copy")
-    failed = []
+def run(names: list[str], follow: Follow) -> int:
+    """Proves these crates and all below them, and tries all of their wrong bodies. 0 where all passed, and each was refused.
+
+    The note has then a line of this run for each crate of which all were refused, as its files were when they were copied.
+    """
+    commit = tried.commit_of(TOP)
     with copied(names) as top:
-        for name in names:
-            for title, command, folder in steps_of(name, top):
-                print(f"== {name}: {title}", flush=True)
-                if subprocess.run(command, cwd=folder, stdin=subprocess.DEVNULL).returncode:
-                    failed.append(f"{name} ({title})")
-    print(f"gate: FAILED: {', '.join(failed)}" if failed else f"gate: passed: {', '.join(names)}", file=sys.stdout)
-    return 1 if failed else 0
+        tree, kit = rests_on.Tree(top), tried.kit_of()
+        wanted = {name: {body.stem for body in tried.bodies_of(name, top)} for name in dict.fromkeys(names)}
+        sums = {name: tried.sums_of(name, tree, kit) for name in wanted if wanted[name]}
+        for body in top.glob("crates/*/must-fail/*.md"):
+            body.rename(body.with_suffix(".edit"))
+        status, lines = over(top, names, follow)
+    refused = refused_in(lines)
+    left = {name: sorted(body for body in wanted[name] if (name, body) not in refused) for name in sums}
+    tried.note({name: sums[name] for name in sums if not left[name]}, commit, TOP)
+    return told({name: bodies for name, bodies in left.items() if bodies}, sum(map(len, wanted.values())), status)
+
+
+def over(top: Path, names: list[str], follow: Follow) -> tuple[int, list[str]]:
+    """Runs `rt ci` over a copy. Its status, and its lines."""
+    lines: list[str] = []
+
+    def kept(said: Iterable[str]) -> Iterator[str]:
+        for line in said:
+            lines.append(line)
+            yield line
+
+    with subprocess.Popen(["rt", "ci"], cwd=top, stdin=subprocess.DEVNULL, stdout=subprocess.PIPE, text=True, errors="replace") as ran:
+        assert ran.stdout is not None
+        follow(kept(ran.stdout), listed(names))
+    return ran.returncode, lines
+
+
+def told(left: dict[str, list[str]], count: int, status: int) -> int:
+    """Says what came of it, and gives the status."""
+    bodies = [f"{name}/{body}" for name, found in sorted(left.items()) for body in found]
+    if bodies:
+        more = f" and {len(bodies) - NAMED} more" if len(bodies) > NAMED else ""
+        print(f"gate: FAILED: {len(bodies)} of {count} wrong bodies were not refused, or not tried: {', '.join(bodies[:NAMED])}{more}")
+    else:
+        print(f"gate: all {count} wrong bodies were refused")
+    if status:
+        print(f"gate: FAILED: rt ci over the copy ended with status {status}")
+    sys.stdout.flush()
+    return 1 if bodies or status else 0

@@ -23,7 +23,7 @@ class Building(Scratch):
     RT = RT
     FILES = {
         "crates/low/src/lib.rt": "1\n", "crates/high/src/lib.rt": "1\n2\n", "crates/high/proofs/A.antt": "3\n",
-        "crates/high/must-fail/a.edit": "4\n", "build/crates/low/src/lib.rt": "1\n",
+        "crates/high/must-fail/a.md": "4\n", "build/crates/low/src/lib.rt": "1\n",
     }
 
     def setUp(self):

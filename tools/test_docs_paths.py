@@ -17,7 +17,7 @@ FILES = {
     "crates/high/specs/Rules.antt": "-- MEANING: rules\nabbrev pub rule : ℕ\nrule = 0\n",
     "crates/high/proofs/close/gather/Answers.antt": "use a.b.{c}\n",
     "crates/high/proofs/Lemmas.antt": "pub grows : ℕ\ngrows = 0\n",
-    "crates/high/must-fail/forgets.edit": "new: 1\n",
+    "crates/high/must-fail/forgets.md": "new: 1\n",
 }
 THERE = (
     "specs/Rules", "`specs/Rules.antt`", "specs/Rules.rule", "low/specs/Records", "low/specs/{Records, ..}",

@@ -31,7 +31,7 @@ rt: wide NOT PROVED: its library high failed
 """
 # What it is called with comes first, so that what it prints last is what the caller has to end with.
 RT = """#!/bin/sh
-if [ "$1" = --help ]; then echo "       $HELP"; exit 0; fi
+if [ "$1" = version ]; then echo "kit 1"; exit 0; fi
 echo "asked: $*"
 printf '%s' "$SAID"
 exit 3
@@ -63,7 +63,7 @@ class Followed(unittest.TestCase):
 
 
 class Run(unittest.TestCase):
-    """The gate as a program, with a toolchain that takes names."""
+    """The gate as a program."""
 
     def setUp(self):
         folder = tempfile.TemporaryDirectory()
@@ -74,8 +74,7 @@ class Run(unittest.TestCase):
         toolchain.chmod(0o755)
 
     def ran(self, *words, path=None, text=""):
-        where = {"PATH": f"{self.folder}:{os.environ['PATH']}" if path is None else path, "SAID": SAID,
-                 "HELP": "rt ci [NAME..]   the merge gate"}
+        where = {"PATH": f"{self.folder}:{os.environ['PATH']}" if path is None else path, "SAID": SAID}
         return subprocess.run([sys.executable, str(TOOLS / "gate"), *words], input=text, capture_output=True, text=True,
                               env={**os.environ, **where}, timeout=120)
 
@@ -83,9 +82,11 @@ class Run(unittest.TestCase):
         ran = self.ran("proofs")
         self.assertEqual((ran.returncode, ran.stdout), (3, "asked: ci\n" + SAID))
 
-    def test_a_crate_is_asked_for_by_its_name(self):
-        ran = self.ran("crate", "shard", "lanes")
-        self.assertEqual((ran.returncode, ran.stdout), (3, "asked: ci shard lanes\n" + SAID))
+    def test_crates_are_proved_in_a_copy_and_what_was_not_tried_there_is_named(self):
+        ran = self.ran("crate", "retry", "timeouts")
+        self.assertEqual((ran.returncode, ran.stdout.startswith("asked: ci\n" + SAID)), (1, True))
+        self.assertRegex(ran.stdout, r"gate: FAILED: (\d+) of \1 wrong bodies were not refused, or not tried: retry/")
+        self.assertEqual(ran.stdout.splitlines()[-1], "gate: FAILED: rt ci over the copy ended with status 3")
 
     def test_lines_of_another_run_are_handed_on(self):
         ran = self.ran("follow", text=SAID)

@@ -19,7 +19,7 @@ FILES = {
     "crates/low/specs/Words.antt": "-- retention, and once more: retention\n",
     "crates/low/proofs/f/Answers.antt": "retention\n",
     "crates/low/out/kept.rt": "retention\n",
-    "crates/low/must-fail/a.edit": "retention\n",
+    "crates/low/must-fail/a.md": "retention\n",
     "crates/low_tests/src/lib.rt": "retention\n",
     "crates/cases/data/some.cases": "retention\n",
     "docs/CHANGING.md": "Before.\n\n| What was added | Files |\n|---|---|\n| old | 1 |\n\nAfter.\n",
