@@ -42,6 +42,7 @@ pub enum Turn {
 CALLS = """//! Calls.
 
 ghost use Rattle.rules.specs.Rules.{moved, faced};
+ghost use Rattle.words.specs.declared.gait.Gait.TheVariants as gait;
 
 pub struct Walker {
     steps: usize,
@@ -59,9 +60,10 @@ impl Walker {
     pub fn walk(&mut self, by: usize) -> usize
         requires { by ≡ 1 }
         ensures { result ≡ moved self.old }
+        ensures { gait.Slow ≡ gait.Slow }
     {
         // One more.
-        self.steps += by;
+        self.steps += by; // and no less
         self.steps
     }
 
@@ -100,6 +102,7 @@ FILES = {
     "crates.txt": "words:\nrules: words\ncalls: words rules\nhigh: calls\nbeside:\n",
     "crates/words/specs/Words.antt": WORDS,
     "crates/words/src/turn.rt": TURN,
+    "crates/words/src/gait.rt": "/// How fast.\npub(crate) enum Gait {\n    Slow,\n}\n",
     "crates/rules/specs/Rules.antt": RULES,
     "crates/rules/proofs/Lemmas.antt": "moves : moved 0 ≡ 2\nmoves = refl\n",
     "crates/calls/src/walker.rt": CALLS,
@@ -129,6 +132,7 @@ class Reached(Scratch):
         for name, old, new in (
             ("words/specs/Words.antt", "stride = 2", "stride = 3"),
             ("words/src/turn.rt", "    Right,", "    Right,\n    Back,"),
+            ("words/src/gait.rt", "    Slow,", "    Slow,\n    Fast,"),
             ("rules/specs/Rules.antt", "(n + stride)", "(stride + n)"),
             ("calls/src/walker.rt", "by ≡ 1", "by ≡ 2"),
             ("calls/src/walker.rt", "by: usize)", "by: u64)"),
@@ -144,7 +148,7 @@ class Reached(Scratch):
             ("words/specs/Words.antt", "unread = 0", "unread = 1"),
             ("words/src/turn.rt", "/// Which way.", "/// Where to."),
             ("rules/proofs/Lemmas.antt", "refl", "sym refl"),
-            ("calls/src/walker.rt", "// One more.\n        self.steps += by;", "self.steps = self.steps + by;\n\n"),
+            ("calls/src/walker.rt", "// One more.\n        self.steps += by; // and no less", "self.steps = self.steps + by;\n\n"),
             ("calls/src/walker.rt", "/// Goes on.", "/// Goes on and on."),
             ("calls/src/walker.rt", "result ≡ true", "result ≡ false"),
             ("calls/src/walker.rt", "first.walk() > second.walk()", "if first.walk() {\n        true\n    }"),

@@ -156,6 +156,11 @@ class Quarter(unittest.TestCase):
         self.assertAlmostEqual(sum(spent) / len(spent), sum(self.COSTS.values()) / tried.RUNS, delta=0.7)
         self.assertLessEqual(max(spent), 1.5 * sum(self.COSTS.values()) / tried.RUNS)
 
+    def test_as_many_as_come_closest_to_a_quarter(self) -> None:
+        found = {name: Tried(Sums("1", "2", "3"), 3, "a") for name in "abcd"}
+        self.assertEqual(tried.oldest(found, {"a": 8, "b": 3, "c": 2, "d": 27}, 4), ["a", "b"])
+        self.assertEqual(tried.oldest(found, {"a": 8, "b": 5, "c": 0, "d": 27}, 4), ["a"])
+
     def test_the_note_alone_says_which(self) -> None:
         found = self.noted(3) | {"k": Tried(Sums("1", "2", "3"), 1, "a"), "c": Tried(Sums("1", "2", "3"), 2, "a")}
         self.assertEqual(tried.oldest(found, self.COSTS, 4), ["k", "c"])
