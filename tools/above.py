@@ -39,15 +39,20 @@ def measured(text: str) -> dict[str, Seconds]:
 
 def above(crate: str, below: dict[str, list[str]]) -> list[str]:
     """The crates that stand on this one, over however many others, lowest first."""
+    return above_all([crate], below)
+
+
+def above_all(crates: list[str], below: dict[str, list[str]]) -> list[str]:
+    """The crates that stand on one of these and are none of them, lowest first."""
     order: list[str] = []
     for name in below:
         if name not in order:
             build_program.needed(name, below, order)
-    standing = {crate}
+    standing = {*crates}
     for name in order:
         if standing.intersection(below[name]):
             standing.add(name)
-    return [name for name in order if name in standing and name != crate]
+    return [name for name in order if name in standing and name not in crates]
 
 
 def shown(seconds: int | None) -> str:

@@ -4,16 +4,18 @@
     tools/build_program.py NAME
 
 The program and the crates below it are copied to out/build, where crates that don't stand on each
-other are proved side by side. The program then is out/build/crates/NAME/out/NAME. How many minutes
-are left is said by the times of the last build, and before there was one by the sizes of the crates.
+other are proved side by side. The last ones of the longest chain stand on each other: these are proved
+one after another, each with all processors. The program then is out/build/crates/NAME/out/NAME. How
+many minutes are left is told by what each crate costs (tools/costs.txt), and by how fast this build is.
 """
+import contextlib
 import os
 import pathlib
 import shutil
 import subprocess
 import sys
-import time
 
+import costs
 import gate_progress
 
 ROOT = pathlib.Path(__file__).resolve().parent.parent
@@ -21,8 +23,10 @@ BUILD = ROOT / "out" / "build"
 PARTS = ("src", "specs", "proofs")
 # A proof takes up to this much memory.
 BYTES_FOR_A_PROOF = 4 << 30
-# What a first build takes on four quiet cores.
-FIRST_SECONDS = 2400
+# The first of the last crates of the longest chain.
+LAST_FROM = "lanes"
+# Where the last crates lie while the others are proved, since `rt all` proves all crates of a folder.
+ASIDE = "last"
 
 
 def lines_of_crates(root=None):
@@ -64,6 +68,7 @@ def copy(names, lines):
     """Copies the crates' sources. What an earlier build kept in out/ folders stays."""
     kept = BUILD / "crates"
     kept.mkdir(parents=True, exist_ok=True)
+    put_back()
     for folder in kept.iterdir():
         if folder.name not in names:
             leave_program(folder)
@@ -72,7 +77,7 @@ def copy(names, lines):
             shutil.rmtree(kept / name / part, ignore_errors=True)
             if (ROOT / "crates" / name / part).is_dir():
                 shutil.copytree(ROOT / "crates" / name / part, kept / name / part)
-    (BUILD / "crates.txt").write_text("".join(f"{lines[name]}\n" for name in names))
+    write_list(names, lines)
     shutil.copy(ROOT / "HANDLES", BUILD / "HANDLES")
 
 
@@ -82,44 +87,99 @@ def at_once():
     return max(1, min(len(os.sched_getaffinity(0)), memory // BYTES_FOR_A_PROOF))
 
 
-def by_sizes(names):
-    """Returns how long each crate is expected to take where no build was measured: by its lines."""
-    lines = {}
+def split(names, below):
+    """Returns the crates without the last ones of the longest chain, and these, lowest first each."""
+    last = {LAST_FROM} & set(names)
     for name in names:
-        files = [file for part in PARTS for file in (ROOT / "crates" / name / part).rglob("*") if file.is_file()]
-        lines[name] = sum(file.read_bytes().count(b"\n") for file in files)
-    whole = sum(lines.values()) or 1
-    return gate_progress.Expected({name: FIRST_SECONDS * count / whole for name, count in lines.items()})
+        last |= {name} if last.intersection(below[name]) else set()
+    return [name for name in names if name not in last], [name for name in names if name in last]
 
 
-def prove(names, kept):
-    """Proves the crates, and prints a line for each that is through. Returns the last lines if one fails.
-
-    What it took is kept in a file for the next build. A build that finds work of an earlier one takes less
-    than a first one, and what it took says nothing about that: it is not kept.
-    """
-    said, course, began = [], [], time.monotonic()
-    is_first = not any((BUILD / "crates" / name / "out").is_dir() for name in names)
-    expected = gate_progress.read_times(kept) or by_sizes(names)
-    call = ["rt", "all", "check", "--jobs", str(at_once())]
-    with subprocess.Popen(
-        call, cwd=BUILD / "crates", stdout=subprocess.PIPE, stderr=subprocess.STDOUT, text=True
-    ) as run:
-        for line in run.stdout:
-            said.append(line)
-            if line.startswith("== ") and line[3:].strip() in names:
-                course.append((line[3:].strip(), time.monotonic() - began))
-                print(f"build: {how_far(course, names, expected)}", file=sys.stderr, flush=True)
-    if is_first and not run.returncode:
-        gate_progress.write_times(kept, course, time.monotonic() - began)
-    return "".join(said[-30:]) if run.returncode else None
+@contextlib.contextmanager
+def set_aside(names, lines, last):
+    """A block in which the last crates are not among the others. What a build that was killed left aside is put back."""
+    aside, kept = BUILD / ASIDE, BUILD / "crates"
+    aside.mkdir(exist_ok=True)
+    for name in last:
+        (kept / name).rename(aside / name)
+    write_list([name for name in names if name not in last], lines)
+    try:
+        yield
+    finally:
+        put_back()
+        write_list(names, lines)
 
 
-def how_far(course, names, expected):
-    """Says which crate is through, how many are, and how many minutes are left."""
-    name, elapsed = course[-1]
-    left = expected.left([part for part, _ in course], elapsed)
-    return f"{len(course)} of {len(names)}: {name}, {gate_progress.in_minutes(left)}"
+def put_back():
+    """Puts crates back that lie aside."""
+    for folder in (BUILD / ASIDE).glob("*"):
+        shutil.rmtree(BUILD / "crates" / folder.name, ignore_errors=True)
+        folder.rename(BUILD / "crates" / folder.name)
+
+
+def write_list(names, lines):
+    """Writes the list of the crates that are proved."""
+    (BUILD / "crates.txt").write_text("".join(f"{lines[name]}\n" for name in names))
+
+
+class Build:
+    """A build of these crates, lowest first: what is through, and how many minutes are left."""
+
+    def __init__(self, names, last, below, kept):
+        self.names, self.kept = names, kept
+        self.progress = gate_progress.Progress(names)
+        stages = [gate_progress.Stage(tuple(name for name in names if name not in last), False),
+                  gate_progress.Stage(tuple(last), True)]
+        self.model = gate_progress.Model(stages, below, costs.read(ROOT), at_once())
+        self.is_first = not any((BUILD / "crates" / name / "out").is_dir() for name in names)
+
+    def run(self, call, folder):
+        """Runs a call of the toolchain, and says which crates it has proved. Returns its last lines if it fails."""
+        said = []
+        with subprocess.Popen(
+            call, cwd=folder, stdin=subprocess.DEVNULL, stdout=subprocess.PIPE, stderr=subprocess.STDOUT, text=True
+        ) as run:
+            for line in run.stdout:
+                said.append(line)
+                if line.startswith("== "):
+                    self.note(line[3:].strip())
+        return ("".join(said[-30:]) or f"{' '.join(call)} ended with status {run.returncode}\n") if run.returncode else None
+
+    def note(self, name):
+        """Says that a crate is through."""
+        if name in self.progress.crates and name not in self.progress.proved:
+            self.progress.note(f"rt: {name} proved")
+            print(f"build: {self.how_far(name)}", file=sys.stderr, flush=True)
+
+    def how_far(self, name):
+        """Says which crate is through, how many are, and how many minutes are left."""
+        left = gate_progress.in_minutes(self.progress.left(self.model))
+        return f"{len(self.progress.proved)} of {len(self.names)}: {name}, {left}"
+
+    def keep(self):
+        """Keeps what a first build took. One that goes on from an earlier one says nothing about that."""
+        if self.is_first:
+            self.progress.is_whole = True
+            gate_progress.keep(self.progress, self.kept)
+
+
+def prove(names, lines, below, kept):
+    """Proves the crates, and prints a line for each that is through. Returns the last lines if one fails."""
+    first, last = split(names, below)
+    if at_once() < 3 or len(last) < 2:
+        first, last = names, []
+    build = Build(names, last, below, kept)
+    with set_aside(names, lines, last):
+        failure = build.run(["rt", "all", "check", "--jobs", str(at_once())], BUILD / "crates") if first else None
+    for name in last if not failure else ():
+        call = ["rt", "check" if name == names[-1] else "lib", "--jobs", str(at_once())]
+        failure = build.run(call, BUILD / "crates" / name)
+        if failure:
+            break
+        build.note(name)
+    if not failure:
+        build.keep()
+    return failure
 
 
 def link(name):
@@ -160,7 +220,7 @@ def main(words):
         " the first time that takes some 140 minutes of processor time, 40 on four quiet cores",
         file=sys.stderr,
     )
-    failure = prove(names, gate_progress.KEPT / f"build-{name}.json") or link(name)
+    failure = prove(names, lines, below, gate_progress.KEPT / f"build-{name}.json") or link(name)
     if failure:
         print(failure, end="", file=sys.stderr)
         print("build: the build failed", file=sys.stderr)

@@ -7,6 +7,7 @@ is known, is as much a failure as one that is not refused.
 from __future__ import annotations
 
 import contextlib
+import os
 import re
 import shutil
 import subprocess
@@ -15,7 +16,10 @@ import tempfile
 from collections.abc import Callable, Iterable, Iterator
 from pathlib import Path
 
+import above
 import build_program
+import costs
+import gate_progress
 import rests_on
 import tried
 
@@ -63,8 +67,42 @@ def refused_in(lines: Iterable[str]) -> set[tuple[str, str]]:
     return {(found[1], found[2]) for found in map(REFUSED.match, lines) if found}
 
 
-def run(names: list[str], follow: Follow) -> int:
-    """Proves these crates and all below them, and tries all of their wrong bodies. 0 where all passed, and each was refused.
+def model_of(names: list[str]) -> gate_progress.Model:
+    """What a run over these crates is expected to take."""
+    _, below = build_program.lines_of_crates()
+    crates = listed(names)
+    stage = gate_progress.Stage(tuple(crates), "RT_JOBS" not in os.environ)
+    return gate_progress.Model([stage], below, costs.read(TOP), len(os.sched_getaffinity(0)), gate_progress.lines_of(TOP))
+
+
+def expected(names: list[str]) -> str:
+    """What a run over these crates takes where nothing is kept, and which crates above them a change of contracts opens."""
+    _, below = build_program.lines_of_crates()
+    cost, crates = costs.read(TOP), listed(names)
+    bodies = sum(costs.of_bodies(cost.get(name, costs.UNKNOWN), len(tried.bodies_of(name, TOP))) for name in names)
+    higher = above.above_all(names, below)
+    lines = [f"gate: the proofs of {counted(crates)} take {in_words(crates, cost)} of a processor, less where work is kept, and wrong "
+             f"bodies {minutes(bodies)}",
+             f"gate: with other contracts, definitions or private fields, {counted(higher)} above are proved again too, in "
+             f"{in_words(higher, cost)}"]
+    return "\n".join(lines + [f"gate:   {name}, {minutes(cost.get(name, costs.UNKNOWN))}" for name in higher])
+
+
+def counted(names: list[str]) -> str:
+    return "1 crate" if len(names) == 1 else f"{len(names)} crates"
+
+
+def in_words(names: list[str], cost: dict[str, float]) -> str:
+    return minutes(sum(cost.get(name, costs.UNKNOWN) for name in names))
+
+
+def minutes(seconds: float) -> str:
+    return f"{seconds / 60:.0f} min" if seconds >= 60 else f"{seconds:.0f} s"
+
+
+def run(names: list[str], number: int, follow: Follow) -> int:
+    """Proves these crates and all below them, and tries all of their wrong bodies, as the gate's run of this number, or the
+    next one. 0 where all passed, and each was refused.
 
     The note has then a line of this run for each crate of which all were refused, as its files were when they were copied.
     """
@@ -78,7 +116,7 @@ def run(names: list[str], follow: Follow) -> int:
         status, lines = over(top, names, follow)
     refused = refused_in(lines)
     left = {name: sorted(body for body in wanted[name] if (name, body) not in refused) for name in sums}
-    tried.note({name: sums[name] for name in sums if not left[name]}, commit, TOP)
+    tried.note({name: sums[name] for name in sums if not left[name]}, commit, number, TOP)
     return told({name: bodies for name, bodies in left.items() if bodies}, sum(map(len, wanted.values())), status)
 
 

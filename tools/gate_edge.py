@@ -86,11 +86,17 @@ def failed_in(parts: tuple[tuple[str, list[str], str], ...], folder: Path) -> li
     return failed
 
 
-def phase(program: Path) -> int:
-    """Builds and tests the edge with this program. 0 where all passed, or the edge can't be built here."""
+def can_build() -> bool:
+    """Whether the edge can be built here. Where it can't, it is said why."""
     lacking = missing()
     if lacking:
-        print(f"gate: skipped: the compiled edge: there is no {', no '.join(lacking)}: edge/setup.sh installs it")
+        print(f"gate: skipped: the compiled edge: there is no {', no '.join(lacking)}: edge/setup.sh installs it", flush=True)
+    return not lacking
+
+
+def build() -> int:
+    """Builds the edge, and runs those of its tests that need no program. 0 where all passed, or it can't be built here."""
+    if not can_build():
         return 0
     failed = failed_in(CARGO, EDGE)
     without = [name for name in CLIENT if not has_crate(name)]
@@ -98,11 +104,26 @@ def phase(program: Path) -> int:
         print(f"gate: skipped: the edge over PostgreSQL: there is no crate {', no '.join(without)}: edge/setup.sh postgres installs it")
     else:
         failed += failed_in(POSTGRES, EDGE / "postgres")
+    return told(failed)
+
+
+def sockets(program: Path) -> int:
+    """Tests the edge that was built, over sockets, with this program. 0 where all passed, or it can't be built here."""
+    if not can_build():
+        return 0
     named = os.environ.get("WFSERVE", str(program))
-    limits = ["--each", str(CLASS_SECONDS), "--all", str(SOCKETS_SECONDS)]
-    tests = [sys.executable, "by_class.py", *limits]
+    tests = [sys.executable, "by_class.py", "--each", str(CLASS_SECONDS), "--all", str(SOCKETS_SECONDS)]
     shorter = {name: count for name, count in DRAWN.items() if name not in os.environ}
-    if not run("tests over sockets", tests, EDGE / "tests", {"WFSERVE": named, **shorter}, SOCKETS_SECONDS + 60):
-        failed.append("tests over sockets")
+    passed = run("tests over sockets", tests, EDGE / "tests", {"WFSERVE": named, **shorter}, SOCKETS_SECONDS + 60)
+    return told([] if passed else ["tests over sockets"])
+
+
+def phase(program: Path) -> int:
+    """Both, one after the other. 0 where all passed, or the edge can't be built here."""
+    return build() or sockets(program)
+
+
+def told(failed: list[str]) -> int:
+    """Says what failed, and gives the status."""
     print(f"gate: FAILED: {', '.join(failed)}" if failed else "gate: the compiled edge passed", flush=True)
     return 1 if failed else 0

@@ -6,9 +6,9 @@ drawn schedules.
     tools/hostile_use.py
 
 `rt ci` leaves the programs where this looks for them, in crates/NAME/out/NAME. What is drawn is drawn
-anew each day. The status is 1 where a part found something. A part that can't be run here is left out,
-and one that doesn't end in its time is stopped; both are said, and neither is a fault of the programs:
-each part waits itself for a reply and fails where none comes. A longer run of each is made by hand.
+anew each day. The status is 1 where a part found something, where its program isn't built, and where it
+doesn't end in its time: then it is stopped, and nothing is known of what it looks for. A part that wants
+a C compiler is skipped where there is none, which is said. A longer run of each is made by hand.
 """
 import collections
 import datetime
@@ -26,8 +26,8 @@ PROGRAM = ROOT / "crates/wfserve/out/wfserve"
 TESTS = ROOT / "crates/service_tests/out/service_tests_tests"
 LEAVES = ROOT / "crates/leaf_tests/out/leaf_tests_tests"
 SOAK_SECONDS, SCHEDULES, REFUSED_SECONDS = 20, 300, 300
-# Twenty times what a part takes on a quiet machine, and more than it waits for a reply.
-LIMIT_SECONDS = 900
+# Forty times what a part takes on a quiet machine, and more than it waits for a reply: it only ends what hangs.
+LIMIT_SECONDS = 1_800
 
 Part = collections.namedtuple("Part", "title command programs compiles")
 
@@ -59,24 +59,21 @@ def has_compiler():
     return True
 
 
-def why_not(part, compiles):
-    """Why a part can't be run here, or nothing."""
-    missing = [str(program.relative_to(ROOT)) for program in part.programs if not os.access(program, os.X_OK)]
-    if missing:
-        return f"{', '.join(missing)} is not built"
-    return "there is no C compiler for its allocator" if part.compiles and not compiles else None
+def not_built(part):
+    """The programs of a part that aren't built."""
+    return [str(program.relative_to(ROOT)) for program in part.programs if not os.access(program, os.X_OK)]
 
 
-def found_by(part, limit):
-    """Runs a part, with all that it starts. Whether it found something."""
+def failed(part, limit):
+    """Runs a part, with all that it starts. Whether it found something, or did not end in its time."""
     call = [sys.executable, *part.command]
     with subprocess.Popen(call, cwd=ROOT, stdin=subprocess.DEVNULL, start_new_session=True) as run:
         try:
             status = run.wait(timeout=limit)
         except subprocess.TimeoutExpired:
             os.killpg(run.pid, signal.SIGKILL)
-            print(f"== {part.title}: stopped after {limit} s, which says nothing of the programs", flush=True)
-            return False
+            print(f"== {part.title}: STOPPED after {limit} s: what it looks for is not known", flush=True)
+            return True
     print(f"== {part.title}: {f'FOUND SOMETHING, status {status}' if status else 'nothing found'}", flush=True)
     return status != 0
 
@@ -84,13 +81,14 @@ def found_by(part, limit):
 def main():
     compiles, found = has_compiler(), []
     for part in parts(datetime.date.today()):
-        reason = why_not(part, compiles)
-        if reason:
-            print(f"== {part.title}: left out, since {reason}", flush=True)
-            continue
-        print(f"== {part.title}", flush=True)
-        if found_by(part, LIMIT_SECONDS):
+        if not_built(part):
+            print(f"== {part.title}: NOT RUN: there is no {', no '.join(not_built(part))}", flush=True)
             found.append(part.title)
+        elif part.compiles and not compiles:
+            print(f"skipped: {part.title}: there is no C compiler for its allocator", flush=True)
+        else:
+            print(f"== {part.title}", flush=True)
+            found += [part.title] if failed(part, LIMIT_SECONDS) else []
     return 1 if found else 0
 
 

@@ -63,8 +63,10 @@ def program_in(options: argparse.ArgumentParser, given: list[str]) -> argparse.N
 
 
 def status_of(module: str) -> int:
-    """Runs the tests of a script. The status: 0 where all passed, and else 1."""
+    """Runs the tests of a script, and says which were skipped, and why. The status: 0 where all passed, and else 1."""
     run = unittest.main(module=module, argv=[sys.argv[0]], exit=False)
+    for test, why in run.result.skipped:
+        print(f"skipped: {test.id()}: {why}", flush=True)
     return 0 if run.result.wasSuccessful() else 1
 
 

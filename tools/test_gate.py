@@ -84,20 +84,17 @@ class Run(unittest.TestCase):
 
     def test_crates_are_proved_in_a_copy_and_what_was_not_tried_there_is_named(self):
         ran = self.ran("crate", "retry", "timeouts")
-        self.assertEqual((ran.returncode, ran.stdout.startswith("asked: ci\n" + SAID)), (1, True))
+        self.assertEqual((ran.returncode, ran.stdout.count("asked: ci\n" + SAID)), (1, 1))
+        before, _, _ = ran.stdout.partition("asked: ci")
+        self.assertRegex(before, r"^gate: the proofs of \d+ crates take \d+ min of a processor, less .*, and wrong bodies \d+ min\n"
+                                 r"gate: with other contracts, .*, \d+ crates above are proved again too, in \d+ min\n"
+                                 r"gate:   mutable_state, \d+ min\n(?:gate:   .*\n)*gate:   wfserve, \d+ s\n")
         self.assertRegex(ran.stdout, r"gate: FAILED: (\d+) of \1 wrong bodies were not refused, or not tried: retry/")
         self.assertEqual(ran.stdout.splitlines()[-1], "gate: FAILED: rt ci over the copy ended with status 3")
 
     def test_lines_of_another_run_are_handed_on(self):
         ran = self.ran("follow", text=SAID)
         self.assertEqual((ran.returncode, ran.stdout), (0, SAID))
-
-    def test_a_row_of_the_table_counts_what_was_tried(self):
-        said = SAID.replace("high: trying", "shard: trying")
-        ran = self.ran("row", "12", "34", text=said)
-        self.assertEqual(ran.returncode, 0)
-        self.assertRegex(ran.stdout, r"^\| [\w.-]+ \| not measured \| 12 \| 34 \| 2 \| 1 of 3 \|\n$")
-        self.assertRegex(self.ran("row", "1", "2", text="rt: stopped\n").stdout, r"\| 0 \| ended early \|\n$")
 
     def test_what_can_not_be_run_is_said(self):
         for words, path, said in [
@@ -111,10 +108,11 @@ class Run(unittest.TestCase):
                 self.assertIn(said, ran.stderr)
 
     def test_an_edge_that_can_not_be_built_is_skipped_by_name(self):
-        out = io.StringIO()
-        with contextlib.redirect_stdout(out), unittest.mock.patch.object(gate.gate_edge, "REGISTRY", Path(self.folder)):
-            self.assertEqual(gate.edge(), 0)
-        self.assertRegex(out.getvalue(), "skipped: the compiled edge: .*the crate tokio, no the crate hyper")
+        for phase in (gate.edge, gate.edge_sockets, gate.gate_edge.build):
+            out = io.StringIO()
+            with contextlib.redirect_stdout(out), unittest.mock.patch.object(gate.gate_edge, "REGISTRY", Path(self.folder)):
+                self.assertEqual(phase(), 0)
+            self.assertRegex(out.getvalue(), "skipped: the compiled edge: .*the crate tokio, no the crate hyper")
 
     def test_each_quick_part_runs_after_one_that_failed(self):
         out = io.StringIO()

@@ -69,7 +69,7 @@ class Crates(Scratch):
         asked.write_text("", encoding="utf-8")
         with self.with_toolchain(**{"ASKED": str(asked), "ODD": "", "SAID": "", "STATUS": "0", "CI": "true", **variables}):
             with contextlib.redirect_stdout(io.StringIO()) as out:
-                status = gate_crate.run(list(names), lambda lines, listed: out.writelines(lines))
+                status = gate_crate.run(list(names), 0, lambda lines, listed: out.writelines(lines))
         return status, asked.read_text(encoding="utf-8").splitlines(), out.getvalue().splitlines()
 
     def noted(self) -> list[str]:
@@ -118,7 +118,7 @@ class Crates(Scratch):
         tree = rests_on.Tree(self.top)
         with self.with_toolchain():
             sums = {name: tried.sums_of(name, tree, tried.kit_of()) for name in ("low", "high", "wide")}
-            tried.note(sums, "by-hand", self.top)
+            tried.note(sums, "by-hand", 0, self.top)
             due = tried.due(self.top)
         self.assertEqual(list(due), ["high"])
         self.assertEqual(self.ran(*due, ODD="a", SAID="NOT REFUSED: the crate is still proved")[0], 1)

@@ -42,7 +42,7 @@ class Note(Scratch):
     def note(self, *names: str) -> None:
         with self.with_toolchain():
             tree, kit = rests_on.Tree(self.top), tried.kit_of()
-            tried.note({name: tried.sums_of(name, tree, kit) for name in names}, "0123abcd", self.top)
+            tried.note({name: tried.sums_of(name, tree, kit) for name in names}, "0123abcd", 0, self.top)
 
     def change(self, name: str, old: str, new: str) -> None:
         file = self.top / "crates" / name

@@ -14,6 +14,7 @@ with `+` where crates had changes that were not committed. Two runs over one com
 from __future__ import annotations
 
 import argparse
+import fcntl
 import hashlib
 import shutil
 import subprocess
@@ -106,16 +107,18 @@ def write(found: dict[str, Tried], top: Path = TOP) -> None:
     (top / KEPT).write_text(HEAD + "".join(lines), encoding="utf-8")
 
 
-def note(sums: dict[str, Sums], commit: str, top: Path = TOP) -> None:
-    """Notes that all wrong bodies of these crates were refused, as they were with these sums. Lines of crates that have none
-    any more go."""
+def note(sums: dict[str, Sums], commit: str, run: int = 0, top: Path = TOP) -> None:
+    """Notes that all wrong bodies of these crates were refused, as they were with these sums, by the run of this number, or the
+    next one. Lines of crates that have none any more go. Two may note at once."""
     if not sums:
         return
-    found = read(top)
-    run = next_run(found)
-    found |= {name: Tried(those, run, commit) for name, those in sums.items()}
-    names = with_bodies(top)
-    write({name: tried for name, tried in found.items() if name in names}, top)
+    with (top / KEPT).open("a", encoding="utf-8") as held:
+        fcntl.flock(held, fcntl.LOCK_EX)
+        found = read(top)
+        run = run or next_run(found)
+        found |= {name: Tried(those, run, commit) for name, those in sums.items()}
+        names = with_bodies(top)
+        write({name: tried for name, tried in found.items() if name in names}, top)
 
 
 def next_run(found: dict[str, Tried]) -> int:
