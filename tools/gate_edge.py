@@ -13,8 +13,8 @@ EDGE = TOP / "edge"
 REGISTRY = Path("/usr/share/cargo/registry")
 CRATES = ("tokio", "hyper", "httparse", "httpdate", "serde", "serde_derive", "serde_json", "crc32fast", "libc", "mio", "sha2")
 CLIENT = ("tokio-postgres", "tokio-native-tls", "native-tls")
-# Ten times what each takes on a quiet machine.
-SECONDS = 1_800
+# Thirty times what each takes on a quiet machine: beside proofs a build has a lower priority than they.
+SECONDS = 5_400
 # The tests over sockets run class by class. So long each of these may take, and all of them.
 CLASS_SECONDS, SOCKETS_SECONDS = 300, 1_800
 # What the client's own tests draw at full length against the Python server is drawn shorter here. By hand more of it is

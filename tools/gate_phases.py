@@ -21,8 +21,8 @@ import gate_means
 import gate_progress
 
 TOP = Path(__file__).resolve().parent.parent
-# So much lower is the priority of what only fills idle processors.
-NICE = 10
+# So much lower is the priority of what only fills idle processors: beside proofs it still has a quarter of one's time.
+NICE = 5
 A_SECOND, A_MINUTE = 1.0, 60.0
 # How long what is ended may take to end by itself.
 GRACE = 20

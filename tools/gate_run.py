@@ -1,6 +1,9 @@
 #!/usr/bin/env python3
 """The whole gate, as `.ci/run` runs it: all phases of tools/gate, each as soon as what it needs is there.
 
+    tools/gate_run.py            runs it
+    tools/gate_run.py --model    prints how many minutes the proofs take by the model, in one run and in two
+
 The proofs are one run of `rt ci` over the whole tree, which decides. On three processors and more another one goes before
 it, over all crates but the last ones of the longest chain. That one gives each crate one job, which keeps all processors
 busy while many crates wait. The last ones then get the jobs that are free, and take what the first one proved.
@@ -34,6 +37,8 @@ GIB_FOR_A_PROOF = 4
 # So many processors are kept busy by one job a crate to the end.
 FEW_PROCESSORS = 2
 PROOFS, FIRST = "proofs", "first proofs"
+# Other crates of the chain at which a run could be cut.
+CUTS = ("script", LAST_FROM, "checkpoints", "wfserve_run")
 # `programs` and the like need what the proofs of these crates leave in this tree.
 PHASES = (
     Phase("quick", ("quick",), ends_all=True),
@@ -45,12 +50,12 @@ PHASES = (
 )
 
 
-def runs_of_proofs(below: dict[str, list[str]], processors: int, gib: int, can_keep: bool) -> list[Proofs]:
+def runs_of_proofs(below: dict[str, list[str]], processors: int, gib: int, can_keep: bool, last_from: str = LAST_FROM) -> list[Proofs]:
     """The runs of `rt ci`. The last one is over all crates, and decides."""
     if "RT_JOBS" in os.environ or gib < GIB_FOR_A_PROOF * processors:
         return [Proofs(PROOFS)]
     one_job_each = ("RT_JOBS", str(processors))
-    last = {LAST_FROM}
+    last = {last_from}
     for name in lowest_first(below):
         last |= {name} if last.intersection(below[name]) else set()
     first = tuple(name for name in below if name not in last)
@@ -76,6 +81,18 @@ def model_of(runs: list[Proofs], below: dict[str, list[str]], processors: int) -
         names = [name for name in order if (name in run.crates or not run.crates) and not any(name in stage.crates for stage in stages)]
         stages.append(gate_progress.Stage(tuple(names), "RT_JOBS" not in {**os.environ, **dict(run.variables)}))
     return gate_progress.Model(stages, below, costs.read(TOP), processors, gate_progress.lines_of(TOP))
+
+
+def reckoned(below: dict[str, list[str]]) -> str:
+    """What the proofs take by the model, in minutes of the machine of tools/costs.txt, in one run and cut at each of these crates."""
+    lines = []
+    for processors in (2, 4, 8):
+        one = gate_progress.Stage(tuple(lowest_first(below)), False)
+        models = {"one run": gate_progress.Model([one], below, costs.read(TOP), processors, gate_progress.lines_of(TOP))}
+        for cut in CUTS if processors > FEW_PROCESSORS else ():
+            models[f"cut at {cut}"] = model_of(runs_of_proofs(below, processors, 1_000, True, cut), below, processors)
+        lines.append(f"{processors} processors: " + ", ".join(f"{name} {model.left((), (), 0.0) / 60:.0f}" for name, model in models.items()))
+    return "\n".join(lines)
 
 
 def gib_free() -> int:
@@ -140,8 +157,11 @@ def tell(gate: Gate, minutes: float, why_not_installed: str) -> int:
     return status
 
 
-def main() -> int:
+def main(words: list[str]) -> int:
     os.chdir(TOP)
+    if words == ["--model"]:
+        print(reckoned(build_program.lines_of_crates()[1]))
+        return 0
     # Ended by a signal, it ends what it started.
     signal.signal(signal.SIGTERM, lambda *_: sys.exit(1))
     sys.stdout.reconfigure(errors="replace")
@@ -158,4 +178,4 @@ def main() -> int:
 
 
 if __name__ == "__main__":
-    sys.exit(main())
+    sys.exit(main(sys.argv[1:]))

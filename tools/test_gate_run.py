@@ -93,6 +93,16 @@ class Runs(unittest.TestCase):
             self.assertEqual([other for other in below[name] if other in left], [])
 
 
+class Reckoned(unittest.TestCase):
+    def test_two_runs_gain_on_four_processors_of_this_tree(self) -> None:
+        printed = subprocess.run([sys.executable, gate_run.__file__, "--model"], capture_output=True, text=True, check=True).stdout
+        lines = dict(line.split(": ") for line in printed.splitlines())
+        self.assertRegex(lines["2 processors"], r"^one run \d+$")
+        minutes = dict(part.rsplit(" ", 1) for part in lines["4 processors"].split(", "))
+        self.assertLess(int(minutes[f"cut at {gate_run.LAST_FROM}"]), int(minutes["one run"]))
+        self.assertEqual(len(minutes), 1 + len(gate_run.CUTS))
+
+
 class Bodies(unittest.TestCase):
     def phases(self, runs: list[Proofs]) -> list[Phase]:
         due = {"low": "it changed", "lanes": "it changed", "top": "it waited"}
