@@ -22,17 +22,24 @@ from scratch import Scratch
 BELOW = {"low": [], "lanes": ["low", "json"], "beside": ["low"], "top": ["lanes", "beside"]}
 # What it is asked for, and when something of it is through, is written into a file, in the order in which it happened.
 RT = """#!/bin/sh
+# Waits for a file, at most some seconds.
+wait_for() {
+    left=600
+    while [ ! -e "$1" ] && [ $left -gt 0 ]; do sleep 0.05; left=$((left - 1)); done
+}
 echo "rt $*, ${RT_JOBS:-no jobs}, ${CI:-no CI}" >> "$SEEN"
 if [ $# -gt 1 ]; then
     echo "rt: low proved"
+    [ -z "$FIRST_WAITS" ] || { wait_for "$SEEN.$FIRST_WAITS"; sleep 0.5; }
     echo "1 passed, 0 failed (low and the crates below alone: not the gate)"
     exit 0
 fi
 echo "rt: low is kept: an earlier run"
-while [ ! -e "$SEEN.quick" ]; do sleep 0.05; done
+wait_for "$SEEN.quick"
+sleep "${LANES_AFTER:-0}"
 echo "rt: lanes proved"
 echo "lanes is through" >> "$SEEN"
-while [ -n "$WAITS" ] && [ ! -e "$SEEN.$WAITS" ]; do sleep 0.05; done
+[ -z "$WAITS" ] || wait_for "$SEEN.$WAITS"
 echo "rt: top ${TOP_IS:-proved}"
 echo "all is through" >> "$SEEN"
 echo "${LAST:-4 passed, 0 failed}"
@@ -144,7 +151,7 @@ class Run(Scratch):
         return status, out.getvalue().splitlines(), self.seen.read_text(encoding="utf-8").splitlines()
 
     def test_each_phase_begins_once_what_it_needs_is_there(self) -> None:
-        status, said, seen = self.ran(WAITS="later")
+        status, said, seen = self.ran(*PHASES, WAITS="later", LANES_AFTER="0.7")
         self.assertEqual(status, 0, said)
         self.assertLess(seen.index("lanes is through"), seen.index("early begins"))
         self.assertLess(seen.index("early begins"), seen.index("later begins"))
@@ -158,8 +165,9 @@ class Run(Scratch):
                          ["rt ci low beside, 4, no CI", "rt ci, no jobs, true"])
 
     def test_a_program_of_the_first_run_is_not_in_this_tree(self) -> None:
-        early = Phase("early", ("early",), crates=("low",))
-        _, _, seen = self.ran(PHASES[0], early)
+        # The first run says that it has proved it, and waits for the quick phase to end before the second one says so.
+        early, quick = Phase("early", ("early",), crates=("low",)), Phase("quick", ("quick",), after=(gate_run.FIRST,))
+        _, _, seen = self.ran(early, quick, Phase("first", ("first",)), FIRST_WAITS="first")
         self.assertLess(seen.index("rt ci, no jobs, true"), seen.index("early begins"))
 
     def test_a_table_has_how_each_ended(self) -> None:
