@@ -5,6 +5,7 @@ are printed as they come, but for the last one, with which the gate ends.
 """
 from __future__ import annotations
 
+import contextlib
 import dataclasses
 import os
 import queue
@@ -79,13 +80,25 @@ def started(command: list[str], said: IO[str] | int, nice: int, variables: tuple
 
 
 def end(process: subprocess.Popen[bytes]) -> None:
-    """Ends a process that was started, with all of its group."""
+    """Ends a process that was started, with all that it started, also in groups of their own."""
+    below = [process.pid]
+    for parent in below:
+        below += children_of(parent)
     for sent in (signal.SIGTERM, signal.SIGKILL):
-        try:
-            os.killpg(process.pid, sent)
+        for started_by_it in below:
+            with contextlib.suppress(ProcessLookupError):
+                os.kill(started_by_it, sent)
+        with contextlib.suppress(subprocess.TimeoutExpired):
             process.wait(timeout=GRACE)
-        except (ProcessLookupError, subprocess.TimeoutExpired):
-            pass
+
+
+def children_of(process: int) -> list[int]:
+    """The processes that one has started, and that are its children still."""
+    found: list[int] = []
+    for listed in Path(f"/proc/{process}/task").glob("*/children"):
+        with contextlib.suppress(OSError):
+            found += [int(child) for child in listed.read_text(encoding="ascii").split()]
+    return found
 
 
 class Follower:

@@ -52,8 +52,11 @@ with open(seen, "a") as out:
     out.write(f"{name} begins\\n")
 print(f"== {name}", flush=True)
 if name == os.environ.get("HANGS"):
-    open(f"{seen}.pid", "w").write(str(os.getpid()))
-    time.sleep(100)
+    # As a command with a limit on its time, which has a group of its own.
+    import subprocess
+    child = subprocess.Popen(["timeout", "100", "sleep", "99"])
+    open(f"{seen}.pid", "w").write(f"{os.getpid()} {child.pid}")
+    child.wait()
 if name == os.environ.get("LACKS"):
     print("gate: could not be done here: its browser: chromium is not here")
 open(f"{seen}.{name}", "w").close()
@@ -203,8 +206,10 @@ class Run(Scratch):
         self.assertLess(time.monotonic() - began, 60)
         self.assertEqual(status, 1)
         self.assertIn("gate: FAILED: the quick phase, and with it all ended", said)
-        pid = (self.top / "seen.pid").read_text(encoding="utf-8")
-        self.assertFalse(Path("/proc", pid).exists())
+        for pid in (self.top / "seen.pid").read_text(encoding="utf-8").split():
+            # One that its parent can't wait for any more is a zombie until it is reaped.
+            stat = Path("/proc", pid, "stat")
+            self.assertTrue(not stat.exists() or ") Z " in stat.read_text(encoding="utf-8"), pid)
 
     def test_what_could_not_be_done_and_not_be_installed_is_said_last_by_name(self) -> None:
         status, said, _ = self.ran(LACKS="early", WHY="apt-get update ended with status 100")
