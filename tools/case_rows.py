@@ -1,12 +1,12 @@
 #!/usr/bin/env python3
-"""Gives the built program the cases of crates/cases/data as scripts, and compares what it answers.
+"""Gives the built program the cases of tests/cases/data as scripts, and compares what it answers.
 
     tools/case_rows.py PROGRAM [NAME..]    the cases of NAME.cases; without a name those of all files
 
 PROGRAM is the built `wfserve`, as `rt ci` leaves it in crates/wfserve/out. Each case that has lines alone is a script,
 also without the line feed of its last line. Where it says `@ cuts` the program is also ended after each of its lines,
 saves its records, and is begun again from these; all records have to be saved alike once they were loaded. By the
-service's calls the program `cases` runs them: a case that is run by neither is a fault here. crates/cases/README.md says
+service's calls the program `cases` runs them: a case that is run by neither is a fault here. tests/cases/README.md says
 how a case is written. The status is 1 where one fails.
 """
 from __future__ import annotations
@@ -25,7 +25,7 @@ from typing import Iterator, Optional
 
 import build_program
 
-CASES = build_program.ROOT / "crates" / "cases"
+CASES = build_program.ROOT / "tests" / "cases"
 # A line that is not answered, and counts.
 BARRIER = b'{"barrier":true}\n'
 SAVED, SAVED_AGAIN = "records", "records_again"
@@ -238,7 +238,7 @@ def main(words: list[str]) -> int:
     files = [word if word.endswith(".cases") else f"{word}.cases" for word in words[1:]] or every
     unknown = [file for file in files if file not in every]
     if unknown:
-        print(f"case_rows: crates/cases/args has no {', '.join(unknown)}", file=sys.stderr)
+        print(f"case_rows: tests/cases/args has no {', '.join(unknown)}", file=sys.stderr)
         return 2
     count, faults = faults_in(Path(words[0]).resolve(), files)
     print("\n".join([*faults, f"case_rows: {count} cases, {len(faults)} faults"]))

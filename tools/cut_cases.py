@@ -4,7 +4,7 @@ other hints.
 
     tools/cut_cases.py FILE.. < OUTPUT
 
-The files are those of crates/cases/data that have `@ cuts`, and OUTPUT is what `tools/case_rows.py`
+The files are those of tests/cases/data that have `@ cuts`, and OUTPUT is what `tools/case_rows.py`
 printed of them. Where a case differs behind a line, the first reply that does has to be a poll's: a
 service that is opened again puts the hints of all tasks that wait into their queues, so a task that
 was not dispatched yet is hinted once more by its dispatch, and one poll more is answered `stale`; and

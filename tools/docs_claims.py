@@ -318,7 +318,7 @@ HEAD_OF_RULES = re.compile(r"Rule: PROFILE, (.+?)\. Definition: (.+?)\. Rows: (.
 STANDS_IN = {
     "definition": "crates/{}/specs/{}.antt",
     "row": "crates/service_model/proofs/{}.antt",
-    "case": "crates/cases/data/{}.cases",
+    "case": "tests/cases/data/{}.cases",
 }
 
 

@@ -26,7 +26,7 @@ KINDS = ("Definition", "Example", "Case", "Wrong body")
 PLACES = {
     "Definition": "crates/{}/specs/{}.antt",
     "Example": "crates/service_model/proofs/{}.antt",
-    "Case": "crates/cases/data/{}.cases",
+    "Case": "tests/cases/data/{}.cases",
     "Wrong body": "crates/{}/must-fail/{}.md",
 }
 BESIDE = re.compile("\\. ".join(f"{kind}: (.+?)" for kind in KINDS) + "\\.")
@@ -52,7 +52,7 @@ HEAD = """# Where each rule stands
 | Example | what the definitions give for a few steps, worked out by hand and proved | `TaskRows: repeated_signal` is \
 that one in `crates/service_model/proofs/TaskRows.antt` |
 | Case | what the program is given and answers, tested | `signals: a repeated signal` is the case of that title in \
-`crates/cases/data/signals.cases` |
+`tests/cases/data/signals.cases` |
 | Wrong body | a mutant: a deliberate bug in the code or in a definition, which the proofs must reject | \
 `timeouts: fires_before_its_moment` is `crates/timeouts/must-fail/fires_before_its_moment.md` |
 

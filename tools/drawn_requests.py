@@ -3,7 +3,7 @@
 
     tools/drawn_requests.py PROGRAM
 
-PROGRAM is the built `service_model_tests`, as `rt ci` leaves it in crates/service_model_tests/out. It ends where the
+PROGRAM is the built program of tests/above, as tools/unproved_tests.py leaves it: by its mode `compare` it ends where the
 two say other things. Here requests are drawn, by what was answered to the earlier ones, so that each kind of reply and of
 event comes; one that never does is said, or it would be taken for compared. What is drawn is the same in each run. The
 status is 1 where a test fails.
@@ -162,7 +162,7 @@ class Side:
     def __init__(self, test: unittest.TestCase, shard: int, shards: int, retention: int,
                  seen: collections.Counter[str]) -> None:
         self.shard, self.seen, self.known = shard, seen, Known(shard)
-        self.program = subprocess.Popen([Tested.program], stdin=subprocess.PIPE, stdout=subprocess.PIPE,
+        self.program = subprocess.Popen([Tested.program, "compare"], stdin=subprocess.PIPE, stdout=subprocess.PIPE,
                                         stderr=subprocess.PIPE, text=True)
         test.addCleanup(self.stop)
         self.say(f"shard {shard} {shards} {retention}")

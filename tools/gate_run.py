@@ -43,7 +43,8 @@ CUTS = ("script", LAST_FROM, "checkpoints", "wfserve_run")
 PHASES = (
     Phase("quick", ("quick",), ends_all=True),
     Phase("edge", ("edge-build",), is_nice=True),
-    Phase("programs", ("programs",), crates=("wfserve", "service_model_tests")),
+    Phase("tests", ("tests",), is_nice=True),
+    Phase("programs", ("programs",), crates=("wfserve",)),
     Phase("clients", ("clients",), crates=("wfserve",)),
     Phase("sockets", ("edge-sockets",), crates=("wfserve",), after=("edge",)),
     Phase("hostile", ("hostile",), after=(PROOFS,)),

@@ -1,11 +1,10 @@
 #!/usr/bin/env python3
-"""Hostile use of the built programs for some minutes: a soak, lines that nobody means well with, each
-allocation refused, by whole cases and by the leaves' calls, all of them where no memory is to be taken, and
-drawn schedules.
+"""Hostile use of the built program for some minutes: a soak, lines that nobody means well with, each
+allocation of whole cases refused, and drawn schedules. tools/unproved_tests.py refuses those of calls.
 
     tools/hostile_use.py
 
-`rt ci` leaves the programs where this looks for them, in crates/NAME/out/NAME. What is drawn is drawn
+`rt ci` leaves the program where this looks for it, in crates/wfserve/out/wfserve. What is drawn is drawn
 anew each day. The status is 1 where a part found something, where its program isn't built, and where it
 doesn't end in its time: then it is stopped, and nothing is known of what it looks for. A part that wants
 a C compiler is skipped where there is none, which is said. A longer run of each is made by hand.
@@ -21,10 +20,7 @@ import tempfile
 import os
 
 ROOT = pathlib.Path(__file__).resolve().parent.parent
-CALLS = ROOT / "crates/cases/out/cases"
 PROGRAM = ROOT / "crates/wfserve/out/wfserve"
-TESTS = ROOT / "crates/service_tests/out/service_tests_tests"
-LEAVES = ROOT / "crates/leaf_tests/out/leaf_tests_tests"
 SOAK_SECONDS, SCHEDULES, REFUSED_SECONDS = 20, 300, 300
 # Forty times what a part takes on a quiet machine, and more than it waits for a reply: it only ends what hangs.
 LIMIT_SECONDS = 1_800
@@ -40,9 +36,7 @@ def parts(today):
     return [
         Part(f"a soak of {SOAK_SECONDS} s", ["bench/soak.py", str(SOAK_SECONDS), seed], [PROGRAM], False),
         Part("hostile lines", ["bench/hostile.py"], [PROGRAM], False),
-        Part("each allocation refused", [*refused, str(CALLS), str(PROGRAM)], [CALLS, PROGRAM], True),
-        Part("each allocation of the leaves' calls refused", ["tools/refused_leaves.py", str(LEAVES)], [LEAVES], True),
-        Part("no memory where none is taken", ["tools/without_memory.py", str(TESTS), str(LEAVES)], [TESTS, LEAVES], True),
+        Part("each allocation refused", [*refused, "--program", str(PROGRAM)], [PROGRAM], True),
         Part(f"{SCHEDULES} schedules", [*schedules, str(PROGRAM)], [PROGRAM], True),
     ]
 

@@ -80,6 +80,9 @@ def name_of(reply: Line) -> str:
 class Plans(unittest.TestCase):
     # How many signals each lane sends whose history is read meanwhile, how often it is read, and how many events a run has.
     WRITES, READS, EVENTS = 1000, 100, 21_000
+    # Lanes have met where so many steps of a record come after one of another lane, and readings of a history had so many
+    # lengths. Of several hundred and fourteen on a free machine; on a busy one a lane may come after the other for once.
+    TURNS, LENGTHS, TRIES = 20, 3, 20
 
     def went(self, phases: Iterable[Phase], *words: str) -> Came:
         """Has the program go through phases. Each answer is one that its lane may be given, and so many count."""
@@ -111,6 +114,13 @@ class Plans(unittest.TestCase):
             counted += name_of(reply) == lane.wanted
         if phase.counted is not None:
             self.assertEqual(counted, phase.counted)
+
+    def have_met(self, came: Came) -> bool:
+        """Whether lanes took turns on a shard, and a history was read between its ends."""
+        passes = [[step["pass"] for step in record] for record in came.records]
+        turns = max(sum(one != other for one, other in zip(record, record[1:])) for record in passes)
+        lengths = {len(reply["events"]) for reply in came.replies if "events" in reply}
+        return turns >= self.TURNS and len(lengths) >= self.LENGTHS
 
     def assert_steps(self, records: list[list[Line]], steps: list[int]) -> None:
         """The passes made so many steps each, the first pass first, none was made besides, and in no record do the
@@ -177,7 +187,12 @@ class Plans(unittest.TestCase):
 
     def test_a_history_is_read_while_four_lanes_write_it(self) -> None:
         """They signal one workflow, a millisecond apart, and a fifth one reads its history meanwhile. Each reading has
-        the events that are there, by their numbers."""
+        the events that are there, by their numbers. And that they met is seen, in one of some tries."""
+        if not any(self.have_met(self.read_and_written()) for _ in range(self.TRIES)):
+            self.fail(f"in {self.TRIES} tries each lane was served after the others")
+
+    def read_and_written(self) -> Came:
+        """One workflow, which four lanes signal while a fifth one reads its history."""
         writing = Lane(rounds(self.WRITES, SIGNAL), "signaled")
         reading = Lane([HISTORY] * self.READS, "history")
         phases = [alone("started", start("a")), Phase([writing] * 4 + [reading], 4 * self.WRITES + self.READS),
@@ -188,6 +203,7 @@ class Plans(unittest.TestCase):
                 self.assertEqual([event["id"] for event in reply["events"]], [*range(1, len(reply["events"]) + 1)])
         self.assertEqual(len(came.replies[-1]["events"]), 4 * self.WRITES + 2)
         self.assert_steps(came.records, [self.WRITES + 1, *[self.WRITES] * 3, self.READS + 1])
+        return came
 
     def test_two_lanes_deliver_signals(self) -> None:
         """The first shard's workflow signals that of the second fifty times, and two lanes deliver. Each signal comes

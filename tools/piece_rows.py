@@ -4,8 +4,8 @@ piece by piece, runs that are the same or aren't, and transfers that come again 
 
     tools/piece_rows.py PROGRAM
 
-PROGRAM is the built `service_model_tests`, as `rt ci` leaves it in crates/service_model_tests/out. Its lines are told in
-its source. `tools/pieces` has pieces of every kind, texts that are those of none, and what is changed in a line so that one
+PROGRAM is the built program of tests/above, as tools/unproved_tests.py leaves it. The lines of its mode `compare` are told
+in its source. `tools/pieces` has pieces of every kind, texts that are those of none, and what is changed in a line so that one
 field is another. The status is 1 where a test fails.
 """
 from __future__ import annotations
@@ -46,7 +46,7 @@ CHANGES = [(old, new) for old, _, new in (line.partition("|") for line in lines_
 class Rows(unittest.TestCase):
     def told(self, lines: list[str]) -> list[str]:
         """What the program prints to these lines."""
-        done = subprocess.run([Tested.program], input="".join(line + "\n" for line in lines), capture_output=True,
+        done = subprocess.run([Tested.program, "compare"], input="".join(line + "\n" for line in lines), capture_output=True,
                               text=True, timeout=SECONDS)
         self.assertEqual((done.returncode, done.stderr), (0, ""))
         return done.stdout.split("\n")[:-1]

@@ -1,5 +1,5 @@
 #!/usr/bin/env python3
-"""Counts in how many files of the crates something stands that was added: a setting, a field of a start, a class of deadlines.
+"""Counts in how many files of crates and tests something stands that was added: a setting, a field of a start, a class of deadlines.
 
     tools/places.py            the table of docs/CHANGING.md, of recent ones
     tools/places.py --write    puts it there
@@ -22,7 +22,7 @@ import generate
 TOP = Path(__file__).resolve().parent.parent
 SHOWN_IN = "docs/CHANGING.md"
 SHOWN = re.compile(r"^\| What was added \|.*\n(?:\|.*\n)+", re.MULTILINE)
-TESTS = re.compile(r"(_tests|_bench|_counter)$|^(cases|case_files|line_floor|script_devices|service_model_journal|service_model_answer)$")
+TESTS = re.compile(r"(_tests|_bench|_counter)$|^(line_floor|service_model_journal|service_model_answer)$")
 KINDS = ("definitions", "code", "proofs", "tests and cases")
 OF_FOLDER = {"specs": "definitions", "src": "code", "proofs": "proofs"}
 
@@ -51,10 +51,12 @@ class Place(NamedTuple):
 
 
 def kind_of(path: Path) -> str | None:
-    """What a file below crates/ is, by its crate and its folder: one of KINDS, or none of them."""
-    if TESTS.search(path.parts[0]):
+    """What a file below crates/ or tests/ is, by its crate and its folder: one of KINDS, or none of them."""
+    if path.suffix not in (".rt", ".rs", ".antt", ".cases") or path.parts[2:3] == ("out",):
+        return None
+    if path.parts[0] == "tests" or TESTS.search(path.parts[1]):
         return "tests and cases"
-    return OF_FOLDER.get(path.parts[1]) if len(path.parts) > 2 else None
+    return OF_FOLDER.get(path.parts[2]) if len(path.parts) > 3 else None
 
 
 def without_parts(text: str, parts: list[generate.Part]) -> str:
@@ -67,14 +69,13 @@ def without_parts(text: str, parts: list[generate.Part]) -> str:
 
 
 def places(words: tuple[str, ...], parts: dict[str, list[generate.Part]], top: Path = TOP) -> Iterator[Place]:
-    """The files below crates/ that have one of these words."""
+    """The files below crates/ and tests/ that have one of these words."""
     looked_for = re.compile(rf"\b(?:{'|'.join(map(re.escape, words))})\b")
-    for path in sorted((top / "crates").rglob("*")):
-        inside = path.relative_to(top / "crates")
-        kind = kind_of(inside) if path.suffix in (".rt", ".antt", ".cases") and "out" not in inside.parts[1:2] else None
+    for path in sorted(path for folder in ("crates", "tests") for path in (top / folder).rglob("*")):
+        kind = kind_of(path.relative_to(top))
         if not kind:
             continue
-        text, name = path.read_text(encoding="utf-8"), f"crates/{inside}"
+        text, name = path.read_text(encoding="utf-8"), str(path.relative_to(top))
         count = len(looked_for.findall(text))
         if count:
             yield Place(name, kind, count, len(looked_for.findall(without_parts(text, parts.get(name, [])))))

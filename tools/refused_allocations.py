@@ -1,11 +1,11 @@
 #!/usr/bin/env python3
 """Refuses each allocation of programs in turn, and looks at what the service makes of it.
 
-    tools/refused_allocations.py [--within SECONDS --day D] CALLS PROGRAM
+    tools/refused_allocations.py [--within SECONDS --day D] [--calls CALLS] [--program PROGRAM]
 
-CALLS is the built program `cases`, PROGRAM the built `wfserve` (tools/build_program.py
-builds each). Of each case in ROWS every allocation is refused, once a run: for CALLS, which makes the
-service's calls and tells what each answers and leaves, and for PROGRAM, which is given the same lines. Where
+CALLS is the built program of tests/above (tools/unproved_tests.py leaves it), PROGRAM the
+built `wfserve`; one at least is named. Of each case in ROWS every allocation is refused, once a run: for CALLS, which makes
+the service's calls and tells what each answers and leaves, and for PROGRAM, which is given the same lines. Where
 that would take longer than SECONDS, by the time that a few runs take, every Kth is refused, from the one on
 that the number D of a day gives: so K days on end refuse all of them.
 
@@ -33,7 +33,7 @@ import tempfile
 import time
 
 ROOT = pathlib.Path(__file__).resolve().parent.parent
-DATA = ROOT / "crates" / "cases" / "data"
+DATA = ROOT / "tests" / "cases" / "data"
 ROWS = {
     "whole_workflows.cases": [
         "activity retried until exhausted",
@@ -130,7 +130,7 @@ class Calls(Subject):
             path = pathlib.Path(folder, "row.cases")
             text = "\n".join(["## calls", *self.words, *steps, "## reads", *self.reads, ""])
             path.write_text(text, encoding="utf-8")
-            call = [str(self.program), f"--tell={path.name}"]
+            call = [str(self.program), "cases", f"--tell={path.name}"]
             status, output, errors, count = self.run(refused, folder, call, b"")
         return status, [line[2:] for line in output.decode().splitlines() if line[:2] == "< "], errors, count
 
@@ -290,13 +290,12 @@ def tried(subject, count, every, first):
     return places, faults
 
 
-def subjects_of(calls, program, allocator):
-    """Both programs with each of the cases."""
+def subjects_of(programs, allocator):
+    """Each program, behind what is made of it, with each of the cases."""
     for file, names in ROWS.items():
         for name in names:
-            lines = text_of(file, name)
-            yield Calls(calls.resolve(), allocator, name, lines)
-            yield Program(program.resolve(), allocator, name, lines)
+            for subject, program in programs:
+                yield subject(program.resolve(), allocator, name, text_of(file, name))
 
 
 def refuse_all(subjects, within, day):
@@ -320,17 +319,20 @@ def main():
     parser = argparse.ArgumentParser(description=__doc__.split("\n")[0])
     parser.add_argument("--within", type=int, help="how many seconds it may take; without it all are refused")
     parser.add_argument("--day", type=int, default=0, help="a number that says which are refused where not all are")
-    parser.add_argument("calls", type=pathlib.Path, help="the built program cases")
-    parser.add_argument("program", type=pathlib.Path, help="the built wfserve")
+    parser.add_argument("--calls", type=pathlib.Path, help="the built program of tests/above")
+    parser.add_argument("--program", type=pathlib.Path, help="the built wfserve")
     told = parser.parse_args()
-    for program in (told.calls, told.program):
+    programs = [(subject, program) for subject, program in ((Calls, told.calls), (Program, told.program)) if program]
+    for _, program in programs:
         if not program.is_file():
             parser.error(f"no such program: {program}")
+    if not programs:
+        parser.error("--calls or --program names what is run")
     with tempfile.TemporaryDirectory() as folder:
         allocator = pathlib.Path(folder, "refuse_nth.so")
         source = ROOT / "tools" / "refuse_nth.c"
         subprocess.run(["cc", "-O2", "-shared", "-fPIC", "-o", allocator, source], check=True)
-        subjects = list(subjects_of(told.calls, told.program, allocator))
+        subjects = list(subjects_of(programs, allocator))
         runs, faults = refuse_all(subjects, told.within, told.day)
     print(f"{runs} runs, {len(faults)} faults")
     for fault in faults[:20]:

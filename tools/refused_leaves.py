@@ -4,7 +4,7 @@ are read and written.
 
     tools/refused_leaves.py TESTS
 
-TESTS is the built tests of `leaf_tests`, as `rt ci` leaves them. One of them makes each call again where it was refused,
+TESTS is the built tests of tests/below, as tools/unproved_tests.py leaves them. One of them makes each call again where it was refused,
 and looks at what that leaves and at what it answers then. It says from where on the allocator (tools/refuse_nth.c)
 counts. The status is 1 where the test fails, where a refused call was not made again, or where nothing was counted.
 """
@@ -18,7 +18,7 @@ import sys
 import tempfile
 
 ROOT = pathlib.Path(__file__).resolve().parent.parent
-TEST = "refused::each_call_is_made_again"
+TEST = "leaves::refused::each_call_is_made_again"
 # What the allocator tells first: how many allocations were asked for.
 TOLD = struct.Struct("=q")
 SECONDS = 60

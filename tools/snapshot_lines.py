@@ -55,7 +55,7 @@ def cases_in(name: str, text: str) -> list[Case]:
 
 def all_cases() -> list[Case]:
     """Those of all files."""
-    files: list[pathlib.Path] = sorted((TOP / "crates/cases/data").glob("*.cases"))
+    files: list[pathlib.Path] = sorted((TOP / "tests/cases/data").glob("*.cases"))
     return [case for file in files for case in cases_in(file.stem, file.read_text(encoding="utf-8"))]
 
 

@@ -5,7 +5,7 @@
 
 PROGRAM is the built `wfserve`, as `rt ci` leaves it in crates/wfserve/out. Drawn lines are cut at N places (40), some
 places to a script. What comes after a place is answered by a program that goes on from snapshots, and by one that goes
-on from a journal with all lines so far: both have to print the same bytes. So it is with the cases in crates/cases/data
+on from a journal with all lines so far: both have to print the same bytes. So it is with the cases in tests/cases/data
 at N drawn places (300). Of a snapshot each line is dropped, doubled and swapped, and N bytes are changed (150). The
 seed is printed; with the same one the same lines are drawn. The status is 1 where a test fails, and the folder of all
 drawn lines and snapshots is kept then and named.

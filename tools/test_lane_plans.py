@@ -62,6 +62,29 @@ class Answers(unittest.TestCase):
                 lane_plans.Plans().assert_steps([record], [2, 1])
 
 
+class Met(unittest.TestCase):
+    """Lanes that are served one after another have not met, nor has a history that was read at its ends alone."""
+
+    PLANS = lane_plans.Plans()
+
+    def came(self, passes: list[int], lengths: list[int]) -> lane_plans.Came:
+        replies = [{"events": [{}] * length} for length in lengths]
+        return lane_plans.Came([{}, *replies], [[], [{"pass": number} for number in passes]])
+
+    def test_lanes_that_take_turns(self) -> None:
+        one_after_another, in_turn = [0] * 50 + [1] * 50, [0, 1] * 50
+        self.assertTrue(self.PLANS.have_met(self.came(in_turn, [1, 5, 9])))
+        self.assertFalse(self.PLANS.have_met(self.came(one_after_another, [1, 5, 9])))
+        self.assertFalse(self.PLANS.have_met(self.came(in_turn, [1, 1, 9])))
+
+    def test_lanes_that_never_meet_fail(self) -> None:
+        tried = unittest.mock.Mock(return_value=self.came([0] * 50 + [1] * 50, [1, 1, 9]))
+        with unittest.mock.patch.object(lane_plans.Plans, "read_and_written", tried):
+            with self.assertRaisesRegex(AssertionError, "each lane was served after the others"):
+                self.PLANS.test_a_history_is_read_while_four_lanes_write_it()
+        self.assertEqual(tried.call_count, lane_plans.Plans.TRIES)
+
+
 class Failing(Scratch):
     FILES = {"silent": SILENT, "refusing": REFUSING}
 

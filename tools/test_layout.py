@@ -24,6 +24,9 @@ FILES = {
     "crates/high/src/lib.rt": "fn g() {}\n",
     "crates/high/src/more/parts.rt": "fn h() {}  \n",
     "crates/bad/src/lib.rt": "broken\n",
+    "tests/uses.txt": "tests_one: low\n",
+    "tests/one/lib.rs": "mod parts;\n",
+    "tests/one/parts/first.rs": "fn i() {} \n",
 }
 
 
@@ -45,13 +48,20 @@ class Layout(Scratch):
         self.assertEqual(self.looked("low"), (0, []))
         self.assertEqual(self.looked(), (1, [
             "crates/high/src/more/parts.rt: rt fmt lays it out otherwise",
-            "crates/bad: rt fmt ended with status 1: src/lib.rt:1: error",
+            "bad: rt fmt ended with status 1: src/lib.rt:1: error",
+            "tests/one/parts/first.rs: rt fmt lays it out otherwise",
         ]))
         for name, text in FILES.items():
             self.assertEqual((self.top / name).read_text(encoding="utf-8"), text)
 
+    def test_what_is_laid_out_is_written_where_that_is_asked_for(self):
+        self.assertEqual(self.looked("--write", "high", "tests_one")[0], 0)
+        self.assertEqual(self.looked("high", "tests_one"), (0, []))
+        self.assertEqual((self.top / "tests/one/parts/first.rs").read_text(encoding="utf-8"), "fn i() {}\n")
+        self.assertFalse(list((self.top / "tests").rglob("*.rt")))
+
     def test_what_can_not_be_looked_at_is_said(self):
-        self.assertEqual(self.looked("hgh"), (2, ["layout: crates.txt has no crate hgh"]))
+        self.assertEqual(self.looked("hgh"), (2, ["layout: there is no crate hgh"]))
         status, said = self.looked("low", PATH=str(self.top / "none"))
         self.assertEqual((status, len(said)), (0, 1))
 

@@ -21,7 +21,8 @@ FILES = {
     "crates/low/out/kept.rt": "retention\n",
     "crates/low/must-fail/a.md": "retention\n",
     "crates/low_tests/src/lib.rt": "retention\n",
-    "crates/cases/data/some.cases": "retention\n",
+    "tests/above/main.rs": "retention\n",
+    "tests/cases/data/some.cases": "retention\n",
     "docs/CHANGING.md": "Before.\n\n| What was added | Files |\n|---|---|\n| old | 1 |\n\nAfter.\n",
 }
 
@@ -37,18 +38,19 @@ class Places(Scratch):
     def test_each_file_says_what_it_is_and_what_of_it_is_generated(self):
         found = list(places.places(("retention",), places.generated(self.top), self.top))
         self.assertEqual(found, [
-            Place("crates/cases/data/some.cases", "tests and cases", 1, 1),
             Place("crates/low/proofs/f/Answers.antt", "proofs", 1, 1),
             Place("crates/low/specs/Words.antt", "definitions", 2, 2),
             Place("crates/low/src/lib.rt", "code", 1, 0),
             Place("crates/low/src/more.rt", "code", 2, 1),
             Place("crates/low_tests/src/lib.rt", "tests and cases", 1, 1),
+            Place("tests/above/main.rs", "tests and cases", 1, 1),
+            Place("tests/cases/data/some.cases", "tests and cases", 1, 1),
         ])
 
     def test_a_document_has_the_table_or_lacks_its_rows(self):
         document = self.top / "docs/CHANGING.md"
         rows = places.table(self.top)
-        self.assertEqual(rows[2], "| a setting: `retention` | 6 | 1 | 1 | 1 | 1 | 2 |")
+        self.assertEqual(rows[2], "| a setting: `retention` | 7 | 1 | 1 | 1 | 1 | 3 |")
         self.assertEqual(len(places.faults(document.read_text(), self.top)), len(rows))
         places.write(rows, document)
         self.assertEqual(places.faults(document.read_text(), self.top), [])

@@ -78,14 +78,13 @@ class Refused(unittest.TestCase):
         self.assertEqual(self.status(refused_leaves.main, self.built(WITHOUT, "-DBYTES=0")), 1)
 
     def test_memory_that_is_asked_for_is_found(self) -> None:
-        none, some = self.built(WITHOUT, "-DBYTES=0"), self.built(WITHOUT, "-DBYTES=3")
-        for programs, status in (((none, none), 0), ((none, some), 1), ((some, none), 1)):
-            with self.subTest(programs):
-                self.assertEqual(self.status(without_memory.main, *programs), status)
+        for count, status in ((0, 0), (3, 1)):
+            with self.subTest(count):
+                self.assertEqual(self.status(without_memory.main, self.built(WITHOUT, f"-DBYTES={count}"), "a::test"), status)
 
     def test_a_place_without_memory_has_to_be_there(self) -> None:
         counted = self.built(COUNTED, "-DTRIES=2", "-DFAILS=1")
-        self.assertEqual(self.status(without_memory.main, counted, counted), 1)
+        self.assertEqual(self.status(without_memory.main, counted, "a::test"), 1)
 
 
 if __name__ == "__main__":

@@ -1,11 +1,11 @@
-"""The cases of the gate, as tests of Python read them: crates/cases/README.md says how one is written."""
+"""The cases of the gate, as tests of Python read them: tests/cases/README.md says how one is written."""
 
 import dataclasses
 from typing import Dict, List
 
 from support import ROOT
 
-CASES = ROOT / "crates/cases"
+CASES = ROOT / "tests/cases"
 
 
 @dataclasses.dataclass
