@@ -24,8 +24,7 @@ from by_hand import left_undone, replies_of, sweep_of
 from support import served
 from support.programs import BUILT, needs_program
 from support.served import has_ended, kill_all, until
-from wfserve.durable.log import LineLog
-from wfserve.durable.settings import read_header
+from wfserve.durable.edge_log import begin_log, read_header
 from wfserve.errors import Refused
 from test_log import ByHttp, ByLines, Client
 from test_server import WithAServer
@@ -353,9 +352,7 @@ class Compacted(WithAServer):
         self.folder_of(1).mkdir(0o700)
         replies_of(BUILT, settings, lines, ["--save", str(self.folder_of(1))])
         self.log.unlink()
-        log, header = LineLog(str(self.log)), json.loads(settings.header())
-        log.append([json.dumps({**header, "compacted": 1}).encode()])
-        log.close()
+        begin_log(str(self.log), settings, 1)
         server.start()
         self.assertEqual(sorted(path.suffix for path in self.folder_of(1).iterdir()), [".rec", ".rec"])
         self.assertIn("the queues have room for", server.said.read_text())

@@ -4,10 +4,10 @@ import threading
 import time
 import unittest
 
-from support.programs import BUILT, needs_program, needs_server
+from support.logs import Logged, write_log
+from support.programs import needs_program, needs_server
 from support.served import until
 from wfserve.calls import Clock
-from wfserve.durable import DurableService
 from wfserve.server.moments import Moments
 from wfserve.workflows import Worker, seconds, workflow
 from test_server import WithAServer
@@ -101,14 +101,14 @@ class GoingOn(WithAServer):
         self.assertFalse(server.read("/health/ready")["queue_full"])
 
     def test_what_was_not_handed_over_before_a_kill_is_so_after_it(self):
-        with DurableService([str(BUILT)], str(self.log), clock=Clock(int(time.time() * 1_000))) as service:
-            service.start("w", "naps")
+        start = {"op": "start", "workflow_id": "w", "workflow_type": "naps", "task_queue": "main"}
+        write_log(self.log, [{**start, "at": int(time.time() * 1_000)}])
         task = self.serve().client(wait=10_000).poll_workflow_task()
         self.assertEqual(task.workflow_id, "w")
 
     def test_timers_fire_after_a_call_while_the_clock_was_a_day_ahead(self):
         ahead = int(time.time() * 1_000) + DAY
-        with DurableService([str(BUILT)], str(self.log), clock=Clock(ahead)) as service:
+        with Logged(self.log, clock=Clock(ahead)) as service:
             service.start("before", "naps")
             service.compact()
         server, stop = self.serve(), threading.Event()

@@ -113,6 +113,10 @@ class OtherJournal(LogFault):
     """A file is no journal of this version, or a line in it is no step."""
 
 
+class NoJournal(LogFault):
+    """A file is named where the folder of a journal is wanted. It may be a log, of which `wf move-log` makes a journal."""
+
+
 class LogInUse(LogFault):
     """Another program has the log open."""
 
@@ -135,6 +139,10 @@ class RefusedSettings(LogFault):
 
 class NotCompacted(LogFault):
     """The log or the journal could not be compacted. It is as it was."""
+
+
+class NotMoved(LogFault):
+    """A log could not be made a journal, or a journal a log. It is as it was."""
 
 
 class CompactionRuns(NotCompacted):

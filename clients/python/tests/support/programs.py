@@ -49,6 +49,11 @@ for number, line in enumerate(sys.stdin, 1):
     time.sleep(0.3 if "slow" in line else 0)
     print(json.dumps({"line": number, "ok": ok, "said": line.strip()}), flush=True)
 """]
+# The same with a journal, in which nothing is written.
+JOURNALING = [*COUNTING[:3], """
+import os, sys
+open(os.path.join(sys.argv[sys.argv.index("--journal") + 1], "journal"), "ab").close()
+""" + COUNTING[3]]
 
 
 def python_with_aiohttp():

@@ -15,6 +15,7 @@ from .code import add_replay, add_work, replay, work
 from .completion import add_completion, completion
 from .connection import add_connection, service_of
 from .dev import add_dev, dev
+from .moves import add_move_journal, add_move_log, journal_to_log, log_to_journal
 from .output import plain, print_json
 from .shows import (
     add_call, add_list, add_nothing, add_query, add_tasks, add_trace, call, describe, list_workflows, query, queues, show,
@@ -69,6 +70,8 @@ COMMANDS: Dict[str, Command] = {
     "trace": Command("draw a workflow's history", add_trace, trace),
     "replay": Command("check a workflow's code against stored histories", add_replay, runs=replay),
     "call": Command("make any call, as docs/PROFILE.md has them", add_call, call),
+    "move-log": Command("make a journal of a server's log, or of an earlier client's", add_move_log, runs=log_to_journal),
+    "move-journal": Command("make a server's log of a journal", add_move_journal, runs=journal_to_log),
     "completion": Command("what a shell needs to complete these words", add_completion, runs=completion),
 }
 # A workflow that has closed takes none of these.

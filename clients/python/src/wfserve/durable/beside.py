@@ -1,6 +1,6 @@
 """Compacts a log while it is served: makes its successor ready beside it, and has both exchanged between two batches.
 
-Who serves the log, a DurableService or a server, tells by `Served` how far it is and when the exchange may be. One thread
+Who serves the log tells by `Served` how far it is and when the exchange may be. One thread
 of its own does the rest. Calls go on meanwhile; in the exchange they wait for the lines of about one batch.
 """
 

@@ -11,18 +11,17 @@ from __future__ import annotations
 
 import dataclasses
 import os
-import pathlib
 import shutil
 import signal
 import subprocess
 import sys
 import threading
 from dataclasses import dataclass
-from typing import IO, Dict, List, Optional, Sequence, Tuple
+from typing import IO, List, Optional, Sequence, Tuple
 
-import wfserve
 from wfserve.errors import Ended, LogFault, NotCompacted
 
+from .background import with_package
 from .compaction import folder_of, keep_log, keep_private, load_options, open_program
 from .log import LineLog, Place, Tail, begun_beside, sync_file, sync_folder
 from .program import Program
@@ -42,12 +41,6 @@ class Differs(NotCompacted):
     def __init__(self, line: int, asked: Optional[Asked]):
         super().__init__(f"line {line} was answered in another way")
         self.asked = asked
-
-
-def with_package() -> Dict[str, str]:
-    """An environment in which a process finds the package where this one has it."""
-    paths = [str(pathlib.Path(wfserve.__file__).parents[1]), os.environ.get("PYTHONPATH", "")]
-    return {**os.environ, "PYTHONPATH": os.pathsep.join(path for path in paths if path)}
 
 
 @dataclass(frozen=True)

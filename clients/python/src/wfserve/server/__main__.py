@@ -37,11 +37,12 @@ from aiohttp import web
 
 from wfserve.blobs import store_beside
 from wfserve.counts import counted
-from wfserve.durable import DurableService, Settings, read_header
+from wfserve.durable import Settings
 from wfserve.durable.due import Limits
 from wfserve.durable.heard import heard_in
 from wfserve.durable.kept import KeptProgram
 from wfserve.durable.log import first_line
+from wfserve.durable.settings import read_header
 from wfserve.errors import Ended, LogFault
 from wfserve.types import Request
 
@@ -281,11 +282,14 @@ def settings_of(said: argparse.Namespace, log: str) -> Settings:
 
 def compact(said: argparse.Namespace, log: str) -> int:
     """Compacts a log that is not served."""
-    with DurableService([said.program], log, settings_of(said, log), compaction=None) as service:
-        lines, size = service.lines, service.size
-        service.compact()
-        now = counted(service.records_size, "byte")
+    kept = KeptProgram([said.program], log, settings_of(said, log))
+    try:
+        lines, size = kept.lines, kept.size
+        kept.compact(0)
+        now = counted(kept.records_size, "byte")
         print(f"{counted(lines, 'line')}, {counted(size, 'byte')}; now {now} of snapshots")
+    finally:
+        kept.close()
     return 0
 
 
@@ -311,7 +315,7 @@ def main(words: List[str]) -> int:
         if said.compact and not said.log:
             raise ValueError("--compact needs a --log")
         if said.log and pathlib.Path(said.log).is_dir():
-            raise ValueError(f"{said.log}: a server keeps a log, and no journal: wfserve.durable.move_journal makes one of it")
+            raise ValueError(f"{said.log}: a server keeps a log, and no journal: `wf move-journal {said.log} LOG` makes one of it")
         with tempfile.TemporaryDirectory() as folder:
             log = said.log or f"{folder}/log"
             return compact(said, log) if said.compact else serve_log(said, log)
