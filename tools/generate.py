@@ -663,7 +663,7 @@ def settled_by(opening: Table) -> list[str]:
 
 
 def start_keys(table: Table) -> Iterator[Part]:
-    """The keys that a start and a signal with start have, for both servers."""
+    """The keys that a start and a signal with start have, for the edge and the Python client."""
     named = {kind["name"]: [field.key for field in fields_of(kind)] for kind in table["type"]}
     keys = [key for key in named["Start"] if key in named["SignalWithStart"]]
     lines = textwrap.wrap(" ".join(keys), ROW_WIDTH - 8)

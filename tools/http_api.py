@@ -18,7 +18,7 @@ from typing import Any
 import client_package  # noqa: F401 (it says where the next ones lie)
 import generate
 from wfserve import __version__
-from wfserve.server.statuses import REFUSALS
+from wfserve.operations import STATUSES
 
 TOP = Path(__file__).resolve().parent.parent
 FILE = TOP / "docs/openapi.json"
@@ -134,7 +134,7 @@ KEY = {
 
 def faults(refusals: bool) -> dict[str, Json]:
     """The answers that are no reply, and with them the refusals where these have statuses of their own."""
-    statuses = {*FAULTS, 422, *(REFUSALS.values() if refusals else ())}
+    statuses = {*FAULTS, 422, *(STATUSES.values() if refusals else ())}
     kind = "Refused" if refusals else "Fault"
     return {str(status): {"$ref": f"#/components/responses/{kind}{status}"} for status in sorted(statuses)}
 
@@ -143,8 +143,8 @@ def responses() -> Json:
     """What paths are answered that is no reply, or a refusal, by its status."""
     said = {**FAULTS, 422: "KeyReused: another call was made with this Idempotency-Key"}
     found = {f"Fault{status}": answer(text, ref("Fault")) for status, text in said.items()}
-    for status in sorted({*said, *REFUSALS.values()}):
-        names = [name for name, its in REFUSALS.items() if its == status]
+    for status in sorted({*said, *STATUSES.values()}):
+        names = [name for name, its in STATUSES.items() if its == status]
         texts = [said[status]] if status in said else []
         schema: Json = ref("Refusal") if names else ref("Fault")
         if names and texts:
@@ -258,7 +258,7 @@ def blob_get() -> Json:
 def schemas() -> Json:
     text = {"type": "string"}
     event = {"at": NUMBER, "attrs": {"type": "object"}, "id": NUMBER, "type": text}
-    refusal = {"error": {"type": "string", "enum": list(REFUSALS)}, "line": NUMBER, "no": NUMBER, "field": text, "run": RUN}
+    refusal = {"error": {"type": "string", "enum": list(STATUSES)}, "line": NUMBER, "no": NUMBER, "field": text, "run": RUN}
     return {
         "Command": {"type": "object", "required": ["type"], "properties": {"type": text},
                     "description": "a command of docs/PROFILE.md, as ScheduleActivityTask"},

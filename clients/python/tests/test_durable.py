@@ -25,8 +25,8 @@ from wfserve.errors import (
     Ended, JournalDamaged, LogInUse, NoJournal, NotOpened, OtherJournal, OtherSettings, Refused, RefusedSettings,
 )
 from wfserve.journal import Journal, framed
-from wfserve.server.listing import Workflows
-from wfserve.server.records import Recorded
+from wfserve.page.listing import Workflows
+from wfserve.page.records import Recorded
 
 SEED = int(os.environ.get("WFSERVE_SEED", random.randrange(1 << 32)))
 IDS = [f"w{number}" for number in range(5)]

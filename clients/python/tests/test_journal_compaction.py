@@ -20,8 +20,8 @@ from wfserve.durable import Compaction, DurableService, Settings
 from wfserve.durable.background import bytes_since
 from wfserve.errors import CheckpointDamaged, Ended, NotCompacted, OtherJournal
 from wfserve.journal import Journal, framed
-from wfserve.server.listing import Workflows
-from wfserve.server.records import Recorded
+from wfserve.page.listing import Workflows
+from wfserve.page.records import Recorded
 
 SEED = int(os.environ.get("WFSERVE_SEED", random.randrange(1 << 32)))
 NEVER = Compaction(size=1 << 60, seconds=1e9)

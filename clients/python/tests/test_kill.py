@@ -166,10 +166,14 @@ class Killed(unittest.TestCase):
             self.assertEqual(without_order(found), without_order(undisturbed(wanted, workflow_ids)))
         else:
             self.assertEqual(found, undisturbed(self.firsts(run, wanted), workflow_ids))
+        self.look_at_texts(run, names_in(str(found)), {blobs.decode(request.get("input", "")) for request in wanted})
+
+    def look_at_texts(self, run, names, texts):
+        """All that histories name lies beside the journal, as a call had it."""
         store = store_beside(run.folder)
-        self.assertEqual(names_in(str(found)) - set(store.names()), set(), "a text is lost")
-        texts = {blobs.decode(request["input"]) for request in wanted if request.get("input", "").startswith("blob:")}
-        self.assertLessEqual({store.get(name).decode() for name in names_in(str(found))}, texts)
+        self.assertGreater(len(names), THREADS)
+        self.assertEqual(names - set(store.names()), set(), "a text is lost")
+        self.assertLessEqual({store.get(name).decode() for name in names}, texts)
 
     def firsts(self, run, wanted):
         """Each call as the journal has it first. It may have been made again: then it took effect once."""

@@ -18,8 +18,8 @@ from wfserve.calls import Clock
 from wfserve.durable import DurableService, Settings
 from wfserve.errors import Refused
 from wfserve.ids import run_id
-from wfserve.server.listing import Workflows, stuck_task
-from wfserve.server.records import Recorded
+from wfserve.page.listing import Workflows, stuck_task
+from wfserve.page.records import Recorded
 from wfserve.workflows import Driver, Worker, input_of, workflow
 from test_server import WithAServer
 

@@ -1,4 +1,4 @@
-"""Speaks with a service over HTTP, as wfserve.server serves one. It needs nothing but Python.
+"""Speaks with a service over HTTP, as the compiled edge serves one. It needs nothing but Python.
 
     from wfserve.http import HttpService
 

@@ -23,7 +23,7 @@ OFTEN = Compaction(size=4_000)
 
 def input_of(thread, number):
     """The input of a call."""
-    return f"input {number}" if number % LONG else f"long {thread} {number} " * 400
+    return f"input {number}" if number % LONG else f"long {thread} {number} " * 1_000
 
 
 def drawn_call(draw, thread, number):
@@ -32,9 +32,11 @@ def drawn_call(draw, thread, number):
     request = {"at": number, "workflow_id": workflow_id, "request_id": f"{thread}:{number}"}
     op = draw.choice(["start", "signal", "signal", "signal_with_start", "signal_with_start", "request_cancel"])
     if op in ("start", "signal_with_start"):
-        request.update(workflow_type="Killed", task_queue="main", input=input_of(thread, number))
+        request.update(workflow_type="Killed", task_queue="main")
     if op in ("signal", "signal_with_start"):
         request.update(name=f"signal {number}")
+    if op != "request_cancel":
+        request.update(input=input_of(thread, number))
     return {"op": op, **request}
 
 

@@ -1,4 +1,4 @@
-"""What deletes the server's blobs, once no history names them."""
+"""What deletes a server's blobs, once no history names them."""
 
 from __future__ import annotations
 
@@ -7,13 +7,12 @@ import json
 import logging
 import sys
 import time
-from typing import Dict, FrozenSet, Set
+from typing import Dict, FrozenSet, Iterator, Protocol, Set
 
-from wfserve.blobs import FolderStore, names_in
+from wfserve.blobs import names_in
 from wfserve.errors import WfserveError
 
-from .asking import asked, look_for_begun
-from .core import Core
+from .asking import Serves, asked, look_for_begun
 from .listing import Entry, Workflows
 
 
@@ -24,6 +23,19 @@ GRACE_SECONDS = 86_400.0
 SHORTEST, LONGEST = 60.0, 21_600.0
 
 
+class Swept(Protocol):
+    """A store of blobs that is swept. Moments are in seconds since 1970."""
+
+    def names(self) -> Iterator[str]:
+        """The hashes of all blobs that are there, or some name where there is any."""
+
+    def touch(self, name: str, moment: float) -> None:
+        """A history named it at that moment."""
+
+    def delete_before(self, moment: float) -> int:
+        """Deletes what was put and named last before that moment. How many these were."""
+
+
 class Sweeper:
     """Deletes the blobs that no history of the server names, where there is a retention (in milliseconds).
 
@@ -31,8 +43,8 @@ class Sweeper:
     that the list doesn't know any more.
     """
 
-    def __init__(self, core: Core, workflows: Workflows, store: FolderStore, retention: int):
-        self._core = core
+    def __init__(self, serves: Serves, workflows: Workflows, store: Swept, retention: int):
+        self._serves = serves
         self._workflows = workflows
         self._store = store
         self._seconds = retention / 1_000
@@ -63,7 +75,7 @@ class Sweeper:
 
     async def _named(self) -> Set[str]:
         """The hashes of all blobs that histories name, also those of runs that other runs began."""
-        await look_for_begun(self._core, self._workflows, sys.maxsize)
+        await look_for_begun(self._serves, self._workflows, sys.maxsize)
         found: Set[str] = set()
         seen: Set[str] = set()
         # Histories that are read may name further runs.
@@ -77,7 +89,7 @@ class Sweeper:
     async def _read(self, entry: Entry) -> FrozenSet[str]:
         """What a run's history names. One that is gone names nothing."""
         self._workflows.reading(entry)
-        reply = await asked(self._core, "history", entry.workflow_id, entry.run)
+        reply = await asked(self._serves, "history", entry.workflow_id, entry.run)
         if "error" in reply:
             return frozenset()
         self._workflows.take(entry, reply["events"])

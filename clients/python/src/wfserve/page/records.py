@@ -10,13 +10,12 @@ from __future__ import annotations
 
 import json
 from dataclasses import dataclass
-from typing import Dict, Iterable, Iterator, List, Optional, Union
+from typing import Dict, Iterable, Iterator, List, Optional, Protocol, Sequence
 
-from wfserve.durable import DurableService
-from wfserve.durable.kept import KeptProgram
+from wfserve.durable.settings import Settings
 from wfserve.ids import run_id, run_of_token
 from wfserve.snapshots import begins_run, gone_in, run_of
-from wfserve.types import Request
+from wfserve.types import Reply, Request
 
 from .listing import Workflows, commands_in
 
@@ -69,10 +68,24 @@ def beginnings(record: Iterable[bytes], service: int) -> Iterator[Beginning]:
                 yield found
 
 
+class Listable(Protocol):
+    """A service whose shards' snapshots or records can be read."""
+
+    @property
+    def settings(self) -> Settings:
+        """What it was opened with."""
+
+    def read_all(self, requests: Sequence[Request]) -> List[Reply]:
+        """The replies to reads, refusals as the replies that they are."""
+
+    def record_lines(self) -> Iterable[Iterable[bytes]]:
+        """The lines of each shard's snapshot or record."""
+
+
 class Recorded:
     """Finds the runs of the records, and adds them to the list."""
 
-    def __init__(self, service: Union[DurableService, KeptProgram], workflows: Workflows):
+    def __init__(self, service: Listable, workflows: Workflows):
         self._service = service
         self._workflows = workflows
         # The workflow ID of each run that is known.

@@ -1,53 +1,11 @@
-"""Heads of calls that are known again: only what the parser let in, byte for byte, and only whole requests."""
+"""Calls over sockets: many on one connection and at once, by whoever is let in, and clients that hang up."""
 
 import json
 import socket
 import unittest
 
 from support.programs import needs_server
-from wfserve.server.heads import END, MOST_BYTES, MOST_HEADS, Heads
-
 from test_server import TOKEN, WithAServer
-
-HEAD = b"POST /calls HTTP/1.1\r\nHost: h\r\nContent-Length: 2\r\n\r\n"
-KEYED = HEAD.replace(b"Host", b"Idempotency-Key: k1\r\nHost")
-READ = {b":path": b"/calls", b"host": b"h", b"content-length": b"2"}
-
-
-class Known(unittest.TestCase):
-    def kept(self, head=HEAD, headers=READ, length=2):
-        heads = Heads()
-        heads.keep(head, headers, "", length)
-        return heads
-
-    def test_a_whole_request_with_that_head_is_known(self):
-        heads = self.kept()
-        self.assertEqual(heads.find(HEAD + b"{}"), (READ, "", 2))
-        for data in (HEAD, HEAD + b"{", HEAD + b"{}{", HEAD[:-1], HEAD.replace(b"h", b"H", 1) + b"{}", b"", END):
-            self.assertIsNone(heads.find(data), data)
-
-    def test_keys_are_taken_out(self):
-        for heads in (self.kept(), self.kept(KEYED, {**READ, b"idempotency-key": b"k1"})):
-            self.assertEqual(heads.find(HEAD + b"{}"), (READ, "", 2))
-            other = KEYED.replace(b"k1", b"another") + b"{}"
-            self.assertEqual(heads.find(other).headers, {**READ, b"idempotency-key": b"another"})
-            for key in (b"", b'"', b"a b", b"x" * 201, b" k1", b"k1 ", b"k1\r\n folded", b"k1\r\nIdempotency-Key: k2", b"\xe9"):
-                self.assertIsNone(heads.find(KEYED.replace(b"k1", key) + b"{}"), key)
-            self.assertIsNone(heads.find(KEYED.replace(b"Idempotency", b"idempotency") + b"{}"))
-
-    def test_what_is_not_sure_to_be_read_alike_is_not_kept(self):
-        folded = HEAD.replace(b"Host", b"X: a\r\n b\r\nHost")
-        spelled = KEYED.replace(b"Idempotency", b"idempotency")
-        long = HEAD.replace(b"Host", b"X: " + b"x" * MOST_BYTES + b"\r\nHost")
-        for head in (folded, spelled, long, HEAD + HEAD, HEAD[:-2], b"POS", b""):
-            self.assertEqual(len(self.kept(head, {**READ, b"idempotency-key": b"k1"} if head == spelled else READ)), 0, head)
-
-    def test_so_many_are_kept_at_most(self):
-        heads = Heads()
-        for number in range(3 * MOST_HEADS):
-            heads.keep(HEAD.replace(b"h\r", b"h%d\r" % number), READ, "", 2)
-            self.assertLessEqual(len(heads), MOST_HEADS)
-        self.assertIsNotNone(heads.find(HEAD.replace(b"h\r", b"h%d\r" % number) + b"{}"))
 
 
 def read_answer(connection):

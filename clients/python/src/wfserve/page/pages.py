@@ -8,7 +8,7 @@ from __future__ import annotations
 
 import asyncio
 import pathlib
-from typing import Callable, List, Optional, Tuple
+from typing import Callable, List, Tuple
 
 from aiohttp import web
 
@@ -16,10 +16,9 @@ from wfserve import picture
 from wfserve.events import pending
 from wfserve.types import Event, Json
 
-from .asking import asked, look_for_begun
+from .asking import Serves, asked, look_for_begun
 from .attempts import Attempts
 from .backlog import POLLED, LastPolls, queue_rows
-from .core import Core
 from .listing import Entry, Workflows
 
 
@@ -57,12 +56,12 @@ class Pages:
     """What the server answers a browser."""
 
     def __init__(
-        self, core: Core, workflows: Workflows, attempts: Optional[Attempts] = None, last_polls: Optional[LastPolls] = None,
+        self, serves: Serves, workflows: Workflows, attempts: Attempts, last_polls: LastPolls,
     ):
-        self._core = core
+        self._serves = serves
         self._workflows = workflows
-        self._attempts = attempts or Attempts()
-        self._last_polls = last_polls or LastPolls()
+        self._attempts = attempts
+        self._last_polls = last_polls
 
     def routes(self) -> List[web.RouteDef]:
         return [
@@ -92,7 +91,7 @@ class Pages:
         return self._answer_file(request.match_info["file"])
 
     def _answer_file(self, name: str) -> web.Response:
-        files = {path.name: path for path in (HERE / "page").iterdir()}
+        files = {path.name: path for path in (HERE / "files").iterdir()}
         if name not in files:
             raise web.HTTPNotFound()
         kind = KINDS[name.rpartition(".")[2]]
@@ -132,7 +131,7 @@ class Pages:
         found = [] if row["status"] != "Running" else self._pending(entry.run, events)
         parent = self._workflows.find_run(events[0]["attrs"].get("parent_run"))
         named = {} if parent is None else {"parent": {"workflow_id": parent.workflow_id, "run": parent.run}}
-        new, now = events[number_of(request, "after", 0):], self._core.moments.now()
+        new, now = events[number_of(request, "after", 0):], self._serves.moments.now()
         return web.json_response({"workflow": row, "events": new, "pending": found, "now": now, **named})
 
     def _pending(self, run: str, events: List[Event]) -> List[Json]:
@@ -146,7 +145,7 @@ class Pages:
     async def download(self, request: web.Request) -> web.Response:
         """A history as a file: the reply that has it, as `wf replay` reads it."""
         workflow_id, run = request.match_info["workflow_id"], request.match_info["run"]
-        reply = await asked(self._core, "history", workflow_id, run)
+        reply = await asked(self._serves, "history", workflow_id, run)
         if "error" in reply:
             raise web.HTTPNotFound(text=f"there is no run {run} of {workflow_id}")
         headers = {"Content-Disposition": f'attachment; filename="{run}.json"', "Cache-Control": "no-cache"}
@@ -157,18 +156,16 @@ class Pages:
         await self._look_for_begun()
         entries = await self._found("", "Running", lambda entry: True, MOST_READS)
         tasks = [(entry.run, task) for entry in entries for task in entry.tasks]
-        settings, polls = getattr(getattr(self._core, "kept", None), "settings", None), getattr(self._core, "polls", None)
-        counts = None if polls is None else {(queue, POLLED[op]): count for (op, queue), count in polls.counts().items()}
+        counts = {(queue, POLLED[op]): count for (op, queue), count in self._serves.polls.counts().items()}
         rows = queue_rows(
-            settings.queues if settings else (), tasks, self._attempts.of, counts, self._last_polls.items(),
-            self._core.moments.now(),
+            self._serves.queues, tasks, self._attempts.of, counts, self._last_polls.items(), self._serves.moments.now(),
         )
-        return web.json_response({"queues": rows, "now": self._core.moments.now(), "runs": len(entries)})
+        return web.json_response({"queues": rows, "now": self._serves.moments.now(), "runs": len(entries)})
 
     async def picture(self, request: web.Request) -> web.Response:
         entry, events = await self._entry(request)
         events = events or await self._events(entry)
-        now = self._core.moments.now() if entry.status == "Running" else None
+        now = self._serves.moments.now() if entry.status == "Running" else None
         return web.Response(
             text=picture.picture_file(events, now), content_type="image/svg+xml",
             headers={"Content-Security-Policy": PICTURE_POLICY, "Cache-Control": "no-cache"},
@@ -186,7 +183,7 @@ class Pages:
 
     async def _events(self, entry: Entry) -> List[Json]:
         """The history of a run. A run that is gone leaves the list."""
-        reply = await asked(self._core, "history", entry.workflow_id, entry.run)
+        reply = await asked(self._serves, "history", entry.workflow_id, entry.run)
         if "error" in reply:
             self._workflows.remove(entry.run)
             raise web.HTTPNotFound(text=f"there is no run {entry.run} of {entry.workflow_id}")
@@ -208,4 +205,4 @@ class Pages:
 
     async def _look_for_begun(self) -> None:
         """Asks for the runs that others began."""
-        await look_for_begun(self._core, self._workflows, MOST_READS)
+        await look_for_begun(self._serves, self._workflows, MOST_READS)

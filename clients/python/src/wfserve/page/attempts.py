@@ -1,21 +1,33 @@
-"""What the server saw of activities' attempts: the history has none of it before an activity ends.
+"""What the edge saw of activities' attempts: the history has none of it before an activity ends.
 
-An attempt that is tried again writes no event. The server sees each line and its reply, so it knows the attempt, how
+An attempt that is tried again writes no event. The edge sees each line and its reply, so it knows the attempt, how
 the last one failed, when the next one is ready and what was told by a heartbeat. A compaction keeps that beside the
-snapshots (../durable/heard.py). What is asked for here is shown, and decides nothing.
+snapshots (edge/src). What is asked for here is shown, and decides nothing.
 """
 
 from __future__ import annotations
 
 from collections import OrderedDict
 from dataclasses import asdict, dataclass
-from typing import Any, Dict, Optional
+from typing import Any, Dict, Optional, Tuple
 
-from wfserve.durable.heard import ENDS, MOST_KEPT, Activity, activity_of
-from wfserve.ids import numbers_of
+from wfserve.ids import TaskKind, numbers_of, token_of
 from wfserve.types import Json, Reply, Request
 
+# So many activities are known. The one of which nothing was heard for the longest time is forgotten first.
+MOST_KEPT = 10_000
+ENDS = ("complete_activity", "cancel_activity")
+# The shard, the run's number there, and the event that scheduled the activity.
+Activity = Tuple[int, int, int]
 WAITS, STARTED = "waits for a worker", "a worker has it"
+
+
+def activity_of(text: str) -> Optional[Activity]:
+    """The activity that a token names; None where it is no activity's."""
+    token = token_of(text)
+    if token is None or token.kind != TaskKind.ACTIVITY:
+        return None
+    return token.shard, token.run, token.event
 
 
 @dataclass
