@@ -1,18 +1,18 @@
 //! Opens a service, serves it until a signal says to stop, and ends it.
 
-use crate::blobs::{Folder as BlobFolder, Store};
 use crate::core::{Core, Threads};
-use crate::guard::Guard;
+use crate::http::page::Page;
 use crate::http::Front;
 use crate::lines::{self, Lines};
-use crate::listen::{self, Connections};
-use crate::moments::{MachineClocks, Moments};
-use crate::opening::Opened;
+use crate::log::blobs::{Folder as BlobFolder, Store};
+use crate::log::opening::Opened;
+use crate::log::table::{is_address, Client, Connect};
+use crate::net::guard::Guard;
+use crate::net::listen::{self, Connections};
 use crate::options::{Options, LOCAL};
-use crate::page::Page;
-use crate::say::say;
-use crate::system;
-use crate::table::{is_address, Client, Connect};
+use crate::os::stderr::say;
+use crate::os::system;
+use crate::turns::clock::{MachineClocks, Moments};
 use std::fs;
 use std::io::Write;
 use std::os::unix::fs::DirBuilderExt;

@@ -1,7 +1,7 @@
 //! What a service is opened with, as the first line of its log has it.
 
 use crate::json::quoted;
-use crate::log_fault::LogFault;
+use crate::log::fault::LogFault;
 use serde::Deserialize;
 
 const FORMAT: u64 = 1;

@@ -6,7 +6,7 @@ use tokio::runtime::{Builder, Runtime};
 use tokio_postgres::error::SqlState;
 use tokio_postgres::types::ToSql;
 use tokio_postgres::{Client, Config, Row, Statement};
-use wfedge::log_fault::LogFault;
+use wfedge::log::fault::LogFault;
 
 /// Beyond this what became of a question is not known, as where a network is cut.
 const LONGEST: Duration = Duration::from_secs(10);

@@ -7,7 +7,7 @@ mod planted;
 mod table;
 mod tls;
 
-use wfedge::table::Client;
+use wfedge::log::table::Client;
 
 /// Serves by the words of the command line. The status with which the process ends.
 pub fn run() -> i32 {

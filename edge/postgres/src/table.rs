@@ -16,9 +16,9 @@ use std::sync::atomic::{AtomicBool, Ordering::SeqCst};
 use std::sync::Arc;
 use std::time::Duration;
 use tokio_postgres::{Row, Statement};
-use wfedge::log_fault::LogFault;
-use wfedge::say::line as say_line;
-use wfedge::table::{Batch, Piece, PiecePlace, Pieces, Start, Table};
+use wfedge::log::fault::LogFault;
+use wfedge::log::table::{Batch, Piece, PiecePlace, Pieces, Start, Table};
+use wfedge::os::stderr::line as say_line;
 
 const TABLES: &str = "
     begin;

@@ -14,7 +14,7 @@ use std::task::{Context, Poll};
 use tokio::io::{AsyncRead, AsyncWrite, ReadBuf};
 use tokio_postgres::config::SslMode;
 use tokio_postgres::tls::{ChannelBinding, MakeTlsConnect, TlsConnect, TlsStream};
-use wfedge::log_fault::LogFault;
+use wfedge::log::fault::LogFault;
 
 const END: &str = "-----END CERTIFICATE-----";
 

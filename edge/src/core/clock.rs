@@ -1,8 +1,8 @@
 //! The turns that time asks for: timers fire, and a sweep finds what no call and no reply told of. Polls end here too.
 
 use super::Core;
-use crate::ledger::Ledger;
-use crate::shards::Shard;
+use crate::turns::ledger::Ledger;
+use crate::turns::shards::Shard;
 use std::collections::BTreeSet;
 use std::sync::{Arc, PoisonError};
 use std::time::{Duration, Instant};

@@ -21,22 +21,22 @@ mod successor;
 #[cfg(test)]
 mod tests;
 
-use crate::body::Asked;
+use crate::call::body::Asked;
+use crate::call::changes::Changes;
+use crate::call::fault::Fault;
 use crate::call::{asker_of, Call, Receiver, Told};
-use crate::changes::Changes;
-use crate::fault::Fault;
-use crate::generation::Files;
+use crate::http::metrics::{resident_bytes, Gauge};
 use crate::json::quoted;
-use crate::kept::{Kept, Origin};
-use crate::line_talk::Asking;
+use crate::lines::mailbox;
+use crate::lines::talk::Asking;
+use crate::log::generation::Files;
+use crate::log::kept::{Kept, Origin};
+use crate::log::opening::Opened;
 use crate::log::Log;
-use crate::mail;
-use crate::metrics::{resident_bytes, Gauge};
-use crate::moments::Moments;
-use crate::opening::Opened;
-use crate::program::Program;
-use crate::shards::Shard;
-use crate::system;
+use crate::os::program::Program;
+use crate::os::system;
+use crate::turns::clock::Moments;
+use crate::turns::shards::Shard;
 pub use compacting::Limits;
 use hyper::body::Bytes;
 use state::{Answers, State, TaskAnswers};
@@ -93,7 +93,7 @@ impl Untold {
     /// Has who waits told of answers.
     fn tell(&self, answers: Answers) {
         let Answers { mut tasks, lines } = answers;
-        mail::deliver(lines);
+        mailbox::deliver(lines);
         if tasks.is_empty() {
             return;
         }

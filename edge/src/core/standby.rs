@@ -6,10 +6,10 @@
 
 use super::state::State;
 use super::Core;
-use crate::following::{serve_text, Tail};
-use crate::kept::{NotServed, Origin};
-use crate::program::Program;
-use crate::say::say;
+use crate::log::following::{serve_text, Tail};
+use crate::log::kept::{NotServed, Origin};
+use crate::os::program::Program;
+use crate::os::stderr::say;
 use std::sync::{MutexGuard, PoisonError};
 use std::time::{Duration, Instant};
 

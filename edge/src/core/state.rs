@@ -1,24 +1,24 @@
 //! What the core's threads share: calls by where they are on their way, and all that is known of them.
 
+use crate::call::changes::Changes;
+use crate::call::fault::Fault;
+use crate::call::replies::{Mark, Replies};
+use crate::call::texts::lasting;
 use crate::call::{Asker, Call, Receiver, Told};
-use crate::changes::Changes;
 use crate::core::compacting::{Exchange, Limits, Window};
 use crate::core::endings::Endings;
 use crate::core::standby::Place;
-use crate::deadlines::Deadlines;
-use crate::fault::Fault;
-use crate::kept::Origin;
-use crate::ledger::{Ledger, Turn};
+use crate::http::metrics::Metrics;
+use crate::lines::mailbox;
+use crate::log::kept::Origin;
+use crate::log::opening::Observed;
 use crate::log::Log;
-use crate::mail;
-use crate::metrics::Metrics;
-use crate::opening::Observed;
-use crate::polls::{Polls, Queue, Waiting, Woken};
-use crate::program::Program;
-use crate::replies::{Mark, Replies};
-use crate::say::say;
-use crate::system;
-use crate::texts::lasting;
+use crate::os::program::Program;
+use crate::os::stderr::say;
+use crate::os::system;
+use crate::turns::deadlines::Deadlines;
+use crate::turns::ledger::{Ledger, Turn};
+use crate::turns::polls::{Polls, Queue, Waiting, Woken};
 use hyper::body::Bytes;
 use std::collections::{HashMap, VecDeque};
 use std::time::{Duration, Instant};
@@ -43,7 +43,7 @@ pub type TaskAnswers = Vec<(oneshot::Sender<Told>, Told)>;
 pub struct Answers {
     pub tasks: TaskAnswers,
     /// Calls of connections for lines.
-    pub lines: mail::Answers,
+    pub lines: mailbox::Answers,
 }
 
 impl Answers {

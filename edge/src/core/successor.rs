@@ -1,16 +1,16 @@
 //! What a log that is compacted while it is served is read by, and what takes its place.
 
-use crate::compaction::{keep_log, write_beside};
 use crate::core::state::LogState;
-use crate::following;
-use crate::generation::REPLIES;
-use crate::kept::Origin;
-use crate::line_log::LineLog;
+use crate::log::compaction::{keep_log, write_beside};
+use crate::log::fault::LogFault;
+use crate::log::file::LineLog;
+use crate::log::following;
+use crate::log::generation::REPLIES;
+use crate::log::kept::Origin;
+use crate::log::table::log::Place;
+use crate::log::table::records::Upload;
+use crate::log::table::tail::TableTail;
 use crate::log::Log;
-use crate::log_fault::LogFault;
-use crate::table_log::Place;
-use crate::table_records::Upload;
-use crate::table_tail::TableTail;
 
 /// Reads the lines of a log that is written meanwhile.
 pub enum Tail {

@@ -2,16 +2,16 @@
 
 use super::compacting::{Window, MOST_HELD};
 use super::{Compacted, Core, Limits, Outcome, Threads};
-use crate::body::asked;
-use crate::fault::Fault;
-use crate::kept::NotServed;
-use crate::line_log::Lines;
-use crate::memory_table::{table_in, Shared};
-use crate::moments::{MachineClocks, Moments};
-use crate::opening::Opened;
-use crate::scratch::Scratch;
+use crate::call::body::asked;
+use crate::call::fault::Fault;
+use crate::log::file::Lines;
+use crate::log::kept::NotServed;
+use crate::log::opening::Opened;
+use crate::log::table::memory::{table_in, Shared};
 use crate::settings::Named;
-use crate::waits::{received, returned, wait_until, SECONDS};
+use crate::testing::scratch::Scratch;
+use crate::testing::test_wait::{received, returned, wait_until, SECONDS};
+use crate::turns::clock::{MachineClocks, Moments};
 use hyper::body::Bytes;
 use std::sync::atomic::{AtomicBool, Ordering::SeqCst};
 use std::sync::{Arc, Mutex};
@@ -89,7 +89,7 @@ impl Served {
             // Those that ended before and were waited for may have left their numbers to others.
             let words = std::fs::read_to_string(format!("/proc/{program}/cmdline")).unwrap_or_default();
             if words.contains(&self._folder.path("program")) {
-                crate::system::kill(program.parse().unwrap());
+                crate::os::system::kill(program.parse().unwrap());
             }
         }
     }
@@ -262,7 +262,7 @@ fn compacted_under_calls(served: &Served) -> (Vec<Bytes>, Vec<Bytes>) {
 fn knows_replies(opened: Opened, signals: &[Bytes]) {
     let begin = asked(br#"{"op":"signal","name":"n"}"#, 1).unwrap().begin;
     for (number, reply) in signals.iter().enumerate() {
-        let found = opened.observed.replies.get(&format!("sign-{number}"), crate::replies::mark_of(&begin));
+        let found = opened.observed.replies.get(&format!("sign-{number}"), crate::call::replies::mark_of(&begin));
         assert_eq!(found, Ok(Some(reply.clone())));
     }
     opened.kept.program.end();
@@ -437,7 +437,7 @@ fn a_second_program_takes_the_place_of_one_that_ends() {
         // It is not started anew: there is no program under this name.
         let (path, away) = (served._folder.path("program"), served._folder.path("away"));
         std::fs::rename(&path, &away).unwrap();
-        crate::system::kill(served.core.lock().pid);
+        crate::os::system::kill(served.core.lock().pid);
         wait_until("the second program that serves", || {
             let state = served.core.lock();
             state.metrics.restarts >= killed && !state.has_standby()
@@ -483,10 +483,10 @@ fn a_program_that_is_killed_again_and_again_is_no_lines_fault() {
 fn a_program_that_has_ended_is_not_ready() {
     let served = Served::new(100);
     let pid = served.core.lock().pid;
-    assert_eq!((crate::system::has_ended(pid), served.core.health().wrong), (false, ""));
+    assert_eq!((crate::os::system::has_ended(pid), served.core.health().wrong), (false, ""));
     // Another child that has ended stands for it, so that nobody notices.
     let ended = std::process::Command::new("/bin/sh").args(["-c", "exit 3"]).spawn().unwrap().id();
-    wait_until("a child that ends", || crate::system::has_ended(ended));
+    wait_until("a child that ends", || crate::os::system::has_ended(ended));
     served.core.lock().pid = ended;
     assert_eq!(served.core.health().wrong, "restarting");
     served.core.lock().pid = pid;

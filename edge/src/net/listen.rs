@@ -1,0 +1,217 @@
+//! The edge's sockets: HTTP over TCP, and over a private socket for the page.
+
+use crate::http::calls;
+use crate::http::{is_last, Front, HEAD_LIMIT};
+use crate::net::lingering::Lingering;
+use hyper::server::conn::Http;
+use hyper::service::service_fn;
+use std::convert::Infallible;
+use std::sync::atomic::{AtomicBool, AtomicUsize, Ordering::SeqCst};
+use std::sync::{Arc, Mutex, PoisonError};
+use std::time::{Duration, Instant};
+use tokio::io::{AsyncRead, AsyncWrite};
+use tokio::net::{TcpListener, UnixListener};
+use tokio::sync::watch;
+
+/// A head beyond this, with a piece that one read brings, is not read to its end. A shorter one that is too long is told so.
+const HEAD_BUFFER: usize = 2 * HEAD_LIMIT;
+const MOST_CONNECTIONS: usize = 10_000;
+/// A connection on which nothing is asked is closed after so long.
+pub const IDLE: Duration = Duration::from_secs(75);
+/// Where no connection can be taken, as many files are open, it is tried again after so long.
+pub const PAUSE: Duration = Duration::from_millis(50);
+
+/// How many connections there are, and whether they have to end.
+pub struct Connections {
+    count: AtomicUsize,
+    stop: watch::Sender<bool>,
+}
+
+/// Counts a connection while it is there.
+pub struct Counted(pub Arc<Connections>);
+
+impl Drop for Counted {
+    fn drop(&mut self) {
+        self.0.count.fetch_sub(1, SeqCst);
+    }
+}
+
+impl Connections {
+    pub fn new() -> Arc<Connections> {
+        Arc::new(Connections { count: AtomicUsize::new(0), stop: watch::channel(false).0 })
+    }
+
+    /// Counts one more; None where there are as many as may be.
+    pub fn counted(self: &Arc<Connections>) -> Option<Counted> {
+        let counted = Counted(self.clone());
+        let before = self.count.fetch_add(1, SeqCst);
+        (before < MOST_CONNECTIONS).then_some(counted)
+    }
+
+    /// Told once the connections have to end.
+    pub fn told_to_stop(&self) -> watch::Receiver<bool> {
+        self.stop.subscribe()
+    }
+
+    /// Whether they have to.
+    pub fn is_stopped(&self) -> bool {
+        *self.stop.borrow()
+    }
+
+    /// Has all connections end once what they were asked is answered, and waits for that so long.
+    pub async fn stop(&self, most: Duration) {
+        let late = Instant::now() + most;
+        self.stop.send_replace(true);
+        while self.count.load(SeqCst) > 0 && Instant::now() < late {
+            tokio::time::sleep(Duration::from_millis(5)).await;
+        }
+    }
+}
+
+/// What is going on on a connection, and when something was asked or answered on it last.
+pub struct Activity {
+    last: Mutex<Instant>,
+    is_serving: AtomicUsize,
+    was_asked: AtomicBool,
+    /// Whether an answer was the last one, so that what its client still sends is not read.
+    is_unread: AtomicBool,
+    /// Whether the edge was told to stop.
+    is_stopped: AtomicBool,
+}
+
+impl Activity {
+    pub fn new() -> Activity {
+        Activity {
+            last: Mutex::new(Instant::now()),
+            is_serving: AtomicUsize::new(0),
+            was_asked: AtomicBool::new(false),
+            is_unread: AtomicBool::new(false),
+            is_stopped: AtomicBool::new(false),
+        }
+    }
+
+    /// Notes that nothing more is read after an answer.
+    pub fn leave_unread(&self) {
+        self.is_unread.store(true, SeqCst);
+    }
+
+    /// Notes that the edge was told to stop.
+    pub fn stop(&self) {
+        self.is_stopped.store(true, SeqCst);
+    }
+
+    /// Whether its client may still send something, and so is waited for. An edge that stops waits for no client whose
+    /// requests are all answered.
+    pub fn lingers(&self) -> bool {
+        self.is_unread.load(SeqCst) || !self.is_stopped.load(SeqCst)
+    }
+
+    fn note(&self) {
+        *self.last.lock().unwrap_or_else(PoisonError::into_inner) = Instant::now();
+    }
+
+    fn begin(&self) {
+        self.was_asked.store(true, SeqCst);
+        self.is_serving.fetch_add(1, SeqCst);
+    }
+
+    fn end(&self) {
+        self.note();
+        self.is_serving.fetch_sub(1, SeqCst);
+    }
+
+    /// For how long it may be silent still; None where it was silent for too long.
+    fn rest(&self, read_timeout: Duration) -> Option<Duration> {
+        let most = if self.was_asked.load(SeqCst) { IDLE.max(read_timeout) } else { read_timeout };
+        if self.is_serving.load(SeqCst) > 0 {
+            return Some(most);
+        }
+        most.checked_sub(self.last.lock().unwrap_or_else(PoisonError::into_inner).elapsed())
+    }
+}
+
+/// Serves HTTP to whoever connects, until this is dropped.
+pub async fn serve_tcp(listener: TcpListener, front: Arc<Front>, connections: Arc<Connections>) {
+    loop {
+        match listener.accept().await {
+            Ok((socket, _)) => {
+                let _ = socket.set_nodelay(true);
+                if let Some(counted) = connections.counted() {
+                    tokio::spawn(calls::serve(socket, front.clone(), counted));
+                }
+            }
+            Err(_) => tokio::time::sleep(PAUSE).await,
+        }
+    }
+}
+
+/// Serves HTTP over a private socket, for the page.
+pub async fn serve_private(listener: UnixListener, front: Arc<Front>, connections: Arc<Connections>) {
+    loop {
+        match listener.accept().await {
+            Ok((socket, _)) => {
+                if let Some(counted) = connections.counted() {
+                    tokio::spawn(serve_http(socket, Before::default(), front.clone(), counted));
+                }
+            }
+            Err(_) => tokio::time::sleep(PAUSE).await,
+        }
+    }
+}
+
+/// What was done on a connection before hyper serves it.
+#[derive(Default)]
+pub struct Before {
+    /// Bytes that were read and are no request yet.
+    pub read: Vec<u8>,
+    /// Whether there was a request, and whether the edge was told to stop.
+    pub was_asked: bool,
+    pub is_stopped: bool,
+}
+
+/// Serves one connection.
+pub async fn serve_http<S>(socket: S, before: Before, front: Arc<Front>, counted: Counted)
+where
+    S: AsyncRead + AsyncWrite + Unpin + Send + 'static,
+{
+    let Before { read, was_asked, is_stopped } = before;
+    let mut stop = counted.0.told_to_stop();
+    let (activity, read_timeout) = (Arc::new(Activity::new()), front.read_timeout);
+    activity.was_asked.store(was_asked, SeqCst);
+    let noted = activity.clone();
+    let service = service_fn(move |request| {
+        let (front, activity) = (front.clone(), noted.clone());
+        async move {
+            activity.begin();
+            let response = front.answer(request).await;
+            if is_last(&response) {
+                activity.leave_unread();
+            }
+            activity.end();
+            Ok::<_, Infallible>(response)
+        }
+    });
+    let mut http = Http::new();
+    http.http1_only(true).max_buf_size(HEAD_BUFFER).http1_header_read_timeout(read_timeout);
+    let socket = Lingering::new(socket, read, activity.clone(), read_timeout);
+    let connection = http.serve_connection(socket, service);
+    tokio::pin!(connection);
+    if is_stopped {
+        activity.stop();
+        connection.as_mut().graceful_shutdown();
+    }
+    loop {
+        let rest = match activity.rest(read_timeout) {
+            Some(rest) => rest,
+            None => return,
+        };
+        tokio::select! {
+            _ = &mut connection => return,
+            _ = stop.changed() => {
+                activity.stop();
+                connection.as_mut().graceful_shutdown();
+            }
+            _ = tokio::time::sleep(rest + PAUSE) => {}
+        }
+    }
+}
