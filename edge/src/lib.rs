@@ -19,23 +19,27 @@ mod settings;
 mod testing;
 mod turns;
 
-use crate::os::stderr::say;
+use crate::os::stderr::report;
 use log::table::Client;
 use options::{Options, HELP};
+use std::process::ExitCode;
+
+/// The status of an edge that could not serve, or not to its end.
+const FAILED: u8 = 2;
 
 /// Serves by the words of a command line until it is told to stop. The status with which the process ends. A log in a
 /// database's table is opened by `client`, where this edge was built with one.
-pub fn run(words: impl Iterator<Item = String>, client: Option<Client>) -> i32 {
+pub fn run(words: impl Iterator<Item = String>, client: Option<Client>) -> ExitCode {
     let words: Vec<String> = words.collect();
     if words.iter().any(|word| word == "--help" || word == "-h") {
         print!("{HELP}");
-        return 0;
+        return ExitCode::SUCCESS;
     }
-    match Options::of(words).and_then(|options| serving::run(options, client)) {
-        Ok(()) => 0,
+    match Options::parse(words).and_then(|options| serving::run(options, client)) {
+        Ok(()) => ExitCode::SUCCESS,
         Err(fault) => {
-            say!("{fault}");
-            2
+            report!("{fault}");
+            ExitCode::from(FAILED)
         }
     }
 }

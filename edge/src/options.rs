@@ -2,6 +2,7 @@
 
 use crate::core::Limits;
 use crate::settings::Named;
+use crate::turns::shards::ShardCount;
 use std::time::Duration;
 
 /// The address on which no token is wanted.
@@ -77,7 +78,7 @@ impl Default for Options {
 
 impl Options {
     /// Reads the words of a command line, or says which is wrong.
-    pub fn of(words: impl IntoIterator<Item = String>) -> Result<Options, String> {
+    pub fn parse(words: impl IntoIterator<Item = String>) -> Result<Options, String> {
         let (mut options, mut words) = (Options::default(), words.into_iter());
         while let Some(word) = words.next() {
             let (name, value) = match word.split_once('=') {
@@ -103,7 +104,7 @@ impl Options {
             "--token-file" => self.token_file = Some(value),
             "--queue-limit" => self.queue_limit = number(name, &value)?,
             "--read-timeout" => self.read_timeout = seconds(name, &value)?,
-            "--shards" => self.named.shards = Some(number(name, &value)?),
+            "--shards" => self.named.shards = Some(shard_count(name, &value)?),
             "--queues" => self.named.queues = Some(value.split(',').map(str::to_string).collect()),
             "--capacity" => self.named.capacity = Some(number(name, &value)?),
             "--retention" => self.named.retention = Some(number(name, &value)?),
@@ -120,6 +121,10 @@ impl Options {
 
 fn number<T: std::str::FromStr>(name: &str, value: &str) -> Result<T, String> {
     value.parse().map_err(|_| format!("{name} takes a whole number, and not {value}"))
+}
+
+fn shard_count(name: &str, value: &str) -> Result<ShardCount, String> {
+    ShardCount::new(number(name, value)?).ok_or_else(|| format!("{name} takes from 1 on, and not {value}"))
 }
 
 fn is_yes(name: &str, value: &str) -> Result<bool, String> {
@@ -148,7 +153,7 @@ mod tests {
     use super::*;
 
     fn options(text: &str) -> Result<Options, String> {
-        Options::of(text.split_whitespace().map(str::to_string))
+        Options::parse(text.split_whitespace().map(str::to_string))
     }
 
     #[test]
@@ -156,7 +161,7 @@ mod tests {
         let found =
             options("--program p --log=a.log --port 0 --shards 3 --queues a,b --page python3 --page x.py").unwrap();
         assert_eq!((found.program.as_str(), found.log.as_deref(), found.port), ("p", Some("a.log"), 0));
-        assert_eq!((found.named.shards, found.named.queues), (Some(3), Some(vec!["a".into(), "b".into()])));
+        assert_eq!((found.named.shards, found.named.queues), (ShardCount::new(3), Some(vec!["a".into(), "b".into()])));
         assert_eq!(found.page, ["python3", "x.py"]);
         assert_eq!(options("--program p").unwrap(), Options { program: "p".into(), ..Options::default() });
     }
@@ -166,6 +171,7 @@ mod tests {
         for (text, said) in [
             ("", "--program is missing"),
             ("--program", "--program takes a value"),
+            ("--program p --shards 0", "--shards takes from 1 on"),
             ("--program p --port 65536", "--port takes a whole number"),
             ("--program p --read-timeout 0", "--read-timeout takes from"),
             ("--program p --standby maybe", "--standby takes yes or no"),

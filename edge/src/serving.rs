@@ -10,9 +10,9 @@ use crate::log::table::{is_address, Client, Connect};
 use crate::net::guard::Guard;
 use crate::net::listen::{self, Connections};
 use crate::options::{Options, LOCAL};
-use crate::os::stderr::say;
+use crate::os::stderr::report;
 use crate::os::system;
-use crate::turns::clock::{MachineClocks, Moments};
+use crate::turns::clock::{Clock, MachineClocks};
 use std::fs;
 use std::io::Write;
 use std::os::unix::fs::DirBuilderExt;
@@ -107,11 +107,11 @@ pub fn run(options: Options, client: Option<Client>) -> Result<(), String> {
             (Place::new(folder, &log, client, &opened), opened)
         }
     };
-    let moments = Moments::new(opened.last_moment(), Box::new(MachineClocks::new()));
+    let clock = Clock::new(opened.last_moment(), Box::new(MachineClocks::new()));
     // Sockets are one thread's: a second one gives nothing beside the program, the log and the clients.
     let runtime =
         Builder::new_multi_thread().worker_threads(1).enable_all().build().map_err(|fault| fault.to_string())?;
-    let started = Core::start(opened, moments, options.queue_limit, options.limits);
+    let started = Core::start(opened, clock, options.queue_limit, options.limits);
     let (core, threads) = started.map_err(|fault| fault.to_string())?;
     let result = runtime.block_on(serve(&options, guard, core.clone(), &place));
     finish(&core, threads);
@@ -122,10 +122,10 @@ pub fn run(options: Options, client: Option<Client>) -> Result<(), String> {
 fn opened(options: &Options, log: &str, client: Option<Client>) -> Result<Opened, String> {
     let has_page = !options.page.is_empty();
     let opened = match (is_address(log), client) {
-        (false, _) => Opened::of(&options.program, log, &options.named, has_page),
+        (false, _) => Opened::from_file(&options.program, log, &options.named, has_page),
         (true, Some(client)) => {
             let connect = Connect::new(client.table, log, options.silence);
-            Opened::of_table(&options.program, &connect, &options.named, has_page)
+            Opened::from_table(&options.program, &connect, &options.named, has_page)
         }
         (true, None) => {
             return Err(
@@ -141,7 +141,7 @@ fn finish(core: &Core, threads: Threads) {
     core.close();
     if !threads.join(ENDING) {
         let left = threads.left().join(", ");
-        say!("the program did not end with its input, and is killed: the log has all ({left})");
+        report!("the program did not end with its input, and is killed: the log has all ({left})");
         core.kill_program();
         threads.join(SHUTDOWN);
     }

@@ -6,7 +6,7 @@
 use crate::call::facts::{Facts, Subject};
 use crate::call::operations::Op;
 use crate::call::reply::Reply;
-use crate::call::sequence::Numbered;
+use crate::call::sequence::Sequence;
 use crate::json::{quoted, Object, Value};
 use crate::turns::shards::{activity_of_token, Activity};
 use serde::Deserialize;
@@ -19,7 +19,7 @@ const MOST_BYTES: usize = 32 << 20;
 
 /// What a pair tells of an activity: a later one of the same kind takes its place.
 #[derive(Clone, Copy)]
-enum Told {
+enum Outcome {
     Taken,
     Failed,
     Beat,
@@ -35,18 +35,18 @@ struct Named {
 }
 
 /// Which activity a pair is of, and what it tells of it. None where it is no such pair.
-fn told_in(pair: &[u8]) -> Option<(Activity, Told)> {
+fn told_in(pair: &[u8]) -> Option<(Activity, Outcome)> {
     let (asked, said): (Named, Named) = serde_json::from_slice(pair).ok()?;
     let (token, told) = match asked.op.as_str() {
-        "poll_activity_task" => (said.token, Told::Taken),
-        "fail_activity" => (asked.token, Told::Failed),
-        "heartbeat" => (asked.token, Told::Beat),
+        "poll_activity_task" => (said.token, Outcome::Taken),
+        "fail_activity" => (asked.token, Outcome::Failed),
+        "heartbeat" => (asked.token, Outcome::Beat),
         _ => return None,
     };
     Some((activity_of_token(&token)?, told))
 }
 
-/// The numbers of what was told of an activity, by `Told`. 0 is none.
+/// The numbers of what was told of an activity, by `Outcome`. 0 is none.
 type Numbers = [u64; 3];
 
 /// Which of the kept pairs are of which activity.
@@ -66,7 +66,7 @@ impl Attempts {
         line: &[u8],
         at: u64,
         reply: &Reply<'_>,
-        kept: &mut Numbered,
+        kept: &mut Sequence,
     ) -> Option<String> {
         let token = match (facts.op, &facts.subject) {
             (Op::PollActivityTask, _) if reply.is("task") => reply.token.as_deref()?,
@@ -80,17 +80,17 @@ impl Attempts {
             Op::PollActivityTask => {
                 let said = format!("{{\"ok\":\"task\",\"token\":{shown},\"attempt\":{attempt}}}");
                 let pair = format!("[{{\"op\":\"poll_activity_task\",\"at\":{at}}},{said}]");
-                self.note(activity, Told::Taken, pair, kept);
+                self.note(activity, Outcome::Taken, pair, kept);
             }
             Op::FailActivity if reply.is("retrying") => {
                 let asked = asked(facts.op, line, &shown, at, ["message", "error_type"]);
                 let ready = reply.ready.unwrap_or(0);
                 let pair = format!("[{asked},{{\"ok\":\"retrying\",\"attempt\":{attempt},\"ready\":{ready}}}]");
-                self.note(activity, Told::Failed, pair, kept);
+                self.note(activity, Outcome::Failed, pair, kept);
             }
             Op::Heartbeat => {
                 let pair = format!("[{},{{\"ok\":\"heartbeat\"}}]", asked(facts.op, line, &shown, at, ["details"]));
-                self.note(activity, Told::Beat, pair, kept);
+                self.note(activity, Outcome::Beat, pair, kept);
             }
             Op::CompleteActivity | Op::CancelActivity | Op::FailActivity if self.forget(&activity, kept) => {
                 return Some(format!("[{{\"op\":\"complete_activity\",\"token\":{shown}}},{{\"ok\":\"completed\"}}]"));
@@ -101,7 +101,7 @@ impl Attempts {
     }
 
     /// All pairs as text, a line for each, in the order in which they were told.
-    pub fn text(&self, kept: &Numbered) -> Vec<u8> {
+    pub fn text(&self, kept: &Sequence) -> Vec<u8> {
         let mut numbers: Vec<u64> = self.found.values().flatten().copied().filter(|number| *number > 0).collect();
         numbers.sort_unstable();
         let mut text = Vec::with_capacity(self.bytes + numbers.len());
@@ -113,7 +113,7 @@ impl Attempts {
     }
 
     /// Takes pairs from a text. What is none is left out: it decides nothing.
-    pub fn take_text(&mut self, text: &[u8], kept: &mut Numbered) {
+    pub fn take_text(&mut self, text: &[u8], kept: &mut Sequence) {
         for line in text.split(|byte| *byte == b'\n') {
             if let (Some((activity, told)), Ok(pair)) = (told_in(line), std::str::from_utf8(line)) {
                 self.note(activity, told, pair.to_string(), kept);
@@ -121,7 +121,7 @@ impl Attempts {
         }
     }
 
-    fn note(&mut self, activity: Activity, told: Told, pair: String, kept: &mut Numbered) {
+    fn note(&mut self, activity: Activity, told: Outcome, pair: String, kept: &mut Sequence) {
         let numbers = self.found.entry(activity).or_default();
         self.heard.remove(numbers.iter().max().unwrap_or(&0));
         self.bytes += pair.len();
@@ -138,7 +138,7 @@ impl Attempts {
     }
 
     /// Forgets an activity. Whether it was there.
-    fn forget(&mut self, activity: &Activity, kept: &mut Numbered) -> bool {
+    fn forget(&mut self, activity: &Activity, kept: &mut Sequence) -> bool {
         let numbers = match self.found.remove(activity) {
             Some(numbers) => numbers,
             None => return false,
@@ -151,7 +151,7 @@ impl Attempts {
 
 /// A report on a task, as far as the page needs it: these of its texts.
 fn asked<const COUNT: usize>(op: Op, line: &[u8], token: &str, at: u64, names: [&str; COUNT]) -> String {
-    let request = match Value::of(line) {
+    let request = match Value::parse(line) {
         Ok(Value::Object(request)) => request,
         _ => Object::default(),
     };
@@ -168,6 +168,7 @@ fn asked<const COUNT: usize>(op: Op, line: &[u8], token: &str, at: u64, names: [
 mod tests {
     use super::*;
     use crate::call::body::facts_of_line;
+    use crate::turns::shards::ShardCount;
 
     // Tokens of two activities of one run, the first one's at two attempts, and of a workflow task.
     const FIRST: &str = "AQIAAAAAAAAAAAABAAAAAAAAAAUAAAAB";
@@ -178,13 +179,13 @@ mod tests {
     #[derive(Default)]
     struct Seen {
         attempts: Attempts,
-        kept: Numbered,
+        kept: Sequence,
     }
 
     impl Seen {
         fn tell(&mut self, line: &str, reply: &str) -> Option<String> {
-            let (facts, at) = facts_of_line(line.as_bytes(), 1);
-            let reply = Reply::of(reply.as_bytes()).unwrap();
+            let (facts, at) = facts_of_line(line.as_bytes(), ShardCount::ONE);
+            let reply = Reply::parse(reply.as_bytes()).unwrap();
             self.attempts.observe(&facts, line.as_bytes(), at.unwrap_or(0), &reply, &mut self.kept)
         }
 

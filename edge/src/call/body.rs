@@ -9,7 +9,7 @@ use crate::call::fault::Fault;
 use crate::call::operations::Op;
 use crate::json::scan::place_of_byte;
 use crate::json::{quoted, write_whole, Object, Value};
-use crate::turns::shards::Shard;
+use crate::turns::shards::ShardCount;
 
 /// A poll may wait so many milliseconds.
 const MOST_WAIT: u64 = 60_000;
@@ -23,7 +23,7 @@ const CALL: &str = "call";
 
 /// A body that was read.
 #[derive(Clone, Debug, PartialEq)]
-pub struct Asked {
+pub struct ParsedCall {
     /// The line's text without its last brace, its moment and its key.
     pub begin: Vec<u8>,
     pub facts: Facts,
@@ -32,13 +32,13 @@ pub struct Asked {
 }
 
 /// Reads the body of a call.
-pub fn asked(body: &[u8], shards: Shard) -> Result<Asked, Fault> {
-    asked_of(body, object_in(body)?, shards, Vec::new())
+pub fn parse_call(body: &[u8], shards: ShardCount) -> Result<ParsedCall, Fault> {
+    parsed_from(body, object_in(body)?, shards, Vec::new())
 }
 
 /// Reads the body of a call whose operation the path names: it has the fields alone.
-pub fn asked_of_fields(op: &str, body: &[u8], shards: Shard) -> Result<Asked, Fault> {
-    asked(&with_op(op, body)?, shards)
+pub fn parse_fields(op: &str, body: &[u8], shards: ShardCount) -> Result<ParsedCall, Fault> {
+    parse_call(&with_op(op, body)?, shards)
 }
 
 /// A body with its operation as the first member.
@@ -54,18 +54,18 @@ fn with_op(op: &str, body: &[u8]) -> Result<Vec<u8>, Fault> {
 }
 
 /// Reads a line of a socket, which may bear its key as a member. What is asked has its text in this memory.
-pub fn asked_by_line(line: &[u8], shards: Shard, memory: Vec<u8>) -> Result<(Asked, Option<Box<str>>), Fault> {
+pub fn parse_line(line: &[u8], shards: ShardCount, memory: Vec<u8>) -> Result<(ParsedCall, Option<Box<str>>), Fault> {
     let request = object_in(line)?;
     let key = match request.get(CALL) {
         None => None,
         Some(Value::Text(key)) => Some(call_key(key)?),
         Some(_) => return Err(Fault::BadCall(KEY_RULE.to_string())),
     };
-    Ok((asked_of(line, request, shards, memory)?, key))
+    Ok((parsed_from(line, request, shards, memory)?, key))
 }
 
 fn object_in(body: &[u8]) -> Result<Object<'_>, Fault> {
-    match Value::of(body) {
+    match Value::parse(body) {
         Ok(Value::Object(request)) => Ok(request),
         Ok(_) => Err(Fault::BadCall("the body is no object".to_string())),
         Err(fault) if fault.is_data() => Err(Fault::BadCall(fault.to_string())),
@@ -73,8 +73,13 @@ fn object_in(body: &[u8]) -> Result<Object<'_>, Fault> {
     }
 }
 
-fn asked_of(body: &[u8], mut request: Object<'_>, shards: Shard, mut begin: Vec<u8>) -> Result<Asked, Fault> {
-    let op = request.text("op").map_or(Op::Unknown, Op::of);
+fn parsed_from(
+    body: &[u8],
+    mut request: Object<'_>,
+    shards: ShardCount,
+    mut begin: Vec<u8>,
+) -> Result<ParsedCall, Fault> {
+    let op = request.text("op").map_or(Op::Unknown, Op::parse);
     let wait = if op.is_poll() || op == Op::Describe { wait_of(&request)? } else { 0 };
     let (before, is_named) = (request.0.len(), request.text("op").map_or(false, |name| !name.is_empty()));
     let keys = op.keys();
@@ -82,13 +87,13 @@ fn asked_of(body: &[u8], mut request: Object<'_>, shards: Shard, mut begin: Vec<
     if is_any_too_deep(&request) {
         return Err(Fault::BadCall(format!("its values lie more than {DEEPEST} deep")));
     }
-    let facts = Facts::of(op, &request, shards);
+    let facts = Facts::new(op, &request, shards);
     if request.0.len() == before && is_named {
         begin_of(body, &mut begin);
     } else {
         begin = written(&request, is_named);
     }
-    Ok(Asked { begin, facts, wait })
+    Ok(ParsedCall { begin, facts, wait })
 }
 
 fn is_any_too_deep(request: &Object<'_>) -> bool {
@@ -139,7 +144,7 @@ pub struct Moment {
 }
 
 impl Moment {
-    pub fn of(at: u64) -> Moment {
+    pub fn new(at: u64) -> Moment {
         let mut text = b",\"at\":".to_vec();
         write_whole(at, &mut text);
         text.push(b'}');
@@ -173,11 +178,11 @@ pub fn keyed_begin(line: &[u8]) -> Option<(&[u8], &str)> {
 }
 
 /// What a line of a log says that is opened. One that can't be read was refused when it was made.
-pub fn facts_of_line(line: &[u8], shards: Shard) -> (Facts, Option<u64>) {
-    match Value::of(line) {
+pub fn facts_of_line(line: &[u8], shards: ShardCount) -> (Facts, Option<u64>) {
+    match Value::parse(line) {
         Ok(Value::Object(request)) => {
-            let op = request.text("op").map_or(Op::Unknown, Op::of);
-            (Facts::of(op, &request, shards), request.get("at").and_then(Value::whole))
+            let op = request.text("op").map_or(Op::Unknown, Op::parse);
+            (Facts::new(op, &request, shards), request.get("at").and_then(Value::whole))
         }
         _ => (Facts::unknown(), None),
     }
@@ -188,7 +193,7 @@ pub fn facts_of_line(line: &[u8], shards: Shard) -> (Facts, Option<u64>) {
 /// A log of an earlier time has reads, and a history is long. A description sets the same moment on the same shard,
 /// and changes as little.
 pub fn for_replay(line: &[u8]) -> Option<Vec<u8>> {
-    let request = match names_history(line).then(|| Value::of(line)) {
+    let request = match names_history(line).then(|| Value::parse(line)) {
         Some(Ok(Value::Object(request))) if request.text("op") == Some("history") => request,
         _ => return None,
     };
@@ -217,10 +222,11 @@ fn names_history(line: &[u8]) -> bool {
 #[cfg(test)]
 mod tests {
     use super::*;
+    use crate::turns::shards::shards;
 
     fn line_of(body: &str) -> String {
-        let mut line = asked(body.as_bytes(), 4).unwrap().begin;
-        Moment::of(17).end_line(&mut line, None);
+        let mut line = parse_call(body.as_bytes(), shards(4)).unwrap().begin;
+        Moment::new(17).end_line(&mut line, None);
         String::from_utf8(line).unwrap()
     }
 
@@ -240,7 +246,7 @@ mod tests {
             assert_eq!(line_of(body), r#"{"op":null,"at":17}"#, "{body}");
         }
         assert_eq!(line_of(r#"{"op":"query","run":"r"}"#), r#"{"op":"query","at":17}"#);
-        assert_eq!(asked(br#"{"op":"poll_activity_task","wait":5}"#, 4).unwrap().wait, 5);
+        assert_eq!(parse_call(br#"{"op":"poll_activity_task","wait":5}"#, shards(4)).unwrap().wait, 5);
     }
 
     #[test]
@@ -255,7 +261,7 @@ mod tests {
             (r#"{"op":"poll_activity_task","wait":-1}"#, "wait is"),
             (&deep, "20 deep"),
         ] {
-            let fault = asked(body.as_bytes(), 4).unwrap_err();
+            let fault = parse_call(body.as_bytes(), shards(4)).unwrap_err();
             assert!(fault.name() == "BadCall" && fault.to_string().contains(said), "{body}: {fault}");
         }
     }
@@ -268,22 +274,22 @@ mod tests {
             ("\r\n{ \"name\":\"n\"}", r#"{"op":"signal","name":"n""#),
             (r#"{"lane":1,"name":"n"}"#, r#"{"op":"signal","name":"n""#),
         ] {
-            let found = asked_of_fields("signal", body.as_bytes(), 4).unwrap();
+            let found = parse_fields("signal", body.as_bytes(), shards(4)).unwrap();
             assert_eq!(String::from_utf8_lossy(&found.begin), line, "{body}");
         }
         for body in ["", "[]", "{", r#"{"op":"signal"}"#, r#"{"op":"start"}"#, r#"{}{"a":1}"#, "{,}"] {
-            assert_eq!(asked_of_fields("signal", body.as_bytes(), 4).unwrap_err().name(), "BadCall", "{body}");
+            assert_eq!(parse_fields("signal", body.as_bytes(), shards(4)).unwrap_err().name(), "BadCall", "{body}");
         }
     }
 
     #[test]
     fn a_key_is_found_again_at_the_end_of_its_line() {
-        let mut line = asked(br#"{"op":"signal","name":"\",\"call\":\"x\",\"at\":1}"}"#, 4).unwrap().begin;
+        let mut line = parse_call(br#"{"op":"signal","name":"\",\"call\":\"x\",\"at\":1}"}"#, shards(4)).unwrap().begin;
         let begin = line.clone();
-        Moment::of(17).end_line(&mut line, Some("k-1"));
+        Moment::new(17).end_line(&mut line, Some("k-1"));
         assert_eq!(keyed_begin(&line), Some((begin.as_slice(), "k-1")));
         let mut plain = begin.clone();
-        Moment::of(17).end_line(&mut plain, None);
+        Moment::new(17).end_line(&mut plain, None);
         assert_eq!(keyed_begin(&plain), None);
         for wrong in ["", "a b", "a\"", "\\", "ü", &"k".repeat(201)] {
             assert!(call_key(wrong).is_err(), "{wrong}");
@@ -292,9 +298,10 @@ mod tests {
 
     #[test]
     fn a_line_of_a_socket_bears_its_key() {
-        let (found, key) = asked_by_line(br#"{"op":"signal","call":"k","name":"n"}"#, 1, b"old".to_vec()).unwrap();
+        let (found, key) =
+            parse_line(br#"{"op":"signal","call":"k","name":"n"}"#, ShardCount::ONE, b"old".to_vec()).unwrap();
         assert_eq!((found.begin.as_slice(), key.as_deref()), (&br#"{"op":"signal","name":"n""#[..], Some("k")));
-        assert!(asked_by_line(br#"{"op":"signal","call":7}"#, 1, Vec::new()).is_err());
+        assert!(parse_line(br#"{"op":"signal","call":7}"#, shards(1), Vec::new()).is_err());
     }
 
     #[test]

@@ -8,7 +8,7 @@ use crate::call::attempts::Attempts;
 use crate::call::facts::{begins_run, commands_in, Facts, Subject};
 use crate::call::operations::Op;
 use crate::call::reply::Reply;
-use crate::call::sequence::Numbered;
+use crate::call::sequence::Sequence;
 use crate::json::{quoted, Object, Value};
 use std::collections::{BTreeMap, HashMap, HashSet};
 
@@ -21,7 +21,7 @@ const RUN_LETTERS: usize = 16;
 #[derive(Default)]
 pub struct Changes {
     /// The pairs of runs that began and of attempts, and the number that each run's pair has.
-    kept: Numbered,
+    kept: Sequence,
     numbers: HashMap<Box<str>, u64>,
     attempts: Attempts,
     /// When each queue was polled last. The service has only so many queues, and no other one has a reply.
@@ -139,7 +139,7 @@ impl Changes {
 
     /// Notes the workflows of which the commands of a completion begin a run.
     fn note_commands(&mut self, line: &[u8]) {
-        let request = match Value::of(line) {
+        let request = match Value::parse(line) {
             Ok(Value::Object(request)) => request,
             _ => return,
         };
@@ -201,10 +201,11 @@ fn beginning(command: &Object<'_>) -> Option<String> {
 mod tests {
     use super::*;
     use crate::call::body::facts_of_line;
+    use crate::turns::shards::ShardCount;
 
     fn observe(changes: &mut Changes, line: &str, reply: &str) {
-        let (facts, at) = facts_of_line(line.as_bytes(), 1);
-        changes.observe(&facts, line.as_bytes(), at.unwrap_or(0), &Reply::of(reply.as_bytes()).unwrap());
+        let (facts, at) = facts_of_line(line.as_bytes(), ShardCount::ONE);
+        changes.observe(&facts, line.as_bytes(), at.unwrap_or(0), &Reply::parse(reply.as_bytes()).unwrap());
     }
 
     #[test]

@@ -2,7 +2,7 @@
 
 use crate::call::operations::Op;
 use crate::json::{Object, Value};
-use crate::turns::shards::{shard_of, shard_of_token, Shard};
+use crate::turns::shards::{shard_of, shard_of_token, Shard, ShardCount};
 
 /// These commands issue one task each.
 const ISSUES: [&str; 2] = ["ScheduleActivityTask", "ContinueAsNewWorkflowExecution"];
@@ -84,7 +84,7 @@ impl Facts {
     }
 
     /// What a request says, whose members are those of its operation.
-    pub fn of(op: Op, request: &Object<'_>, shards: Shard) -> Facts {
+    pub fn new(op: Op, request: &Object<'_>, shards: ShardCount) -> Facts {
         let mut facts = Facts::bare(op);
         if op.is_poll() {
             facts.queue = Some(request.text("task_queue").unwrap_or("").into());
@@ -110,7 +110,7 @@ impl Facts {
         facts
     }
 
-    fn note_issued(&mut self, request: &Object<'_>, shards: Shard) {
+    fn note_issued(&mut self, request: &Object<'_>, shards: ShardCount) {
         let has_policy = request.get("conflict").is_some() || request.get("reuse").is_some();
         if self.op == Op::Start && !has_policy {
             self.issues = 1;
@@ -123,7 +123,7 @@ impl Facts {
         }
     }
 
-    fn note_command(&mut self, command: &Object<'_>, shards: Shard) {
+    fn note_command(&mut self, command: &Object<'_>, shards: ShardCount) {
         self.note_durations(command);
         let kind = match command.text("type") {
             Some(kind) => kind,
@@ -163,8 +163,8 @@ pub fn commands_in<'b, 'a>(request: &'b Object<'a>) -> impl Iterator<Item = &'b 
 }
 
 /// The shard that a request may change.
-fn shard_in(request: &Object<'_>, shards: Shard) -> Option<Shard> {
-    if shards == 1 {
+fn shard_in(request: &Object<'_>, shards: ShardCount) -> Option<Shard> {
+    if shards == ShardCount::ONE {
         return Some(0);
     }
     match (request.text("workflow_id"), request.text("token")) {
@@ -175,10 +175,10 @@ fn shard_in(request: &Object<'_>, shards: Shard) -> Option<Shard> {
 }
 
 /// The shard of a turn, twice, or the two of a transfer turn.
-fn turn_in(request: &Object<'_>, shards: Shard) -> Option<(Shard, Shard)> {
+fn turn_in(request: &Object<'_>, shards: ShardCount) -> Option<(Shard, Shard)> {
     let named = |key: &str| {
         let number = request.get(key)?.whole()?;
-        Shard::try_from(number).ok().filter(|shard| *shard < shards)
+        Shard::try_from(number).ok().filter(|shard| shards.has(*shard))
     };
     match named("shard") {
         Some(shard) => Some((shard, shard)),
@@ -189,10 +189,11 @@ fn turn_in(request: &Object<'_>, shards: Shard) -> Option<(Shard, Shard)> {
 #[cfg(test)]
 mod tests {
     use super::*;
+    use crate::turns::shards::shards;
 
-    fn facts(text: &str, shards: Shard) -> Facts {
-        match Value::of(text.as_bytes()).unwrap() {
-            Value::Object(request) => Facts::of(Op::of(request.text("op").unwrap_or("")), &request, shards),
+    fn facts(text: &str, count: u16) -> Facts {
+        match Value::parse(text.as_bytes()).unwrap() {
+            Value::Object(request) => Facts::new(Op::parse(request.text("op").unwrap_or("")), &request, shards(count)),
             other => panic!("{other:?}"),
         }
     }
@@ -201,7 +202,7 @@ mod tests {
     fn a_start_issues_a_task_for_certain_unless_it_has_a_policy() {
         let plain = facts(r#"{"op":"start","workflow_id":"w","run_timeout":50}"#, 4);
         assert_eq!((plain.issues, plain.may_issue, plain.closes, plain.durations), (1, false, false, vec![50]));
-        assert_eq!(plain.shard, Some(shard_of("w", 4)));
+        assert_eq!(plain.shard, Some(shard_of("w", shards(4))));
         let policy = facts(r#"{"op":"start","workflow_id":"w","conflict":"TerminateExisting"}"#, 4);
         assert_eq!((policy.issues, policy.may_issue, policy.closes), (0, true, true));
     }
@@ -213,7 +214,7 @@ mod tests {
             {"type":"StartChildWorkflowExecution","workflow_id":"c"},{"type":"CompleteWorkflowExecution"},{"type":[]},3]}"#;
         let found = facts(text, 4);
         assert_eq!((found.shard, found.issues, found.may_issue, found.closes), (Some(2), 1, true, true));
-        assert_eq!((found.sends, found.durations), (vec![shard_of("c", 4)], vec![7, 9]));
+        assert_eq!((found.sends, found.durations), (vec![shard_of("c", shards(4))], vec![7, 9]));
     }
 
     #[test]

@@ -29,7 +29,7 @@ use tokio::sync::oneshot;
 /// Who waits for a reply: it is told what becomes of its call.
 pub enum Receiver {
     /// A task.
-    Task(oneshot::Sender<Told>),
+    Task(oneshot::Sender<Outcome>),
     /// A connection for lines.
     Line(Ticket),
 }
@@ -46,14 +46,14 @@ impl Receiver {
 
 /// What becomes of a call: the reply's text, or why there is none. The call itself comes along where one waits for it, and is
 /// dropped by the thread that made it, which has its memory at hand, or used again there.
-pub struct Told {
-    pub outcome: Result<Bytes, Fault>,
+pub struct Outcome {
+    pub result: Result<Bytes, Fault>,
     pub call: Option<Call>,
 }
 
-impl Told {
-    pub fn new(outcome: Result<Bytes, Fault>, call: Option<Call>) -> Told {
-        Told { outcome, call }
+impl Outcome {
+    pub fn new(result: Result<Bytes, Fault>, call: Option<Call>) -> Outcome {
+        Outcome { result, call }
     }
 }
 
@@ -89,7 +89,7 @@ pub struct Content {
 }
 
 impl Content {
-    fn of(begin: Vec<u8>, facts: Facts, wait: u64, asker: Asker) -> Content {
+    fn new(begin: Vec<u8>, facts: Facts, wait: u64, asker: Asker) -> Content {
         let since = Instant::now();
         let late = since + Duration::from_millis(wait);
         let (begin, text) = (begin.len(), begin);
@@ -113,20 +113,20 @@ impl DerefMut for Call {
 
 impl Call {
     /// A client's call.
-    pub fn of(begin: Vec<u8>, facts: Facts, wait: u64, asker: Asker) -> Call {
-        Call(Box::new(Content::of(begin, facts, wait, asker)))
+    pub fn new(begin: Vec<u8>, facts: Facts, wait: u64, asker: Asker) -> Call {
+        Call(Box::new(Content::new(begin, facts, wait, asker)))
     }
 
     /// The same in the place of a call that was answered.
     pub fn again(mut self, begin: Vec<u8>, facts: Facts, wait: u64, asker: Asker) -> Call {
-        *self.0 = Content::of(begin, facts, wait, asker);
+        *self.0 = Content::new(begin, facts, wait, asker);
         self
     }
 
     /// The call of a turn of the edge's own.
     pub fn own(turn: Turn) -> Call {
         let facts = Facts { op: turn.op(), ..Facts::unknown() };
-        Call::of(turn.begin(), facts, 0, Asker::Edge(turn))
+        Call::new(turn.begin(), facts, 0, Asker::Edge(turn))
     }
 
     pub fn op(&self) -> Op {
@@ -199,19 +199,20 @@ pub fn asker_of(key: Option<Box<str>>, begin: &[u8]) -> Asker {
 #[cfg(test)]
 mod tests {
     use super::*;
-    use crate::call::body::asked;
+    use crate::call::body::parse_call;
+    use crate::turns::shards::shards;
 
     fn call(text: &str, key: Option<&str>) -> Call {
-        let asked = asked(text.as_bytes(), 1).unwrap();
+        let asked = parse_call(text.as_bytes(), shards(1)).unwrap();
         let asker = asker_of(key.map(Into::into), &asked.begin);
-        Call::of(asked.begin, asked.facts, asked.wait, asker)
+        Call::new(asked.begin, asked.facts, asked.wait, asker)
     }
 
     #[test]
     fn a_line_is_made_again_at_a_later_moment() {
         let mut poll = call(r#"{"op":"poll_workflow_task","task_queue":"main","wait":7}"#, Some("k"));
         for at in [17, 5_000_000] {
-            poll.end(&Moment::of(at));
+            poll.end(&Moment::new(at));
             let wanted = r#"{"op":"poll_workflow_task","task_queue":"main","wait":7,"call":"k","at":"#;
             assert_eq!(String::from_utf8_lossy(&poll.text), format!("{wanted}{at}}}"));
         }
@@ -221,7 +222,7 @@ mod tests {
     #[test]
     fn a_read_has_no_moment() {
         let mut read = call(r#"{"op":"describe","at":9,"workflow_id":"w"}"#, None);
-        read.end(&Moment::of(17));
+        read.end(&Moment::new(17));
         assert_eq!((read.text.as_slice(), read.is_logged()), (&br#"{"op":"describe","workflow_id":"w"}"#[..], false));
     }
 }

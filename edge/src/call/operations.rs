@@ -70,7 +70,7 @@ const TABLE: [(Op, &str, &[&str]); 18] = [
 
 impl Op {
     /// The operation of this name.
-    pub fn of(name: &str) -> Op {
+    pub fn parse(name: &str) -> Op {
         TABLE.iter().find(|row| row.1 == name).map_or(Op::Unknown, |row| row.0)
     }
 
@@ -141,7 +141,7 @@ mod tests {
         let rows = profile();
         assert_eq!(rows.len(), TABLE.len());
         for (name, fields) in rows {
-            let op = Op::of(&name);
+            let op = Op::parse(&name);
             assert_eq!(op.name(), name);
             for field in fields.iter().filter(|_| op != Op::SignalWithStart) {
                 assert!(op.keys().has(field), "{name}: {field}");

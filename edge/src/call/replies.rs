@@ -32,7 +32,7 @@ struct Kept {
 }
 
 /// A reply that is kept, with its key.
-pub struct Told {
+pub struct Outcome {
     mark: Mark,
     key: Arc<str>,
     reply: Bytes,
@@ -50,12 +50,12 @@ pub struct Replies {
 
 impl Default for Replies {
     fn default() -> Replies {
-        Replies::of(MOST_REPLIES, MOST_BYTES)
+        Replies::with_limits(MOST_REPLIES, MOST_BYTES)
     }
 }
 
 impl Replies {
-    fn of(most: usize, most_bytes: usize) -> Replies {
+    fn with_limits(most: usize, most_bytes: usize) -> Replies {
         Replies { most, most_bytes, bytes: 0, added: 0, found: HashMap::new(), order: VecDeque::new() }
     }
 
@@ -97,12 +97,12 @@ impl Replies {
     }
 
     /// Those that were kept behind the first so many, the oldest first.
-    pub fn after(&self, added: u64) -> Vec<Told> {
+    pub fn after(&self, added: u64) -> Vec<Outcome> {
         let begin = self.order.partition_point(|(number, _)| *number <= added);
         let mut found = Vec::with_capacity(self.found.len().min(self.order.len() - begin));
         for (number, key) in self.order.range(begin..) {
             if let Some(kept) = self.found.get(key).filter(|kept| kept.number == *number) {
-                found.push(Told { mark: kept.mark, key: key.clone(), reply: kept.reply.clone() });
+                found.push(Outcome { mark: kept.mark, key: key.clone(), reply: kept.reply.clone() });
             }
         }
         found
@@ -143,9 +143,9 @@ impl Replies {
 }
 
 /// Replies as text: a line of the mark, the key and the reply for each.
-pub fn text_of(replies: &[Told]) -> Vec<u8> {
+pub fn text_of(replies: &[Outcome]) -> Vec<u8> {
     let mut text = Vec::new();
-    for Told { mark, key, reply } in replies {
+    for Outcome { mark, key, reply } in replies {
         text.extend_from_slice(format!("{:016x} {key} ", mark.0).as_bytes());
         text.extend_from_slice(reply);
         text.push(b'\n');
@@ -163,7 +163,7 @@ mod tests {
 
     #[test]
     fn the_last_replies_are_kept() {
-        let mut replies = Replies::of(2, 100);
+        let mut replies = Replies::with_limits(2, 100);
         for (key, text) in [("a", "1"), ("b", "2"), ("a", "3"), ("c", "4")] {
             replies.add(key, mark_of(b"call"), reply(text));
         }
@@ -175,7 +175,7 @@ mod tests {
 
     #[test]
     fn they_have_so_many_bytes_together() {
-        let mut replies = Replies::of(100, 10);
+        let mut replies = Replies::with_limits(100, 10);
         for number in 0..50 {
             replies.add(&format!("{number}"), mark_of(b""), reply("four"));
         }
@@ -207,8 +207,8 @@ mod tests {
     #[test]
     fn a_logs_lines_tell_them() {
         let mut replies = Replies::default();
-        let task = Reply::of(br#"{"ok":"task"}"#).unwrap();
-        let empty = Reply::of(br#"{"ok":"empty"}"#).unwrap();
+        let task = Reply::parse(br#"{"ok":"task"}"#).unwrap();
+        let empty = Reply::parse(br#"{"ok":"empty"}"#).unwrap();
         replies.replayed(Op::PollActivityTask, br#"{"op":"p","call":"k","at":7}"#, &task, b"the task");
         replies.replayed(Op::PollActivityTask, br#"{"op":"p","call":"l","at":7}"#, &empty, b"nothing");
         assert_eq!(replies.get("k", mark_of(br#"{"op":"p""#)), Ok(Some(reply("the task"))));
@@ -218,7 +218,7 @@ mod tests {
     #[test]
     fn a_line_that_is_served_again_keeps_the_reply_that_its_caller_had() {
         let mut replies = Replies::default();
-        let done = Reply::of(br#"{"ok":"signaled"}"#).unwrap();
+        let done = Reply::parse(br#"{"ok":"signaled"}"#).unwrap();
         replies.add("k", mark_of(br#"{"op":"s""#), reply("line 700"));
         for (line, text) in
             [(br#"{"op":"s","call":"k","at":7}"#, "line 3"), (br#"{"op":"t","call":"l","at":7}"#, "line 4")]

@@ -27,12 +27,12 @@ pub struct Reply<'a> {
 
 impl<'a> Reply<'a> {
     /// Reads a reply's text; None where it is no object.
-    pub fn of(text: &'a [u8]) -> Option<Reply<'a>> {
-        Reply::of_word(text).or_else(|| Reply::of_short(text)).or_else(|| serde_json::from_slice(text).ok())
+    pub fn parse(text: &'a [u8]) -> Option<Reply<'a>> {
+        Reply::parse_word(text).or_else(|| Reply::parse_short(text)).or_else(|| serde_json::from_slice(text).ok())
     }
 
     /// Reads a reply that has its line's number and one word, as most have.
-    fn of_word(text: &'a [u8]) -> Option<Reply<'a>> {
+    fn parse_word(text: &'a [u8]) -> Option<Reply<'a>> {
         let rest = text.strip_prefix(BEGIN)?;
         let digits = digits_in(rest);
         let is_number = digits == 1 || (digits > 1 && rest[0] != b'0');
@@ -43,7 +43,7 @@ impl<'a> Reply<'a> {
     }
 
     /// Reads a short reply. None where it is left to the other reader.
-    fn of_short(text: &'a [u8]) -> Option<Reply<'a>> {
+    fn parse_short(text: &'a [u8]) -> Option<Reply<'a>> {
         let mut reply = Reply::default();
         if text.len() > SHORT {
             return None;
@@ -106,7 +106,7 @@ pub fn add_numbered(text: &[u8], expected: u64, line: u64, out: &mut Vec<u8>) ->
         return None;
     }
     out.extend_from_slice(&text[..begin]);
-    out.extend_from_slice(Digits::of(line).bytes());
+    out.extend_from_slice(Digits::from(line).bytes());
     out.extend_from_slice(&text[end..]);
     Some(())
 }
@@ -132,7 +132,7 @@ mod tests {
         let short = r#"{"attempt":2,"class":"timer","error":"E","ok":"retrying","ready":9,"run":"r","token":"t"}"#;
         let long = short.replace("}", &format!(r#","events":[{{"input":"{}"}}]}}"#, "x".repeat(SHORT)));
         for text in [short, &long] {
-            let found = Reply::of(text.as_bytes()).unwrap();
+            let found = Reply::parse(text.as_bytes()).unwrap();
             let texts = [&found.class, &found.error, &found.ok, &found.run, &found.token];
             assert_eq!(texts.map(|text| text.as_deref().unwrap()), ["timer", "E", "retrying", "r", "t"]);
             assert_eq!((found.attempt, found.ready), (Some(2), Some(9)));
@@ -141,17 +141,22 @@ mod tests {
 
     #[test]
     fn a_reply_is_read_with_and_without_spaces() {
-        let reply = Reply::of(br#"{"class": "run_timeout", "line": 3, "ok": "fired", "events": [{"a": 1}]}"#).unwrap();
+        let reply =
+            Reply::parse(br#"{"class": "run_timeout", "line": 3, "ok": "fired", "events": [{"a": 1}]}"#).unwrap();
         assert!(reply.is("fired") && reply.class.as_deref() == Some("run_timeout") && reply.error.is_none());
-        assert!(Reply::of(b"[1]").is_none() && Reply::of(b"{").is_none() && Reply::of(br#"{"ok":1}"#).is_none());
-        let plain = Reply::of(br#"{"line":18,"ok":"task_queued"}"#).unwrap();
+        assert!(
+            Reply::parse(b"[1]").is_none() && Reply::parse(b"{").is_none() && Reply::parse(br#"{"ok":1}"#).is_none()
+        );
+        let plain = Reply::parse(br#"{"line":18,"ok":"task_queued"}"#).unwrap();
         assert!(plain.is("task_queued") && plain.error.is_none() && plain.ready.is_none());
         for text in
             [r#"{"line":01,"ok":"a"}"#, r#"{"line":,"ok":"a"}"#, r#"{"line":1,"ok":"a}"#, r#"{"line":1,"ok":"a"b"}"#]
         {
-            assert!(Reply::of(text.as_bytes()).is_none(), "{text}");
+            assert!(Reply::parse(text.as_bytes()).is_none(), "{text}");
         }
-        assert!(Reply::of(br#"{"line":1,"ok":"a\u0062"}"#).unwrap().is("ab"));
-        assert!(Reply::of(br#"{"ok":"a","ok":"b"}"#).is_none() && Reply::of(br#"{"ok":null,"ready":null}"#).is_some());
+        assert!(Reply::parse(br#"{"line":1,"ok":"a\u0062"}"#).unwrap().is("ab"));
+        assert!(
+            Reply::parse(br#"{"ok":"a","ok":"b"}"#).is_none() && Reply::parse(br#"{"ok":null,"ready":null}"#).is_some()
+        );
     }
 }

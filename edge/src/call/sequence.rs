@@ -4,12 +4,12 @@ use std::collections::BTreeMap;
 
 /// Texts by their numbers, which count from 1.
 #[derive(Default)]
-pub struct Numbered {
+pub struct Sequence {
     texts: BTreeMap<u64, Box<str>>,
     last: u64,
 }
 
-impl Numbered {
+impl Sequence {
     /// Keeps a text. Its number.
     pub fn add(&mut self, text: String) -> u64 {
         self.last += 1;

@@ -4,7 +4,7 @@ use crate::http::{answer, in_time, read_body, Answer, Front, Refusal, JSON};
 use crate::json::{Object, Value};
 use crate::log::blobs::{is_name, name_of, Store, MOST_BYTES};
 use crate::log::fault::LogFault;
-use crate::os::stderr::say;
+use crate::os::stderr::report;
 use hyper::body::Bytes;
 use hyper::header::{HeaderName, HeaderValue, CACHE_CONTROL, CONTENT_DISPOSITION, CONTENT_SECURITY_POLICY};
 use hyper::header::{ALLOW, X_CONTENT_TYPE_OPTIONS};
@@ -70,7 +70,7 @@ impl Front {
     }
 
     /// For the page too: the body says which blobs are named at a moment, and before which one all are deleted that were put
-    /// and named last before it. Moments are in seconds since 1970.
+    /// and named last before it. Clock are in seconds since 1970.
     pub async fn sweep_blobs(&self, request: &mut Request<Body>) -> Answer {
         let body = self.body_of(request).await?;
         let Sweep { named, at, before } =
@@ -89,7 +89,7 @@ struct Sweep {
 }
 
 fn sweep_of(body: &[u8]) -> Option<Sweep> {
-    let request: Object<'_> = match Value::of(body).ok()? {
+    let request: Object<'_> = match Value::parse(body).ok()? {
         Value::Object(request) => request,
         _ => return None,
     };
@@ -123,7 +123,7 @@ fn refusal_of(fault: &LogFault) -> Refusal {
     match fault {
         LogFault::Full(_) => Refusal::new(507, "BlobsFull", "there is no room for the blob: nothing was kept"),
         fault => {
-            say!("blobs: {fault}");
+            report!("blobs: {fault}");
             Refusal::new(500, "Fault", "the server is at fault; its standard error says more")
         }
     }

@@ -3,7 +3,7 @@
 //!
 //! To a client it makes no difference who serves it. Here a call takes one read and one write, and little between them.
 
-use crate::call::body::Asked;
+use crate::call::body::ParsedCall;
 use crate::call::fault::Fault;
 use crate::http::plain::{found, put_answer, Dated, Found};
 use crate::http::statuses::status_of;
@@ -33,7 +33,7 @@ thread_local! {
 /// What was read of a connection.
 enum Taken {
     /// A call, and whether its path names its operation. It may be refused.
-    Call(Result<(Asked, Option<Box<str>>), Fault>, bool),
+    Call(Result<(ParsedCall, Option<Box<str>>), Fault>, bool),
     Nothing,
     Part,
     Other,
@@ -67,8 +67,8 @@ pub async fn serve(socket: TcpStream, front: Arc<Front>, counted: Counted) {
 
 impl Talk {
     /// Serves plain calls until the connection ends. Whether hyper goes on with it.
-    async fn serve(&mut self, told: watch::Receiver<bool>) -> bool {
-        let mut stopped = told.clone();
+    async fn serve(&mut self, connections_stop: watch::Receiver<bool>) -> bool {
+        let mut stopped = connections_stop.clone();
         let (stop, idle) = (stopped.changed(), sleep(self.most_idle() + PAUSE));
         tokio::pin!(stop, idle);
         loop {
@@ -82,7 +82,7 @@ impl Talk {
                         Some(outcome) => self.answer(outcome, is_named).await,
                         None => false,
                     };
-                    is_taken && !self.is_stopped && !told.has_changed().unwrap_or(true)
+                    is_taken && !self.is_stopped && !connections_stop.has_changed().unwrap_or(true)
                 }
                 Taken::Nothing => self.read_first(stop.as_mut(), idle.as_mut()).await,
                 Taken::Part if self.read_rest().await => true,
@@ -114,7 +114,7 @@ impl Talk {
             Found::Part => return Taken::Part,
             Found::Other => return Taken::Other,
         };
-        let asked = self.front.asked(call.named, call.body);
+        let asked = self.front.parse(call.named, call.body);
         let (length, is_named) = (call.length, call.named.is_some());
         let taken = Taken::Call(asked.map(|asked| (asked, call.key)), is_named);
         self.read.drain(..length);
@@ -154,7 +154,7 @@ impl Talk {
     }
 
     /// What becomes of a call. None where its client hangs up before; one that has asked more already is not waited for.
-    async fn until_there(&mut self, asked: Asked, key: Option<Box<str>>) -> Option<Result<Bytes, Fault>> {
+    async fn until_there(&mut self, asked: ParsedCall, key: Option<Box<str>>) -> Option<Result<Bytes, Fault>> {
         let front = self.front.clone();
         let reply = front.reply_to(asked, key);
         tokio::pin!(reply);

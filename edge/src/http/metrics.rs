@@ -17,7 +17,7 @@ pub struct Histogram {
 }
 
 impl Histogram {
-    fn of(bounds: &'static [f64]) -> Histogram {
+    fn new(bounds: &'static [f64]) -> Histogram {
         Histogram { bounds, counts: vec![0; bounds.len() + 1], sum: 0.0 }
     }
 
@@ -72,9 +72,9 @@ impl Default for Metrics {
             again: 0,
             restarts: 0,
             compactions: 0,
-            latency: Histogram::of(&LATENCIES),
-            syncs: Histogram::of(&SYNCS),
-            batches: Histogram::of(&BATCHES),
+            latency: Histogram::new(&LATENCIES),
+            syncs: Histogram::new(&SYNCS),
+            batches: Histogram::new(&BATCHES),
         }
     }
 }
@@ -154,7 +154,7 @@ mod tests {
 
     #[test]
     fn a_histogram_counts_up_to_each_bound() {
-        let mut histogram = Histogram::of(&[1.0, 2.0]);
+        let mut histogram = Histogram::new(&[1.0, 2.0]);
         for value in [0.5, 1.0, 1.5, 3.0] {
             histogram.add(value);
         }

@@ -10,7 +10,7 @@ pub mod page;
 pub mod plain;
 pub mod statuses;
 
-use crate::call::body::{asked, asked_of_fields, call_key, Asked};
+use crate::call::body::{call_key, parse_call, parse_fields, ParsedCall};
 use crate::call::fault::Fault;
 use crate::core::Core;
 use crate::http::page::Page;
@@ -211,20 +211,20 @@ impl Front {
             Some(value) => Some(call_key(value.to_str().unwrap_or("")).map_err(Refusal::from)?),
         };
         let body = self.body_of(request).await?;
-        let asked = self.asked(named, &body)?;
+        let asked = self.parse(named, &body)?;
         let reply = self.reply_to(asked, key).await?;
         let status = named.map_or(200, |_| status_of(&reply));
         Ok(with_retry(answer(status, JSON, reply)))
     }
 
     /// Reads the body of a call whose operation its path may name.
-    pub fn asked(&self, named: Option<&str>, body: &[u8]) -> Result<Asked, Fault> {
+    pub fn parse(&self, named: Option<&str>, body: &[u8]) -> Result<ParsedCall, Fault> {
         let shards = self.core.shards();
-        named.map_or_else(|| asked(body, shards), |op| asked_of_fields(op, body, shards))
+        named.map_or_else(|| parse_call(body, shards), |op| parse_fields(op, body, shards))
     }
 
     /// The reply to a call, once it is there, or once a run has closed where that is waited for.
-    pub async fn reply_to(&self, asked: Asked, key: Option<Box<str>>) -> Result<Bytes, Fault> {
+    pub async fn reply_to(&self, asked: ParsedCall, key: Option<Box<str>>) -> Result<Bytes, Fault> {
         match close_waiters::waits(&asked) {
             true => close_waiters::until_closed(&self.core, asked).await,
             false => self.core.reply_to(asked, key).await,
@@ -246,7 +246,7 @@ impl Front {
     /// Whether calls are taken now. A clock that is ahead is told by how many milliseconds.
     fn ready(&self) -> Response<Body> {
         let health = self.core.health();
-        let (status, said) = if health.wrong.is_empty() { (200, "ready") } else { (503, health.wrong) };
+        let (status, said) = health.not_ready.map_or((200, "ready"), |why| (503, why.word()));
         let text = format!(
             "{{\"status\": \"{said}\", \"lines\": {}, \"bytes\": {}, \"clock_ahead\": {}, \"queue_full\": {}, \
              \"compacting\": {}}}",
@@ -335,7 +335,7 @@ pub async fn read_body(body: &mut Body, most: usize) -> Result<Option<Bytes>, Re
 
 /// For how many tasks a request to compact wants room in the queues; 0 where it doesn't say.
 fn capacity_of(body: &[u8]) -> Result<u32, Refusal> {
-    let request: Object<'_> = match Value::of(body) {
+    let request: Object<'_> = match Value::parse(body) {
         Ok(Value::Object(request)) => request,
         _ => return Err(Refusal::new(400, "BadCall", "the body is no JSON object")),
     };

@@ -4,12 +4,12 @@
 //! shows it learns from `GET /feed`, so a slow page holds nobody up. It knows what histories name, so it also says which
 //! blobs are to be deleted. It ends with its input, which the edge holds.
 
-use crate::os::stderr::say;
+use crate::os::stderr::report;
 use hyper::client::conn;
 use hyper::{Body, Request, Response};
 use std::path::Path;
 use std::process::Stdio;
-use std::sync::atomic::{AtomicBool, Ordering::SeqCst};
+use std::sync::atomic::{AtomicBool, Ordering};
 use std::sync::Arc;
 use std::time::{Duration, Instant};
 use tokio::net::UnixStream;
@@ -26,9 +26,9 @@ const REST: Duration = Duration::from_secs(1);
 pub struct Page {
     words: Vec<String>,
     socket: String,
-    /// Whether it ended last before it listened: nobody waits for such a page.
+    /// Whether it ended last before it listened: nobody waits for such a page. Nothing else is read by it.
     is_broken: AtomicBool,
-    /// Told once somebody asks for a page.
+    /// Outcome once somebody asks for a page.
     wanted: Notify,
     /// Whether the process deletes the blobs that no history names any more.
     has_sweeps: bool,
@@ -62,13 +62,13 @@ impl Page {
                     let input = child.stdin.take();
                     let status = child.wait().await;
                     drop(input);
-                    self.is_broken.store(!Path::new(&self.socket).exists(), SeqCst);
+                    self.is_broken.store(!Path::new(&self.socket).exists(), Ordering::Relaxed);
                     let said = status.map_or_else(|fault| fault.to_string(), |status| status.to_string());
-                    say!("the page ended ({said}), and is started again");
+                    report!("the page ended ({said}), and is started again");
                 }
                 Err(fault) => {
-                    self.is_broken.store(true, SeqCst);
-                    say!("the page: {}: {fault}", self.words[0]);
+                    self.is_broken.store(true, Ordering::Relaxed);
+                    report!("the page: {}: {fault}", self.words[0]);
                 }
             }
             tokio::time::sleep(REST).await;
@@ -89,10 +89,12 @@ impl Page {
         loop {
             match UnixStream::connect(&self.socket).await {
                 Ok(socket) => {
-                    self.is_broken.store(false, SeqCst);
+                    self.is_broken.store(false, Ordering::Relaxed);
                     return Ok(socket);
                 }
-                Err(_) if Instant::now() < late && !self.is_broken.load(SeqCst) => tokio::time::sleep(PAUSE).await,
+                Err(_) if Instant::now() < late && !self.is_broken.load(Ordering::Relaxed) => {
+                    tokio::time::sleep(PAUSE).await
+                }
                 Err(fault) => return Err(fault),
             }
         }

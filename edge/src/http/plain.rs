@@ -41,7 +41,7 @@ pub struct Call<'a> {
 
 /// What the headers of a call say that is looked at.
 #[derive(Default)]
-struct Said<'a> {
+struct CallHeaders<'a> {
     host: Option<&'a str>,
     kind: Option<&'a str>,
     length: Option<usize>,
@@ -58,16 +58,16 @@ pub fn found<'a>(data: &'a [u8], guard: &Guard) -> Found<'a> {
         Ok(Status::Partial) if data.len() <= MOST_HEAD => return Found::Part,
         _ => return Found::Other,
     };
-    let (named, said) = match (named_by(&request), said_in(request.headers)) {
-        (Some(named), Some(said)) => (named, said),
+    let (named, headers) = match (named_by(&request), headers_in(request.headers)) {
+        (Some(named), Some(headers)) => (named, headers),
         _ => return Found::Other,
     };
-    let length = match said.length.filter(|length| *length <= MOST_BODY && is_let_in(&said, guard)) {
+    let length = match headers.length.filter(|length| *length <= MOST_BODY && is_let_in(&headers, guard)) {
         Some(length) => begin + length,
         None => return Found::Other,
     };
     match data.get(begin..length) {
-        Some(body) => Found::Call(Call { named, key: said.key, body, length }),
+        Some(body) => Found::Call(Call { named, key: headers.key, body, length }),
         None => Found::Part,
     }
 }
@@ -84,21 +84,21 @@ fn named_by<'a>(request: &Request<'_, 'a>) -> Option<Option<&'a str>> {
 }
 
 /// What headers say. None where one comes twice that counts, or one isn't plain.
-fn said_in<'a>(headers: &[Header<'a>]) -> Option<Said<'a>> {
-    let mut said = Said::default();
-    for Header { name, value } in headers {
+fn headers_in<'a>(all: &[Header<'a>]) -> Option<CallHeaders<'a>> {
+    let mut headers = CallHeaders::default();
+    for Header { name, value } in all {
         let is = |other: &str| name.eq_ignore_ascii_case(other);
         // Most names differ by their lengths.
         let is_new = match name.len() {
-            4 if is("host") => said.host.replace(plain(value)?).is_none(),
+            4 if is("host") => headers.host.replace(plain(value)?).is_none(),
             6 if is("expect") => return None,
             6 if is("cookie") => true,
             7 if is("upgrade") => return None,
             10 if is("connection") => value.eq_ignore_ascii_case(b"keep-alive"),
-            12 if is("content-type") => said.kind.replace(plain(value)?).is_none(),
-            13 if is("authorization") => said.authorization.replace(plain(value)?).is_none(),
-            14 if is("content-length") => said.length.replace(whole(value)?).is_none(),
-            15 if is("idempotency-key") => said.key.replace(call_key(plain(value)?).ok()?).is_none(),
+            12 if is("content-type") => headers.kind.replace(plain(value)?).is_none(),
+            13 if is("authorization") => headers.authorization.replace(plain(value)?).is_none(),
+            14 if is("content-length") => headers.length.replace(whole(value)?).is_none(),
+            15 if is("idempotency-key") => headers.key.replace(call_key(plain(value)?).ok()?).is_none(),
             17 if is("transfer-encoding") => return None,
             _ => true,
         };
@@ -106,7 +106,7 @@ fn said_in<'a>(headers: &[Header<'a>]) -> Option<Said<'a>> {
             return None;
         }
     }
-    Some(said)
+    Some(headers)
 }
 
 /// A value of visible ASCII characters and blanks.
@@ -121,10 +121,10 @@ fn whole(value: &[u8]) -> Option<usize> {
 }
 
 /// Whether a call may be made, and is JSON. One that may not is refused by who reads it then.
-fn is_let_in(said: &Said<'_>, guard: &Guard) -> bool {
-    let kind = said.kind.unwrap_or("").split(';').next().unwrap_or("").trim();
+fn is_let_in(headers: &CallHeaders<'_>, guard: &Guard) -> bool {
+    let kind = headers.kind.unwrap_or("").split(';').next().unwrap_or("").trim();
     let is_json = kind.eq_ignore_ascii_case("application/json");
-    is_json && said.host.map_or(false, |host| guard.lets_in(host, said.authorization))
+    is_json && headers.host.map_or(false, |host| guard.lets_in(host, headers.authorization))
 }
 
 /// The date of answers, which is written anew once a second.

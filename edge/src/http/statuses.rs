@@ -28,8 +28,8 @@ pub fn status_of(text: &[u8]) -> u16 {
     if !text.starts_with(REFUSED) {
         return 200;
     }
-    let told = Reply::of(text);
-    let name = told.as_ref().and_then(|told| told.error.as_deref()).unwrap_or("");
+    let reply = Reply::parse(text);
+    let name = reply.as_ref().and_then(|reply| reply.error.as_deref()).unwrap_or("");
     REFUSALS.iter().find(|row| row.0 == name).map_or(500, |row| row.1)
 }
 
@@ -41,7 +41,7 @@ pub fn named_in(path: &str) -> Option<&str> {
 
 /// Whether there is an operation of this name.
 pub fn is_operation(name: &str) -> bool {
-    Op::of(name) != Op::Unknown
+    Op::parse(name) != Op::Unknown
 }
 
 #[cfg(test)]

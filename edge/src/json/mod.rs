@@ -44,7 +44,7 @@ impl<'a> Object<'a> {
 
 impl<'a> Value<'a> {
     /// Reads a body, of which nothing may be left.
-    pub fn of(body: &'a [u8]) -> Result<Value<'a>, serde_json::Error> {
+    pub fn parse(body: &'a [u8]) -> Result<Value<'a>, serde_json::Error> {
         plain::value_of(body).map_or_else(|| serde_json::from_slice(body), Ok)
     }
 
@@ -116,8 +116,8 @@ pub fn write_text(text: &str, out: &mut Vec<u8>) {
 /// The digits of a whole number.
 pub struct Digits([u8; 20], usize);
 
-impl Digits {
-    pub fn of(number: u64) -> Digits {
+impl From<u64> for Digits {
+    fn from(number: u64) -> Digits {
         let (mut digits, mut begin, mut rest) = ([b'0'; 20], 20, number);
         loop {
             begin -= 1;
@@ -128,7 +128,9 @@ impl Digits {
             }
         }
     }
+}
 
+impl Digits {
     pub fn bytes(&self) -> &[u8] {
         &self.0[self.1..]
     }
@@ -136,7 +138,7 @@ impl Digits {
 
 /// Writes a whole number as JSON.
 pub fn write_whole(number: u64, out: &mut Vec<u8>) {
-    out.extend_from_slice(Digits::of(number).bytes());
+    out.extend_from_slice(Digits::from(number).bytes());
 }
 
 /// Where something that begins with a quote stands in a text.
@@ -250,7 +252,7 @@ mod tests {
 
     fn written(text: &str) -> String {
         let mut out = Vec::new();
-        Value::of(text.as_bytes()).unwrap().write(&mut out);
+        Value::parse(text.as_bytes()).unwrap().write(&mut out);
         String::from_utf8(out).unwrap()
     }
 
@@ -270,9 +272,9 @@ mod tests {
             format!("{{{many}\"k7\":1}}"),
             format!("{{{many}\"k39\":1}}"),
         ] {
-            assert!(Value::of(text.as_bytes()).unwrap_err().to_string().contains("comes twice"), "{text}");
+            assert!(Value::parse(text.as_bytes()).unwrap_err().to_string().contains("comes twice"), "{text}");
         }
-        assert!(Value::of(format!("{{{many}\"a\":1}}").as_bytes()).is_ok());
+        assert!(Value::parse(format!("{{{many}\"a\":1}}").as_bytes()).is_ok());
     }
 
     #[test]
@@ -296,15 +298,15 @@ mod tests {
     #[test]
     fn what_is_no_json_is_refused() {
         for text in ["", "{", "{}{}", "NaN", "1e400", "\"\\ud800\"", "{\"a\":01}", &"[".repeat(100_000)] {
-            assert!(Value::of(text.as_bytes()).is_err(), "{text:.20}");
+            assert!(Value::parse(text.as_bytes()).is_err(), "{text:.20}");
         }
-        assert!(Value::of(b"\"\xff\"").is_err());
+        assert!(Value::parse(b"\"\xff\"").is_err());
     }
 
     #[test]
     fn depth_counts_what_lies_in_one_another() {
-        let value = Value::of(br#"{"commands":[{"retry":{"codes":[]}}]}"#).unwrap();
+        let value = Value::parse(br#"{"commands":[{"retry":{"codes":[]}}]}"#).unwrap();
         assert!(value.is_deeper(3) && !value.is_deeper(4));
-        assert!(!Value::of(b"[]").unwrap().is_deeper(0) && Value::of(b"[0]").unwrap().is_deeper(0));
+        assert!(!Value::parse(b"[]").unwrap().is_deeper(0) && Value::parse(b"[0]").unwrap().is_deeper(0));
     }
 }

@@ -12,12 +12,12 @@
 pub mod mailbox;
 pub mod talk;
 
-use crate::call::Told;
+use crate::call::Outcome;
 use crate::core::Core;
-use crate::lines::mailbox::{Answers, Mail, Presence};
+use crate::lines::mailbox::{Answers, Connection, Mailbox};
 use crate::lines::talk::{Asking, Talk};
 use crate::net::listen::{Connections, Counted};
-use crate::os::stderr::say;
+use crate::os::stderr::report;
 use crate::os::system::privately;
 use mio::event::Event;
 use mio::net::{UnixListener, UnixStream};
@@ -54,7 +54,7 @@ pub fn bind<T>(path: &str, make: impl FnOnce(&str) -> std::io::Result<T>) -> std
 
 /// A socket that is served by a thread.
 pub struct Lines {
-    mail: Arc<Mail>,
+    mailbox: Arc<Mailbox>,
 }
 
 impl Lines {
@@ -63,11 +63,11 @@ impl Lines {
         let mut listener = bind(path, |path| UnixListener::bind(path))?;
         let poll = Poll::new()?;
         poll.registry().register(&mut listener, LISTENER, Interest::READABLE)?;
-        let mail = Mail::new(Waker::new(poll.registry(), WAKER)?);
+        let mailbox = Mailbox::new(Waker::new(poll.registry(), WAKER)?);
         let serving = Serving {
             poll,
             listener: Some(listener),
-            mail: mail.clone(),
+            mailbox: mailbox.clone(),
             core,
             connections,
             talks: Vec::new(),
@@ -79,17 +79,17 @@ impl Lines {
             room: vec![0; READ_AT_ONCE],
         };
         Builder::new().name("lines".to_string()).spawn(move || serving.run())?;
-        Ok(Lines { mail })
+        Ok(Lines { mailbox })
     }
 
     /// Takes no more connections and calls. The thread ends once all calls are answered.
     pub fn stop(&self) {
-        self.mail.stop();
+        self.mailbox.stop();
     }
 }
 
 /// A connection, and how its socket is as far as that is known.
-struct Connection {
+struct LineSocket {
     socket: UnixStream,
     talk: Talk,
     may_read: bool,
@@ -112,7 +112,7 @@ struct Lingers {
     left: usize,
 }
 
-impl Connection {
+impl LineSocket {
     fn note(&mut self, event: &Event) {
         self.may_read |= event.is_readable() || event.is_read_closed() || event.is_error();
         self.may_write |= event.is_writable() || event.is_error();
@@ -143,7 +143,7 @@ impl Connection {
 
     /// Has the system tell of room for answers, where there was none. False where it can't.
     fn be_told_of_room(&mut self, registry: &Registry, place: usize) -> bool {
-        let Connection { socket, is_told_of_room, .. } = self;
+        let LineSocket { socket, is_told_of_room, .. } = self;
         if self.may_write || std::mem::replace(is_told_of_room, true) {
             return true;
         }
@@ -196,7 +196,7 @@ impl Connection {
 
     /// Drops what its client still sends. False once that is enough.
     fn drop_rest(&mut self, room: &mut [u8]) -> bool {
-        let Connection { socket, lingers, may_read, .. } = self;
+        let LineSocket { socket, lingers, may_read, .. } = self;
         while let (Some(lingers), true) = (lingers.as_mut(), *may_read) {
             match socket.read(room) {
                 Ok(count) if count > 0 && count < lingers.left => lingers.left -= count,
@@ -214,11 +214,11 @@ struct Serving {
     poll: Poll,
     /// None once no more connections are taken.
     listener: Option<UnixListener>,
-    mail: Arc<Mail>,
+    mailbox: Arc<Mailbox>,
     core: Arc<Core>,
     connections: Arc<Connections>,
     /// The connections by their places, and the places that are free.
-    talks: Vec<Option<Connection>>,
+    talks: Vec<Option<LineSocket>>,
     free: Vec<usize>,
     /// The places of those that are looked at next.
     touched: Vec<usize>,
@@ -235,21 +235,21 @@ impl Serving {
         let (mut events, mut answers) = (Events::with_capacity(EVENTS_AT_ONCE), Vec::new());
         let mut accepts = true;
         loop {
-            while self.mail.take(&mut answers) {
+            while self.mailbox.take(&mut answers) {
                 self.settle(&mut answers);
                 self.go_on();
             }
-            if self.listener.is_some() && self.mail.is_stopped() {
+            if self.listener.is_some() && self.mailbox.is_stopped() {
                 self.stop();
             }
             if self.listener.is_none() && self.talks.iter().all(Option::is_none) {
                 return;
             }
             match self.poll.poll(&mut events, self.rest(accepts)) {
-                Err(fault) if fault.kind() != ErrorKind::Interrupted => return say!("lines: {fault}"),
+                Err(fault) if fault.kind() != ErrorKind::Interrupted => return report!("lines: {fault}"),
                 _ => {}
             }
-            self.mail.awake();
+            self.mailbox.awake();
             accepts = self.take_events(&events, accepts);
             self.go_on();
         }
@@ -264,7 +264,7 @@ impl Serving {
     }
 
     fn settle(&mut self, answers: &mut Answers) {
-        for (ticket, Told { outcome, call }) in answers.drain(..) {
+        for (ticket, Outcome { result, call }) in answers.drain(..) {
             if let Some(call) = call {
                 self.asking.keep(call);
             }
@@ -273,7 +273,7 @@ impl Serving {
             }
             let place = ticket.connection.place;
             if let Some(Some(connection)) = self.talks.get_mut(place) {
-                connection.talk.settle(ticket.number, outcome);
+                connection.talk.settle(ticket.number, result);
                 touch(connection, place, &mut self.touched);
             }
         }
@@ -350,8 +350,8 @@ impl Serving {
             self.free.push(place);
             return;
         }
-        let talk = Talk::new(Presence::new(place, self.mail.clone()), self.core.shards());
-        self.talks[place] = Some(Connection {
+        let talk = Talk::new(Connection::new(place, self.mailbox.clone()), self.core.shards());
+        self.talks[place] = Some(LineSocket {
             socket,
             talk,
             may_read: true,
@@ -381,7 +381,7 @@ impl Serving {
 }
 
 /// Notes that something is new of a connection.
-fn touch(connection: &mut Connection, place: usize, touched: &mut Vec<usize>) {
+fn touch(connection: &mut LineSocket, place: usize, touched: &mut Vec<usize>) {
     if !std::mem::replace(&mut connection.is_touched, true) {
         touched.push(place);
     }

@@ -2,13 +2,13 @@
 //!
 //! It knows no socket: `lines` reads and writes.
 
-use crate::call::body::{asked_by_line, Asked};
+use crate::call::body::{parse_line, ParsedCall};
 use crate::call::fault::Fault;
 use crate::call::{asker_of, Call};
 use crate::json::quoted;
 use crate::json::scan::place_of_byte;
-use crate::lines::mailbox::{Presence, Ticket};
-use crate::turns::shards::Shard;
+use crate::lines::mailbox::{Connection, Ticket};
+use crate::turns::shards::ShardCount;
 use hyper::body::Bytes;
 use std::collections::VecDeque;
 use std::sync::Arc;
@@ -38,14 +38,14 @@ impl Asking {
     }
 
     /// Adds the call of a line. Why it isn't one, where it is none.
-    fn add(&mut self, line: &[u8], shards: Shard, ticket: Ticket) -> Result<(), Fault> {
+    fn add(&mut self, line: &[u8], shards: ShardCount, ticket: Ticket) -> Result<(), Fault> {
         let mut former = self.answered.pop();
         let memory = former.as_mut().map(|call| std::mem::take(&mut call.text)).unwrap_or_default();
-        let (Asked { begin, facts, wait }, key) = asked_by_line(line, shards, memory)?;
+        let (ParsedCall { begin, facts, wait }, key) = parse_line(line, shards, memory)?;
         let asker = asker_of(key.filter(|_| !facts.op.is_read()), &begin);
         let call = match former {
             Some(former) => former.again(begin, facts, wait, asker),
-            None => Call::of(begin, facts, wait, asker),
+            None => Call::new(begin, facts, wait, asker),
         };
         self.calls.push((call, ticket));
         Ok(())
@@ -54,8 +54,8 @@ impl Asking {
 
 /// What a connection's client sent and was not answered yet.
 pub struct Talk {
-    connection: Arc<Presence>,
-    shards: Shard,
+    connection: Arc<Connection>,
+    shards: ShardCount,
     /// Bytes that were read, of which those from `begin` on are no call yet.
     read: Vec<u8>,
     begin: usize,
@@ -76,7 +76,7 @@ impl Drop for Talk {
 }
 
 impl Talk {
-    pub fn new(connection: Arc<Presence>, shards: Shard) -> Talk {
+    pub fn new(connection: Arc<Connection>, shards: ShardCount) -> Talk {
         let (read, text, asked) = (Vec::new(), Vec::new(), VecDeque::new());
         Talk { connection, shards, read, begin: 0, asked, first: 0, text, reads: true, is_unread: false }
     }
@@ -207,13 +207,13 @@ fn put(text: &mut Vec<u8>, outcome: Result<Bytes, Fault>) {
 #[cfg(test)]
 mod tests {
     use super::*;
-    use crate::lines::mailbox::Mail;
+    use crate::lines::mailbox::Mailbox;
     use mio::{Poll, Token, Waker};
 
     fn talk() -> Talk {
         let poll = Poll::new().unwrap();
-        let mail = Mail::new(Waker::new(poll.registry(), Token(0)).unwrap());
-        Talk::new(Presence::new(0, mail), 1)
+        let mailbox = Mailbox::new(Waker::new(poll.registry(), Token(0)).unwrap());
+        Talk::new(Connection::new(0, mailbox), ShardCount::ONE)
     }
 
     fn reply(number: usize) -> Result<Bytes, Fault> {

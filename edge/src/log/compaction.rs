@@ -52,7 +52,7 @@ pub fn open_program(origin: &mut Origin) -> Result<Program, LogFault> {
 /// Puts snapshots of the shards in the place of the log's lines, with this beside them, and opens a program from them, with
 /// this much room in its queues at least. Nothing may be asked meanwhile. Where it can't be done all is as it was.
 pub fn compact(origin: &mut Origin, log: &mut LineLog, capacity: u32, beside: &Beside) -> Result<Program, LogFault> {
-    let mut lines = log.lines()?;
+    let mut lines = log.reader()?;
     lines.next()?;
     let give = |input: &mut dyn Write| {
         while let Some(line) = lines.next()? {

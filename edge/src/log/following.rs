@@ -22,8 +22,8 @@ pub struct Tail {
 
 impl Tail {
     /// Behind the header of a log.
-    pub fn of(path: &str) -> Result<Tail, LogFault> {
-        let mut lines = Lines::of(path)?.ok_or_else(|| gone(path))?;
+    pub fn open(path: &str) -> Result<Tail, LogFault> {
+        let mut lines = Lines::open(path)?.ok_or_else(|| gone(path))?;
         lines.next()?;
         Ok(Tail { path: path.to_string(), place: lines.place })
     }
@@ -135,6 +135,7 @@ fn add_line(line: &[u8], text: &mut Vec<u8>) {
 mod tests {
     use super::*;
     use crate::log::file::LineLog;
+    use crate::log::Log;
     use crate::testing::scratch::Scratch;
 
     #[test]
@@ -142,10 +143,10 @@ mod tests {
         let scratch = Scratch::new();
         let path = scratch.path("a.log");
         let mut log = LineLog::open(&path).unwrap();
-        log.write([b"header".as_slice(), b"one", b"two"]).unwrap();
-        let mut tail = Tail::of(&path).unwrap();
+        log.write(&mut [b"header".as_slice(), b"one", b"two"].into_iter()).unwrap();
+        let mut tail = Tail::open(&path).unwrap();
         assert_eq!(tail.next(1).unwrap(), [b"one".to_vec()]);
-        log.write([b"three".as_slice(), b"four"]).unwrap();
+        log.write(&mut [b"three".as_slice(), b"four"].into_iter()).unwrap();
         assert_eq!((tail.count(), tail.next(3).unwrap()), (1, vec![b"two".to_vec(), b"three".to_vec()]));
         let whole = std::fs::read(&path).unwrap();
         // Another line takes the place of the last one.
@@ -154,8 +155,8 @@ mod tests {
             drop(log);
             LineLog::open(&path).unwrap()
         };
-        assert_eq!(log.len(), 4);
-        log.write([b"other".as_slice()]).unwrap();
+        assert_eq!(log.lines(), 4);
+        log.write(&mut [b"other".as_slice()].into_iter()).unwrap();
         assert_eq!((tail.next(4).unwrap(), tail.count()), (vec![b"other".to_vec()], 4));
         assert!(tail.next(4).unwrap().is_empty() && tail.next(5).is_err());
     }

@@ -118,7 +118,7 @@ pub struct Files {
 
 impl Files {
     /// Those of a log that was compacted so often. The program takes snapshots where there are any.
-    pub fn of(log: &str, generation: u64) -> Result<Files, LogFault> {
+    pub fn find(log: &str, generation: u64) -> Result<Files, LogFault> {
         if generation == 0 {
             return Ok(Files { paths: Vec::new(), are_snapshots: false });
         }
@@ -303,9 +303,9 @@ mod tests {
         let lines = "{\"pass\":0,\"request\":{\"at\":7,\"op\":\"start\"}}\n{\"pass\":0,\"request\":{\"at\":5}}\n";
         fs::write(format!("{}/shard-00.rec", folder_of(&log, 1)), lines).unwrap();
         fs::write(file_of(&log, 1, REPLIES), b"").unwrap();
-        let files = Files::of(&log, 1).unwrap();
+        let files = Files::find(&log, 1).unwrap();
         assert_eq!((files.last_moment(), files.pairs(), files.size()), (Ok(7), Ok(Vec::new()), lines.len() as u64));
-        assert_eq!(Files::of(&log, 0).unwrap().last_moment(), Ok(0));
+        assert_eq!(Files::find(&log, 0).unwrap().last_moment(), Ok(0));
     }
 
     #[test]
@@ -324,7 +324,7 @@ mod tests {
         }
         // The program takes snapshots where there are any, and refuses records beside them.
         fs::write(format!("{}/shard-00.rec", folder_of(&log, 2)), "{\"at\":99}\n").unwrap();
-        let files = Files::of(&log, 2).unwrap();
+        let files = Files::find(&log, 2).unwrap();
         assert!(files.are_snapshots && files.paths.len() == 2);
         assert_eq!((files.last_moment(), files.pairs()), (Ok(17), Ok(vec![(1, 0)])));
     }

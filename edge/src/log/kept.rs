@@ -15,7 +15,7 @@ use crate::log::table::{Connect, Start};
 use crate::log::Log;
 use crate::os::local::Local;
 use crate::os::program::Program;
-use crate::os::stderr::say;
+use crate::os::stderr::report;
 use crate::settings::{Named, Settings};
 use crate::turns::ledger::Pair;
 use std::io::{BufWriter, Write};
@@ -79,13 +79,13 @@ pub struct FromTable {
 
 impl Origin {
     /// Of a log in a file.
-    fn of_file(program: &str, path: &str, settings: Settings, generation: u64) -> Origin {
+    fn for_file(program: &str, path: &str, settings: Settings, generation: u64) -> Origin {
         let (program, log, base) = (program.to_string(), path.to_string(), path.to_string());
         Origin { program, log, base, settings, generation, table: None }
     }
 
     /// Of a table that goes on from here. Its snapshots will lie in a folder of this process.
-    pub fn of_table(program: &str, connect: &Connect, settings: Settings, start: Start) -> Result<Origin, LogFault> {
+    pub fn for_table(program: &str, connect: &Connect, settings: Settings, start: Start) -> Result<Origin, LogFault> {
         let (program, log) = (program.to_string(), connect.shown.clone());
         let folder = Arc::new(Local::new()?);
         let base = folder.path("table");
@@ -122,16 +122,16 @@ impl Origin {
     }
 }
 
-/// Told each line of the log as it is served again: the line and its reply.
+/// Outcome each line of the log as it is served again: the line and its reply.
 pub trait Observe {
     fn line(&mut self, line: &[u8], reply: &[u8]);
 
-    /// Told what was kept beside the snapshots of a compaction. False where the replies by keys are damaged.
+    /// Outcome what was kept beside the snapshots of a compaction. False where the replies by keys are damaged.
     fn beside(&mut self, _: &Beside) -> bool {
         true
     }
 
-    /// Told between which shards there were transfers before a compaction, where that is known.
+    /// Outcome between which shards there were transfers before a compaction, where that is known.
     fn pairs(&mut self, _: &[Pair]) {}
 
     /// What is to be kept beside the snapshots of a compaction.
@@ -143,7 +143,7 @@ pub trait Observe {
 /// An opened service.
 pub struct Kept {
     pub origin: Origin,
-    pub log: Log,
+    pub log: Box<dyn Log>,
     pub program: Program,
     /// The greatest moment of the records that the log goes on from.
     pub last_moment: u64,
@@ -159,7 +159,7 @@ pub fn open<O: Observe>(
     let mut log = LineLog::open(path)?;
     let (settings, generation) = settled(program, &mut log, named)?;
     generation::remove_leftovers(path, generation)?;
-    let mut origin = Origin::of_file(program, path, settings, generation);
+    let mut origin = Origin::for_file(program, path, settings, generation);
     let room = origin.settings.capacity;
     let mut started = origin.start()?;
     if origin.settings.capacity != room {
@@ -167,14 +167,14 @@ pub fn open<O: Observe>(
     }
     let mut observer = observer(&origin.settings);
     let last_moment = look_before(path, generation, &mut observer)?;
-    replay(&mut started, &mut log.lines()?, log.len().saturating_sub(1), &mut observer)?;
+    replay(&mut started, &mut log.reader()?, log.lines().saturating_sub(1), &mut observer)?;
     grow(&mut origin, &mut log, &mut started, named, || observer.kept_beside())?;
-    Ok((Kept { origin, log: Log::File(log), program: started, last_moment }, observer))
+    Ok((Kept { origin, log: Box::new(log), program: started, last_moment }, observer))
 }
 
 /// Tells what is known of the time before a log's compaction. The last moment of it.
 fn look_before(path: &str, generation: u64, observer: &mut impl Observe) -> Result<u64, LogFault> {
-    let files = Files::of(path, generation)?;
+    let files = Files::find(path, generation)?;
     if generation > 0 && !observer.beside(&compaction::beside(path, generation)?) {
         let file = generation::file_of(path, generation, REPLIES);
         return Err(LogFault::Damaged(format!("{file}: the replies by keys are damaged")));
@@ -185,7 +185,7 @@ fn look_before(path: &str, generation: u64, observer: &mut impl Observe) -> Resu
 
 /// Has the log say that its queues have more room from now on.
 fn take_room(log: &mut LineLog, origin: &Origin, room: u32, program: &mut Program) -> Result<(), NotServed> {
-    if log.len() > 1 {
+    if log.lines() > 1 {
         // With other queues these lines may be answered otherwise than they were.
         program.kill();
         let said = "more tasks wait in its records than its queues hold, and it has lines after them";
@@ -198,14 +198,14 @@ fn take_room(log: &mut LineLog, origin: &Origin, room: u32, program: &mut Progra
 
 /// Says that the queues have more room.
 pub fn tell_growth(log: &str, former: u32, capacity: u32) {
-    say!("{log}: the queues have room for {capacity} tasks from now on, and had for {former}");
+    report!("{log}: the queues have room for {capacity} tasks from now on, and had for {former}");
 }
 
 /// The log's settings, and how often it was compacted; a new log gets the settings that are wanted.
 fn settled(program: &str, log: &mut LineLog, named: &Named) -> Result<(Settings, u64), NotServed> {
-    let header = log.lines()?.next()?.map(<[u8]>::to_vec);
+    let header = log.reader()?.next()?.map(<[u8]>::to_vec);
     if let Some(header) = header {
-        let (found, generation) = Settings::of_header(&header, &log.path)?;
+        let (found, generation) = Settings::parse_header(&header, &log.path)?;
         found.check(&found.clone().with(named), &log.path)?;
         return Ok((found, generation));
     }
@@ -229,7 +229,7 @@ pub fn check(program: &str, settings: &Settings) -> Result<(), LogFault> {
 
 /// Gives the program so many lines of the log, and takes its replies.
 fn replay(program: &mut Program, lines: &mut Lines, count: u64, observer: &mut impl Observe) -> Result<(), NotServed> {
-    let mut given = Lines::of(lines.path())?.ok_or_else(|| LogFault::Io("the log is gone".to_string()))?;
+    let mut given = Lines::open(lines.path())?.ok_or_else(|| LogFault::Io("the log is gone".to_string()))?;
     let mut input = program.take_input();
     let feeder = std::thread::spawn(move || {
         // That the program has ended shows where its replies are read.
@@ -300,7 +300,8 @@ pub fn start_again(origin: &Origin, count: u64) -> Result<Program, NotServed> {
     }
     let mut origin = origin.clone();
     let mut program = origin.start()?;
-    let mut lines = Lines::of(&origin.log)?.ok_or_else(|| LogFault::Io(format!("{}: the log is gone", origin.log)))?;
+    let mut lines =
+        Lines::open(&origin.log)?.ok_or_else(|| LogFault::Io(format!("{}: the log is gone", origin.log)))?;
     replay(&mut program, &mut lines, count, &mut Nobody)?;
     Ok(program)
 }
@@ -323,7 +324,7 @@ fn grow(
     let has = origin.settings.capacity;
     let wanted = named.capacity.unwrap_or(has);
     if wanted < has {
-        say!("{}: the queues keep their room for {has} tasks: it never falls, so {wanted} is not taken", log.path);
+        report!("{}: the queues keep their room for {has} tasks: it never falls, so {wanted} is not taken", log.path);
     } else if wanted > has {
         let opened = compaction::compact(origin, log, wanted, &beside())?;
         std::mem::replace(program, opened).end();

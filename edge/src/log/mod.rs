@@ -16,80 +16,68 @@ pub(crate) mod following;
 pub(crate) mod generation;
 pub(crate) mod kept;
 pub(crate) mod opening;
+pub(crate) mod successor;
 pub mod table;
 
 use crate::log::fault::LogFault;
-use crate::log::file::LineLog;
-use crate::log::table::log::TableLog;
+use crate::log::kept::Origin;
+use crate::log::successor::{Successor, Tail};
 
-/// An open log.
-pub enum Log {
-    File(LineLog),
-    Table(TableLog),
-}
-
-impl Log {
+/// An open log. It keeps lines in the order in which they are written, behind a header.
+pub trait Log: Send {
     /// How many lines it has, with its header.
-    pub fn len(&self) -> u64 {
-        match self {
-            Log::File(log) => log.len(),
-            Log::Table(log) => log.len(),
-        }
-    }
+    fn lines(&self) -> u64;
 
     /// How many bytes it has.
-    pub fn size(&self) -> u64 {
-        match self {
-            Log::File(log) => log.size(),
-            Log::Table(log) => log.size(),
-        }
-    }
+    fn bytes(&self) -> u64;
 
     /// How many batches a table has had; 0 of a file.
-    pub fn batches(&self) -> u64 {
-        match self {
-            Log::File(_) => 0,
-            Log::Table(log) => log.batches(),
-        }
+    fn batches(&self) -> u64 {
+        0
     }
 
     /// Whether a fault left it unknown what is kept, so that nothing more is written.
-    pub fn is_broken(&self) -> bool {
-        match self {
-            Log::File(log) => log.is_broken(),
-            Log::Table(log) => log.is_broken(),
-        }
-    }
+    fn is_broken(&self) -> bool;
 
     /// Whether there was no room for the last lines.
-    pub fn is_full(&self) -> bool {
-        match self {
-            Log::File(log) => log.is_full(),
-            Log::Table(_) => false,
-        }
+    fn is_full(&self) -> bool {
+        false
     }
 
     /// Writes lines, which count once `sync` has returned. All are written, or none.
-    pub fn write<'a>(&mut self, lines: impl IntoIterator<Item = &'a [u8]>) -> Result<(), LogFault> {
-        match self {
-            Log::File(log) => log.write(lines),
-            Log::Table(log) => log.write(lines),
-        }
-    }
+    fn write<'a>(&mut self, lines: &mut dyn Iterator<Item = &'a [u8]>) -> Result<(), LogFault>;
 
     /// Has what was written kept.
-    pub fn sync(&mut self) -> Result<(), LogFault> {
-        match self {
-            Log::File(log) => log.sync(),
-            Log::Table(_) => Ok(()),
-        }
+    fn sync(&mut self) -> Result<(), LogFault> {
+        Ok(())
     }
 
     /// Refuses where another edge has become the leader.
-    pub fn confirm(&mut self) -> Result<(), LogFault> {
-        match self {
-            Log::File(_) => Ok(()),
-            Log::Table(log) => log.confirm(),
-        }
+    fn confirm(&mut self) -> Result<(), LogFault> {
+        Ok(())
     }
+
+    /// The next lines of a tail of this log, up to the one of this number, while no line is written.
+    fn next_of(&mut self, tail: &mut Tail, number: u64) -> Result<Vec<Vec<u8>>, LogFault> {
+        tail.next(number)
+    }
+
+    /// Has a successor take its place, which was given all lines that this log has, with these replies by keys besides.
+    fn give_way(&mut self, successor: Successor, next: &mut Origin, replies: &[u8]) -> Result<(), LogFault>;
+
+    /// How it is now.
+    fn state(&self) -> LogState {
+        let (lines, bytes, batches) = (self.lines().saturating_sub(1), self.bytes(), self.batches());
+        LogState { lines, bytes, batches, is_full: self.is_full(), is_broken: self.is_broken() }
+    }
+}
+
+/// How a log was when it was looked at. Its lines are counted without the header.
+#[derive(Clone, Copy, Default)]
+pub struct LogState {
+    pub lines: u64,
+    pub bytes: u64,
+    pub batches: u64,
+    pub is_full: bool,
+    pub is_broken: bool,
 }

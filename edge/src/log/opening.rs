@@ -11,6 +11,7 @@ use crate::log::table::Connect;
 use crate::settings::{Named, Settings};
 use crate::turns::deadlines::Deadlines;
 use crate::turns::ledger::{Ledger, Pair};
+use crate::turns::shards::ShardCount;
 
 /// A service that was opened, and all that was learned of its log.
 pub struct Opened {
@@ -29,7 +30,7 @@ pub struct Observed {
 }
 
 impl Observed {
-    fn new(shards: u16, has_page: bool) -> Observed {
+    fn new(shards: ShardCount, has_page: bool) -> Observed {
         Observed {
             ledger: Ledger::new(shards),
             deadlines: Deadlines::default(),
@@ -47,7 +48,7 @@ impl Observe for Observed {
         if facts.op.is_read() {
             return;
         }
-        if let Some(said) = Reply::of(reply) {
+        if let Some(said) = Reply::parse(reply) {
             self.ledger.observe(&facts, &said);
             self.deadlines.observe(&facts, at.unwrap_or(0), &said);
             self.replies.replayed(facts.op, line, &said, reply);
@@ -76,13 +77,13 @@ impl Observe for Observed {
 
 impl Opened {
     /// Opens the service of a log in a file.
-    pub fn of(program: &str, log: &str, named: &Named, has_page: bool) -> Result<Opened, NotServed> {
+    pub fn from_file(program: &str, log: &str, named: &Named, has_page: bool) -> Result<Opened, NotServed> {
         let (kept, observed) = kept::open(program, log, named, observed(has_page))?;
         Ok(Opened { kept, observed })
     }
 
     /// Follows the log of a table, and opens its service once this edge leads.
-    pub fn of_table(program: &str, connect: &Connect, named: &Named, has_page: bool) -> Result<Opened, NotServed> {
+    pub fn from_table(program: &str, connect: &Connect, named: &Named, has_page: bool) -> Result<Opened, NotServed> {
         let (kept, observed) = table::log::open(program, connect, named, observed(has_page))?;
         Ok(Opened { kept, observed })
     }

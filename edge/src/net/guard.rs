@@ -3,7 +3,7 @@
 use hyper::header::{HeaderMap, AUTHORIZATION, COOKIE, HOST};
 use hyper::{Method, Uri};
 
-/// Asked by what starts and watches servers, which has no token; they say nothing of workflows.
+/// ParsedCall by what starts and watches servers, which has no token; they say nothing of workflows.
 const HEALTH: [&str; 2] = ["/health/live", "/health/ready"];
 
 /// Who may ask.

@@ -6,7 +6,7 @@ use crate::net::lingering::Lingering;
 use hyper::server::conn::Http;
 use hyper::service::service_fn;
 use std::convert::Infallible;
-use std::sync::atomic::{AtomicBool, AtomicUsize, Ordering::SeqCst};
+use std::sync::atomic::{AtomicBool, AtomicUsize, Ordering};
 use std::sync::{Arc, Mutex, PoisonError};
 use std::time::{Duration, Instant};
 use tokio::io::{AsyncRead, AsyncWrite};
@@ -32,7 +32,8 @@ pub struct Counted(pub Arc<Connections>);
 
 impl Drop for Counted {
     fn drop(&mut self) {
-        self.0.count.fetch_sub(1, SeqCst);
+        // Who waits until there are none then sees all that was done on them.
+        self.0.count.fetch_sub(1, Ordering::Release);
     }
 }
 
@@ -44,11 +45,11 @@ impl Connections {
     /// Counts one more; None where there are as many as may be.
     pub fn counted(self: &Arc<Connections>) -> Option<Counted> {
         let counted = Counted(self.clone());
-        let before = self.count.fetch_add(1, SeqCst);
+        let before = self.count.fetch_add(1, Ordering::Relaxed);
         (before < MOST_CONNECTIONS).then_some(counted)
     }
 
-    /// Told once the connections have to end.
+    /// Outcome once the connections have to end.
     pub fn told_to_stop(&self) -> watch::Receiver<bool> {
         self.stop.subscribe()
     }
@@ -62,13 +63,14 @@ impl Connections {
     pub async fn stop(&self, most: Duration) {
         let late = Instant::now() + most;
         self.stop.send_replace(true);
-        while self.count.load(SeqCst) > 0 && Instant::now() < late {
+        while self.count.load(Ordering::Acquire) > 0 && Instant::now() < late {
             tokio::time::sleep(Duration::from_millis(5)).await;
         }
     }
 }
 
-/// What is going on on a connection, and when something was asked or answered on it last.
+/// What is going on on a connection, and when something was asked or answered on it last. One task at a time has the
+/// connection, and looks at it: so no order of memory is asked for.
 pub struct Activity {
     last: Mutex<Instant>,
     is_serving: AtomicUsize,
@@ -92,18 +94,18 @@ impl Activity {
 
     /// Notes that nothing more is read after an answer.
     pub fn leave_unread(&self) {
-        self.is_unread.store(true, SeqCst);
+        self.is_unread.store(true, Ordering::Relaxed);
     }
 
     /// Notes that the edge was told to stop.
     pub fn stop(&self) {
-        self.is_stopped.store(true, SeqCst);
+        self.is_stopped.store(true, Ordering::Relaxed);
     }
 
     /// Whether its client may still send something, and so is waited for. An edge that stops waits for no client whose
     /// requests are all answered.
     pub fn lingers(&self) -> bool {
-        self.is_unread.load(SeqCst) || !self.is_stopped.load(SeqCst)
+        self.is_unread.load(Ordering::Relaxed) || !self.is_stopped.load(Ordering::Relaxed)
     }
 
     fn note(&self) {
@@ -111,19 +113,19 @@ impl Activity {
     }
 
     fn begin(&self) {
-        self.was_asked.store(true, SeqCst);
-        self.is_serving.fetch_add(1, SeqCst);
+        self.was_asked.store(true, Ordering::Relaxed);
+        self.is_serving.fetch_add(1, Ordering::Relaxed);
     }
 
     fn end(&self) {
         self.note();
-        self.is_serving.fetch_sub(1, SeqCst);
+        self.is_serving.fetch_sub(1, Ordering::Relaxed);
     }
 
     /// For how long it may be silent still; None where it was silent for too long.
     fn rest(&self, read_timeout: Duration) -> Option<Duration> {
-        let most = if self.was_asked.load(SeqCst) { IDLE.max(read_timeout) } else { read_timeout };
-        if self.is_serving.load(SeqCst) > 0 {
+        let most = if self.was_asked.load(Ordering::Relaxed) { IDLE.max(read_timeout) } else { read_timeout };
+        if self.is_serving.load(Ordering::Relaxed) > 0 {
             return Some(most);
         }
         most.checked_sub(self.last.lock().unwrap_or_else(PoisonError::into_inner).elapsed())
@@ -177,7 +179,7 @@ where
     let Before { read, was_asked, is_stopped } = before;
     let mut stop = counted.0.told_to_stop();
     let (activity, read_timeout) = (Arc::new(Activity::new()), front.read_timeout);
-    activity.was_asked.store(was_asked, SeqCst);
+    activity.was_asked.store(was_asked, Ordering::Relaxed);
     let noted = activity.clone();
     let service = service_fn(move |request| {
         let (front, activity) = (front.clone(), noted.clone());

@@ -17,14 +17,14 @@ pub const CHANGES_NOTHING: &[u8] = b"{\"op\":\"dispatch_turn\",\"shard\":0,\"sto
 const LINES_KEPT: usize = 5;
 const PIPE_BYTES: usize = 1 << 20;
 
-type Said = Arc<Mutex<VecDeque<String>>>;
+type LastWords = Arc<Mutex<VecDeque<String>>>;
 
 /// A running program. What it says on standard error is handed on, but for lines with the text `unsaid`.
 pub struct Program {
     child: Child,
     input: Option<ChildStdin>,
     pub output: Output,
-    said: Said,
+    said: LastWords,
     listener: Option<JoinHandle<()>>,
 }
 
@@ -41,7 +41,7 @@ pub struct Output {
 }
 
 impl Output {
-    fn of(pipe: ChildStdout) -> Output {
+    fn new(pipe: ChildStdout) -> Output {
         system::widen_pipe(&pipe, PIPE_BYTES as i32);
         Output { pipe, read: Vec::new(), begin: 0, replies: 0, chunk: vec![0; PIPE_BYTES] }
     }
@@ -122,11 +122,11 @@ impl Program {
             _ => return Err(Fault::Ended(format!("{}: its pipes are not there", words[0]))),
         };
         system::widen_pipe(&input, PIPE_BYTES as i32);
-        let said = Said::default();
+        let said = LastWords::default();
         let heard = said.clone();
         let listener = Builder::new().name("heard".to_string()).spawn(move || listen(error, &heard, unsaid));
         let listener = Some(listener.map_err(fault)?);
-        Ok(Program { child, input: Some(input), output: Output::of(output), said, listener })
+        Ok(Program { child, input: Some(input), output: Output::new(output), said, listener })
     }
 
     pub fn pid(&self) -> u32 {
@@ -205,7 +205,7 @@ fn number_of(status: ExitStatus) -> i32 {
 }
 
 /// Hands on what a program says, and keeps the last of it.
-fn listen(error: ChildStderr, said: &Said, unsaid: Option<&str>) {
+fn listen(error: ChildStderr, said: &LastWords, unsaid: Option<&str>) {
     let mut lines = BufReader::new(error);
     let mut line = Vec::new();
     while matches!(lines.read_until(b'\n', &mut line), Ok(count) if count > 0) {

@@ -10,10 +10,10 @@ pub fn line(text: Arguments<'_>) {
 }
 
 /// Says a line, as `format!` makes it.
-macro_rules! say {
+macro_rules! report {
     ($($text:tt)*) => {
         crate::os::stderr::line(format_args!($($text)*))
     };
 }
 
-pub(crate) use say;
+pub(crate) use report;

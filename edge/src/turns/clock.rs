@@ -5,7 +5,7 @@
 //! clock is set ahead, all timers would fire early, for good. So time goes on by a steady clock from the moment at
 //! which the edge was started, and is drawn to a wall clock that is ahead of it by a tenth of the time that passes.
 
-use crate::os::stderr::say;
+use crate::os::stderr::report;
 use std::time::{Instant, SystemTime, UNIX_EPOCH};
 
 /// A jump of the wall clock by more milliseconds is told.
@@ -44,7 +44,7 @@ impl Clocks for MachineClocks {
 }
 
 /// The edge's clock.
-pub struct Moments {
+pub struct Clock {
     clocks: Box<dyn Clocks>,
     read_wall: i64,
     read_steady: i64,
@@ -53,18 +53,18 @@ pub struct Moments {
     undrawn: i64,
 }
 
-impl Moments {
+impl Clock {
     /// Goes on from the last moment that the log has.
-    pub fn new(last: u64, clocks: Box<dyn Clocks>) -> Moments {
+    pub fn new(last: u64, clocks: Box<dyn Clocks>) -> Clock {
         let (read_wall, read_steady) = (clocks.wall(), clocks.steady());
         let last = i64::try_from(last).unwrap_or(i64::MAX / 2).max(read_wall);
-        let moments = Moments { clocks, read_wall, read_steady, last, undrawn: 0 };
-        let ahead = moments.ahead();
+        let clock = Clock { clocks, read_wall, read_steady, last, undrawn: 0 };
+        let ahead = clock.ahead();
         if ahead > TOLD_AHEAD {
             let by = ahead as f64 / 1_000.0;
-            say!("the last moment of the log is {by:.1} s ahead of this machine's clock: time goes on from there");
+            report!("the last moment of the log is {by:.1} s ahead of this machine's clock: time goes on from there");
         }
-        moments
+        clock
     }
 
     /// The moment of a line that is made now: no earlier than any before it.
@@ -104,7 +104,7 @@ impl Moments {
 fn tell_jump(jump: i64) {
     if jump.abs() > TOLD_JUMP {
         let (to, by) = (if jump > 0 { "ahead" } else { "back" }, jump.abs() as f64 / 1_000.0);
-        say!(
+        report!(
             "this machine's clock was set {to} by {by:.1} s: time goes on, and a server that is started again \
              takes a clock that is ahead"
         );
@@ -136,8 +136,8 @@ mod tests {
             self.0 .0.fetch_add(by, SeqCst);
         }
 
-        fn moments(&self, last: i64) -> Moments {
-            Moments::new(last as u64, Box::new(self.clone()))
+        fn moments(&self, last: i64) -> Clock {
+            Clock::new(last as u64, Box::new(self.clone()))
         }
     }
 
@@ -154,60 +154,60 @@ mod tests {
     #[test]
     fn moments_are_the_wall_clocks() {
         let clocks = SetClocks::new();
-        let mut moments = clocks.moments(0);
-        assert_eq!(moments.now(), 1_000_000);
+        let mut clock = clocks.moments(0);
+        assert_eq!(clock.now(), 1_000_000);
         clocks.wait(7);
-        assert_eq!((moments.now(), moments.ahead()), (1_000_007, 0));
+        assert_eq!((clock.now(), clock.ahead()), (1_000_007, 0));
     }
 
     #[test]
     fn time_goes_on_from_a_last_moment_that_is_ahead() {
         let clocks = SetClocks::new();
-        let mut moments = clocks.moments(1_000_000 + DAY);
+        let mut clock = clocks.moments(1_000_000 + DAY);
         for _ in 0..3 {
-            let before = moments.now();
+            let before = clock.now();
             clocks.wait(1_000);
-            assert_eq!(moments.now(), before + 1_000);
+            assert_eq!(clock.now(), before + 1_000);
         }
-        assert_eq!(moments.ahead(), DAY);
+        assert_eq!(clock.ahead(), DAY);
     }
 
     #[test]
     fn a_clock_that_is_set_ahead_is_followed_by_a_tenth() {
         let clocks = SetClocks::new();
-        let mut moments = clocks.moments(0);
-        moments.now();
+        let mut clock = clocks.moments(0);
+        clock.now();
         clocks.set(DAY);
         clocks.wait(1_000);
-        assert_eq!(moments.now(), 1_000_000 + 1_100);
+        assert_eq!(clock.now(), 1_000_000 + 1_100);
         for _ in 0..10 {
             clocks.wait(3);
-            moments.now();
+            clock.now();
         }
-        assert_eq!(moments.now(), 1_000_000 + 1_100 + 33);
+        assert_eq!(clock.now(), 1_000_000 + 1_100 + 33);
     }
 
     #[test]
     fn time_goes_on_where_the_wall_clock_is_set_back() {
         let clocks = SetClocks::new();
-        let mut moments = clocks.moments(0);
-        moments.now();
+        let mut clock = clocks.moments(0);
+        clock.now();
         clocks.set(-3_600_000);
-        assert_eq!(moments.now(), 1_000_000);
+        assert_eq!(clock.now(), 1_000_000);
         clocks.wait(10);
-        assert_eq!((moments.now(), moments.ahead()), (1_000_010, 3_600_000));
+        assert_eq!((clock.now(), clock.ahead()), (1_000_010, 3_600_000));
         clocks.set(3_600_005);
-        assert_eq!((moments.now(), moments.ahead()), (1_000_015, 0));
+        assert_eq!((clock.now(), clock.ahead()), (1_000_015, 0));
     }
 
     #[test]
     fn moments_never_go_back() {
         let clocks = SetClocks::new();
-        let (mut moments, mut last) = (clocks.moments(0), 0);
+        let (mut clock, mut last) = (clocks.moments(0), 0);
         for step in [5, -3, 0, -100, 40, 2] {
             clocks.set(step);
             clocks.0 .1.fetch_add(1, SeqCst);
-            let now = moments.now();
+            let now = clock.now();
             assert!(now >= last);
             last = now;
         }

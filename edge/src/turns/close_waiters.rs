@@ -3,13 +3,13 @@
 //! A description with `wait` is answered once it says another status than Running, or after so many milliseconds. The
 //! program is asked again where a line was added since, and not more often than some times a second.
 
-use crate::call::body::Asked;
+use crate::call::body::ParsedCall;
 use crate::call::fault::Fault;
 use crate::call::operations::Op;
 use crate::call::texts::lasting;
 use crate::core::Core;
 use hyper::body::Bytes;
-use std::sync::atomic::{AtomicUsize, Ordering::SeqCst};
+use std::sync::atomic::{AtomicUsize, Ordering};
 use std::time::{Duration, Instant};
 
 /// How the description of an open run says so. No text of a reply has these bytes: its quotes are escaped.
@@ -23,20 +23,20 @@ struct Counted<'a>(&'a AtomicUsize);
 
 impl Drop for Counted<'_> {
     fn drop(&mut self) {
-        self.0.fetch_sub(1, SeqCst);
+        self.0.fetch_sub(1, Ordering::Relaxed);
     }
 }
 
 /// Whether a call waits for the end of a run.
-pub fn waits(asked: &Asked) -> bool {
+pub fn waits(asked: &ParsedCall) -> bool {
     asked.facts.op == Op::Describe && asked.wait > 0
 }
 
 /// The description of a run, once it has closed or its time is over. An edge that is told to stop waits no longer.
-pub async fn until_closed(core: &Core, asked: Asked) -> Result<Bytes, Fault> {
+pub async fn until_closed(core: &Core, asked: ParsedCall) -> Result<Bytes, Fault> {
     let late = Instant::now() + Duration::from_millis(asked.wait);
-    let _counted = Counted(&core.ends);
-    if core.ends.fetch_add(1, SeqCst) >= core.limit() {
+    let _counted = Counted(&core.close_waiters);
+    if core.close_waiters.fetch_add(1, Ordering::Relaxed) >= core.limit() {
         return Err(Fault::Busy(format!("{} descriptions wait already", core.limit())));
     }
     // A description, and how many lines there were before it was asked for.
@@ -70,19 +70,20 @@ fn is_open(reply: &[u8]) -> bool {
 #[cfg(test)]
 mod tests {
     use super::*;
-    use crate::call::body::asked;
+    use crate::call::body::parse_call;
+    use crate::turns::shards::shards;
 
     #[test]
     fn a_description_may_wait_and_the_program_does_not_know() {
-        let found = asked(br#"{"op":"describe","workflow_id":"w","wait":500}"#, 1).unwrap();
+        let found = parse_call(br#"{"op":"describe","workflow_id":"w","wait":500}"#, shards(1)).unwrap();
         assert!(waits(&found));
         assert_eq!(found.begin, br#"{"op":"describe","workflow_id":"w""#);
         for body in
             [r#"{"op":"describe","wait":0}"#, r#"{"op":"history","wait":5}"#, r#"{"op":"poll_activity_task","wait":5}"#]
         {
-            assert!(!waits(&asked(body.as_bytes(), 1).unwrap()), "{body}");
+            assert!(!waits(&parse_call(body.as_bytes(), shards(1)).unwrap()), "{body}");
         }
-        assert!(asked(br#"{"op":"describe","wait":60001}"#, 1).is_err());
+        assert!(parse_call(br#"{"op":"describe","wait":60001}"#, shards(1)).is_err());
     }
 
     #[test]

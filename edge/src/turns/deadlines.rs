@@ -1,4 +1,4 @@
-//! Moments at which something may be due on a shard, as far as lines and replies tell.
+//! Clock at which something may be due on a shard, as far as lines and replies tell.
 
 use crate::call::facts::Facts;
 use crate::call::reply::Reply;
@@ -51,12 +51,12 @@ mod tests {
     #[test]
     fn deadlines_are_found_in_the_order_of_their_moments() {
         let mut deadlines = Deadlines::default();
-        let ok = Reply::of(br#"{"ok":"started"}"#).unwrap();
+        let ok = Reply::parse(br#"{"ok":"started"}"#).unwrap();
         let facts = Facts { shard: Some(1), durations: vec![50, 7], ..Facts::unknown() };
         assert!(deadlines.observe(&facts, 1_000, &ok));
         let later = Facts { shard: Some(2), durations: vec![], ..Facts::unknown() };
-        assert!(!deadlines.observe(&later, 1_000, &Reply::of(br#"{"ok":"completed","ready":1020}"#).unwrap()));
-        assert!(!deadlines.observe(&facts, 0, &Reply::of(br#"{"error":"NotFound"}"#).unwrap()));
+        assert!(!deadlines.observe(&later, 1_000, &Reply::parse(br#"{"ok":"completed","ready":1020}"#).unwrap()));
+        assert!(!deadlines.observe(&facts, 0, &Reply::parse(br#"{"error":"NotFound"}"#).unwrap()));
         assert_eq!(deadlines.next(), Some(1_007));
         assert!(deadlines.pass_by(1_006).is_empty());
         assert_eq!(deadlines.pass_by(1_020).into_iter().collect::<Vec<_>>(), [1, 2]);

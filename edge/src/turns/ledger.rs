@@ -6,7 +6,7 @@
 use crate::call::facts::Facts;
 use crate::call::operations::Op;
 use crate::call::reply::Reply;
-use crate::turns::shards::Shard;
+use crate::turns::shards::{Shard, ShardCount};
 use std::collections::{BTreeMap, BTreeSet, HashMap};
 
 /// So many dispatch turns of a shard are made at once, at most.
@@ -44,11 +44,13 @@ pub struct Turn {
     pub is_net: bool,
 }
 
-impl Turn {
-    fn of(kind: Kind) -> Turn {
+impl From<Kind> for Turn {
+    fn from(kind: Kind) -> Turn {
         Turn { kind, is_net: false }
     }
+}
 
+impl Turn {
     /// Its operation.
     pub fn op(&self) -> Op {
         match self.kind {
@@ -70,7 +72,7 @@ impl Turn {
 
 /// So many dispatch turns of a shard; if the last one finds a task, twice as many follow.
 fn dispatches(shard: Shard, count: u32) -> impl Iterator<Item = Turn> {
-    (1..=count).map(move |number| Turn::of(Kind::Dispatch { shard, at_once: count, is_last: number == count }))
+    (1..=count).map(move |number| Turn::from(Kind::Dispatch { shard, at_once: count, is_last: number == count }))
 }
 
 /// What the calls of one batch make necessary.
@@ -86,7 +88,7 @@ pub struct Needed {
 
 /// The turns that are necessary, by what was asked and what was answered.
 pub struct Ledger {
-    shards: Shard,
+    shards: ShardCount,
     /// Shards whose next task has no room in its queue.
     full: BTreeSet<Shard>,
     /// Between which shards a transfer was ever accepted, both ways: a parent and its child are among these.
@@ -99,12 +101,12 @@ pub struct Ledger {
 }
 
 impl Ledger {
-    pub fn new(shards: Shard) -> Ledger {
+    pub fn new(shards: ShardCount) -> Ledger {
         let (partners, closing) = (HashMap::new(), HashMap::new());
         Ledger { shards, full: BTreeSet::new(), partners, closing, closings: 0, missed: 0 }
     }
 
-    pub fn shards(&self) -> Shard {
+    pub fn shards(&self) -> ShardCount {
         self.shards
     }
 
@@ -143,7 +145,7 @@ impl Ledger {
             self.add_told_of(*shard, &mut found);
         }
         for (shard, count) in &needed.issued {
-            let one = Turn::of(Kind::Dispatch { shard: *shard, at_once: 1, is_last: false });
+            let one = Turn::from(Kind::Dispatch { shard: *shard, at_once: 1, is_last: false });
             found.extend((0..*count).map(|_| one));
         }
         found.extend(needed.may_issue.iter().flat_map(|shard| dispatches(*shard, 1)));
@@ -157,7 +159,7 @@ impl Ledger {
             number = self.closings;
             self.closing.insert(pair, number);
         }
-        Turn::of(Kind::Transfer { pair, closing: number })
+        Turn::from(Kind::Transfer { pair, closing: number })
     }
 
     /// The turns to all shards that may have a parent or a child of a run of this one, which may have closed.
@@ -232,7 +234,7 @@ impl Ledger {
         if !reply.is("fired") {
             return Vec::new();
         }
-        let mut found = vec![Turn::of(Kind::Timer { shard })];
+        let mut found = vec![Turn::from(Kind::Timer { shard })];
         found.extend(dispatches(shard, 1));
         if reply.class.as_deref().map_or(false, |class| CLOSING_CLASSES.contains(&class)) {
             self.add_told_of(shard, &mut found);
@@ -260,14 +262,14 @@ impl Ledger {
 
     /// A timer turn of each of these shards.
     pub fn timers(shards: impl IntoIterator<Item = Shard>) -> Vec<Turn> {
-        shards.into_iter().map(|shard| Turn::of(Kind::Timer { shard })).collect()
+        shards.into_iter().map(|shard| Turn::from(Kind::Timer { shard })).collect()
     }
 
     /// A transfer turn of each pair of shards, and a dispatch turn of each shard.
     pub fn sweep(&mut self) -> Vec<Turn> {
-        let every = 0..self.shards;
-        let pairs = every.clone().flat_map(|from| (0..self.shards).map(move |to| (from, to)));
-        let mut found: Vec<Turn> = pairs.map(|pair| Turn::of(Kind::Transfer { pair, closing: 0 })).collect();
+        let every = self.shards.all();
+        let pairs = every.clone().flat_map(|from| self.shards.all().map(move |to| (from, to)));
+        let mut found: Vec<Turn> = pairs.map(|pair| Turn::from(Kind::Transfer { pair, closing: 0 })).collect();
         found.extend(every.flat_map(|shard| dispatches(shard, 1)));
         for turn in &mut found {
             turn.is_net = true;
@@ -284,9 +286,10 @@ fn has_found(reply: &Reply<'_>) -> bool {
 #[cfg(test)]
 mod tests {
     use super::*;
+    use crate::turns::shards::shards;
 
     fn reply(text: &str) -> Reply<'_> {
-        Reply::of(text.as_bytes()).unwrap()
+        Reply::parse(text.as_bytes()).unwrap()
     }
 
     fn call(op: Op, shard: Shard) -> Facts {
@@ -304,7 +307,7 @@ mod tests {
 
     #[test]
     fn a_batch_needs_one_turn_for_each_task_and_one_for_what_may_be_there() {
-        let (mut ledger, mut needed) = (Ledger::new(4), Needed::default());
+        let (mut ledger, mut needed) = (Ledger::new(shards(4)), Needed::default());
         let start = Facts { issues: 1, may_issue: false, ..call(Op::Start, 1) };
         ledger.note(&start, &mut needed);
         ledger.note(&start, &mut needed);
@@ -326,7 +329,7 @@ mod tests {
 
     #[test]
     fn dispatches_double_while_the_last_one_finds_something() {
-        let mut ledger = Ledger::new(1);
+        let mut ledger = Ledger::new(shards(1));
         let mut turns: Vec<Turn> = dispatches(0, 1).collect();
         let mut counts = Vec::new();
         for _ in 0..8 {
@@ -340,7 +343,7 @@ mod tests {
 
     #[test]
     fn a_full_queue_is_remembered_until_a_turn_finds_room() {
-        let mut ledger = Ledger::new(1);
+        let mut ledger = Ledger::new(shards(1));
         let turn = dispatches(0, 1).next().unwrap();
         assert!(ledger.follow(&turn, &reply(r#"{"error":"QueueFull","code":9}"#)).is_empty());
         assert!(ledger.is_full());
@@ -351,7 +354,7 @@ mod tests {
 
     #[test]
     fn an_accepted_transfer_is_followed_both_ways_and_by_a_dispatch() {
-        let mut ledger = Ledger::new(4);
+        let mut ledger = Ledger::new(shards(4));
         let turn = ledger.transfer((1, 2), false);
         let found = ledger.follow(&turn, &reply(r#"{"ok":"accepted"}"#));
         assert_eq!(kinds(&found), ["transfer_turn,from:1,to:2", "transfer_turn,from:2,to:1", "dispatch_turn,shard:2"]);
@@ -360,7 +363,7 @@ mod tests {
 
     #[test]
     fn the_end_of_a_run_is_told_to_shards_that_it_ever_met() {
-        let mut ledger = Ledger::new(4);
+        let mut ledger = Ledger::new(shards(4));
         let facts = Facts { turn: Some((0, 2)), ..Facts::unknown() };
         ledger.observe(&Facts { op: Op::TransferTurn, ..facts }, &reply(r#"{"ok":"accepted"}"#));
         let mut needed = Needed::default();
@@ -386,7 +389,7 @@ mod tests {
 
     #[test]
     fn a_timer_that_fired_is_followed_by_the_next_one() {
-        let mut ledger = Ledger::new(2);
+        let mut ledger = Ledger::new(shards(2));
         let turn = Ledger::timers([1])[0];
         let found = ledger.follow(&turn, &reply(r#"{"ok":"fired","class":"timer"}"#));
         assert_eq!(kinds(&found), ["timer_turn,shard:1", "dispatch_turn,shard:1"]);
@@ -395,7 +398,7 @@ mod tests {
 
     #[test]
     fn a_sweep_has_all_pairs_and_counts_what_it_finds() {
-        let mut ledger = Ledger::new(3);
+        let mut ledger = Ledger::new(shards(3));
         let turns = ledger.sweep();
         assert_eq!(turns.len(), 12);
         for turn in &turns {

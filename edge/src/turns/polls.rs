@@ -19,12 +19,14 @@ pub struct Queue {
     name: Box<str>,
 }
 
-impl Queue {
+impl From<&Call> for Queue {
     /// The queue that a poll asks.
-    pub fn of(call: &Call) -> Queue {
+    fn from(call: &Call) -> Queue {
         Queue { op: call.op(), name: call.facts.queue.clone().unwrap_or_default() }
     }
+}
 
+impl Queue {
     /// The operation by which it is polled and its name, as members of a list in JSON.
     pub fn json(&self) -> String {
         format!("\"{}\",{}", self.op.name(), quoted(&self.name))
@@ -58,7 +60,7 @@ impl Polls {
 
     /// Has a poll wait. One that was woken and found nothing has its place again.
     pub fn wait(&mut self, poll: Waiting) {
-        let queue = self.waiting.entry(Queue::of(&poll.call)).or_default();
+        let queue = self.waiting.entry(Queue::from(&poll.call)).or_default();
         let place = match poll.call.was_woken {
             true => queue.iter().take_while(|other| other.call.since <= poll.call.since).count(),
             false => queue.len(),
@@ -171,13 +173,14 @@ fn first(
 #[cfg(test)]
 mod tests {
     use super::*;
-    use crate::call::body::asked;
+    use crate::call::body::parse_call;
     use crate::call::Asker;
+    use crate::turns::shards::shards;
 
     fn poll(queue: &str, wait: u64) -> Call {
         let text = format!(r#"{{"op":"poll_activity_task","task_queue":"{queue}","wait":{wait}}}"#);
-        let asked = asked(text.as_bytes(), 1).unwrap();
-        Call::of(asked.begin, asked.facts, asked.wait, Asker::Client(None))
+        let asked = parse_call(text.as_bytes(), shards(1)).unwrap();
+        Call::new(asked.begin, asked.facts, asked.wait, Asker::Client(None))
     }
 
     fn wait(polls: &mut Polls, call: Call) {
@@ -230,9 +233,9 @@ mod tests {
     #[test]
     fn a_task_of_a_client_that_is_gone_is_another_ones() {
         let mut polls = Polls::default();
-        let queue = Queue::of(&poll("a", 1));
+        let queue = Queue::from(&poll("a", 1));
         assert!(polls.leave(queue.clone(), Bytes::from_static(b"task"), |_| false).0.is_none());
-        assert_eq!(polls.left_for(&Queue::of(&poll("b", 1))), None);
+        assert_eq!(polls.left_for(&Queue::from(&poll("b", 1))), None);
         assert_eq!(polls.left_for(&queue), Some(Bytes::from_static(b"task")));
         assert_eq!(polls.left_for(&queue), None);
         wait(&mut polls, poll("a", 1));

@@ -1,8 +1,53 @@
 //! Which shard a call is of, as the service has it: by the workflow ID, or by the token of a task. A token names the
 //! activity too.
 
+use std::fmt;
+use std::num::NonZeroU16;
+use std::ops::Range;
+use std::str::FromStr;
+
 /// A shard's number, from 0 on.
 pub type Shard = u16;
+
+/// How many shards a service has: one at least.
+#[derive(Clone, Copy, Debug, PartialEq, Eq)]
+pub struct ShardCount(NonZeroU16);
+
+impl ShardCount {
+    pub const ONE: ShardCount = match NonZeroU16::new(1) {
+        Some(one) => ShardCount(one),
+        None => unreachable!(),
+    };
+
+    /// None where there would be no shard.
+    pub fn new(count: u16) -> Option<ShardCount> {
+        NonZeroU16::new(count).map(ShardCount)
+    }
+
+    /// The numbers of all shards.
+    pub fn all(self) -> Range<Shard> {
+        0..self.0.get()
+    }
+
+    /// Whether there is a shard of this number.
+    pub fn has(self, shard: Shard) -> bool {
+        shard < self.0.get()
+    }
+}
+
+impl fmt::Display for ShardCount {
+    fn fmt(&self, out: &mut fmt::Formatter<'_>) -> fmt::Result {
+        self.0.fmt(out)
+    }
+}
+
+impl FromStr for ShardCount {
+    type Err = std::num::ParseIntError;
+
+    fn from_str(text: &str) -> Result<ShardCount, Self::Err> {
+        text.parse().map(ShardCount)
+    }
+}
 
 /// Which activity it is: the bytes of its tokens for the shard, the run and the event that scheduled it.
 pub type Activity = [u8; 18];
@@ -12,17 +57,17 @@ const TOKEN_BYTES: usize = 24;
 const ACTIVITY: u8 = 2;
 
 /// The shard of a workflow ID: FNV-1a, modulo the number of shards.
-pub fn shard_of(workflow_id: &str, shards: Shard) -> Shard {
+pub fn shard_of(workflow_id: &str, shards: ShardCount) -> Shard {
     let hash =
         workflow_id.bytes().fold(0x811c_9dc5_u32, |hash, byte| (hash ^ u32::from(byte)).wrapping_mul(0x0100_0193));
-    (hash % u32::from(shards)) as Shard
+    (hash % u32::from(shards.0.get())) as Shard
 }
 
 /// The shard that a task's token names; None where it is no token of this service.
-pub fn shard_of_token(token: &str, shards: Shard) -> Option<Shard> {
+pub fn shard_of_token(token: &str, shards: ShardCount) -> Option<Shard> {
     let data = token_bytes(token)?;
     let shard = Shard::from_be_bytes([data[2], data[3]]);
-    (shard < shards).then_some(shard)
+    shards.has(shard).then_some(shard)
 }
 
 /// The activity that a token names, where it is one of an activity.
@@ -60,24 +105,30 @@ fn digit(letter: u8) -> Option<u32> {
     Some(u32::from(place))
 }
 
+/// So many shards, for tests.
+#[cfg(test)]
+pub fn shards(count: u16) -> ShardCount {
+    ShardCount::new(count).unwrap()
+}
+
 #[cfg(test)]
 mod tests {
     use super::*;
 
     #[test]
     fn a_token_names_its_shard() {
-        assert_eq!(shard_of_token("AQEAAAAAAAAAAAABAAAAAAAAAAIAAAAB", 4), Some(0));
-        assert_eq!(shard_of_token("AQEAAgAAAAAAAAABAAAAAAAAAAIAAAAB", 4), Some(2));
+        assert_eq!(shard_of_token("AQEAAAAAAAAAAAABAAAAAAAAAAIAAAAB", shards(4)), Some(0));
+        assert_eq!(shard_of_token("AQEAAgAAAAAAAAABAAAAAAAAAAIAAAAB", shards(4)), Some(2));
         for other in ["AQEABAAAAAAAAAABAAAAAAAAAAIAAAAB", "AQEAAgAAAAAAAAABAAAAAAAAAAIAAAA", "", "ü", "AQ=="] {
-            assert_eq!(shard_of_token(other, 4), None, "{other}");
+            assert_eq!(shard_of_token(other, shards(4)), None, "{other}");
         }
     }
 
     #[test]
     fn a_workflow_id_has_one_shard() {
         // FNV-1a of the empty text, and of "a".
-        assert_eq!(shard_of("", 64), (0x811c_9dc5_u32 % 64) as Shard);
-        assert_eq!(shard_of("a", 64), (0xe40c_292c_u32 % 64) as Shard);
-        assert_eq!(shard_of("a", 1), 0);
+        assert_eq!(shard_of("", shards(64)), (0x811c_9dc5_u32 % 64) as Shard);
+        assert_eq!(shard_of("a", shards(64)), (0xe40c_292c_u32 % 64) as Shard);
+        assert_eq!(shard_of("a", shards(1)), 0);
     }
 }

@@ -4,12 +4,13 @@ use crate::log::fault::LogFault;
 use crate::log::following::serve;
 use crate::log::generation::{remove_leftovers, Files};
 use crate::log::kept::{check, Kept, NotServed, Observe, Origin};
+use crate::log::successor::{other_log, Successor, Tail};
 use crate::log::table::records::fetch;
 use crate::log::table::tail::{gone, AtOnce, TableTail};
 use crate::log::table::{Batch, Connect, Piece, Start, Table};
 use crate::log::Log;
 use crate::os::program::Program;
-use crate::os::stderr::say;
+use crate::os::stderr::report;
 use crate::settings::{Named, Settings};
 use std::time::{Duration, Instant};
 
@@ -54,42 +55,6 @@ impl Place {
 }
 
 impl TableLog {
-    /// How many lines it has, with its header.
-    pub fn len(&self) -> u64 {
-        self.place.lines
-    }
-
-    /// How many bytes its lines have.
-    pub fn size(&self) -> u64 {
-        self.place.bytes
-    }
-
-    /// How many batches the table has had.
-    pub fn batches(&self) -> u64 {
-        self.place.batches
-    }
-
-    /// Whether it is not known what the table has, or another edge leads.
-    pub fn is_broken(&self) -> bool {
-        self.is_broken
-    }
-
-    /// Adds lines, as one batch. They are kept once this has returned.
-    pub fn write<'a>(&mut self, lines: impl IntoIterator<Item = &'a [u8]>) -> Result<(), LogFault> {
-        let (mut text, mut count) = (Vec::new(), 0);
-        for line in lines {
-            if count > 0 {
-                text.push(b'\n');
-            }
-            text.extend_from_slice(line);
-            count += 1;
-        }
-        let batch = Batch { number: self.place.batches + 1, lines: text, generation: 0 };
-        self.asked(|table| table.append(&batch))?;
-        self.place.pass(&batch, count);
-        Ok(())
-    }
-
     /// Has the table go on from the pieces of a generation, of which this is the one of a number that was left for it, and
     /// from the lines since this base. NotCompacted where all is as it was.
     pub fn compact(
@@ -100,7 +65,7 @@ impl TableLog {
     ) -> Result<(), LogFault> {
         let header = Batch { number: self.place.batches + 1, lines: header, generation };
         let mut not_done = None;
-        self.asked(|table| match table.compact(&header, number, piece) {
+        self.ask(|table| match table.compact(&header, number, piece) {
             Err(fault @ LogFault::NotCompacted(_)) => {
                 not_done = Some(fault);
                 Ok(())
@@ -121,18 +86,8 @@ impl TableLog {
         self.table.forget();
     }
 
-    /// The next lines of a tail of this table, by the connection of this log.
-    pub fn next_of(&mut self, tail: &mut TableTail, number: u64) -> Result<Vec<Vec<u8>>, LogFault> {
-        tail.next_by(self.table.as_mut(), number)
-    }
-
-    /// Refuses where another edge has become the leader.
-    pub fn confirm(&mut self) -> Result<(), LogFault> {
-        self.asked(|table| table.confirm())
-    }
-
     /// Asks the table. Whatever it refuses, this edge may lead no more: then it ends, and follows when it is back.
-    fn asked(&mut self, ask: impl FnOnce(&mut dyn Table) -> Result<(), LogFault>) -> Result<(), LogFault> {
+    fn ask(&mut self, ask: impl FnOnce(&mut dyn Table) -> Result<(), LogFault>) -> Result<(), LogFault> {
         if self.is_broken {
             return Err(LogFault::Broken(format!("{}: this edge leads no more", self.shown)));
         }
@@ -140,6 +95,65 @@ impl TableLog {
             self.is_broken = true;
             LogFault::Broken(format!("{}: {fault}", self.shown))
         })
+    }
+}
+
+impl Log for TableLog {
+    fn lines(&self) -> u64 {
+        self.place.lines
+    }
+
+    fn bytes(&self) -> u64 {
+        self.place.bytes
+    }
+
+    fn batches(&self) -> u64 {
+        self.place.batches
+    }
+
+    /// Whether it is not known what the table has, or another edge leads.
+    fn is_broken(&self) -> bool {
+        self.is_broken
+    }
+
+    /// Adds lines, as one batch. They are kept once this has returned.
+    fn write<'a>(&mut self, lines: &mut dyn Iterator<Item = &'a [u8]>) -> Result<(), LogFault> {
+        let (mut text, mut count) = (Vec::new(), 0);
+        for line in lines {
+            if count > 0 {
+                text.push(b'\n');
+            }
+            text.extend_from_slice(line);
+            count += 1;
+        }
+        let batch = Batch { number: self.place.batches + 1, lines: text, generation: 0 };
+        self.ask(|table| table.append(&batch))?;
+        self.place.pass(&batch, count);
+        Ok(())
+    }
+
+    fn confirm(&mut self) -> Result<(), LogFault> {
+        self.ask(|table| table.confirm())
+    }
+
+    /// By the connection of this log: while batches rest no other one has to answer.
+    fn next_of(&mut self, tail: &mut Tail, number: u64) -> Result<Vec<Vec<u8>>, LogFault> {
+        match tail {
+            Tail::Table(tail) => tail.next_by(self.table.as_mut(), number),
+            Tail::File(tail) => tail.next(number),
+        }
+    }
+
+    fn give_way(&mut self, successor: Successor, next: &mut Origin, replies: &[u8]) -> Result<(), LogFault> {
+        let upload = match successor {
+            Successor::Table(upload) => upload,
+            Successor::File(_) => return Err(other_log(next)),
+        };
+        let base = upload.take_over(self, next.settings.header(next.generation), replies)?;
+        if let Some(from) = &mut next.table {
+            from.base = base;
+        }
+        Ok(())
     }
 }
 
@@ -152,15 +166,15 @@ pub fn open<O: Observe>(
 ) -> Result<(Kept, O), NotServed> {
     let mut table = connect.table()?;
     let header = header_of(program, table.as_mut(), named)?;
-    let (settings, generation) = Settings::of_header(&header.lines, &connect.shown)?;
+    let (settings, generation) = Settings::parse_header(&header.lines, &connect.shown)?;
     settings.check(&settings.clone().with(&Named { capacity: None, ..named.clone() }), &connect.shown)?;
     let start = Start { generation, number: header.number };
-    let mut origin = Origin::of_table(program, connect, settings, start)?;
+    let mut origin = Origin::for_table(program, connect, settings, start)?;
     let mut observer = observer(&origin.settings);
     if generation > 0 && !observer.beside(&fetch(table.as_mut(), &mut origin)?) {
         return Err(LogFault::Damaged(format!("{}: the replies by keys are damaged", connect.shown)).into());
     }
-    let files = Files::of(&origin.base, generation)?;
+    let files = Files::find(&origin.base, generation)?;
     let last_moment = files.last_moment()?;
     observer.pairs(&files.pairs()?);
     let program = origin.start()?;
@@ -171,13 +185,13 @@ pub fn open<O: Observe>(
         return Err(fault);
     }
     let Follower { program, mut origin, place, .. } = follower;
-    say!("{}: this edge leads, from line {} on", connect.shown, place.lines);
+    report!("{}: this edge leads, from line {} on", connect.shown, place.lines);
     if let Some(from) = &mut origin.table {
         from.epoch = table.epoch();
     }
     table.forget();
     let log = TableLog { table, shown: connect.shown.clone(), place, is_broken: false };
-    Ok((Kept { origin, log: Log::Table(log), program, last_moment }, observer))
+    Ok((Kept { origin, log: Box::new(log), program, last_moment }, observer))
 }
 
 /// The batch that the log goes on from. A table that has none gets the settings that are wanted.
@@ -220,7 +234,7 @@ impl Follower {
                 told = Some(Instant::now());
             }
             if std::mem::take(&mut is_first) {
-                say!("this edge follows, from line {} on: another one leads", self.place.lines);
+                report!("this edge follows, from line {} on: another one leads", self.place.lines);
             }
             std::thread::sleep(READ);
         }
@@ -269,7 +283,7 @@ impl Follower {
     /// Has another program serve what follows a header and its base, one that is opened from the snapshots. All before the
     /// header was served.
     fn take_up(&mut self, header: &Batch, table: &mut dyn Table) -> Result<(), NotServed> {
-        let (settings, generation) = Settings::of_header(&header.lines, &self.origin.log)?;
+        let (settings, generation) = Settings::parse_header(&header.lines, &self.origin.log)?;
         self.origin.settings = settings;
         self.origin.generation = generation;
         if let Some(from) = &mut self.origin.table {
@@ -311,7 +325,7 @@ impl Follower {
 
 /// A program of this origin that has served so many lines of its table, without their header.
 pub fn serve_again(origin: &Origin, count: u64) -> Result<Program, NotServed> {
-    let mut tail = TableTail::of(origin)?;
+    let mut tail = TableTail::new(origin)?;
     let mut program = origin.clone().start()?;
     while tail.count() < count {
         let first = tail.count() + 1;
@@ -376,19 +390,19 @@ while read -r line; do n=$((n + 1)); echo "$line" >> "$0.lines"; echo "{\"line\"
     fn a_follower_serves_what_the_leader_adds_and_takes_over() {
         let place = Arc::new(Place::new());
         let (mut first, _) = place.open();
-        first.log.write([b"one".as_slice(), b"two"]).unwrap();
+        first.log.write(&mut [b"one".as_slice(), b"two"].into_iter()).unwrap();
         let own = place.clone();
         let second = std::thread::spawn(move || own.open());
         wait_until("a follower", || place.shared.lock().unwrap().told >= 2);
-        first.log.write([b"three".as_slice()]).unwrap();
+        first.log.write(&mut [b"three".as_slice()].into_iter()).unwrap();
         place.shared.lock().unwrap().is_led = false;
         let (mut second, seen) = returned("a follower that leads", second);
         assert_eq!(seen.0, ["one {\"line\":1}", "two {\"line\":2}", "three {\"line\":3}"]);
-        assert_eq!((second.log.len(), second.log.size()), (4, first.log.size()));
+        assert_eq!((second.log.lines(), second.log.bytes()), (4, first.log.bytes()));
         // What the one before adds now, or would answer, is refused from then on.
         assert!(first.log.confirm().unwrap_err().to_string().contains("another edge leads"));
-        assert!(first.log.is_broken() && first.log.write([b"late".as_slice()]).is_err());
-        second.log.write([b"four".as_slice()]).unwrap();
+        assert!(first.log.is_broken() && first.log.write(&mut [b"late".as_slice()].into_iter()).is_err());
+        second.log.write(&mut [b"four".as_slice()].into_iter()).unwrap();
         assert_eq!(place.shared.lock().unwrap().batches.len(), 4);
         for kept in [first, second] {
             kept.program.end();
@@ -400,7 +414,7 @@ while read -r line; do n=$((n + 1)); echo "$line" >> "$0.lines"; echo "{\"line\"
         let place = Place::new();
         let (mut kept, _) = place.open();
         for lines in [[b"one".as_slice(), b"two"], [b"three", b"four"]] {
-            kept.log.write(lines).unwrap();
+            kept.log.write(&mut lines.into_iter()).unwrap();
         }
         let given = format!("{}.lines", place.program);
         for count in 0..=4 {

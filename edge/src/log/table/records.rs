@@ -78,7 +78,7 @@ fn pieces_of(folder: &str) -> Result<impl Iterator<Item = Result<Piece, LogFault
     let found = fs::read_dir(folder).map_err(|fault| not_compacted(folder, &fault))?;
     let mut paths: Vec<PathBuf> = found.flatten().map(|file| file.path()).collect();
     paths.sort();
-    Ok(paths.into_iter().flat_map(FilePieces::of))
+    Ok(paths.into_iter().flat_map(FilePieces::open))
 }
 
 fn not_compacted(path: &str, fault: &std::io::Error) -> LogFault {
@@ -93,7 +93,7 @@ struct FilePieces {
 }
 
 impl FilePieces {
-    fn of(path: PathBuf) -> Box<dyn Iterator<Item = Result<Piece, LogFault>>> {
+    fn open(path: PathBuf) -> Box<dyn Iterator<Item = Result<Piece, LogFault>>> {
         match File::open(&path) {
             Ok(file) => Box::new(FilePieces { path, file: Some(file) }),
             Err(fault) => Box::new(std::iter::once(Err(not_compacted(&path.to_string_lossy(), &fault)))),
@@ -188,7 +188,7 @@ mod tests {
             (pieces, PiecePlace { epoch: table.epoch(), generation: START.generation, number: 1 });
         let number = table.put(place, &mut pieces).unwrap();
         table.compact(&header, number, &Piece { name: END.to_string(), data: Vec::new() }).unwrap();
-        let origin = Origin::of_table("program", &connect, Settings::default(), START).unwrap();
+        let origin = Origin::for_table("program", &connect, Settings::default(), START).unwrap();
         Compacted { shared, table, origin }
     }
 

@@ -56,7 +56,7 @@ struct Unread {
 
 impl TableTail {
     /// Before the first line of a log.
-    pub fn of(origin: &Origin) -> Result<TableTail, LogFault> {
+    pub fn new(origin: &Origin) -> Result<TableTail, LogFault> {
         let from = origin.table_source()?;
         let (table, last) = (from.connect.table()?, from.base);
         let (generation, at_once, left) = (origin.generation, AtOnce::default(), VecDeque::new());
@@ -134,9 +134,9 @@ mod tests {
 
     fn tail(shared: &Arc<Mutex<Shared>>, base: u64) -> TableTail {
         let start = Start { generation: 1, number: 5 };
-        let mut origin = Origin::of_table("program", &table_in(shared), Settings::default(), start).unwrap();
+        let mut origin = Origin::for_table("program", &table_in(shared), Settings::default(), start).unwrap();
         origin.table.as_mut().unwrap().base = base;
-        TableTail::of(&origin).unwrap()
+        TableTail::new(&origin).unwrap()
     }
 
     fn next(tail: &mut TableTail, number: u64) -> Vec<String> {

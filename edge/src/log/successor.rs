@@ -1,16 +1,14 @@
 //! What a log that is compacted while it is served is read by, and what takes its place.
 
-use crate::core::state::LogState;
 use crate::log::compaction::{keep_log, write_beside};
 use crate::log::fault::LogFault;
 use crate::log::file::LineLog;
 use crate::log::following;
-use crate::log::generation::REPLIES;
 use crate::log::kept::Origin;
 use crate::log::table::log::Place;
 use crate::log::table::records::Upload;
 use crate::log::table::tail::TableTail;
-use crate::log::Log;
+use crate::log::{Log, LogState};
 
 /// Reads the lines of a log that is written meanwhile.
 pub enum Tail {
@@ -20,10 +18,10 @@ pub enum Tail {
 
 impl Tail {
     /// Before the first line of a log.
-    pub fn of(origin: &Origin) -> Result<Tail, LogFault> {
+    pub fn open(origin: &Origin) -> Result<Tail, LogFault> {
         match origin.table {
-            None => following::Tail::of(&origin.log).map(Tail::File),
-            Some(_) => Ok(Tail::Table(Box::new(TableTail::of(origin)?))),
+            None => following::Tail::open(&origin.log).map(Tail::File),
+            Some(_) => Ok(Tail::Table(Box::new(TableTail::new(origin)?))),
         }
     }
 
@@ -40,14 +38,6 @@ impl Tail {
         match self {
             Tail::File(tail) => tail.next(number),
             Tail::Table(tail) => tail.next(number),
-        }
-    }
-
-    /// The same while batches rest: the connection that adds batches reads a table, so no other one has to answer.
-    pub fn next_by(&mut self, log: &mut Log, number: u64) -> Result<Vec<Vec<u8>>, LogFault> {
-        match (self, log) {
-            (Tail::Table(tail), Log::Table(log)) => log.next_of(tail, number),
-            (tail, _) => tail.next(number),
         }
     }
 }
@@ -73,7 +63,7 @@ impl Successor {
     /// Takes lines since the snapshots, as they were written.
     pub fn add(&mut self, lines: &[Vec<u8>]) -> Result<(), LogFault> {
         match self {
-            Successor::File(log) => log.write(lines.iter().map(Vec::as_slice)),
+            Successor::File(log) => log.write(&mut lines.iter().map(Vec::as_slice)),
             Successor::Table(_) => Ok(()),
         }
     }
@@ -93,23 +83,9 @@ impl Successor {
             Successor::Table(upload) => upload.end(),
         }
     }
+}
 
-    /// Takes the place of a log which has no other lines than this one was given, with these replies by keys besides.
-    pub fn take_over(self, log: &mut Log, next: &mut Origin, replies: &[u8]) -> Result<(), LogFault> {
-        match (self, log) {
-            (Successor::File(mut new), Log::File(log)) => {
-                write_beside(&next.base, next.generation, REPLIES, replies)?;
-                new.sync()?;
-                log.give_way(new)
-            }
-            (Successor::Table(upload), Log::Table(log)) => {
-                let base = upload.take_over(log, next.settings.header(next.generation), replies)?;
-                if let Some(from) = &mut next.table {
-                    from.base = base;
-                }
-                Ok(())
-            }
-            _ => Err(LogFault::NotCompacted(format!("{}: it is another log", next.log))),
-        }
-    }
+/// Of a successor that is of another kind of log.
+pub fn other_log(next: &Origin) -> LogFault {
+    LogFault::NotCompacted(format!("{}: it is another log", next.log))
 }
