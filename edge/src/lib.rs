@@ -4,6 +4,7 @@
 //! the program, and answered. Each folder says at its head what lives there, and what never does.
 #![deny(unsafe_code)]
 
+mod access;
 mod call;
 mod core;
 mod http;
@@ -13,6 +14,7 @@ pub mod log;
 mod net;
 mod options;
 pub mod os;
+mod reload;
 mod serving;
 mod settings;
 #[cfg(test)]

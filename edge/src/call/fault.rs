@@ -9,6 +9,10 @@ pub enum Fault {
     BadCall(String),
     /// Another call was made with this key before.
     KeyReused(String),
+    /// The caller's token has not the right to it.
+    NotPermitted(String),
+    /// The caller makes more calls a second than he may.
+    TooManyCalls(String),
     /// More calls or polls wait than may.
     Busy(String),
     /// The edge was told to stop, and takes no more calls.
@@ -29,6 +33,8 @@ impl Fault {
         match self {
             Fault::BadCall(_) => "BadCall",
             Fault::KeyReused(_) => "KeyReused",
+            Fault::NotPermitted(_) => "NotPermitted",
+            Fault::TooManyCalls(_) => "TooManyCalls",
             Fault::Busy(_) => "Busy",
             Fault::Draining => "Draining",
             Fault::LogFull(_) => "LogFull",
@@ -42,7 +48,9 @@ impl Fault {
     pub fn status(&self) -> u16 {
         match self {
             Fault::BadCall(_) => 400,
+            Fault::NotPermitted(_) => 403,
             Fault::KeyReused(_) => 422,
+            Fault::TooManyCalls(_) => 429,
             Fault::Busy(_) | Fault::Draining => 503,
             Fault::LogFull(_) => 507,
             Fault::LogBroken(_) | Fault::NotCompacted(_) | Fault::Ended(_) => 500,
@@ -56,6 +64,8 @@ impl fmt::Display for Fault {
             Fault::Draining => out.write_str("the server is told to stop"),
             Fault::BadCall(said)
             | Fault::KeyReused(said)
+            | Fault::NotPermitted(said)
+            | Fault::TooManyCalls(said)
             | Fault::Busy(said)
             | Fault::LogFull(said)
             | Fault::LogBroken(said)

@@ -272,6 +272,11 @@ impl Core {
         self.release(state);
     }
 
+    /// Counts a call that was refused before it was asked.
+    pub fn note_refused(&self, fault: &Fault) {
+        self.lock().metrics.note_refused(fault.name());
+    }
+
     /// The reply to a call, once it is there.
     pub async fn reply_to(&self, asked: ParsedCall, key: Option<Box<str>>) -> Result<Bytes, Fault> {
         let outcome = self.submit(asked, key)?.await;

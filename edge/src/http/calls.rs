@@ -3,12 +3,16 @@
 //!
 //! To a client it makes no difference who serves it. Here a call takes one read and one write, and little between them.
 
+use crate::access::log::Access;
 use crate::call::body::ParsedCall;
 use crate::call::fault::Fault;
+use crate::call::operations::Op;
 use crate::http::plain::{found, put_answer, Dated, Found};
 use crate::http::statuses::status_of;
-use crate::http::{Front, Refusal};
+use crate::http::{name_of, Front, Refusal, CALLS};
+use crate::net::guard::Pass;
 use crate::net::listen::{serve_http, Before, Counted, IDLE, PAUSE};
+use crate::net::stream::Stream;
 use hyper::body::Bytes;
 use std::cell::RefCell;
 use std::future::Future;
@@ -16,7 +20,6 @@ use std::pin::Pin;
 use std::sync::Arc;
 use std::time::Duration;
 use tokio::io::{AsyncReadExt, AsyncWriteExt};
-use tokio::net::TcpStream;
 use tokio::sync::watch;
 use tokio::time::{sleep, timeout, timeout_at, Instant, Sleep};
 
@@ -25,6 +28,8 @@ const ROOM: usize = 1 << 12;
 const KEPT: usize = 1 << 14;
 /// A request that came in part comes as a whole within so long, or hyper waits for the rest of it.
 const SOON: Duration = Duration::from_millis(50);
+/// So long the end of an encrypted connection may take to be told.
+const GOODBYE: Duration = Duration::from_secs(1);
 
 thread_local! {
     static DATED: RefCell<Dated> = RefCell::default();
@@ -32,16 +37,43 @@ thread_local! {
 
 /// What was read of a connection.
 enum Taken {
-    /// A call, and whether its path names its operation. It may be refused.
-    Call(Result<(ParsedCall, Option<Box<str>>), Fault>, bool),
+    /// A call, which may be refused.
+    Call(Result<(ParsedCall, Option<Box<str>>), Fault>),
     Nothing,
     Part,
     Other,
 }
 
+/// What is noted of a call until it is answered.
+#[derive(Default)]
+struct Noted {
+    /// The operation that its path names.
+    named: Option<Op>,
+    /// For the log of access: who made it, which operation it is, and when it was there.
+    access: Option<(Pass, Option<Op>, Instant)>,
+}
+
+impl Noted {
+    /// Notes in the log of access how it was answered.
+    fn put(&self, front: &Front, status: u16, bytes: usize) {
+        if let (Some(log), Some((pass, op, begun))) = (&front.access, &self.access) {
+            let path = self.named.map_or_else(|| CALLS.to_string(), |op| format!("{CALLS}/{}", op.name()));
+            log.note(&Access {
+                name: Some(name_of(pass)),
+                method: "POST",
+                path: &path,
+                op: op.map(Op::name),
+                status,
+                bytes: Some(bytes as u64),
+                took: begun.elapsed(),
+            });
+        }
+    }
+}
+
 /// A connection, and what was read of it and is not answered yet.
-struct Talk {
-    socket: TcpStream,
+struct Talk<S> {
+    socket: S,
     front: Arc<Front>,
     read: Vec<u8>,
     /// The text of an answer.
@@ -49,23 +81,39 @@ struct Talk {
     /// When something was answered on it last, and until when what has come in part is waited for here.
     last: Instant,
     soon: Option<Instant>,
+    /// Of the call that is being made.
+    noted: Noted,
     was_asked: bool,
     is_stopped: bool,
 }
 
 /// Serves one connection.
-pub async fn serve(socket: TcpStream, front: Arc<Front>, counted: Counted) {
+pub async fn serve<S: Stream>(socket: S, front: Arc<Front>, counted: Counted) {
     let (read, text, last) = (Vec::with_capacity(ROOM), Vec::new(), Instant::now());
-    let mut talk = Talk { socket, front, read, text, last, soon: None, was_asked: false, is_stopped: false };
+    let mut talk = Talk {
+        socket,
+        front,
+        read,
+        text,
+        last,
+        soon: None,
+        noted: Noted::default(),
+        was_asked: false,
+        is_stopped: false,
+    };
     if talk.serve(counted.0.told_to_stop()).await {
         let Talk { socket, front, read, was_asked, .. } = talk;
         let is_stopped = counted.0.is_stopped();
         // Few connections come here, and hyper's state of one is large.
-        Box::pin(serve_http(socket, Before { read, was_asked, is_stopped }, front, counted)).await;
+        Box::pin(serve_http(socket, Before { read, was_asked, is_stopped, lacks_certificate: false }, front, counted))
+            .await;
+    } else if S::HAS_GOODBYE {
+        // A client that has hung up hears none.
+        let _ = timeout(GOODBYE, talk.socket.shutdown()).await;
     }
 }
 
-impl Talk {
+impl<S: Stream> Talk<S> {
     /// Serves plain calls until the connection ends. Whether hyper goes on with it.
     async fn serve(&mut self, connections_stop: watch::Receiver<bool>) -> bool {
         let mut stopped = connections_stop.clone();
@@ -73,13 +121,13 @@ impl Talk {
         tokio::pin!(stop, idle);
         loop {
             let goes_on = match self.take() {
-                Taken::Call(asked, is_named) => {
+                Taken::Call(asked) => {
                     let outcome = match asked {
                         Ok((asked, key)) => self.until_there(asked, key).await,
                         Err(fault) => Some(Err(fault)),
                     };
                     let is_taken = match outcome {
-                        Some(outcome) => self.answer(outcome, is_named).await,
+                        Some(outcome) => self.answer(outcome).await,
                         None => false,
                     };
                     is_taken && !self.is_stopped && !connections_stop.has_changed().unwrap_or(true)
@@ -114,9 +162,13 @@ impl Talk {
             Found::Part => return Taken::Part,
             Found::Other => return Taken::Other,
         };
-        let asked = self.front.parse(call.named, call.body);
-        let (length, is_named) = (call.length, call.named.is_some());
-        let taken = Taken::Call(asked.map(|asked| (asked, call.key)), is_named);
+        let (length, named, pass) = (call.length, call.named.map(Op::parse), call.pass);
+        let parsed = self.front.admit(&pass, &[]).and_then(|()| self.front.parse(call.named, call.body));
+        let op = parsed.as_ref().ok().map(|parsed| parsed.facts.op);
+        let permitted = parsed.and_then(|parsed| self.front.permit(&pass, parsed));
+        let access = self.front.access.is_some().then(|| (pass, op, Instant::now()));
+        let taken = Taken::Call(permitted.map(|parsed| (parsed, call.key)));
+        self.noted = Noted { named, access };
         self.read.drain(..length);
         self.read.shrink_to(KEPT);
         self.soon = None;
@@ -171,24 +223,34 @@ impl Talk {
     }
 
     /// Answers a call. False where its client doesn't take the answer.
-    async fn answer(&mut self, outcome: Result<Bytes, Fault>, is_named: bool) -> bool {
+    async fn answer(&mut self, outcome: Result<Bytes, Fault>) -> bool {
         self.text.clear();
-        DATED.with(|dated| {
+        let (status, bytes) = DATED.with(|dated| {
             let (text, dated) = (&mut self.text, &mut dated.borrow_mut());
             match outcome {
-                Ok(reply) => put_answer(text, if is_named { status_of(&reply) } else { 200 }, &reply, dated),
+                Ok(reply) => {
+                    let status = self.noted.named.map_or(200, |_| status_of(&reply));
+                    put_answer(text, status, &reply, dated);
+                    (status, reply.len())
+                }
                 Err(fault) => {
                     let refusal = Refusal::from(fault);
-                    put_answer(text, refusal.status, refusal.text().as_bytes(), dated);
+                    let said = refusal.text();
+                    put_answer(text, refusal.status, said.as_bytes(), dated);
+                    (refusal.status, said.len())
                 }
             }
         });
+        self.noted.put(&self.front, status, bytes);
         self.was_asked = true;
         self.last = Instant::now();
-        // A fault shows where the rest is written.
-        let written = self.socket.try_write(&self.text).unwrap_or(0);
+        let written = self.socket.write_at_once(&self.text);
         if written < self.text.len() {
-            let rest = self.socket.write_all(&self.text[written..]);
+            let Talk { socket, text, .. } = self;
+            let rest = async move {
+                socket.write_all(&text[written..]).await?;
+                socket.flush().await
+            };
             if !matches!(timeout(IDLE.max(self.front.read_timeout), rest).await, Ok(Ok(()))) {
                 return false;
             }

@@ -10,14 +10,18 @@ pub mod page;
 pub mod plain;
 pub mod statuses;
 
+use crate::access::caller::NOBODY;
+use crate::access::log::{Access, AccessLog};
+use crate::access::rights::Right;
 use crate::call::body::{call_key, parse_call, parse_fields, ParsedCall};
 use crate::call::fault::Fault;
+use crate::call::operations::Op;
 use crate::core::Core;
 use crate::http::page::Page;
 use crate::http::statuses::{is_operation, named_in, status_of};
 use crate::json::{quoted, Object, Value};
 use crate::log::blobs::Store;
-use crate::net::guard::{Guard, Verdict};
+use crate::net::guard::{is_health, Guard, Pass, Verdict};
 use crate::settings::MOST_CAPACITY;
 use crate::turns::close_waiters;
 use hyper::body::{Bytes, HttpBody};
@@ -26,7 +30,7 @@ use hyper::header::{LOCATION, RETRY_AFTER, SET_COOKIE, TRANSFER_ENCODING};
 use hyper::{Body, Method, Request, Response, StatusCode};
 use std::future::Future;
 use std::sync::Arc;
-use std::time::Duration;
+use std::time::{Duration, Instant};
 
 const BODY_LIMIT: usize = 1_048_576;
 /// So many bytes the first line of a request and its headers may have, with their line ends.
@@ -35,6 +39,8 @@ pub const HEAD_LIMIT: usize = 16_384;
 const SHORT_BODY: u64 = 1 << 16;
 /// After so many seconds a call that was not taken may be made again.
 pub const RETRY_SECONDS: u16 = 1;
+/// The path of calls. Behind it may stand the name of an operation.
+pub const CALLS: &str = "/calls";
 pub const JSON: &str = "application/json; charset=utf-8";
 
 /// What answers requests.
@@ -48,6 +54,7 @@ pub struct Front {
     pub is_private: bool,
     /// How long a request may take to come.
     pub read_timeout: Duration,
+    pub access: Option<Arc<AccessLog>>,
 }
 
 /// A request that is answered by a fault: its status, its name, and what is wrong.
@@ -75,6 +82,28 @@ impl From<Fault> for Refusal {
     }
 }
 
+/// Who makes a request, and what for, as far as that is known.
+#[derive(Default)]
+struct Asker {
+    /// Whether he has shown a certificate, or none is wanted.
+    is_certified: bool,
+    is_let_in: bool,
+    pass: Pass,
+    op: Option<Op>,
+}
+
+impl Asker {
+    /// By which name he is noted.
+    fn name(&self) -> Option<&str> {
+        self.is_let_in.then(|| name_of(&self.pass))
+    }
+}
+
+/// By which name a caller is noted who was let in.
+pub fn name_of(pass: &Pass) -> &str {
+    pass.as_ref().map_or(NOBODY, |caller| &caller.name)
+}
+
 pub type Answer = Result<Response<Body>, Refusal>;
 
 /// An answer of this status and type.
@@ -94,9 +123,14 @@ fn refused(refusal: &Refusal) -> Response<Body> {
     with_retry(answer(refusal.status, JSON, refusal.text()))
 }
 
+/// Whether an answer of this status says when to call again.
+pub fn says_when(status: StatusCode) -> bool {
+    matches!(status, StatusCode::SERVICE_UNAVAILABLE | StatusCode::TOO_MANY_REQUESTS)
+}
+
 /// Says when to call again, where nothing took effect now.
 pub fn with_retry(mut response: Response<Body>) -> Response<Body> {
-    if response.status() == StatusCode::SERVICE_UNAVAILABLE {
+    if says_when(response.status()) {
         response.headers_mut().insert(RETRY_AFTER, RETRY_SECONDS.into());
     }
     response
@@ -114,9 +148,29 @@ pub fn is_last(response: &Response<Body>) -> bool {
 }
 
 impl Front {
-    /// Answers a request. Where its body was not read to its end, nothing is read after it.
-    pub async fn answer(&self, mut request: Request<Body>) -> Response<Body> {
-        if head_bytes(&request) > HEAD_LIMIT {
+    /// Answers a request, and notes that. Where its body was not read to its end, nothing is read after it.
+    pub async fn answer(&self, mut request: Request<Body>, is_certified: bool) -> Response<Body> {
+        let mut asker = Asker { is_certified, ..Asker::default() };
+        let log = match &self.access {
+            Some(log) => log,
+            None => return self.respond(&mut request, &mut asker).await,
+        };
+        let (begun, method, path) = (Instant::now(), request.method().clone(), request.uri().path().to_string());
+        let response = self.respond(&mut request, &mut asker).await;
+        log.note(&Access {
+            name: asker.name(),
+            method: method.as_str(),
+            path: &path,
+            op: asker.op.map(Op::name),
+            status: response.status().as_u16(),
+            bytes: response.body().size_hint().exact(),
+            took: begun.elapsed(),
+        });
+        response
+    }
+
+    async fn respond(&self, request: &mut Request<Body>, asker: &mut Asker) -> Response<Body> {
+        if head_bytes(request) > HEAD_LIMIT {
             let said = format!("a request's head has at most {HEAD_LIMIT} bytes");
             return closing(refused(&Refusal::new(431, "HeadTooLong", said)));
         }
@@ -125,9 +179,9 @@ impl Front {
         if is_chunked && request.headers().contains_key(CONTENT_LENGTH) {
             return closing(refused(&Refusal::new(400, "BadRequest", "a body has one length")));
         }
-        let response = match self.guarded(&request) {
+        let response = match self.guarded(request, asker) {
             Some(response) => response,
-            None => self.route(&mut request).await.unwrap_or_else(|refusal| refused(&refusal)),
+            None => self.route(request, asker).await.unwrap_or_else(|refusal| refused(&refusal)),
         };
         let is_slow = response.status() == StatusCode::REQUEST_TIMEOUT;
         match is_chunked || is_slow || !self.has_read(request.body_mut()).await {
@@ -150,9 +204,17 @@ impl Front {
     }
 
     /// The answer to a request that is not let in.
-    fn guarded(&self, request: &Request<Body>) -> Option<Response<Body>> {
+    fn guarded(&self, request: &Request<Body>, asker: &mut Asker) -> Option<Response<Body>> {
+        if !asker.is_certified && !is_health(request.uri().path()) {
+            let said = "this server wants a client's certificate, signed by one of its --tls-client-ca";
+            return Some(refused(&Refusal::new(403, "NoCertificate", said)));
+        }
         match self.guard.check(request.method(), request.uri(), request.headers()) {
-            Verdict::LetIn => None,
+            Verdict::LetIn(pass) => {
+                asker.pass = pass;
+                asker.is_let_in = true;
+                self.admit(&asker.pass, rights_for(request)).err().map(|fault| refused(&fault.into()))
+            }
             Verdict::WrongHost => Some(refused(&Refusal::new(403, "WrongHost", "this name is not served here"))),
             Verdict::NoToken => Some(refused(&Refusal::new(401, "NoToken", "this server wants its token"))),
             Verdict::KeepToken { path, cookie } => {
@@ -168,11 +230,35 @@ impl Front {
         }
     }
 
-    async fn route(&self, request: &mut Request<Body>) -> Answer {
+    /// Counts a request of a caller, and refuses it where he lacks a right: one of these is enough, if there are any.
+    pub fn admit(&self, pass: &Pass, rights: &[Right]) -> Result<(), Fault> {
+        let caller = match pass {
+            Some(caller) => caller,
+            None => return Ok(()),
+        };
+        let admitted = caller.count().and_then(|()| caller.check(rights));
+        admitted.map_err(|fault| self.note_refused(fault))
+    }
+
+    /// Refuses a call that its caller may not make.
+    pub fn permit(&self, pass: &Pass, call: ParsedCall) -> Result<ParsedCall, Fault> {
+        if let Some(caller) = pass {
+            let permitted = caller.check_call(call.facts.op, call.facts.queue.as_deref());
+            permitted.map_err(|fault| self.note_refused(fault))?;
+        }
+        Ok(call)
+    }
+
+    fn note_refused(&self, fault: Fault) -> Fault {
+        self.core.note_refused(&fault);
+        fault
+    }
+
+    async fn route(&self, request: &mut Request<Body>, asker: &mut Asker) -> Answer {
         let (is_get, is_post) = (request.method() == Method::GET, request.method() == Method::POST);
         match request.uri().path() {
-            "/calls" if is_post => self.call(request, None).await,
-            path if named_in(path).is_some() && is_post => self.call_named(request).await,
+            "/calls" if is_post => self.call(request, None, asker).await,
+            path if named_in(path).is_some() && is_post => self.call_named(request, asker).await,
             path if blob_paths::named_in(path).is_some() => self.blob(request).await,
             "/compact" if is_post => self.compact(request).await,
             "/health/live" if is_get => Ok(answer(200, JSON, "{\"status\": \"live\"}")),
@@ -196,23 +282,24 @@ impl Front {
     }
 
     /// Answers a call whose operation the path names, by the status of its reply.
-    async fn call_named(&self, request: &mut Request<Body>) -> Answer {
+    async fn call_named(&self, request: &mut Request<Body>, asker: &mut Asker) -> Answer {
         let name = named_in(request.uri().path()).unwrap_or_default().to_string();
         match is_operation(&name) {
-            true => self.call(request, Some(&name)).await,
+            true => self.call(request, Some(&name), asker).await,
             false => Err(Refusal::new(404, "NoSuchOperation", format!("there is no operation {name}"))),
         }
     }
 
     /// Answers a call by its reply. Its operation is the body's, or this one.
-    async fn call(&self, request: &mut Request<Body>, named: Option<&str>) -> Answer {
+    async fn call(&self, request: &mut Request<Body>, named: Option<&str>, asker: &mut Asker) -> Answer {
         let key = match request.headers().get("idempotency-key") {
             None => None,
             Some(value) => Some(call_key(value.to_str().unwrap_or("")).map_err(Refusal::from)?),
         };
         let body = self.body_of(request).await?;
-        let asked = self.parse(named, &body)?;
-        let reply = self.reply_to(asked, key).await?;
+        let call = self.parse(named, &body)?;
+        asker.op = Some(call.facts.op);
+        let reply = self.reply_to(self.permit(&asker.pass, call)?, key).await?;
         let status = named.map_or(200, |_| status_of(&reply));
         Ok(with_retry(answer(status, JSON, reply)))
     }
@@ -275,6 +362,18 @@ impl Front {
         }
         let body = in_time(self.read_timeout, read_body(request.body_mut(), BODY_LIMIT)).await?;
         body.ok_or_else(|| Refusal::new(413, "RequestEntityTooLarge", format!("a body has at most {BODY_LIMIT} bytes")))
+    }
+}
+
+/// The rights of which one is enough for a request. None where none is wanted, or its call says which.
+fn rights_for(request: &Request<Body>) -> &'static [Right] {
+    match request.uri().path() {
+        "/calls" => &[],
+        path if is_health(path) || named_in(path).is_some() => &[],
+        "/compact" | "/metrics" => &[Right::Operate],
+        path if blob_paths::named_in(path).is_some() && request.method() == Method::PUT => &[Right::Start, Right::Work],
+        path if blob_paths::named_in(path).is_some() => &[Right::Read, Right::Work],
+        _ => &[Right::Read],
     }
 }
 

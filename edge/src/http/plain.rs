@@ -5,9 +5,9 @@
 
 use crate::call::body::call_key;
 use crate::http::statuses::{is_operation, named_in};
-use crate::http::{JSON, RETRY_SECONDS};
+use crate::http::{says_when, JSON, RETRY_SECONDS};
 use crate::json::write_whole;
-use crate::net::guard::Guard;
+use crate::net::guard::{Guard, Pass};
 use httparse::{Header, Request, Status, EMPTY_HEADER};
 use hyper::StatusCode;
 use std::time::{Duration, SystemTime};
@@ -35,6 +35,7 @@ pub struct Call<'a> {
     pub named: Option<&'a str>,
     pub key: Option<Box<str>>,
     pub body: &'a [u8],
+    pub pass: Pass,
     /// How many bytes head and body have.
     pub length: usize,
 }
@@ -62,12 +63,13 @@ pub fn found<'a>(data: &'a [u8], guard: &Guard) -> Found<'a> {
         (Some(named), Some(headers)) => (named, headers),
         _ => return Found::Other,
     };
-    let length = match headers.length.filter(|length| *length <= MOST_BODY && is_let_in(&headers, guard)) {
-        Some(length) => begin + length,
+    let length = headers.length.filter(|length| *length <= MOST_BODY);
+    let (length, pass) = match length.and_then(|length| Some((begin + length, let_in(&headers, guard)?))) {
+        Some(found) => found,
         None => return Found::Other,
     };
     match data.get(begin..length) {
-        Some(body) => Found::Call(Call { named, key: headers.key, body, length }),
+        Some(body) => Found::Call(Call { named, key: headers.key, body, pass, length }),
         None => Found::Part,
     }
 }
@@ -120,11 +122,11 @@ fn whole(value: &[u8]) -> Option<usize> {
     is_short.then(|| value.iter().fold(0, |number, digit| 10 * number + usize::from(digit - b'0')))
 }
 
-/// Whether a call may be made, and is JSON. One that may not is refused by who reads it then.
-fn is_let_in(headers: &CallHeaders<'_>, guard: &Guard) -> bool {
+/// Who makes a call, where it may be made and is JSON. One that may not is refused by who reads it then.
+fn let_in(headers: &CallHeaders<'_>, guard: &Guard) -> Option<Pass> {
     let kind = headers.kind.unwrap_or("").split(';').next().unwrap_or("").trim();
-    let is_json = kind.eq_ignore_ascii_case("application/json");
-    is_json && headers.host.map_or(false, |host| guard.lets_in(host, headers.authorization))
+    let host = headers.host.filter(|_| kind.eq_ignore_ascii_case("application/json"))?;
+    guard.lets_in(host, headers.authorization)
 }
 
 /// The date of answers, which is written anew once a second.
@@ -153,7 +155,7 @@ pub fn put_answer(out: &mut Vec<u8>, status: u16, text: &[u8], dated: &mut Dated
     }
     out.extend_from_slice(b"\r\ncontent-type: ");
     out.extend_from_slice(JSON.as_bytes());
-    if status == StatusCode::SERVICE_UNAVAILABLE {
+    if says_when(status) {
         out.extend_from_slice(b"\r\nretry-after: ");
         write_whole(u64::from(RETRY_SECONDS), out);
     }
@@ -169,6 +171,7 @@ pub fn put_answer(out: &mut Vec<u8>, status: u16, text: &[u8], dated: &mut Dated
 mod tests {
     use super::*;
     use crate::http::{answer, with_retry};
+    use crate::net::guard::Keys;
     use hyper::service::service_fn;
     use std::convert::Infallible;
     use tokio::io::{duplex, AsyncReadExt, AsyncWriteExt};
@@ -185,19 +188,19 @@ mod tests {
     fn a_call_is_taken_as_a_whole() {
         let guard = Guard::default();
         let whole = format!("{CALL}{{\"next\":1}}");
-        let call = Call { named: None, key: None, body: b"{}", length: CALL.len() };
+        let call = Call { named: None, key: None, body: b"{}", pass: None, length: CALL.len() };
         assert_eq!(found(whole.as_bytes(), &guard), Found::Call(call));
         for size in 0..CALL.len() {
             assert_eq!(found(&CALL.as_bytes()[..size], &guard), Found::Part, "{size}");
         }
         let named = CALL.replace("/calls", "/calls/signal").replace("Host", "Idempotency-Key: k\r\nHost");
-        let call = Call { named: Some("signal"), key: Some("k".into()), body: b"{}", length: named.len() };
+        let call = Call { named: Some("signal"), key: Some("k".into()), body: b"{}", pass: None, length: named.len() };
         assert_eq!(found(named.as_bytes(), &guard), Found::Call(call));
     }
 
     #[test]
     fn what_is_not_plain_is_left() {
-        let guard = Guard::new(None, Some(vec!["h".into()]));
+        let guard = Guard::new(Keys::Nothing, Some(vec!["h".into()]));
         for (from, to) in [
             ("POST", "POST"),
             ("Host", "hOST"),
@@ -244,7 +247,7 @@ mod tests {
 
     #[test]
     fn who_bears_no_token_is_left() {
-        let guard = Guard::new(Some(TOKEN.into()), None);
+        let guard = Guard::new(Keys::One(TOKEN.into()), None);
         let with = |said: &str| CALL.replace("Host", &format!("{said}\r\nHost"));
         assert!(is_call(&with(&format!("Authorization: bEARER {TOKEN}")), &guard));
         for said in [
@@ -284,7 +287,7 @@ mod tests {
     #[test]
     fn answers_are_those_of_hyper() {
         tokio::runtime::Builder::new_current_thread().enable_all().build().unwrap().block_on(async {
-            for status in [200, 400, 404, 409, 422, 500, 503, 507] {
+            for status in [200, 400, 403, 404, 409, 422, 429, 500, 503, 507] {
                 for text in ["{\"line\":1,\"ok\":\"signaled\"}", "{}"] {
                     let (mut own, mut dated) = (Vec::new(), Dated::default());
                     put_answer(&mut own, status, text.as_bytes(), &mut dated);

@@ -45,7 +45,7 @@ pub trait Log: Send {
     }
 
     /// Writes lines, which count once `sync` has returned. All are written, or none.
-    fn write<'a>(&mut self, lines: &mut dyn Iterator<Item = &'a [u8]>) -> Result<(), LogFault>;
+    fn write(&mut self, lines: &mut dyn Iterator<Item = &[u8]>) -> Result<(), LogFault>;
 
     /// Has what was written kept.
     fn sync(&mut self) -> Result<(), LogFault> {

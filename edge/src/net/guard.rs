@@ -1,23 +1,50 @@
-//! Who may ask: whoever bears the token, where there is one; and no page of another site.
+//! Who may ask: whoever bears a token, where one is wanted; and no page of another site.
 
+use crate::access::caller::Caller;
+use crate::access::tokens::{is_same, TokenFile};
 use hyper::header::{HeaderMap, AUTHORIZATION, COOKIE, HOST};
 use hyper::{Method, Uri};
+use std::sync::Arc;
 
 /// ParsedCall by what starts and watches servers, which has no token; they say nothing of workflows.
 const HEALTH: [&str; 2] = ["/health/live", "/health/ready"];
 
+/// Which tokens are wanted.
+#[derive(Clone, Debug, Default)]
+pub enum Keys {
+    /// None: whoever asks may do all.
+    #[default]
+    Nothing,
+    /// This one, whose bearers may do all.
+    One(String),
+    /// Those of a file, each with a name and rights.
+    File(Arc<TokenFile>),
+}
+
+/// Who asks, where that is looked at: his name, his rights and his limit.
+pub type Pass = Option<Arc<Caller>>;
+
+/// Whether a path is asked by what starts and watches servers.
+pub fn is_health(path: &str) -> bool {
+    HEALTH.contains(&path)
+}
+
 /// Who may ask.
 #[derive(Clone, Debug, Default)]
 pub struct Guard {
-    token: Option<String>,
+    keys: Keys,
+    /// Whoever may do all, where his calls are counted or noted.
+    anyone: Pass,
     /// The names that are served; None for all of them.
     hosts: Option<Vec<String>>,
+    /// Whether a browser is to give the token by https alone.
+    is_encrypted: bool,
 }
 
 /// What becomes of a request.
 #[derive(Debug, PartialEq, Eq)]
 pub enum Verdict {
-    LetIn,
+    LetIn(Pass),
     WrongHost,
     NoToken,
     /// A browser's first address had the token: it is kept as a cookie, and the browser is sent to this path.
@@ -28,8 +55,28 @@ pub enum Verdict {
 }
 
 impl Guard {
-    pub fn new(token: Option<String>, hosts: Option<Vec<String>>) -> Guard {
-        Guard { token, hosts }
+    /// Of these names; of all where none are given.
+    pub fn new(keys: Keys, hosts: Option<Vec<String>>) -> Guard {
+        Guard { keys, anyone: None, hosts, is_encrypted: false }
+    }
+
+    /// Has whoever may do all count as this caller.
+    pub fn with_anyone(self, anyone: Caller) -> Guard {
+        Guard { anyone: Some(Arc::new(anyone)), ..self }
+    }
+
+    /// Has browsers give the token by https alone.
+    pub fn encrypted(self) -> Guard {
+        Guard { is_encrypted: true, ..self }
+    }
+
+    /// Who bears this token. None where nobody does.
+    fn bearer(&self, token: &[u8]) -> Option<Pass> {
+        match &self.keys {
+            Keys::Nothing => Some(self.anyone.clone()),
+            Keys::One(wanted) => is_same(token, wanted.as_bytes()).then(|| self.anyone.clone()),
+            Keys::File(tokens) => tokens.bearer(token).map(Some),
+        }
     }
 
     /// What becomes of a request with this head.
@@ -38,29 +85,32 @@ impl Guard {
             Some(host) if self.is_named(host) => host,
             _ => return Verdict::WrongHost,
         };
-        let token = match &self.token {
-            Some(token) if !HEALTH.contains(&uri.path()) => token,
-            _ => return Verdict::LetIn,
-        };
-        if method == Method::GET && query_token(uri).map_or(false, |given| is_same(given.as_bytes(), token.as_bytes()))
-        {
-            let cookie = format!("{}={token}; HttpOnly; Path=/; SameSite=Strict", cookie_name(host));
+        if is_health(uri.path()) {
+            return Verdict::LetIn(None);
+        }
+        if matches!(self.keys, Keys::Nothing) {
+            return Verdict::LetIn(self.anyone.clone());
+        }
+        let given = query_token(uri).filter(|_| method == Method::GET);
+        if let Some(token) = given.filter(|token| self.bearer(token.as_bytes()).is_some()) {
+            let secure = if self.is_encrypted { "; Secure" } else { "" };
+            let cookie = format!("{}={token}; HttpOnly; Path=/; SameSite=Strict{secure}", cookie_name(host));
             return Verdict::KeepToken { path: path_here(uri), cookie };
         }
-        match given_token(headers, host) {
-            Some(given) if is_same(given.as_bytes(), token.as_bytes()) => Verdict::LetIn,
-            _ => Verdict::NoToken,
-        }
+        let pass = given_token(headers, host).and_then(|given| self.bearer(given.as_bytes()));
+        pass.map_or(Verdict::NoToken, Verdict::LetIn)
     }
 
-    /// Whether a call is let in that asks for this name, and bears this authorization, where it has one. One that isn't may be
-    /// by what else it bears.
-    pub fn lets_in(&self, host: &str, authorization: Option<&str>) -> bool {
-        let is_known = |token: &String| {
-            let given = authorization.and_then(bearer_in);
-            given.map_or(false, |given| is_same(given.as_bytes(), token.as_bytes()))
-        };
-        self.is_named(host) && self.token.as_ref().map_or(true, is_known)
+    /// Lets a call in that asks for this name, and bears this authorization, where it has one. One that isn't let in may be by
+    /// what else it bears.
+    pub fn lets_in(&self, host: &str, authorization: Option<&str>) -> Option<Pass> {
+        if !self.is_named(host) {
+            return None;
+        }
+        match self.keys {
+            Keys::Nothing => Some(self.anyone.clone()),
+            _ => self.bearer(authorization.and_then(bearer_in)?.as_bytes()),
+        }
     }
 
     fn is_named(&self, host: &str) -> bool {
@@ -136,12 +186,6 @@ fn path_here(uri: &Uri) -> String {
     format!("/{}", uri.path().replace('\\', "/").trim_start_matches('/'))
 }
 
-/// Whether two texts are the same, in a time that doesn't tell where they differ.
-fn is_same(given: &[u8], wanted: &[u8]) -> bool {
-    let differing = given.iter().zip(wanted).fold(0, |differing, (one, other)| differing | (one ^ other));
-    given.len() == wanted.len() && differing == 0
-}
-
 #[cfg(test)]
 mod tests {
     use super::*;
@@ -163,9 +207,9 @@ mod tests {
 
     #[test]
     fn names_that_are_not_served_are_refused() {
-        let guard = Guard::new(None, Some(vec!["127.0.0.1".into(), "localhost".into()]));
+        let guard = Guard::new(Keys::Nothing, Some(vec!["127.0.0.1".into(), "localhost".into()]));
         for host in ["127.0.0.1", "LOCALHOST", "LocalHost:7233", "localhost:"] {
-            assert_eq!(check(&guard, "/", &[("host", host)]), Verdict::LetIn, "{host}");
+            assert_eq!(check(&guard, "/", &[("host", host)]), Verdict::LetIn(None), "{host}");
         }
         for host in
             ["", "EVIL.test", "127.0.0.1.evil.test", "127.0.0.1:80@evil.test", "evil.test:127.0.0.1", "localhost:no"]
@@ -179,7 +223,7 @@ mod tests {
 
     #[test]
     fn whoever_bears_the_token_is_let_in() {
-        let guard = Guard::new(Some(TOKEN.into()), None);
+        let guard = Guard::new(Keys::One(TOKEN.into()), None);
         for (value, is_let_in) in [
             (format!("Bearer {TOKEN}"), true),
             (format!("bEARER {TOKEN}"), true),
@@ -189,18 +233,18 @@ mod tests {
             ("Bearer ".to_string(), false),
         ] {
             let verdict = check(&guard, "/", &[("host", "h"), ("authorization", &value)]);
-            assert_eq!(verdict == Verdict::LetIn, is_let_in, "{value}");
+            assert_eq!(verdict == Verdict::LetIn(None), is_let_in, "{value}");
         }
         let cookie = format!("a=b; wfserve_token_7233=\"{TOKEN}\"");
-        assert_eq!(check(&guard, "/", &[("host", "h:7233"), ("cookie", &cookie)]), Verdict::LetIn);
+        assert_eq!(check(&guard, "/", &[("host", "h:7233"), ("cookie", &cookie)]), Verdict::LetIn(None));
         assert_eq!(check(&guard, "/", &[("host", "h:7234"), ("cookie", &cookie)]), Verdict::NoToken);
-        assert_eq!(check(&guard, "/health/ready", &[("host", "h")]), Verdict::LetIn);
+        assert_eq!(check(&guard, "/health/ready", &[("host", "h")]), Verdict::LetIn(None));
         assert_eq!(check(&guard, "/health/ready/", &[("host", "h")]), Verdict::NoToken);
     }
 
     #[test]
     fn an_address_with_the_token_leads_to_a_path_here() {
-        let guard = Guard::new(Some(TOKEN.into()), None);
+        let guard = Guard::new(Keys::One(TOKEN.into()), None);
         for (path, here) in [("/", "/"), ("//evil.test/x", "/evil.test/x"), ("/%5cevil.test/", "/%5cevil.test/")] {
             match check(&guard, &format!("{path}?x=1&token=a+token%20of%20some%20length"), &[("host", "h:9")]) {
                 Verdict::KeepToken { path, cookie } => {
@@ -211,5 +255,35 @@ mod tests {
             }
         }
         assert_eq!(check(&guard, "/?token=wrong", &[("host", "h")]), Verdict::NoToken);
+    }
+
+    #[test]
+    fn bearers_of_a_files_tokens_are_let_in_by_their_names() {
+        let scratch = crate::testing::scratch::Scratch::new();
+        let path = scratch.path("tokens");
+        // What sha256sum makes of the text "first", without a line's end.
+        let hash = "sha256:a7937b64b8caa58f03721bb6bacf5c78cb235febe0e70b1b84cd99541461a08e";
+        std::fs::write(&path, format!("one {hash} read\n")).unwrap();
+        let file = Arc::new(TokenFile::open(&path, None).unwrap());
+        let guard = Guard::new(Keys::File(file), None).encrypted();
+        let name = |verdict| match verdict {
+            Verdict::LetIn(Some(caller)) => caller.name.to_string(),
+            other => format!("{other:?}"),
+        };
+        let bearer = [("host", "h:9"), ("authorization", "Bearer first")];
+        assert_eq!(name(check(&guard, "/", &bearer)), "one");
+        assert_eq!(name(check(&guard, "/", &[("host", "h:9"), ("cookie", "wfserve_token_9=first")])), "one");
+        assert_eq!(check(&guard, "/", &[("host", "h:9"), ("authorization", "Bearer second")]), Verdict::NoToken);
+        assert_eq!(check(&guard, "/health/live", &[("host", "h:9")]), Verdict::LetIn(None));
+        match check(&guard, "/?token=first", &[("host", "h:9")]) {
+            Verdict::KeepToken { cookie, .. } => assert!(cookie.ends_with("SameSite=Strict; Secure"), "{cookie}"),
+            other => panic!("{other:?}"),
+        }
+        assert_eq!(
+            guard.lets_in("h", Some("Bearer first")).map(|pass| pass.unwrap().name.to_string()),
+            Some("one".into())
+        );
+        assert_eq!(guard.lets_in("h", Some("Bearer second")), None);
+        assert_eq!(guard.lets_in("h", None), None);
     }
 }

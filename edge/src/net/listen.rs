@@ -3,6 +3,7 @@
 use crate::http::calls;
 use crate::http::{is_last, Front, HEAD_LIMIT};
 use crate::net::lingering::Lingering;
+use crate::net::tls::{Greeted, Tls};
 use hyper::server::conn::Http;
 use hyper::service::service_fn;
 use std::convert::Infallible;
@@ -10,7 +11,7 @@ use std::sync::atomic::{AtomicBool, AtomicUsize, Ordering};
 use std::sync::{Arc, Mutex, PoisonError};
 use std::time::{Duration, Instant};
 use tokio::io::{AsyncRead, AsyncWrite};
-use tokio::net::{TcpListener, UnixListener};
+use tokio::net::{TcpListener, TcpStream, UnixListener};
 use tokio::sync::watch;
 
 /// A head beyond this, with a piece that one read brings, is not read to its end. A shorter one that is too long is told so.
@@ -133,17 +134,37 @@ impl Activity {
 }
 
 /// Serves HTTP to whoever connects, until this is dropped.
-pub async fn serve_tcp(listener: TcpListener, front: Arc<Front>, connections: Arc<Connections>) {
+pub async fn serve_tcp(listener: TcpListener, tls: Option<Arc<Tls>>, front: Arc<Front>, connections: Arc<Connections>) {
     loop {
         match listener.accept().await {
             Ok((socket, _)) => {
                 let _ = socket.set_nodelay(true);
-                if let Some(counted) = connections.counted() {
-                    tokio::spawn(calls::serve(socket, front.clone(), counted));
+                match (connections.counted(), &tls) {
+                    (Some(counted), None) => drop(tokio::spawn(calls::serve(socket, front.clone(), counted))),
+                    (Some(counted), Some(tls)) => {
+                        drop(tokio::spawn(serve_tls(tls.clone(), socket, front.clone(), counted)));
+                    }
+                    (None, _) => {}
                 }
             }
             Err(_) => tokio::time::sleep(PAUSE).await,
         }
+    }
+}
+
+/// Serves HTTP to a client once the handshake with it was made.
+async fn serve_tls(tls: Arc<Tls>, socket: TcpStream, front: Arc<Front>, counted: Counted) {
+    let mut stop = counted.0.told_to_stop();
+    let greeted = tokio::select! {
+        greeted = tls.greet(socket, front.read_timeout) => greeted,
+        _ = stop.changed() => None,
+    };
+    match greeted {
+        Some(Greeted { stream, is_certified: true }) => calls::serve(stream, front, counted).await,
+        Some(Greeted { stream, is_certified: false }) => {
+            serve_http(stream, Before { lacks_certificate: true, ..Before::default() }, front, counted).await;
+        }
+        None => {}
     }
 }
 
@@ -169,6 +190,8 @@ pub struct Before {
     /// Whether there was a request, and whether the edge was told to stop.
     pub was_asked: bool,
     pub is_stopped: bool,
+    /// Whether its client has shown no certificate, and has to.
+    pub lacks_certificate: bool,
 }
 
 /// Serves one connection.
@@ -176,7 +199,7 @@ pub async fn serve_http<S>(socket: S, before: Before, front: Arc<Front>, counted
 where
     S: AsyncRead + AsyncWrite + Unpin + Send + 'static,
 {
-    let Before { read, was_asked, is_stopped } = before;
+    let Before { read, was_asked, is_stopped, lacks_certificate } = before;
     let mut stop = counted.0.told_to_stop();
     let (activity, read_timeout) = (Arc::new(Activity::new()), front.read_timeout);
     activity.was_asked.store(was_asked, Ordering::Relaxed);
@@ -185,7 +208,7 @@ where
         let (front, activity) = (front.clone(), noted.clone());
         async move {
             activity.begin();
-            let response = front.answer(request).await;
+            let response = front.answer(request, !lacks_certificate).await;
             if is_last(&response) {
                 activity.leave_unread();
             }

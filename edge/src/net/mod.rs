@@ -5,3 +5,5 @@
 pub mod guard;
 pub mod lingering;
 pub mod listen;
+pub mod stream;
+pub mod tls;

@@ -66,6 +66,12 @@ pub fn outlive_file_limits() {
     unsafe { libc::signal(libc::SIGXFSZ, libc::SIG_IGN) };
 }
 
+/// Has SIGHUP end nothing until it is waited for.
+pub fn ignore_hangups() {
+    // SAFETY: no handler of ours is run: the signal is ignored.
+    unsafe { libc::signal(libc::SIGHUP, libc::SIG_IGN) };
+}
+
 /// Has this process open as many files as it may: each connection is one.
 pub fn raise_open_files() {
     let mut limit = libc::rlimit { rlim_cur: 0, rlim_max: 0 };

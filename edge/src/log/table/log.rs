@@ -117,7 +117,7 @@ impl Log for TableLog {
     }
 
     /// Adds lines, as one batch. They are kept once this has returned.
-    fn write<'a>(&mut self, lines: &mut dyn Iterator<Item = &'a [u8]>) -> Result<(), LogFault> {
+    fn write(&mut self, lines: &mut dyn Iterator<Item = &[u8]>) -> Result<(), LogFault> {
         let (mut text, mut count) = (Vec::new(), 0);
         for line in lines {
             if count > 0 {

@@ -21,6 +21,7 @@ from .shows import (
     tasks, trace,
 )
 from .statuses import Status, status_of, text_of_statuses
+from .tokens import add_token, token
 from .workflows import (
     add_id, add_signal, add_start, add_terminate, add_timeout, cancel, execute, result, signal, start, terminate,
 )
@@ -69,12 +70,13 @@ COMMANDS: Dict[str, Command] = {
     "trace": Command("draw a workflow's history", add_trace, trace),
     "replay": Command("check a workflow's code against stored histories", add_replay, runs=replay),
     "call": Command("make any call, as docs/PROFILE.md has them", add_call, call),
+    "token": Command("make a token with a name and rights, for a server's file of tokens", add_token, runs=token),
     "completion": Command("what a shell needs to complete these words", add_completion, runs=completion),
 }
 # A workflow that has closed takes none of these.
 OF_OPEN_ONES = ("signal", "cancel", "terminate")
 # These print nothing that --json would change, or always print JSON.
-WITHOUT_JSON = ("dev", "work", "replay", "trace", "query", "call", "completion")
+WITHOUT_JSON = ("dev", "work", "replay", "trace", "query", "call", "token", "completion")
 
 
 def make_parser() -> Parser:
