@@ -11,7 +11,10 @@ from pathlib import Path
 TOP = Path(__file__).resolve().parent.parent
 EDGE = TOP / "edge"
 REGISTRY = Path("/usr/share/cargo/registry")
-CRATES = ("tokio", "hyper", "httparse", "httpdate", "serde", "serde_derive", "serde_json", "crc32fast", "libc", "mio", "sha2")
+CRATES = (
+    "tokio", "hyper", "httparse", "httpdate", "serde", "serde_derive", "serde_json", "crc32fast", "libc", "mio", "sha2",
+    "tokio-rustls", "rustls-pemfile",
+)
 CLIENT = ("tokio-postgres", "tokio-native-tls", "native-tls")
 # Ten times what each takes on a quiet machine.
 SECONDS = 1_800

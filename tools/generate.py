@@ -34,7 +34,7 @@ TYPES = "tools/fields"
 # Where the client says what events mean, and the status of a run that no event has closed.
 HISTORIES, RUNNING = "clients/python/src/wfserve/events.py", "Running"
 # Where the servers say which keys a start has, and a signal with start too.
-PYTHON_STARTS, EDGE_STARTS = "clients/python/src/wfserve/operations.py", "edge/src/operations.rs"
+PYTHON_STARTS, EDGE_STARTS = "clients/python/src/wfserve/operations.py", "edge/src/call/operations.rs"
 # Rust's formatter breaks a line that is longer, and a pattern's fields that are.
 WIDTH = 100
 PATTERN_WIDTH = 18

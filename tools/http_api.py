@@ -121,8 +121,9 @@ def ref(name: str) -> Json:
 
 
 FAULTS = {
-    400: "BadCall: the body is no call", 401: "NoToken", 403: "WrongHost", 408: "SlowBody", 413: "the body is too long",
-    415: "NotJson: the content type isn't application/json", 500: "the server, its log or its program is at fault",
+    400: "BadCall: the body is no call", 401: "NoToken", 403: "WrongHost, or NotPermitted: the token lacks a right",
+    408: "SlowBody", 413: "the body is too long", 415: "NotJson: the content type isn't application/json",
+    429: "TooManyCalls: call again after Retry-After", 500: "the server, its log or its program is at fault",
     503: "Busy or Draining: call again after Retry-After", 507: "LogFull: the disk is full",
 }
 KEY = {

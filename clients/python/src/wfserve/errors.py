@@ -49,11 +49,20 @@ class CallLost(Unavailable):
     """The connection was lost. The call may have taken effect."""
 
 
+class NotTrusted(Unavailable):
+    """No connection by TLS: one end doesn't trust the other's certificate. The call was not made."""
+
+    @property
+    def passes(self) -> bool:
+        """A certificate is the same when it is looked at again."""
+        return False
+
+
 class NotServed(Unavailable):
     """The server answered no reply. Where it was busy (503), nothing took effect."""
 
-    # The server failed, or something in front of it; is busy; has no room on its disk.
-    AWAY = (500, 502, 503, 504, 507)
+    # The caller makes more calls than it may; the server failed, or something in front of it; is busy; has no room.
+    AWAY = (429, 500, 502, 503, 504, 507)
 
     def __init__(self, status: int, said: str):
         super().__init__(f"status {status}: {said}")

@@ -23,6 +23,7 @@ from .shows import (
     tasks, trace,
 )
 from .statuses import Status, status_of, text_of_statuses
+from .tokens import add_token, token
 from .workflows import (
     add_id, add_signal, add_start, add_terminate, add_timeout, cancel, execute, result, signal, start, terminate,
 )
@@ -77,12 +78,13 @@ COMMANDS: Dict[str, Command] = {
     "compact-log": Command("put snapshots in the place of a log's lines, while nobody serves it", add_compact_log, runs=compact_log),
     "move-log": Command("make a journal of a server's log, or of an earlier client's", add_move_log, runs=log_to_journal),
     "move-journal": Command("make a server's log of a journal", add_move_journal, runs=journal_to_log),
+    "token": Command("make a token with a name and rights, for a server's file of tokens", add_token, runs=token),
     "completion": Command("what a shell needs to complete these words", add_completion, runs=completion),
 }
 # A workflow that has closed takes none of these.
 OF_OPEN_ONES = ("signal", "cancel", "terminate")
 # These print nothing that --json would change, or always print JSON.
-WITHOUT_JSON = ("dev", "serve", "work", "replay", "trace", "query", "call", "completion")
+WITHOUT_JSON = ("dev", "serve", "work", "replay", "trace", "query", "call", "token", "completion")
 
 
 def make_parser() -> Parser:
