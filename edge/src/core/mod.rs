@@ -60,15 +60,15 @@ struct Input {
 /// A kept program, which many clients call.
 pub struct Core {
     state: Mutex<State>,
-    /// Outcome where the sequencer, or who waits for it, may go on.
+    /// Told where the sequencer, or who waits for it, may go on.
     wake: Condvar,
-    /// Outcome where the clock has to look again.
+    /// Told where the clock has to look again.
     clock_wake: Condvar,
-    /// Outcome where it stands otherwise with the second program.
+    /// Told where it stands otherwise with the second program.
     standby: Condvar,
     input: Mutex<Input>,
     clock: Mutex<Clock>,
-    /// Outcome once nothing is served any more.
+    /// Told once nothing is served any more.
     over: Notify,
     answer_queue: AnswerQueue,
     shards: ShardCount,
@@ -81,7 +81,7 @@ pub struct Core {
 #[derive(Default)]
 struct AnswerQueue {
     answers: Mutex<TaskAnswers>,
-    /// Outcome where there are some.
+    /// Told where there are some.
     wake: Notify,
     has_teller: AtomicBool,
 }

@@ -70,7 +70,7 @@ impl Front {
     }
 
     /// For the page too: the body says which blobs are named at a moment, and before which one all are deleted that were put
-    /// and named last before it. Clock are in seconds since 1970.
+    /// and named last before it. Moments are in seconds since 1970.
     pub async fn sweep_blobs(&self, request: &mut Request<Body>) -> Answer {
         let body = self.body_of(request).await?;
         let Sweep { named, at, before } =

@@ -28,7 +28,7 @@ pub struct Page {
     socket: String,
     /// Whether it ended last before it listened: nobody waits for such a page. Nothing else is read by it.
     is_broken: AtomicBool,
-    /// Outcome once somebody asks for a page.
+    /// Told once somebody asks for a page.
     wanted: Notify,
     /// Whether the process deletes the blobs that no history names any more.
     has_sweeps: bool,

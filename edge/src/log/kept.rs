@@ -122,16 +122,16 @@ impl Origin {
     }
 }
 
-/// Outcome each line of the log as it is served again: the line and its reply.
+/// Told each line of the log as it is served again: the line and its reply.
 pub trait Observe {
     fn line(&mut self, line: &[u8], reply: &[u8]);
 
-    /// Outcome what was kept beside the snapshots of a compaction. False where the replies by keys are damaged.
+    /// Told what was kept beside the snapshots of a compaction. False where the replies by keys are damaged.
     fn beside(&mut self, _: &Beside) -> bool {
         true
     }
 
-    /// Outcome between which shards there were transfers before a compaction, where that is known.
+    /// Told between which shards there were transfers before a compaction, where that is known.
     fn pairs(&mut self, _: &[Pair]) {}
 
     /// What is to be kept beside the snapshots of a compaction.

@@ -6,7 +6,7 @@ use hyper::header::{HeaderMap, AUTHORIZATION, COOKIE, HOST};
 use hyper::{Method, Uri};
 use std::sync::Arc;
 
-/// ParsedCall by what starts and watches servers, which has no token; they say nothing of workflows.
+/// Asked by what starts and watches servers, which has no token; they say nothing of workflows.
 const HEALTH: [&str; 2] = ["/health/live", "/health/ready"];
 
 /// Which tokens are wanted.

@@ -50,7 +50,7 @@ impl Connections {
         (before < MOST_CONNECTIONS).then_some(counted)
     }
 
-    /// Outcome once the connections have to end.
+    /// Told once the connections have to end.
     pub fn told_to_stop(&self) -> watch::Receiver<bool> {
         self.stop.subscribe()
     }

@@ -1,4 +1,4 @@
-//! Clock at which something may be due on a shard, as far as lines and replies tell.
+//! Moments at which something may be due on a shard, as far as lines and replies tell.
 
 use crate::call::facts::Facts;
 use crate::call::reply::Reply;
